@@ -1,0 +1,65 @@
+-- What a keeper of a site is, but for what a stop may leave of it, and what its calls have in common.
+use Rattle.std.specs.Prelude.{◌≡◌, ◌⊎◌, ◌<◌, ◌≤◌, ◌-◌, ◌^◌, ℕ, Bool, true, false, Result, Err, IsOk, IsTrue}
+use Rattle.host_types.specs.Site.{Site}
+use Rattle.host_types.specs.declared.refused.Refused.{Refused}
+use Rattle.host_types.specs.declared.site_fault.SiteFault.{SiteFault}
+use Rattle.host_types.specs.declared.site_fault.SiteFault.TheVariants as faults
+
+-- `honest`: what the site is kept on keeps its written meaning. `usable`: no write or sync has failed. The counts are of failed reads, and of failed writes and syncs.
+pub record Keeping : Type 0 where
+  pub site : Site
+  pub honest : Bool
+  pub usable : Bool
+  pub failed_reads : ℕ
+  pub failed_writes : ℕ
+
+-- a count that stands at its end is taken as risen
+abbrev pub Rose : ℕ → ℕ → Type 0
+Rose before now = (before < now) ⊎ (2 ^ 64 - 1 ≤ before)
+
+-- What a call that only reads leaves: the site and the flags stay, and reads may have failed.
+pub record HasRead (old new : Keeping) : Type 0 where
+  pub site : IsTrue old.honest → new.site ≡ old.site
+  pub honest : new.honest ≡ old.honest
+  pub usable : new.usable ≡ old.usable
+  pub reads : old.failed_reads ≤ new.failed_reads
+  pub writes : new.failed_writes ≡ old.failed_writes
+
+-- When a fault may come of a call that only reads, where it may want memory or not.
+abbrev pub IsReadFault : Bool → Keeping → Keeping → SiteFault → Type 0
+IsReadFault wants_memory old new (faults.Refused r) = ⊥
+IsReadFault wants_memory old new faults.Read = IsTrue old.honest → Rose old.failed_reads new.failed_reads
+IsReadFault wants_memory old new faults.Failed = old.usable ≡ false
+IsReadFault wants_memory old new faults.Memory = IsTrue wants_memory
+
+-- What a change that was not made leaves: nothing of the site changed, and its flags stay unless a write failed.
+pub record HasNotChanged (old new : Keeping) : Type 0 where
+  pub site : IsTrue old.honest → new.site ≡ old.site
+  pub usable : new.usable ≡ old.usable
+
+-- A write or a sync failed in this call, which has a change to make.
+pub record HasFailed (old new : Keeping) (applied : Result Site Refused) : Type 0 where
+  pub site : IsTrue old.honest → new.site ≡ old.site
+  pub shut : new.usable ≡ false
+  pub cause : IsTrue old.honest → old.usable ≡ true → Rose old.failed_writes new.failed_writes
+  pub right : IsTrue old.honest → old.usable ≡ true → IsOk applied
+
+-- When a fault may come of a change, and what stands then; `applied` is the site that the change would make, or its first refusal.
+abbrev pub IsChangeFault : Keeping → Keeping → Result Site Refused → SiteFault → Type 0
+IsChangeFault old new applied (faults.Refused r) = HasNotChanged old new × (IsTrue old.honest → applied ≡ Err r)
+IsChangeFault old new applied faults.Read = HasNotChanged old new × (IsTrue old.honest → Rose old.failed_reads new.failed_reads)
+IsChangeFault old new applied faults.Failed = HasFailed old new applied
+IsChangeFault old new applied faults.Memory = HasNotChanged old new
+
+-- What every change leaves, whatever it answers.
+pub record HasTried (old new : Keeping) : Type 0 where
+  pub honest : new.honest ≡ old.honest
+  pub reads : old.failed_reads ≤ new.failed_reads
+  pub writes : old.failed_writes ≤ new.failed_writes
+
+-- a fault of a site in memory: a refusal that is the definition's, or want of memory
+abbrev pub IsMemoryFault : SiteFault → Result Site Refused → Type 0
+IsMemoryFault (faults.Refused r) applied = applied ≡ Err r
+IsMemoryFault faults.Read applied = ⊥
+IsMemoryFault faults.Failed applied = ⊥
+IsMemoryFault faults.Memory applied = Unit {0}

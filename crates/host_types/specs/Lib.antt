@@ -1,0 +1,9 @@
+pub mod Names
+pub mod Items
+pub mod Site
+pub mod SiteLaws
+pub mod Change
+pub mod Card
+pub mod Stops
+pub mod Keeping
+pub mod Front

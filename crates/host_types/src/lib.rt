@@ -1,0 +1,30 @@
+//! Names, items and changes of a site, and who keeps one.
+#![tactic(auto)]
+
+mod bytes;
+mod card;
+mod change;
+mod form;
+mod item;
+mod limits;
+mod mem_site;
+mod menu;
+mod names;
+mod refused;
+mod site_fault;
+mod site_keeper;
+mod view;
+
+pub use bytes::Bytes;
+pub use card::{CHUNK, Card, CardBody, CardView, CardViewList, chunk_of};
+pub use change::Change;
+pub use form::{ChoiceList, Question, QuestionList};
+pub use item::{Body, Item};
+pub use limits::MOST_VIEW_BYTES;
+pub use mem_site::MemSite;
+pub use menu::{Entry, EntryList, LinkKind};
+pub use names::{Admin, GREATEST_STAMP, Host, Selector, Stamp, Title, Url};
+pub use refused::Refused;
+pub use site_fault::SiteFault;
+pub use site_keeper::{Front, SiteKeeper};
+pub use view::{Kind, View, ViewList};

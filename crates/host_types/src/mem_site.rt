@@ -1,0 +1,369 @@
+// A site in memory.
+ghost use Rattle.std.specs.Prelude.{◌≡◌, ◌≤◌, ◌<◌, ℕ, List, length, Some, None, Ok, Err, IfOk, OnOk, IfErr, OnErr, IsSome, MatchOption, IsTrue, nat_eq, codes, option_copied, is_some};
+ghost use Rattle.host_types.specs.Site.{Site, item_at, with_item, without_item, post_selector, board_at, posts_of, has_any, has_posts};
+ghost use Rattle.host_types.specs.Change.{apply, put, remove, move_to, set_host, set_admin, post, oldest_post, without_any};
+ghost use Rattle.host_types.specs.Keeping.{IsMemoryFault};
+ghost use Rattle.host_types.specs.Card.{has_short_views};
+
+use crate::item::keeps_cap;
+use crate::{Admin, Bytes, Change, Host, Item, Refused, Selector, SiteFault, Stamp, Title};
+use std::alloc::{AllocError, Global};
+use std::collections::BTreeMap;
+use std::marker::Model;
+
+/// A site in memory.
+#[derive(Drop)]
+pub struct MemSite {
+    items: BTreeMap<Selector, Item>,
+    host: Host,
+    port: u16,
+    admin: Admin,
+}
+
+impl Model for MemSite {
+    ghost use Rattle.std.specs.Prelude.{◌≤◌, length};
+    ghost use Rattle.std.specs.List.{AllByRecursion};
+    ghost use Rattle.host_types.specs.Site.{Site};
+
+    ghost Value = { Site };
+
+    ghost view = { λ m. record { items = m.items.entries; host = m.host; port = m.port; admin = m.admin } };
+
+    ghost invariant = { λ m. AllByRecursion (λ e. length e.0 ≤ 255) m.items.entries };
+}
+
+/// The bytes of a post's selector.
+fn post_name(alloc: Global, board: &[u8], number: u64) -> Result<Vec<u8>, AllocError>
+    ensures { IfOk result (λ name. name.items ≡ post_selector board.now number) }
+{
+    let digits = format!(in alloc; "{number}")?;
+    let mut name = Vec::new(alloc);
+    name.extend_from_slice(b"post/")?;
+    name.extend_from_slice(board)?;
+    name.extend_from_slice(b"/")?;
+    name.extend_from_slice(digits.as_bytes())?;
+    Ok(name)
+}
+
+/// The selector of a post, or none where it would have over 255 bytes.
+pub fn post_selector(
+    alloc: Global,
+    board: &Selector,
+    number: u64,
+) -> Result<Option<Selector>, AllocError>
+    ensures { IfOk result (λ o. MatchOption o (255 < length (post_selector board.now number)) (λ s. s ≡ post_selector board.now number)) }
+{
+    let name = post_name(alloc, board.as_bytes(), number)?;
+    match Selector::new(&name) {
+        Ok(selector) => Ok(Some(selector)),
+        Err(_) => Ok(None),
+    }
+}
+
+impl MemSite {
+    /// What stands at a selector.
+    pub fn item(&self, selector: &Selector) -> Option<&Item>
+        ensures { option_copied result ≡ item_at self.now selector.now }
+    {
+        self.items.get(selector)
+    }
+
+    /// A selector of over 255 bytes has nothing.
+    fn long_selectors(&self)
+        ensures { (q : List ℕ) → 255 < length q → item_at self.now q ≡ None }
+    {
+        let _items = &self.items;
+    }
+
+    fn has_post(&self, alloc: Global, board: &Selector, number: u64) -> Result<bool, AllocError>
+        ensures { IfOk result (λ there. there ≡ is_some (item_at self.now (post_selector board.now number))) }
+    {
+        self.long_selectors();
+        match post_selector(alloc, board, number)? {
+            Some(selector) => Ok(self.item(&selector).is_some()),
+            None => Ok(false),
+        }
+    }
+
+    /// Whether one of the last `cap` posts below `next` is there.
+    fn has_some_post(
+        &self,
+        alloc: Global,
+        board: &Selector,
+        cap: u16,
+        next: u64,
+    ) -> Result<bool, AllocError>
+        ensures { IfOk result (λ there. there ≡ has_any (posts_of self.now board.now (cap, next))) }
+    {
+        let mut number = next;
+        for _ in 0..cap {
+            if number <= 1 {
+                return Ok(false);
+            }
+            number -= 1;
+            if self.has_post(alloc, board, number)? {
+                return Ok(true);
+            }
+        }
+        Ok(false)
+    }
+
+    /// Whether a board with posts stands there.
+    fn has_posts(&self, alloc: Global, selector: &Selector) -> Result<bool, AllocError>
+        ensures { IfOk result (λ there. there ≡ has_posts self.now selector.now) }
+    {
+        match self.item(selector) {
+            Some(item) => match item.body.board() {
+                Some((cap, next)) => self.has_some_post(alloc, selector, cap, next),
+                None => Ok(false),
+            },
+            None => Ok(false),
+        }
+    }
+
+    /// How many posts the board at a selector keeps, and the number of the next.
+    fn board(&self, selector: &Selector) -> Option<(u16, u64)>
+        ensures { result ≡ board_at self.now selector.now }
+    {
+        match self.item(selector) {
+            Some(item) => item.body.board(),
+            None => None,
+        }
+    }
+
+    fn insert(&mut self, selector: Selector, item: Item) -> Result<(), SiteFault>
+        ensures ok { OnOk result (self.new ≡ with_item self.old selector item) }
+        ensures err { IfErr result (λ e. (e ≡ SiteFault.Memory) × (self.new ≡ self.old)) }
+        ensures absent { OnErr result (item_at self.old selector ≡ None) }
+    {
+        let _ = selector.as_bytes();
+        self.items.insert(selector, item)?;
+        Ok(())
+    }
+
+    fn take_out(&mut self, selector: &Selector)
+        ensures { self.new ≡ without_item self.old selector.now }
+    {
+        let _ = self.items.remove(selector);
+    }
+
+    /// Takes an item away.
+    #[tactic(auto, unfolding(crate::specs::Change::remove))]
+    pub fn remove(&mut self, alloc: Global, selector: &Selector) -> Result<(), SiteFault>
+        ensures done { OnOk result (remove self.old selector.now ≡ Ok self.new) }
+        ensures kept { OnErr result (self.new ≡ self.old) }
+        ensures refused { IfErr result (λ e. IsMemoryFault e (remove self.old selector.now)) }
+    {
+        if selector.as_bytes().is_empty() {
+            return Err(SiteFault::Refused(Refused::Root));
+        }
+        if self.item(selector).is_none() {
+            return Err(SiteFault::Refused(Refused::Missing));
+        }
+        if self.has_posts(alloc, selector)? {
+            return Err(SiteFault::Refused(Refused::NotEmpty));
+        }
+        self.take_out(selector);
+        Ok(())
+    }
+
+    /// Puts an item at a selector.
+    #[tactic(auto, unfolding(crate::specs::Change::put))]
+    pub fn put(
+        &mut self,
+        alloc: Global,
+        selector: Selector,
+        item: Item,
+        now: Stamp,
+    ) -> Result<(), SiteFault>
+        ensures done { OnOk result (put self.old selector item now ≡ Ok self.new) }
+        ensures kept { OnErr result (self.new ≡ self.old) }
+        ensures refused { IfErr result (λ e. IsMemoryFault e (put self.old selector item now)) }
+    {
+        if selector.as_bytes().is_empty() && !item.body.is_menu() {
+            return Err(SiteFault::Refused(Refused::Root));
+        }
+        if selector.is_reserved() || item.body.is_moved() {
+            return Err(SiteFault::Refused(Refused::Reserved));
+        }
+        if item.body.is_bad() {
+            return Err(SiteFault::Refused(Refused::BadName));
+        }
+        if item.is_long(&selector) {
+            return Err(SiteFault::Refused(Refused::TooLong));
+        }
+        let old = self.board(&selector);
+        if self.has_posts(alloc, &selector)? && !keeps_cap(old, item.body.board()) {
+            return Err(SiteFault::Refused(Refused::NotEmpty));
+        }
+        self.insert(selector, item.put_over(old, now))
+    }
+
+    /// Puts an item where one stands already.
+    fn replace(&mut self, selector: Selector, item: Item)
+        requires { IsSome (item_at self.old selector) }
+        ensures { self.new ≡ with_item self.old selector item }
+    {
+        let _ = self.insert(selector, item);
+    }
+
+    /// Puts an item at one selector, and another where one stands already.
+    fn insert_two(
+        &mut self,
+        first: Selector,
+        item: Item,
+        second: Selector,
+        other: Item,
+    ) -> Result<(), SiteFault>
+        requires { IsSome (item_at self.old second) }
+        ensures ok { OnOk result (self.new ≡ with_item (with_item self.old first item) second other) }
+        ensures err { IfErr result (λ e. (e ≡ SiteFault.Memory) × (self.new ≡ self.old)) }
+    {
+        self.insert(first, item)?;
+        self.replace(second, other);
+        Ok(())
+    }
+
+    /// Moves an item, and leaves a note of where it went.
+    #[tactic(auto, unfolding(crate::specs::Change::move_to))]
+    pub fn move_item(
+        &mut self,
+        alloc: Global,
+        from: &Selector,
+        to: &Selector,
+        now: Stamp,
+    ) -> Result<(), SiteFault>
+        ensures done { OnOk result (move_to self.old from.now to.now now ≡ Ok self.new) }
+        ensures kept { OnErr result (self.new ≡ self.old) }
+        ensures refused { IfErr result (λ e. IsMemoryFault e (move_to self.old from.now to.now now)) }
+    {
+        if from.as_bytes().is_empty() || to.as_bytes().is_empty() {
+            return Err(SiteFault::Refused(Refused::Root));
+        }
+        if from.is_reserved() || to.is_reserved() {
+            return Err(SiteFault::Refused(Refused::Reserved));
+        }
+        if from == to {
+            return Err(SiteFault::Refused(Refused::BadName));
+        }
+        let Some(item) = self.item(from) else {
+            return Err(SiteFault::Refused(Refused::Missing));
+        };
+        if item.body.is_moved() {
+            return Err(SiteFault::Refused(Refused::Missing));
+        }
+        if item.body.board().is_some() && to.as_bytes().len() > 229 {
+            return Err(SiteFault::Refused(Refused::TooLong));
+        }
+        if self.has_posts(alloc, from)? || self.has_posts(alloc, to)? {
+            return Err(SiteFault::Refused(Refused::NotEmpty));
+        }
+        let copy = item.clone()?;
+        let note = item.moved(alloc, to, now)?;
+        let (from, to) = (from.clone()?, to.clone()?);
+        self.insert_two(to, copy, from, note)
+    }
+
+    pub fn set_host(&mut self, host: Host, port: u16) -> Result<(), SiteFault>
+        ensures done { OnOk result (set_host self.old host port ≡ Ok self.new) }
+        ensures kept { OnErr result (self.new ≡ self.old) }
+        ensures refused { IfErr result (λ e. IsMemoryFault e (set_host self.old host port)) }
+    {
+        if port == 0 {
+            return Err(SiteFault::Refused(Refused::BadName));
+        }
+        self.host = host;
+        self.port = port;
+        Ok(())
+    }
+
+    pub fn set_admin(&mut self, admin: Admin)
+        ensures { set_admin self.old admin ≡ Ok self.new }
+    {
+        self.admin = admin;
+    }
+
+    /// Stores a post, and lets the oldest go where the board is full.
+    #[tactic(auto, unfolding(crate::specs::Change::post, crate::specs::Change::most_post_bytes))]
+    pub fn post(
+        &mut self,
+        alloc: Global,
+        board: &Selector,
+        title: Title,
+        text: Bytes,
+        now: Stamp,
+    ) -> Result<(), SiteFault>
+        ensures done { OnOk result (post self.old board.now title text now ≡ Ok self.new) }
+        ensures kept { OnErr result (self.new ≡ self.old) }
+        ensures refused { IfErr result (λ e. IsMemoryFault e (post self.old board.now title text now)) }
+    {
+        if text.len() > 65_536 {
+            return Err(SiteFault::Refused(Refused::TooLong));
+        }
+        let Some(item) = self.item(board) else {
+            return Err(SiteFault::Refused(Refused::NotABoard));
+        };
+        let Some((cap, next)) = item.body.board() else {
+            return Err(SiteFault::Refused(Refused::NotABoard));
+        };
+        if next == u64::MAX {
+            return Err(SiteFault::Refused(Refused::Spent));
+        }
+        let stood = item.after_post(cap, next, now)?;
+        let Some(selector) = post_selector(alloc, board, next)? else {
+            return Err(SiteFault::Memory);
+        };
+        let posted = Item::text(alloc, title, now, text)?;
+        let oldest = self.oldest_post(alloc, board, cap, next)?;
+        self.insert_two(selector, posted, board.clone()?, stood)?;
+        self.take_out_any(oldest);
+        Ok(())
+    }
+
+    fn take_out_any(&mut self, selector: Option<Selector>)
+        ensures { self.new ≡ without_any self.old selector }
+    {
+        if let Some(selector) = selector {
+            self.take_out(&selector);
+        }
+    }
+
+    /// The selector of the post that is pushed out by the post `next`.
+    fn oldest_post(
+        &self,
+        alloc: Global,
+        board: &Selector,
+        cap: u16,
+        next: u64,
+    ) -> Result<Option<Selector>, SiteFault>
+        ensures ok { IfOk result (λ o. o ≡ oldest_post board.now cap next) }
+        ensures err { IfErr result (λ e. e ≡ SiteFault.Memory) }
+    {
+        if next <= u64::from(cap) {
+            return Ok(None);
+        }
+        match post_selector(alloc, board, next - u64::from(cap))? {
+            Some(selector) => Ok(Some(selector)),
+            None => Err(SiteFault::Memory),
+        }
+    }
+
+    /// Makes a change, or answers its first refusal.
+    pub fn change(&mut self, alloc: Global, change: Change, now: Stamp) -> Result<(), SiteFault>
+        ensures done { OnOk result (apply self.old change now ≡ Ok self.new) }
+        ensures kept { OnErr result (self.new ≡ self.old) }
+        ensures refused { IfErr result (λ e. IsMemoryFault e (apply self.old change now)) }
+    {
+        match change {
+            Change::Put(selector, item) => self.put(alloc, selector, item, now),
+            Change::Remove(selector) => self.remove(alloc, &selector),
+            Change::Move { from, to } => self.move_item(alloc, &from, &to, now),
+            Change::SetHost { host, port } => self.set_host(host, port),
+            Change::SetAdmin(admin) => {
+                self.set_admin(admin);
+                Ok(())
+            }
+            Change::Post { board, title, text } => self.post(alloc, &board, title, text, now),
+        }
+    }
+}
