@@ -1,2 +1,3 @@
 pub mod Posts
 pub mod ShortViews
+pub mod KeptPairs

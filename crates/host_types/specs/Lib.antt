@@ -7,3 +7,4 @@ pub mod Card
 pub mod Stops
 pub mod Keeping
 pub mod Front
+pub mod Kept

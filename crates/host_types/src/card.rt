@@ -158,7 +158,8 @@ pub const CHUNK: usize = 1000;
 
 /// At most so many bytes from the front.
 fn front_of(bytes: &[u8], most: usize) -> &[u8]
-    ensures { result.now ≡ take most bytes.now }
+    ensures front { result.now ≡ take most bytes.now }
+    ensures within { length result.now ≤ most }
 {
     if bytes.len() <= most {
         bytes
@@ -181,7 +182,8 @@ fn from_place(bytes: &[u8], start: usize) -> &[u8]
 /// Chunk k of some bytes, which is shorter at their end and empty behind it.
 #[tactic(auto, unfolding(crate::specs::Card::chunk_of))]
 pub fn chunk_of(bytes: &[u8], k: usize) -> &[u8]
-    ensures { result.now ≡ chunk_of bytes.now k }
+    ensures chunk { result.now ≡ chunk_of bytes.now k }
+    ensures within { length result.now ≤ 1000 }
 {
     match k.checked_mul(CHUNK) {
         Some(start) => front_of(from_place(bytes, start), CHUNK),

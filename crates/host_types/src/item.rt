@@ -1,6 +1,6 @@
 // Items of a site.
 ghost use Rattle.std.specs.Prelude.{◌≡◌, ◌<◌, ◌^◌, ◌-◌, IfOk};
-ghost use Rattle.host_types.specs.Site.{board_of, text_item};
+ghost use Rattle.host_types.specs.Site.{board_of, text_item, empty_menu};
 ghost use Rattle.host_types.specs.Change.{is_menu, is_moved, keeps_cap, body_put, item_put, moved_item, board_after};
 
 use crate::{
@@ -142,6 +142,18 @@ impl Item {
                 next: number + 1,
             },
         })
+    }
+
+    /// A menu without entries.
+    pub fn empty_menu(alloc: Global, title: Title, stamp: Stamp) -> Item
+        ensures { result ≡ empty_menu title stamp }
+    {
+        Item {
+            title,
+            stamp,
+            summary: Bytes::new(alloc),
+            body: Body::Menu(EntryList::new(alloc)),
+        }
     }
 
     /// A text document.

@@ -7,6 +7,7 @@ mod change;
 mod form;
 mod item;
 mod limits;
+mod mem_keeper;
 mod mem_site;
 mod menu;
 mod names;

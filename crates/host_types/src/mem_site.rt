@@ -1,12 +1,15 @@
 // A site in memory.
-ghost use Rattle.std.specs.Prelude.{◌≡◌, ◌≤◌, ◌<◌, ℕ, List, length, Some, None, Ok, Err, IfOk, OnOk, IfErr, OnErr, IsSome, MatchOption, IsTrue, nat_eq, codes, option_copied, is_some};
-ghost use Rattle.host_types.specs.Site.{Site, item_at, with_item, without_item, post_selector, board_at, posts_of, has_any, has_posts};
+ghost use Rattle.std.specs.Prelude.{◌≡◌, ◌≤◌, ◌<◌, ℕ, List, length, Some, None, Ok, Err, IfOk, OnOk, IfErr, OnErr, IsSome, IfSome, MatchOption, IsTrue, nat_eq, codes, option_copied, is_some};
+ghost use Rattle.host_types.specs.Site.{Site, item_at, with_item, without_item, post_selector, board_at, posts_of, has_any, has_posts, fresh_site};
 ghost use Rattle.host_types.specs.Change.{apply, put, remove, move_to, set_host, set_admin, post, oldest_post, without_any};
 ghost use Rattle.host_types.specs.Keeping.{IsMemoryFault};
-ghost use Rattle.host_types.specs.Card.{has_short_views};
+ghost use Rattle.host_types.specs.Card.{has_short_views, card_at, viewed_at};
+ghost use Rattle.host_types.specs.Front.{IsFront};
 
 use crate::item::keeps_cap;
-use crate::{Admin, Bytes, Change, Host, Item, Refused, Selector, SiteFault, Stamp, Title};
+use crate::{
+    Admin, Bytes, Card, Change, Front, Host, Item, Refused, Selector, SiteFault, Stamp, Title,
+};
 use std::alloc::{AllocError, Global};
 use std::collections::BTreeMap;
 use std::marker::Model;
@@ -14,6 +17,7 @@ use std::marker::Model;
 /// A site in memory.
 #[derive(Drop)]
 pub struct MemSite {
+    alloc: Global,
     items: BTreeMap<Selector, Item>,
     host: Host,
     port: u16,
@@ -21,15 +25,15 @@ pub struct MemSite {
 }
 
 impl Model for MemSite {
-    ghost use Rattle.std.specs.Prelude.{◌≤◌, length};
     ghost use Rattle.std.specs.List.{AllByRecursion};
     ghost use Rattle.host_types.specs.Site.{Site};
+    ghost use Rattle.host_types.specs.Kept.{IsKept};
 
     ghost Value = { Site };
 
     ghost view = { λ m. record { items = m.items.entries; host = m.host; port = m.port; admin = m.admin } };
 
-    ghost invariant = { λ m. AllByRecursion (λ e. length e.0 ≤ 255) m.items.entries };
+    ghost invariant = { λ m. AllByRecursion IsKept m.items.entries };
 }
 
 /// The bytes of a post's selector.
@@ -46,7 +50,7 @@ fn post_name(alloc: Global, board: &[u8], number: u64) -> Result<Vec<u8>, AllocE
 }
 
 /// The selector of a post, or none where it would have over 255 bytes.
-pub fn post_selector(
+fn post_selector(
     alloc: Global,
     board: &Selector,
     number: u64,
@@ -61,11 +65,38 @@ pub fn post_selector(
 }
 
 impl MemSite {
-    /// What stands at a selector.
-    pub fn item(&self, selector: &Selector) -> Option<&Item>
-        ensures { option_copied result ≡ item_at self.now selector.now }
+    /// A site of which only the top menu is there, without entries.
+    pub fn new(
+        alloc: Global,
+        host: Host,
+        port: u16,
+        admin: Admin,
+        title: Title,
+        stamp: Stamp,
+    ) -> Result<MemSite, AllocError>
+        requires { 0 < port }
+        ensures { IfOk result (λ m. m ≡ fresh_site host port admin title stamp) }
     {
-        self.items.get(selector)
+        let mut items = BTreeMap::new(alloc);
+        items.insert(Selector::root(), Item::empty_menu(alloc, title, stamp))?;
+        Ok(MemSite {
+            alloc,
+            items,
+            host,
+            port,
+            admin,
+        })
+    }
+
+    /// What stands at a selector.
+    fn item(&self, selector: &Selector) -> Option<&Item>
+        ensures item { option_copied result ≡ item_at self.now selector.now }
+        ensures short { IfSome result (λ item. IsTrue (has_short_views item.now.body)) }
+    {
+        match self.items.get(selector) {
+            Some(item) => Some(item),
+            None => None,
+        }
     }
 
     /// A selector of over 255 bytes has nothing.
@@ -73,6 +104,36 @@ impl MemSite {
         ensures { (q : List ℕ) → 255 < length q → item_at self.now q ≡ None }
     {
         let _items = &self.items;
+    }
+
+    /// The card of what stands at a selector.
+    pub(crate) fn card_at(&self, selector: &Selector) -> Result<Option<Card>, AllocError>
+        ensures { IfOk result (λ card. card ≡ card_at self.now selector.now) }
+    {
+        match self.item(selector) {
+            Some(item) => Ok(Some(item.card(self.alloc)?)),
+            None => Ok(None),
+        }
+    }
+
+    /// The bytes of a view of what stands at a selector.
+    pub(crate) fn viewed(&self, selector: &Selector, view: usize) -> &[u8]
+        ensures { result.now ≡ viewed_at self.now selector.now view }
+    {
+        match self.item(selector) {
+            Some(item) => item.body.viewed(view),
+            None => &[],
+        }
+    }
+
+    pub(crate) fn shown(&self) -> Front<'_>
+        ensures { IsFront result self.now }
+    {
+        Front {
+            host: &self.host,
+            port: self.port,
+            admin: &self.admin,
+        }
     }
 
     fn has_post(&self, alloc: Global, board: &Selector, number: u64) -> Result<bool, AllocError>
@@ -132,6 +193,7 @@ impl MemSite {
     }
 
     fn insert(&mut self, selector: Selector, item: Item) -> Result<(), SiteFault>
+        requires { IsTrue (has_short_views item.body) }
         ensures ok { OnOk result (self.new ≡ with_item self.old selector item) }
         ensures err { IfErr result (λ e. (e ≡ SiteFault.Memory) × (self.new ≡ self.old)) }
         ensures absent { OnErr result (item_at self.old selector ≡ None) }
@@ -149,7 +211,7 @@ impl MemSite {
 
     /// Takes an item away.
     #[tactic(auto, unfolding(crate::specs::Change::remove))]
-    pub fn remove(&mut self, alloc: Global, selector: &Selector) -> Result<(), SiteFault>
+    fn remove(&mut self, alloc: Global, selector: &Selector) -> Result<(), SiteFault>
         ensures done { OnOk result (remove self.old selector.now ≡ Ok self.new) }
         ensures kept { OnErr result (self.new ≡ self.old) }
         ensures refused { IfErr result (λ e. IsMemoryFault e (remove self.old selector.now)) }
@@ -169,7 +231,7 @@ impl MemSite {
 
     /// Puts an item at a selector.
     #[tactic(auto, unfolding(crate::specs::Change::put))]
-    pub fn put(
+    fn put(
         &mut self,
         alloc: Global,
         selector: Selector,
@@ -201,7 +263,8 @@ impl MemSite {
 
     /// Puts an item where one stands already.
     fn replace(&mut self, selector: Selector, item: Item)
-        requires { IsSome (item_at self.old selector) }
+        requires there { IsSome (item_at self.old selector) }
+        requires short { IsTrue (has_short_views item.body) }
         ensures { self.new ≡ with_item self.old selector item }
     {
         let _ = self.insert(selector, item);
@@ -215,7 +278,9 @@ impl MemSite {
         second: Selector,
         other: Item,
     ) -> Result<(), SiteFault>
-        requires { IsSome (item_at self.old second) }
+        requires there { IsSome (item_at self.old second) }
+        requires first_short { IsTrue (has_short_views item.body) }
+        requires second_short { IsTrue (has_short_views other.body) }
         ensures ok { OnOk result (self.new ≡ with_item (with_item self.old first item) second other) }
         ensures err { IfErr result (λ e. (e ≡ SiteFault.Memory) × (self.new ≡ self.old)) }
     {
@@ -226,7 +291,7 @@ impl MemSite {
 
     /// Moves an item, and leaves a note of where it went.
     #[tactic(auto, unfolding(crate::specs::Change::move_to))]
-    pub fn move_item(
+    fn move_item(
         &mut self,
         alloc: Global,
         from: &Selector,
@@ -264,7 +329,7 @@ impl MemSite {
         self.insert_two(to, copy, from, note)
     }
 
-    pub fn set_host(&mut self, host: Host, port: u16) -> Result<(), SiteFault>
+    fn set_host(&mut self, host: Host, port: u16) -> Result<(), SiteFault>
         ensures done { OnOk result (set_host self.old host port ≡ Ok self.new) }
         ensures kept { OnErr result (self.new ≡ self.old) }
         ensures refused { IfErr result (λ e. IsMemoryFault e (set_host self.old host port)) }
@@ -277,7 +342,7 @@ impl MemSite {
         Ok(())
     }
 
-    pub fn set_admin(&mut self, admin: Admin)
+    fn set_admin(&mut self, admin: Admin)
         ensures { set_admin self.old admin ≡ Ok self.new }
     {
         self.admin = admin;
@@ -285,7 +350,7 @@ impl MemSite {
 
     /// Stores a post, and lets the oldest go where the board is full.
     #[tactic(auto, unfolding(crate::specs::Change::post, crate::specs::Change::most_post_bytes))]
-    pub fn post(
+    fn post(
         &mut self,
         alloc: Global,
         board: &Selector,
@@ -349,11 +414,12 @@ impl MemSite {
     }
 
     /// Makes a change, or answers its first refusal.
-    pub fn change(&mut self, alloc: Global, change: Change, now: Stamp) -> Result<(), SiteFault>
+    pub(crate) fn make(&mut self, change: Change, now: Stamp) -> Result<(), SiteFault>
         ensures done { OnOk result (apply self.old change now ≡ Ok self.new) }
         ensures kept { OnErr result (self.new ≡ self.old) }
         ensures refused { IfErr result (λ e. IsMemoryFault e (apply self.old change now)) }
     {
+        let alloc = self.alloc;
         match change {
             Change::Put(selector, item) => self.put(alloc, selector, item, now),
             Change::Remove(selector) => self.remove(alloc, &selector),

@@ -1,0 +1,46 @@
+// A site in memory as a keeper: it is always honest, and nothing of it can fail but for want of memory.
+ghost use Rattle.std.specs.Prelude.{ℕ, true};
+ghost use Rattle.host_types.specs.Stops.{nothing, no_stop};
+
+use crate::card::chunk_of;
+use crate::{Card, Change, Front, MemSite, Selector, SiteFault, SiteKeeper, Stamp};
+
+impl SiteKeeper for MemSite {
+    ghost keeping = { λ m. record { site = m; honest = true; usable = true; failed_reads = 0; failed_writes = 0 } };
+
+    ghost Left = { ℕ };
+
+    ghost stands_for = { λ c s. ⊥ };
+
+    ghost stops = { λ m. nothing };
+
+    ghost settled = { λ m c honest usable left. no_stop left };
+
+    fn front(&self) -> Front<'_> {
+        self.shown()
+    }
+
+    fn is_usable(&self) -> bool {
+        true
+    }
+
+    fn card(&mut self, selector: &Selector) -> Result<Option<Card>, SiteFault> {
+        Ok(self.card_at(selector)?)
+    }
+
+    fn chunk(
+        &mut self,
+        selector: &Selector,
+        view: usize,
+        k: usize,
+        buffer: &mut [u8; 1000],
+    ) -> Result<usize, SiteFault> {
+        let chunk = chunk_of(self.viewed(selector, view), k);
+        buffer[..chunk.len()].copy_from_slice(chunk);
+        Ok(chunk.len())
+    }
+
+    fn change(&mut self, change: Change, now: Stamp) -> Result<(), SiteFault> {
+        self.make(change, now)
+    }
+}
