@@ -1,0 +1,100 @@
+// The fields of a request line, parted by TABs.
+ghost use Rattle.std.specs.Prelude.{◌≡◌, ◌∷◌, [], IsTrue, false, unwrap_or};
+ghost use Rattle.std.specs.List.{slice_split, before_first, after_first, list_any};
+ghost use Rattle.std.specs.Option.{option_copied};
+ghost use Rattle.host_types.specs.Items.{is_selector};
+ghost use Rattle.request_reader.specs.Lines.{is_lf};
+ghost use Rattle.request_reader.specs.RequestLine as spec;
+ghost use Rattle.request_reader.specs.RequestLine.{is_tab, fields, asked_by};
+ghost use Rattle.request_reader.specs.Seen.{asked_of};
+
+use crate::line::{first_of, has_barred};
+use crate::{Cause, Request};
+
+/// The first field, and what follows its TAB, where there is one.
+#[tactic(auto, using(crate::proofs::Ends::first_ends, crate::proofs::Ends::one_field))]
+fn first_field(line: &[u8]) -> (&[u8], Option<&[u8]>)
+    ensures first { result.0.now ≡ before_first is_tab line.now }
+    ensures rest { unwrap_or (option_copied result.1) [] ≡ after_first is_tab line.now }
+    ensures parts { slice_split is_tab line.now ≡ result.0.now ∷ fields (option_copied result.1) }
+{
+    let tab = first_of(b'\t', line);
+    if tab < line.len() {
+        (&line[..tab], Some(&line[tab + 1..]))
+    } else {
+        (line, None)
+    }
+}
+
+/// What is left without the empty fields at its end.
+#[tactic(auto, using(crate::proofs::Ends::tab_goes, crate::proofs::Ends::fields_stay))]
+fn without_empty_end(line: &[u8]) -> Option<&[u8]>
+    ensures { fields (option_copied result) ≡ spec.without_empty_end (slice_split is_tab line.now) }
+{
+    let mut left = line;
+    while let [front @ .., b'\t'] = left {
+        left = front;
+    }
+    if left.is_empty() { None } else { Some(left) }
+}
+
+/// What is left without an empty field at its front.
+fn without_empty_front(left: Option<&[u8]>) -> Option<&[u8]>
+    ensures { fields (option_copied result) ≡ spec.without_empty_front (fields (option_copied left.entry)) }
+{
+    let line = left?;
+    let (first, rest) = first_field(line);
+    if first.is_empty() { rest } else { left }
+}
+
+/// Whether the field is one of Gopher+.
+fn is_plus_field(field: &[u8]) -> bool
+    ensures { result ≡ spec.is_plus_field field.now }
+{
+    match field {
+        [b'+' | b'!' | b'$', ..] => true,
+        _ => false,
+    }
+}
+
+/// The request whose selector this is, where this is left behind it.
+#[tactic(auto, using(crate::proofs::Ends::further_field))]
+fn behind_selector<'a>(selector: &'a [u8], left: Option<&'a [u8]>) -> Result<Request<'a>, Cause>
+    requires lawful { IsTrue (is_selector selector.now) }
+    ensures { asked_of result ≡ spec.behind_selector selector.now (fields (option_copied left.entry)) }
+{
+    let Some(line) = left else {
+        return Ok(Request {
+            selector,
+            search: None,
+        });
+    };
+    let (words, others) = first_field(line);
+    if is_plus_field(words) {
+        return Err(Cause::NotUnderstood);
+    }
+    match others {
+        Some(_) => Err(Cause::NotUnderstood),
+        None => Ok(Request {
+            selector,
+            search: Some(words),
+        }),
+    }
+}
+
+/// What a request line says, without its LF and the CR before it.
+#[tactic(auto, using(crate::proofs::Names::first_lawful), unfolding(crate::specs::RequestLine::asked_by))]
+pub fn asked_by(line: &[u8]) -> Result<Request<'_>, Cause>
+    requires line { list_any is_lf line.now ≡ false }
+    ensures { asked_of result ≡ asked_by line.now }
+{
+    if has_barred(line) {
+        return Err(Cause::NotUnderstood);
+    }
+    let (selector, rest) = first_field(line);
+    if selector.len() > 255 {
+        return Err(Cause::TooLong);
+    }
+    let left = without_empty_end(rest.unwrap_or(&[]));
+    behind_selector(selector, without_empty_front(left))
+}

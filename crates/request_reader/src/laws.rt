@@ -1,0 +1,23 @@
+// What those who feed a reader rest on, as laws of the definitions.
+ghost use Rattle.request_reader.specs.Laws.{IsSettled, IsDecided, IsLawful, SaysTheWhole, SaysTheEnd};
+
+/// What a stream says is said whatever follows.
+pub fn settled()
+    ensures { IsSettled }
+{}
+
+/// At the end of input nothing is open.
+pub fn decided()
+    ensures { IsDecided }
+{}
+
+/// The selector of a whole request may name an item.
+pub fn lawful()
+    ensures { IsLawful }
+{}
+
+/// However a stream is cut into pieces, a reader of the pieces says what the stream says.
+pub fn any_cuts()
+    ensures open { SaysTheWhole }
+    ensures ended { SaysTheEnd }
+{}

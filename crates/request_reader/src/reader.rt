@@ -1,0 +1,135 @@
+// The reader that is fed by pieces.
+ghost use Rattle.std.specs.Prelude.{◌≡◌, ◌≤◌, true, IfOk, IfSome, take, vec_len};
+ghost use Rattle.std.specs.Option.{option_map};
+ghost use Rattle.request_reader.specs.Verdict.{is_open};
+ghost use Rattle.request_reader.specs.Heard.{Heard, said_by, silence, fed, finished, undone, unmarked};
+ghost use Rattle.request_reader.specs.Seen.{seen};
+
+use crate::Answer;
+use crate::stream::answer_to;
+use std::alloc::{AllocError, Global};
+use std::marker::Model;
+
+/// What was heard before the last call.
+#[derive(Clone, Copy)]
+struct Before {
+    length: usize,
+    ended: bool,
+}
+
+/// A request as it comes in, piece by piece. Once it is whole or none, what follows is ignored.
+#[derive(Drop)]
+pub struct Reader {
+    heard: Vec<u8>,
+    ended: bool,
+    before: Option<Before>,
+}
+
+impl Model for Reader {
+    ghost Value = { Heard };
+
+    ghost view = { λ r. record { input = record { bytes = r.heard.items; ended = r.ended }; before = option_map (λ b. record { bytes = take b.length r.heard.items; ended = b.ended }) r.before } };
+
+    ghost invariant = { λ r. IfSome r.before (λ b. b.length ≤ vec_len r.heard) };
+}
+
+impl Reader {
+    ghost use Rattle.std.specs.Borrow.{sem};
+    ghost use Rattle.request_reader.specs.Rests.{RestsFed, RestsFinished};
+
+    /// A reader that heard nothing. Takes no memory.
+    #[tactic(auto, unfolding(crate::specs::Verdict::verdict, crate::specs::Lines::first_line, crate::specs::Lines::front))]
+    pub fn new(alloc: Global) -> Self
+        ensures silent { result ≡ silence }
+        ensures open { is_open (said_by result.input) ≡ true }
+    {
+        Reader {
+            heard: Vec::new(alloc),
+            ended: false,
+            before: None,
+        }
+    }
+
+    /// What the stream so far says.
+    pub fn answer(&self) -> Answer<'_>
+        ensures { seen result ≡ said_by self.now.input }
+    {
+        answer_to(&self.heard, self.ended)
+    }
+
+    /// Whether the stream so far says nothing yet.
+    pub fn is_open(&self) -> bool
+        ensures { result ≡ is_open (said_by self.now.input) }
+    {
+        match self.answer() {
+            Answer::More => true,
+            _ => false,
+        }
+    }
+
+    /// Takes the next piece, while the stream says nothing yet, and says what the stream says then.
+    /// Without memory nothing is taken.
+    pub fn feed(&mut self, piece: &[u8]) -> Result<Answer<'_>, AllocError>
+        ensures* after { sem 𝓛 (RestsFed self.entry piece.now result) }
+        ensures said { IfOk result (λ a. seen a ≡ said_by (fed self.old piece.now).input) }
+    {
+        self.take_piece(piece)?;
+        Ok(self.answer())
+    }
+
+    /// Takes the end of the input, while the stream says nothing yet, and says what the stream says then.
+    /// Takes no memory.
+    pub fn finish(&mut self) -> Answer<'_>
+        ensures* after { sem 𝓛 (RestsFinished self.entry) }
+        ensures said { seen result ≡ said_by (finished self.old).input }
+    {
+        self.take_end();
+        self.answer()
+    }
+
+    /// Takes back what the call just before took. Takes no memory.
+    pub fn undo(&mut self)
+        ensures { self.new ≡ undone self.old }
+    {
+        if let Some(before) = self.before.take() {
+            self.heard.truncate(before.length);
+            self.ended = before.ended;
+        }
+    }
+}
+
+impl Reader {
+    ghost use Rattle.std.specs.Prelude.{OnOk, OnErr};
+
+    fn take_piece(&mut self, piece: &[u8]) -> Result<(), AllocError>
+        ensures ok { OnOk result (self.new ≡ fed self.old piece.now) }
+        ensures err { OnErr result (self.new ≡ unmarked self.old) }
+    {
+        let open = self.is_open();
+        self.before = None;
+        if !open {
+            return Ok(());
+        }
+        let length = self.heard.len();
+        self.heard.extend_from_slice(piece)?;
+        self.before = Some(Before {
+            length,
+            ended: self.ended,
+        });
+        Ok(())
+    }
+
+    fn take_end(&mut self)
+        ensures { self.new ≡ finished self.old }
+    {
+        let open = self.is_open();
+        self.before = None;
+        if open {
+            self.before = Some(Before {
+                length: self.heard.len(),
+                ended: self.ended,
+            });
+            self.ended = true;
+        }
+    }
+}

@@ -1,0 +1,12 @@
+pub mod Reply
+pub mod CardReply
+pub mod World
+pub mod Step
+pub mod Run
+pub mod Understood
+pub mod Outcomes
+pub mod Sessions
+pub mod Causes
+pub mod Hub
+pub mod Rooms
+pub mod Laws

@@ -1,0 +1,49 @@
+-- What the answers of the single calls are as outcomes of events.
+use Rattle.std.specs.Prelude.{ℕ, List, take, Result, Ok, Err}
+use Rattle.host_types.specs.declared.site_fault.SiteFault.{SiteFault}
+use Rattle.host_types.specs.declared.site_fault.SiteFault.TheVariants as faults
+use Rattle.session_core.specs.declared.event.Outcome.{Outcome}
+use Rattle.session_core.specs.declared.event.Outcome.TheVariants as outcomes
+use Rattle.session_core.specs.declared.fault.HubFault.{HubFault}
+use Rattle.session_core.specs.declared.fault.HubFault.TheVariants as hub
+use Rattle.session_core.specs.declared.answer.Heard.{Heard}
+use Rattle.session_core.specs.declared.answer.Heard.TheVariants as heard
+use Rattle.session_core.specs.declared.answer.Drawn.{Drawn}
+use Rattle.session_core.specs.declared.answer.Drawn.TheVariants as drawn
+
+abbrev pub join_outcome : Result ℕ HubFault → Outcome
+join_outcome (Ok id) = outcomes.Joined id
+join_outcome (Err fault) = outcomes.Fault fault
+
+abbrev pub heard_outcome : Heard → Outcome
+heard_outcome heard.More = outcomes.More
+heard_outcome heard.Ready = outcomes.Ready
+heard_outcome heard.Finished = outcomes.Finished
+
+abbrev pub bytes_outcome : Result Heard HubFault → Outcome
+bytes_outcome (Ok h) = heard_outcome h
+bytes_outcome (Err fault) = outcomes.Fault fault
+
+-- the bytes drawn are the first so many of the buffer
+abbrev pub drawn_outcome : Drawn → List ℕ → Outcome
+drawn_outcome (drawn.Bytes n) buffer = outcomes.Drawn (take n buffer)
+drawn_outcome drawn.Finished buffer = outcomes.Finished
+
+abbrev pub draw_outcome : Result Drawn HubFault → List ℕ → Outcome
+draw_outcome (Ok d) buffer = drawn_outcome d buffer
+draw_outcome (Err fault) buffer = outcomes.Fault fault
+
+abbrev pub leave_outcome : {T : Type 0} → Result T HubFault → Outcome
+leave_outcome (Ok _) = outcomes.Gone
+leave_outcome (Err fault) = outcomes.Fault fault
+
+abbrev pub admin_outcome : {T : Type 0} → Result T HubFault → Outcome
+admin_outcome (Ok _) = outcomes.Done
+admin_outcome (Err fault) = outcomes.Fault fault
+
+-- what a hub answers where its site has a fault
+abbrev pub fault_of : SiteFault → HubFault
+fault_of (faults.Refused refused) = hub.Refused refused
+fault_of faults.Read = hub.Broken
+fault_of faults.Failed = hub.Failed
+fault_of faults.Memory = hub.Memory

@@ -1,0 +1,58 @@
+-- Steps and runs of a hub, with the faults that may come in place of an answer.
+use Rattle.std.specs.Prelude.{◌≡◌, ◌⊎◌, Bool, true, false, List, [], ◌∷◌, Option, Some, IsTrue, is_ok}
+use Rattle.host_types.specs.Change.{apply}
+use Rattle.session_core.specs.World.{World, Phase, Heard, phase_of}
+use Rattle.session_core.specs.Step.{step}
+use Rattle.session_core.specs.declared.event.Event.{Event}
+use Rattle.session_core.specs.declared.event.Event.TheVariants.{Bytes, End, Admin}
+use Rattle.session_core.specs.declared.event.Outcome.{Outcome}
+use Rattle.session_core.specs.declared.event.Outcome.TheVariants.{Fault}
+use Rattle.session_core.specs.declared.fault.HubFault.{HubFault}
+use Rattle.session_core.specs.declared.fault.HubFault.TheVariants.{Broken, Failed, Memory}
+
+abbrev pub is_hearing : Option Phase → Bool
+is_hearing (Some (Heard stream)) = true
+is_hearing phase = false
+
+-- The event may want memory, and may read what is stored: while a session hears, or where the administrator changes the site.
+abbrev pub may_work : World → Event → Bool
+may_work w (Bytes id piece now) = is_hearing (phase_of w id)
+may_work w (End id now) = is_hearing (phase_of w id)
+may_work w (Admin change now) = true
+may_work w e = false
+
+-- The event has a change to make.
+abbrev pub has_change : World → Event → Bool
+has_change w (Admin change now) = is_ok (apply w.site change now)
+has_change w e = false
+
+-- The fault may come in place of the answer.
+abbrev pub may_come : World → Event → HubFault → Bool
+may_come w e Memory = may_work w e
+may_come w e Broken = may_work w e
+may_come w e Failed = has_change w e
+may_come w e fault = false
+
+-- All is as before, but for the mark of a first failure.
+abbrev pub IsFaulty : World → Event → Outcome → World → Type 0
+IsFaulty old e (Fault Failed) new = IsTrue (may_come old e Failed) × (new ≡ record old { failed = true })
+IsFaulty old e (Fault fault) new = IsTrue (may_come old e fault) × (new ≡ old)
+IsFaulty old e outcome new = ⊥
+
+abbrev pub IsAnswer : World → Event → Outcome → World → Type 0
+IsAnswer old e outcome new = (outcome ≡ (step old e).outcome) × (new ≡ (step old e).world)
+
+abbrev pub StepBy : Bool → World → Event → Outcome → World → Type 0
+StepBy true old e outcome new = IsAnswer old e outcome new
+StepBy false old e outcome new = IsAnswer old e outcome new ⊎ IsFaulty old e outcome new
+
+-- The event may be answered so, and this is the world after it.
+abbrev pub Step : World → Event → Outcome → World → Type 0
+Step old e outcome new = StepBy old.failed old e outcome new
+
+-- one event after another
+abbrev pub Run : World → List Event → List Outcome → World → Type 0
+Run old [] [] new = new ≡ old
+Run old (e ∷ events) (o ∷ outcomes) new = (mid : World) × Step old e o mid × Run mid events outcomes new
+Run old [] (o ∷ outcomes) new = ⊥
+Run old (e ∷ events) [] new = ⊥

@@ -1,0 +1,95 @@
+-- One event: what the protocol answers, and the world after it.
+use Rattle.std.specs.Prelude.{ℕ, ◌+◌, ◌-◌, ◌^◌, true, false, List, [], ◌∷◌, ◌++◌, Option, Some, None, Result, Ok, Err, if◌then◌else◌, ◌==◌, nat_le, length, take, drop}
+use Rattle.host_types.specs.Site.{Site}
+use Rattle.host_types.specs.Change.{apply}
+use Rattle.host_types.specs.declared.refused.Refused.{Refused}
+use Rattle.request_reader.specs.Verdict.{Verdict, Open, Early as EndedEarly, Whole, Bad, verdict}
+use Rattle.session_core.specs.Reply.{reply, bad_reply}
+use Rattle.session_core.specs.World.{World, Phase, Heard, Reply, Early, phase_of, with_phase, with_site, without_session}
+use Rattle.session_core.specs.declared.event.Event.{Event}
+use Rattle.session_core.specs.declared.event.Event.TheVariants.{Join, Bytes, End, Draw, Leave, Admin}
+use Rattle.session_core.specs.declared.event.Outcome.{Outcome}
+use Rattle.session_core.specs.declared.event.Outcome.TheVariants.{Joined, More, Ready, Finished, Drawn, Gone, Done, Fault}
+use Rattle.session_core.specs.declared.fault.HubFault.TheVariants.{Unknown, Crowded, Spent, Refused as RefusedBy, Failed, NotReady}
+
+-- ---- one session
+
+-- What a session answers, and the phase that it is in then.
+pub record Said : Type 0 where
+  pub outcome : Outcome
+  pub phase : Phase
+
+abbrev pub says : Outcome → Phase → Said
+says outcome phase = record { outcome = outcome; phase = phase }
+
+-- by what its input so far says
+abbrev pub understood : Site → List ℕ → Verdict → Said
+understood site stream Open = says More (Heard stream)
+understood site stream EndedEarly = says Finished Early
+understood site stream (Whole request) = says Ready (Reply (reply site request))
+understood site stream (Bad cause) = says Ready (Reply (bad_reply cause))
+
+-- a piece of input
+abbrev pub listens : Site → List ℕ → Phase → Said
+listens site piece (Heard stream) = understood site (stream ++ piece) (verdict (stream ++ piece) false)
+listens site piece (Reply rest) = says Ready (Reply rest)
+listens site piece Early = says Finished Early
+
+-- the end of input
+abbrev pub ends : Site → Phase → Said
+ends site (Heard stream) = understood site stream (verdict stream true)
+ends site (Reply rest) = says Ready (Reply rest)
+ends site Early = says Finished Early
+
+-- the next bytes of a reply, as many as there are and fit
+abbrev pub draws : ℕ → Phase → Said
+draws room (Heard stream) = says (Fault NotReady) (Heard stream)
+draws room Early = says Finished Early
+draws room (Reply []) = says Finished (Reply [])
+draws room (Reply (b ∷ rest)) = says (Drawn (take room (b ∷ rest))) (Reply (drop room (b ∷ rest)))
+
+-- ---- the world
+
+-- An answer and the world after it.
+pub record Next : Type 0 where
+  pub outcome : Outcome
+  pub world : World
+
+abbrev pub then_is : Outcome → World → Next
+then_is outcome world = record { outcome = outcome; world = world }
+
+-- The greatest number of 64 bits is never given, and 32 sessions are the most.
+unfoldable pub joined : World → Next
+joined w =
+    if nat_le 32 (length w.sessions) then then_is (Fault Crowded) w
+    else if w.next == 2 ^ 64 - 1 then then_is (Fault Spent) w
+    else then_is (Joined w.next) (record w { next = w.next + 1; sessions = w.sessions ++ (w.next, Heard []) ∷ [] })
+
+-- what a session says, where there is one
+abbrev pub at_session : World → ℕ → (Phase → Said) → Option Phase → Next
+at_session w id f None = then_is (Fault Unknown) w
+at_session w id f (Some phase) = then_is (f phase).outcome (with_phase w id (f phase).phase)
+
+abbrev pub left : World → ℕ → Option Phase → Next
+left w id None = then_is (Fault Unknown) w
+left w id (Some phase) = then_is Gone (without_session w id)
+
+abbrev pub changed : World → Result Site Refused → Next
+changed w (Ok site) = then_is Done (with_site w site)
+changed w (Err refused) = then_is (Fault (RefusedBy refused)) w
+
+abbrev pub answer : World → Event → Next
+answer w Join = joined w
+answer w (Bytes id piece now) = at_session w id (listens w.site piece) (phase_of w id)
+answer w (End id now) = at_session w id (ends w.site) (phase_of w id)
+answer w (Draw id room) = at_session w id (draws room) (phase_of w id)
+answer w (Leave id) = left w id (phase_of w id)
+answer w (Admin change now) = changed w (apply w.site change now)
+
+-- a hub that has failed lets sessions leave and does no more
+abbrev pub failed_answer : World → Event → Next
+failed_answer w (Leave id) = left w id (phase_of w id)
+failed_answer w e = then_is (Fault Failed) w
+
+abbrev pub step : World → Event → Next
+step w e = if w.failed then failed_answer w e else answer w e

@@ -1,0 +1,48 @@
+// Faults of a hub.
+ghost use Rattle.std.specs.Prelude.{◌≡◌};
+ghost use Rattle.session_core.specs.Outcomes.{fault_of};
+
+use host_types::{Refused, SiteFault};
+use thiserror::Error;
+
+/// Why a hub does not do what it was asked.
+#[derive(Clone, Copy, Debug, PartialEq, Eq, Error)]
+pub enum HubFault {
+    /// No session has the number.
+    #[error("Unknown")]
+    Unknown,
+    /// 32 sessions are there.
+    #[error("Crowded")]
+    Crowded,
+    /// The greatest number would be next.
+    #[error("Spent")]
+    Spent,
+    /// The change is not lawful on the site as it stands.
+    #[error("{0}")]
+    Refused(Refused),
+    /// A read of what the site is kept on failed in this call.
+    #[error("Broken")]
+    Broken,
+    /// A write or a sync failed, in this call or before.
+    #[error("Failed")]
+    Failed,
+    #[error("Memory")]
+    Memory,
+    /// The reply isn't made yet.
+    #[error("NotReady")]
+    NotReady,
+}
+
+impl HubFault {
+    /// What a fault of the site is to those who ask the hub.
+    pub(crate) fn of_site(fault: SiteFault) -> Self
+        ensures { result ≡ fault_of fault }
+    {
+        match fault {
+            SiteFault::Refused(refused) => HubFault::Refused(refused),
+            SiteFault::Read => HubFault::Broken,
+            SiteFault::Failed => HubFault::Failed,
+            SiteFault::Memory => HubFault::Memory,
+        }
+    }
+}

@@ -1,0 +1,191 @@
+// The hub: all sessions over one site.
+ghost use Rattle.std.specs.Prelude.{ℕ, List, Some, IsOk, ◌≡◌, ◌≤◌, ◌<◌, ◌==◌, true, length, OnErr, IfOk, IfErr, IfSome, IsTrue, vec_len, vec_capacity};
+ghost use Rattle.std.specs.List.{position};
+
+use crate::phase::{draw, hear, hear_end, new_phase};
+use crate::session::Session;
+use crate::{Drawn, Heard, HubFault};
+use host_types::{Change, SiteKeeper, Stamp};
+use std::alloc::Global;
+
+/// How many sessions may be there at one time.
+pub const MOST_SESSIONS: usize = 32;
+
+/// Sessions over one site. One call is one event of the world.
+///
+/// Whatever speaks of the site holds where what it is kept on is honest.
+pub struct Hub<S: SiteKeeper> {
+    alloc: Global,
+    site: S,
+    next: u64,
+    sessions: Vec<Session>,
+    ghost room: { 32 ≤ vec_capacity sessions },
+    ghost few: { vec_len sessions ≤ 32 },
+}
+
+/// The place of a session.
+fn place_in(sessions: &[Session], id: u64) -> Option<usize>
+    ensures place { result ≡ position (λ s. s.id == id) sessions.now }
+    ensures within { IfSome result (λ at. at < length sessions.now) }
+{
+    sessions.iter().position(|session| session.id == id)
+}
+
+impl<S: SiteKeeper> Hub<S> {
+    ghost use Rattle.session_core.specs.World.{Reply, started, phase_of};
+    ghost use Rattle.session_core.specs.Run.{Step};
+    ghost use Rattle.session_core.specs.Outcomes.{join_outcome, bytes_outcome, draw_outcome, leave_outcome, admin_outcome};
+    ghost use Rattle.session_core.specs.Hub.{keeper_of, seats_of, world_of};
+    ghost use Rattle.session_core.specs.declared.event.Event.TheVariants.{Join, Bytes, End, Draw, Leave, Admin};
+    ghost use Rattle.session_core.specs.Causes.{IsHeardCause, IsAdminCause, IsAsBefore};
+    ghost use Rattle.session_core.specs.declared.fault.HubFault.TheVariants.{Memory};
+
+    /// A hub without sessions, whose first has this number. It makes room for all sessions, or hands the site back with `Memory`.
+    pub fn new(alloc: Global, site: S, first: u64) -> Result<Hub<S>, (HubFault, S)>
+        requires { (S.keeping site).usable ≡ true }
+        ensures keeper { IfOk result (λ hub. keeper_of hub ≡ site) }
+        ensures world { IfOk result (λ hub. world_of S.keeping hub ≡ started (S.keeping site).site first) }
+        ensures err { IfErr result (λ e. (e.0 ≡ Memory) × (e.1 ≡ site)) }
+    {
+        match Vec::with_capacity(alloc, MOST_SESSIONS) {
+            Ok(sessions) => Ok(Hub {
+                alloc,
+                site,
+                next: first,
+                sessions,
+            }),
+            Err(_) => Err((HubFault::Memory, site)),
+        }
+    }
+
+    /// A new session's number. It takes no memory.
+    pub fn join(&mut self) -> Result<u64, HubFault>
+        ensures step { Step (world_of S.keeping self.old) Join (join_outcome result) (world_of S.keeping self.new) }
+        ensures as_before { IfErr result (λ e. IsAsBefore e (world_of S.keeping self.old) (world_of S.keeping self.new)) }
+        ensures keeper { keeper_of self.new ≡ keeper_of self.old }
+    {
+        if !self.site.is_usable() {
+            return Err(HubFault::Failed);
+        }
+        if self.sessions.len() >= MOST_SESSIONS {
+            return Err(HubFault::Crowded);
+        }
+        if self.next == u64::MAX {
+            return Err(HubFault::Spent);
+        }
+        let id = self.next;
+        let phase = new_phase(self.alloc);
+        self.sessions.push(Session { id, phase }).unwrap();
+        self.next += 1;
+        Ok(id)
+    }
+
+    /// A piece of a session's input.
+    pub fn bytes(&mut self, id: u64, piece: &[u8], now: Stamp) -> Result<Heard, HubFault>
+        ensures step { IsTrue (S.keeping (keeper_of self.old)).honest → Step (world_of S.keeping self.old) (Bytes id piece.now now) (bytes_outcome result) (world_of S.keeping self.new) }
+        ensures as_before { IsTrue (S.keeping (keeper_of self.old)).honest → IfErr result (λ e. IsAsBefore e (world_of S.keeping self.old) (world_of S.keeping self.new)) }
+        ensures cause { IfErr result (IsHeardCause (S.keeping (keeper_of self.old)) (S.keeping (keeper_of self.new))) }
+        ensures kept { OnErr result (seats_of self.new ≡ seats_of self.old) }
+        ensures honest { (S.keeping (keeper_of self.new)).honest ≡ (S.keeping (keeper_of self.old)).honest }
+    {
+        let _ = now;
+        if !self.site.is_usable() {
+            return Err(HubFault::Failed);
+        }
+        let Some(at) = place_in(&self.sessions, id) else {
+            return Err(HubFault::Unknown);
+        };
+        let session = &mut self.sessions[at];
+        hear(self.alloc, &mut self.site, &mut session.phase, piece)
+    }
+
+    /// The end of a session's input.
+    pub fn end(&mut self, id: u64, now: Stamp) -> Result<Heard, HubFault>
+        ensures step { IsTrue (S.keeping (keeper_of self.old)).honest → Step (world_of S.keeping self.old) (End id now) (bytes_outcome result) (world_of S.keeping self.new) }
+        ensures as_before { IsTrue (S.keeping (keeper_of self.old)).honest → IfErr result (λ e. IsAsBefore e (world_of S.keeping self.old) (world_of S.keeping self.new)) }
+        ensures cause { IfErr result (IsHeardCause (S.keeping (keeper_of self.old)) (S.keeping (keeper_of self.new))) }
+        ensures kept { OnErr result (seats_of self.new ≡ seats_of self.old) }
+        ensures honest { (S.keeping (keeper_of self.new)).honest ≡ (S.keeping (keeper_of self.old)).honest }
+    {
+        let _ = now;
+        if !self.site.is_usable() {
+            return Err(HubFault::Failed);
+        }
+        let Some(at) = place_in(&self.sessions, id) else {
+            return Err(HubFault::Unknown);
+        };
+        let session = &mut self.sessions[at];
+        hear_end(self.alloc, &mut self.site, &mut session.phase)
+    }
+
+    /// The next bytes of a session's reply, as many as there are and fit. It takes no memory.
+    pub fn draw(&mut self, id: u64, out: &mut [u8]) -> Result<Drawn, HubFault>
+        ensures step { Step (world_of S.keeping self.old) (Draw id (length out.old)) (draw_outcome result out.new) (world_of S.keeping self.new) }
+        ensures reply { (rest : List ℕ) → phase_of (world_of S.keeping self.old) id ≡ Some (Reply rest) → (S.keeping (keeper_of self.old)).usable ≡ true → IsOk result }
+        ensures as_before { IfErr result (λ e. IsAsBefore e (world_of S.keeping self.old) (world_of S.keeping self.new)) }
+        ensures keeper { keeper_of self.new ≡ keeper_of self.old }
+    {
+        if !self.site.is_usable() {
+            return Err(HubFault::Failed);
+        }
+        let Some(at) = place_in(&self.sessions, id) else {
+            return Err(HubFault::Unknown);
+        };
+        let session = &mut self.sessions[at];
+        draw(&mut session.phase, out)
+    }
+
+    /// The session is gone. It takes no memory, and answers in a hub that has failed too.
+    pub fn leave(&mut self, id: u64) -> Result<(), HubFault>
+        ensures step { Step (world_of S.keeping self.old) (Leave id) (leave_outcome result) (world_of S.keeping self.new) }
+        ensures as_before { IfErr result (λ e. IsAsBefore e (world_of S.keeping self.old) (world_of S.keeping self.new)) }
+        ensures keeper { keeper_of self.new ≡ keeper_of self.old }
+    {
+        let Some(at) = place_in(&self.sessions, id) else {
+            return Err(HubFault::Unknown);
+        };
+        let _ = self.sessions.remove(at);
+        Ok(())
+    }
+
+    /// A change that the administrator asks for.
+    pub fn admin(&mut self, change: Change, now: Stamp) -> Result<(), HubFault>
+        ensures step { IsTrue (S.keeping (keeper_of self.old)).honest → Step (world_of S.keeping self.old) (Admin change now) (admin_outcome result) (world_of S.keeping self.new) }
+        ensures as_before { IsTrue (S.keeping (keeper_of self.old)).honest → IfErr result (λ e. IsAsBefore e (world_of S.keeping self.old) (world_of S.keeping self.new)) }
+        ensures cause { IfErr result (IsAdminCause (S.keeping (keeper_of self.old)) (S.keeping (keeper_of self.new))) }
+        ensures kept { seats_of self.new ≡ seats_of self.old }
+        ensures honest { (S.keeping (keeper_of self.new)).honest ≡ (S.keeping (keeper_of self.old)).honest }
+    {
+        if !self.site.is_usable() {
+            return Err(HubFault::Failed);
+        }
+        match self.site.change(change, now) {
+            Ok(()) => Ok(()),
+            Err(fault) => Err(HubFault::of_site(fault)),
+        }
+    }
+
+    /// Whether no write or sync has failed.
+    pub(crate) fn is_usable(&self) -> bool
+        ensures { result ≡ (S.keeping (keeper_of self.now)).usable }
+    {
+        self.site.is_usable()
+    }
+
+    pub(crate) fn alloc(&self) -> Global {
+        self.alloc
+    }
+
+    /// Ends the hub with all its sessions, and hands its site back. It takes no memory.
+    pub fn close(self) -> S
+        ensures { result ≡ keeper_of self }
+    {
+        let Hub {
+            alloc: _,
+            site,
+            next: _,
+            sessions: _,
+        } = self;
+        site
+    }
+}

@@ -1,0 +1,7 @@
+// What sessions rest on, as a law of the definitions.
+ghost use Rattle.session_core.specs.Laws.{Continues};
+
+/// What a session draws goes on from where it stood, whatever other sessions and the administrator do.
+pub fn continues()
+    ensures { Continues }
+{}

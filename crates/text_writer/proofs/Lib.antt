@@ -1,0 +1,2 @@
+pub mod ClientReads
+pub mod Joins

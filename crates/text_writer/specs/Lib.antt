@@ -1,0 +1,4 @@
+pub mod Errors
+pub mod Examples
+pub mod Place
+pub mod Text

@@ -1,0 +1,27 @@
+-- Text in one pass over a body. What a byte gives depends on its place in its line alone.
+use Rattle.std.specs.Prelude.{ℕ, true, false, List, [], ◌∷◌, ◌==◌, ◌&&◌, if◌then◌else◌}
+use Rattle.text_writer.specs.Text.{text_end}
+use Rattle.text_writer.specs.declared.place.Place.{Place}
+
+-- what one byte gives
+abbrev pub emitted : Place → ℕ → List ℕ
+emitted p b =
+    if b == 10 then 13 ∷ 10 ∷ []
+    else if b == 13 then (if p.held then 13 ∷ [] else [])
+    else if p.held then 13 ∷ b ∷ []
+    else if p.at_start && b == 46 then 46 ∷ 46 ∷ []
+    else b ∷ []
+
+-- where the line is after it
+abbrev pub after : Place → ℕ → Place
+after p b =
+    if b == 10 then record { at_start = true; held = false }
+    else if b == 13 then record { at_start = (if p.held then false else p.at_start); held = true }
+    else record { at_start = false; held = false }
+
+-- what the end of the body gives
+abbrev pub closing : Place → List ℕ
+closing p =
+    if p.held then 13 ∷ 13 ∷ 10 ∷ text_end
+    else if p.at_start then text_end
+    else 13 ∷ 10 ∷ text_end
