@@ -28,7 +28,7 @@ abbrev pub without_empty_end : List (List ℕ) → List (List ℕ)
 without_empty_end [] = []
 without_empty_end (f ∷ others) = before_fields f (without_empty_end others)
 
--- the fields without an empty one at the front
+-- the fields without one empty field at the front
 abbrev pub without_empty_front : List (List ℕ) → List (List ℕ)
 without_empty_front [] = []
 without_empty_front ([] ∷ others) = others
@@ -43,10 +43,12 @@ abbrev pub is_plus_field : List ℕ → Bool
 is_plus_field [] = false
 is_plus_field (b ∷ bs) = b == 43 || b == 33 || b == 36
 
+-- no field may follow the search words
 abbrev pub behind_words : List ℕ → List ℕ → List (List ℕ) → Result Request Cause
 behind_words selector words [] = Ok (record { selector = selector; search = Some words })
 behind_words selector words (f ∷ others) = Err NotUnderstood
 
+-- search words may follow the selector, and no field of Gopher+
 abbrev pub behind_selector : List ℕ → List (List ℕ) → Result Request Cause
 behind_selector selector [] = Ok (record { selector = selector; search = None })
 behind_selector selector (f ∷ others) = if is_plus_field f then Err NotUnderstood else behind_words selector f others

@@ -11,6 +11,9 @@ ghost use Rattle.request_reader.specs.Seen.{asked_of};
 use crate::line::{first_of, has_barred};
 use crate::{Cause, Request};
 
+/// The greatest length of a selector in bytes.
+const LONGEST_SELECTOR: usize = 255;
+
 /// The first field, and what follows its TAB, where there is one.
 #[tactic(auto, using(crate::proofs::Ends::first_ends, crate::proofs::Ends::one_field))]
 fn first_field(line: &[u8]) -> (&[u8], Option<&[u8]>)
@@ -92,7 +95,7 @@ pub fn asked_by(line: &[u8]) -> Result<Request<'_>, Cause>
         return Err(Cause::NotUnderstood);
     }
     let (selector, rest) = first_field(line);
-    if selector.len() > 255 {
+    if selector.len() > LONGEST_SELECTOR {
         return Err(Cause::TooLong);
     }
     let left = without_empty_end(rest.unwrap_or(&[]));

@@ -1,5 +1,5 @@
 // The reader that is fed by pieces.
-ghost use Rattle.std.specs.Prelude.{◌≡◌, ◌≤◌, true, IfOk, IfSome, take, vec_len};
+ghost use Rattle.std.specs.Prelude.{◌≡◌, ◌≤◌, true, false, IfOk, IsOk, IfSome, take, vec_len};
 ghost use Rattle.std.specs.Option.{option_map};
 ghost use Rattle.request_reader.specs.Verdict.{is_open};
 ghost use Rattle.request_reader.specs.Heard.{Heard, said_by, silence, fed, finished, undone, unmarked};
@@ -17,7 +17,8 @@ struct Before {
     ended: bool,
 }
 
-/// A request as it comes in, piece by piece. Once it is whole or none, what follows is ignored.
+/// A request as it comes in, piece by piece. Once the stream says something, what follows is ignored
+/// and the answer stays.
 #[derive(Drop)]
 pub struct Reader {
     heard: Vec<u8>,
@@ -68,10 +69,11 @@ impl Reader {
     }
 
     /// Takes the next piece, while the stream says nothing yet, and says what the stream says then.
-    /// Without memory nothing is taken.
+    /// Without memory nothing is taken. A piece that is ignored takes no memory.
     pub fn feed(&mut self, piece: &[u8]) -> Result<Answer<'_>, AllocError>
         ensures* after { sem 𝓛 (RestsFed self.entry piece.now result) }
         ensures said { IfOk result (λ a. seen a ≡ said_by (fed self.old piece.now).input) }
+        ensures ignored { is_open (said_by self.old.input) ≡ false → IsOk result }
     {
         self.take_piece(piece)?;
         Ok(self.answer())
@@ -104,6 +106,7 @@ impl Reader {
     fn take_piece(&mut self, piece: &[u8]) -> Result<(), AllocError>
         ensures ok { OnOk result (self.new ≡ fed self.old piece.now) }
         ensures err { OnErr result (self.new ≡ unmarked self.old) }
+        ensures ignored { is_open (said_by self.old.input) ≡ false → IsOk result }
     {
         let open = self.is_open();
         self.before = None;

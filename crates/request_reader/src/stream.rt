@@ -8,15 +8,18 @@ use crate::fields::asked_by;
 use crate::line::{first_of, without_cr};
 use crate::{Answer, Cause};
 
+/// The greatest length of a line in bytes, a CR counted and the LF not.
+const LONGEST_LINE: usize = 1024;
+
 /// The bytes among which the LF of the request line has to be.
 #[tactic(auto, using(crate::proofs::Growing::front_whole), unfolding(crate::specs::Lines::front))]
 fn front(stream: &[u8]) -> &[u8]
     ensures { result.now ≡ lines.front stream.now }
 {
-    if stream.len() < 1025 {
+    if stream.len() <= LONGEST_LINE {
         stream
     } else {
-        &stream[..1025]
+        &stream[..LONGEST_LINE + 1]
     }
 }
 
@@ -33,7 +36,7 @@ pub fn answer_to(stream: &[u8], ended: bool) -> Answer<'_>
             Err(cause) => Answer::Bad(cause),
         };
     }
-    if stream.len() > 1024 {
+    if stream.len() > LONGEST_LINE {
         return Answer::Bad(Cause::TooLong);
     }
     if ended { Answer::Early } else { Answer::More }

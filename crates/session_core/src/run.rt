@@ -35,7 +35,7 @@ fn heard(answer: Result<Heard, HubFault>) -> Outcome
 }
 
 impl<S: SiteKeeper> Hub<S> {
-    ghost use Rattle.std.specs.Prelude.{OnErr, IsTrue};
+    ghost use Rattle.std.specs.Prelude.{OnErr, IsTrue, length};
     ghost use Rattle.session_core.specs.Run.{Step, Run};
     ghost use Rattle.session_core.specs.Hub.{keeper_of, world_of};
     ghost use Rattle.session_core.specs.declared.event.Event.TheVariants as events;
@@ -98,6 +98,7 @@ impl<S: SiteKeeper> Hub<S> {
     /// Events in order, with one outcome for each. `Memory` comes before the first event, or as an event's own fault.
     pub fn run(&mut self, events: &[Event]) -> Result<OutcomeList, AllocError>
         ensures run { IsTrue (S.keeping (keeper_of self.old)).honest → IfOk result (λ outcomes. Run (world_of S.keeping self.old) events.now outcomes (world_of S.keeping self.new)) }
+        ensures each { IfOk result (λ outcomes. length outcomes ≡ length events.now) }
         ensures honest { (S.keeping (keeper_of self.new)).honest ≡ (S.keeping (keeper_of self.old)).honest }
         ensures err { OnErr result (self.new ≡ self.old) }
     {

@@ -1,0 +1,71 @@
+//! A host of a Gopher site, as a program.
+#![tactic(auto)]
+
+mod ask;
+mod fault;
+mod printed;
+mod replay;
+mod script;
+mod site;
+#[cfg(test)]
+mod tests;
+mod words;
+
+use fault::Fault;
+use replay::replay;
+use session_core::Hub;
+use site::small_site;
+use std::io;
+use std::io::{BufWriter, Write};
+use std::process::ExitCode;
+use words::Task;
+
+/// A script on standard input over a site in memory. What was printed before a fault stays printed.
+fn replay_in_memory(rt: &HostRuntime) -> Result<(), Fault> {
+    let alloc = rt.alloc();
+    let Ok(site) = small_site(alloc) else {
+        return Err(Fault::Memory);
+    };
+    let Ok(mut writer) = BufWriter::new(alloc, io::writer(rt)) else {
+        return Err(Fault::Memory);
+    };
+    let Ok(mut hub) = Hub::new(alloc, site, 1) else {
+        return Err(Fault::Memory);
+    };
+    let ended = replay(alloc, &mut rt.reader(), &mut writer, &mut hub);
+    let written = writer.flush();
+    let _ = hub.close();
+    ended?;
+    match written {
+        Ok(()) => Ok(()),
+        Err(_) => Err(Fault::Output),
+    }
+}
+
+fn run(rt: &HostRuntime, task: Task) -> io::Result<ExitCode> {
+    let ended = match task {
+        Task::Replay => replay_in_memory(rt),
+    };
+    match ended {
+        Ok(()) => Ok(ExitCode::SUCCESS),
+        Err(fault) => {
+            eprintln!(rt; "{fault}")?;
+            Ok(ExitCode::FAILURE)
+        }
+    }
+}
+
+fn main(rt: HostRuntime) -> io::Result<ExitCode> {
+    let words: Vec<String> = std::env::args(&rt)?.collect(rt.alloc())?;
+    match words::read(rt.alloc(), words.as_slice()) {
+        Ok(task) => run(&rt, task),
+        Err(error) => {
+            error.print(&rt)?;
+            Ok(if error.exit_code() == 0 {
+                ExitCode::SUCCESS
+            } else {
+                ExitCode::from(2)
+            })
+        }
+    }
+}

@@ -1,0 +1,34 @@
+// Answers as the program prints them.
+ghost use Rattle.std.specs.Prelude.{◌≡◌, IfOk};
+ghost use Rattle.std.specs.String.{string_bytes};
+ghost use Rattle.gopher_host.specs.Printed.{shown, IsLineOf};
+
+use bstr::ByteSlice;
+use session_core::Outcome;
+use std::alloc::{AllocError, Global};
+
+/// The bytes with escapes for all but printable ASCII and whole characters of more bytes. A space is `\x20`.
+pub fn escaped(alloc: Global, bytes: &[u8]) -> Result<String, AllocError>
+    ensures { IfOk result (λ t. string_bytes t ≡ shown bytes.now) }
+{
+    bytes.escape_bytes().to_string(alloc)
+}
+
+/// The line of an outcome, without its LF.
+pub fn line_of(alloc: Global, outcome: &Outcome) -> Result<String, AllocError>
+    ensures { IfOk result (λ t. IsLineOf outcome.now (string_bytes t)) }
+{
+    match outcome {
+        Outcome::Joined(id) => format!(in alloc; "id {id}"),
+        Outcome::More => String::from_str(alloc, "more"),
+        Outcome::Ready => String::from_str(alloc, "ready"),
+        Outcome::Finished => String::from_str(alloc, "finished"),
+        Outcome::Drawn(bytes) => {
+            let mut line = String::from_str(alloc, "drawn ")?;
+            line.push_str(&escaped(alloc, bytes.as_slice())?)?;
+            Ok(line)
+        }
+        Outcome::Gone | Outcome::Done => String::from_str(alloc, "ok"),
+        Outcome::Fault(fault) => format!(in alloc; "fault {fault}"),
+    }
+}

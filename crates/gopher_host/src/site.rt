@@ -1,0 +1,22 @@
+// The site of a script that names no image.
+ghost use Rattle.std.specs.Prelude.{◌≡◌, IfOk, codes};
+ghost use Rattle.host_types.specs.Site.{fresh_site};
+
+use host_types::{Admin, Host, MemSite, Stamp, Title};
+use std::alloc::{AllocError, Global};
+
+/// `localhost`, port 7070, kept by Ada, with an empty top menu titled `Top`.
+pub fn small_site(alloc: Global) -> Result<MemSite, AllocError>
+    ensures { IfOk result (λ site. site ≡ fresh_site (codes "localhost") 7070 (codes "Ada <ada@localhost>") (codes "Top") 0) }
+{
+    let Ok(host) = Host::new(b"localhost") else {
+        unreachable!()
+    };
+    let Ok(admin) = Admin::new(b"Ada <ada@localhost>") else {
+        unreachable!()
+    };
+    let Ok(title) = Title::new(b"Top") else {
+        unreachable!()
+    };
+    MemSite::new(alloc, host, 7070, admin, title, Stamp::start())
+}
