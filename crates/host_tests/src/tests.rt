@@ -1,0 +1,65 @@
+// The worked rows of plain requests, over a site in memory and over one that fails. Expected bytes come from outside.
+ghost use Rattle.std.specs.Prelude.{◌<◌};
+
+mod failing_site;
+mod faults;
+mod requests;
+mod sessions;
+
+use crate::trial::{put_text, small_site};
+use host_types::{MemSite, SiteKeeper, Stamp};
+use session_core::{Drawn, Heard, Hub};
+use std::alloc::Global;
+use std::test::Fail;
+
+/// A hub over a site with one text document at `/about`.
+fn hub_with(alloc: Global, body: &[u8]) -> Result<Hub<MemSite>, Fail> {
+    let change = put_text(alloc, b"/about", b"About us", body).or(Err("change"))?;
+    let mut site = small_site(alloc).or(Err("site"))?;
+    site.change(change, Stamp::start()).or(Err("put"))?;
+    match Hub::new(alloc, site, 1) {
+        Ok(hub) => Ok(hub),
+        Err(_) => Err("hub".into()),
+    }
+}
+
+/// All that is left of a session's reply, drawn by so many bytes at a time.
+fn drawn<S: SiteKeeper>(
+    alloc: Global,
+    hub: &mut Hub<S>,
+    id: u64,
+    room: usize,
+) -> Result<Vec<u8>, Fail> {
+    let mut out = vec![in alloc; 0u8; room]?;
+    let mut all = Vec::new(alloc);
+    for _ in 0..100_000 {
+        match hub.draw(id, &mut out) {
+            Ok(Drawn::Bytes(count)) => all.extend_from_slice(out.get(..count).unwrap_or(&[]))?,
+            Ok(Drawn::Finished) => return Ok(all),
+            Err(_) => return Err("draw".into()),
+        }
+    }
+    Err("no end".into())
+}
+
+/// The reply to a request that comes by pieces of so many bytes and is drawn by as many.
+fn asked<S: SiteKeeper>(
+    alloc: Global,
+    hub: &mut Hub<S>,
+    request: &[u8],
+    size: usize,
+) -> Result<Vec<u8>, Fail>
+    requires { 0 < size }
+{
+    let id = hub.join().or(Err("join"))?;
+    let mut last = Ok(Heard::More);
+    for piece in request.chunks(size) {
+        last = hub.bytes(id, piece, Stamp::start());
+    }
+    if last != Ok(Heard::Ready) {
+        return Err("not ready".into());
+    }
+    let all = drawn(alloc, hub, id, size)?;
+    hub.leave(id).or(Err("leave"))?;
+    Ok(all)
+}
