@@ -42,10 +42,14 @@ fn replay_in_memory(rt: &HostRuntime) -> Result<(), Fault> {
     }
 }
 
-fn run(rt: &HostRuntime, task: Task) -> io::Result<ExitCode> {
-    let ended = match task {
+fn run(rt: &HostRuntime, task: Task) -> Result<(), Fault> {
+    match task {
         Task::Replay => replay_in_memory(rt),
-    };
+    }
+}
+
+/// Status 0, or 1 with the fault as one line of standard error.
+fn status_of(rt: &HostRuntime, ended: Result<(), Fault>) -> io::Result<ExitCode> {
     match ended {
         Ok(()) => Ok(ExitCode::SUCCESS),
         Err(fault) => {
@@ -56,16 +60,8 @@ fn run(rt: &HostRuntime, task: Task) -> io::Result<ExitCode> {
 }
 
 fn main(rt: HostRuntime) -> io::Result<ExitCode> {
-    let words: Vec<String> = std::env::args(&rt)?.collect(rt.alloc())?;
-    match words::read(rt.alloc(), words.as_slice()) {
-        Ok(task) => run(&rt, task),
-        Err(error) => {
-            error.print(&rt)?;
-            Ok(if error.exit_code() == 0 {
-                ExitCode::SUCCESS
-            } else {
-                ExitCode::from(2)
-            })
-        }
+    match words::given(&rt) {
+        Ok(task) => status_of(&rt, run(&rt, task)),
+        Err(misread) => misread.tell(&rt),
     }
 }

@@ -108,7 +108,7 @@ fn escapes(rt: HostRuntime) -> Result<(), Fail> {
 #[test]
 fn command_lines(rt: HostRuntime) -> Result<(), Fail> {
     let alloc = rt.alloc();
-    let table: [(&str, Option<i32>); 7] = [
+    let table: [(&str, Option<u8>); 7] = [
         ("gopher_host replay", None),
         ("gopher_host", Some(2)),
         ("gopher_host serve", Some(2)),
@@ -127,7 +127,7 @@ fn command_lines(rt: HostRuntime) -> Result<(), Fail> {
                 assert_eq!(rt; task, Task::Replay);
                 assert_eq!(rt; None, status);
             }
-            Err(error) => assert_eq!(rt; Some(error.exit_code()), status, "at {line}"),
+            Err(misread) => assert_eq!(rt; Some(misread.status()), status, "at {line}"),
         }
     }
     Ok(())

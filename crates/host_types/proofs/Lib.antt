@@ -1,3 +1,4 @@
 pub mod Posts
 pub mod ShortViews
 pub mod KeptPairs
+pub mod FreshSite

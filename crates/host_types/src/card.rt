@@ -11,6 +11,7 @@ use std::marker::Model;
 /// One form of a document, with its length in place of its bytes.
 #[derive(Clone, Debug, Drop)]
 pub struct CardView {
+    /// Its content type, as `Text/plain`.
     pub name: Bytes,
     /// Empty where it has none.
     pub language: Bytes,
@@ -34,6 +35,7 @@ impl Model for CardViewList {
 }
 
 impl CardViewList {
+    /// The views in their order.
     pub fn as_slice(&self) -> &[CardView]
         ensures { result.now ≡ self.now }
     {
@@ -45,19 +47,25 @@ impl CardViewList {
 /// What an item has beside its title, stamp and summary, without the bytes of its views.
 #[derive(Debug, Drop)]
 pub enum CardBody {
+    /// A document, in one or more views.
     Views(Kind, CardViewList),
+    /// Links and lines to read.
     Menu(EntryList),
+    /// A board of posts: how many it keeps, and the number of the next.
     Board {
         cap: u16,
         next: u64,
     },
+    /// Questions whose answers become a post of a board.
     Form {
         board: Selector,
         questions: QuestionList,
     },
+    /// A search of the items whose selectors begin with the scope.
     Search {
         scope: Selector,
     },
+    /// A note of where an item went.
     Moved {
         target: Selector,
     },
@@ -66,10 +74,13 @@ pub enum CardBody {
 /// An item with lengths in place of the bytes of its views.
 #[derive(Debug, Drop)]
 pub struct Card {
+    /// What menus show of it.
     pub title: Title,
+    /// When it last changed.
     pub stamp: Stamp,
     /// Empty where it has none.
     pub summary: Bytes,
+    /// What it has beside.
     pub body: CardBody,
 }
 

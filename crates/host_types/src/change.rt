@@ -18,8 +18,9 @@ pub enum Change {
         host: Host,
         port: u16,
     },
+    /// Who keeps the site.
     SetAdmin(Admin),
-    /// The next post of a board.
+    /// The next post of a board. It pushes out the oldest where the board is full.
     Post {
         board: Selector,
         title: Title,

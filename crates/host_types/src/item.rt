@@ -13,19 +13,23 @@ use std::alloc::{AllocError, Global};
 pub enum Body {
     /// A document, in one or more views.
     Views(Kind, ViewList),
+    /// Links and lines to read.
     Menu(EntryList),
-    /// A board of posts: how many it keeps, and the number of the next.
+    /// A board of posts: how many it keeps, 1 to 100, and the number of the next, from 1.
     Board {
         cap: u16,
         next: u64,
     },
+    /// Questions whose answers become a post of a board.
     Form {
         board: Selector,
         questions: QuestionList,
     },
+    /// A search of the items whose selectors begin with the scope.
     Search {
         scope: Selector,
     },
+    /// A note of where an item went, which a move alone leaves.
     Moved {
         target: Selector,
     },
@@ -42,12 +46,14 @@ impl Body {
         }
     }
 
+    /// Whether it is a menu.
     pub fn is_menu(&self) -> bool
         ensures { result ≡ is_menu self.now }
     {
         matches!(self, Body::Menu(_))
     }
 
+    /// Whether it is a note of where an item went.
     pub fn is_moved(&self) -> bool
         ensures { result ≡ is_moved self.now }
     {
@@ -84,10 +90,13 @@ pub fn keeps_cap(old: Option<(u16, u64)>, new: Option<(u16, u64)>) -> bool
 /// What stands at a selector.
 #[derive(Debug, Drop)]
 pub struct Item {
+    /// What menus show of it.
     pub title: Title,
+    /// When it last changed.
     pub stamp: Stamp,
-    /// Empty where it has none.
+    /// At most 400 bytes where a change puts it; empty where it has none.
     pub summary: Bytes,
+    /// What it has beside.
     pub body: Body,
 }
 
@@ -156,7 +165,7 @@ impl Item {
         }
     }
 
-    /// A text document.
+    /// A text document of one view, `Text/plain`, as posts are.
     pub fn text(alloc: Global, title: Title, stamp: Stamp, text: Bytes) -> Result<Item, AllocError>
         ensures { IfOk result (λ item. item ≡ text_item title stamp text) }
     {

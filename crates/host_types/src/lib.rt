@@ -14,6 +14,8 @@ mod names;
 mod refused;
 mod site_fault;
 mod site_keeper;
+#[cfg(test)]
+mod tests;
 mod view;
 
 pub use bytes::Bytes;

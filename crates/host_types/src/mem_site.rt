@@ -1,6 +1,6 @@
 // A site in memory.
 ghost use Rattle.std.specs.Prelude.{◌≡◌, ◌≤◌, ◌<◌, ℕ, List, length, Some, None, Ok, Err, IfOk, OnOk, IfErr, OnErr, IsSome, IfSome, MatchOption, IsTrue, nat_eq, codes, option_copied, is_some};
-ghost use Rattle.host_types.specs.Site.{Site, item_at, with_item, without_item, post_selector, board_at, posts_of, has_any, has_posts, fresh_site};
+ghost use Rattle.host_types.specs.Site.{Site, item_at, with_item, without_item, post_selector, board_at, posts_of, has_any, has_posts, fresh_site, IsSite};
 ghost use Rattle.host_types.specs.Change.{apply, put, remove, move_to, set_host, set_admin, post, oldest_post, without_any};
 ghost use Rattle.host_types.specs.Keeping.{IsMemoryFault};
 ghost use Rattle.host_types.specs.Card.{has_short_views, card_at, viewed_at};
@@ -14,7 +14,7 @@ use std::alloc::{AllocError, Global};
 use std::collections::BTreeMap;
 use std::marker::Model;
 
-/// A site in memory.
+/// A site in memory. A refused change, or one for which memory is wanting, changes nothing of it.
 #[derive(Drop)]
 pub struct MemSite {
     alloc: Global,
@@ -65,7 +65,7 @@ fn post_selector(
 }
 
 impl MemSite {
-    /// A site of which only the top menu is there, without entries.
+    /// A site of which only the top menu is there, without entries. It keeps all rules of a site.
     pub fn new(
         alloc: Global,
         host: Host,
@@ -75,8 +75,13 @@ impl MemSite {
         stamp: Stamp,
     ) -> Result<MemSite, AllocError>
         requires { 0 < port }
-        ensures { IfOk result (λ m. m ≡ fresh_site host port admin title stamp) }
+        ensures fresh { IfOk result (λ m. m ≡ fresh_site host port admin title stamp) }
+        ensures lawful { IfOk result IsSite }
     {
+        let _ = host.as_bytes();
+        let _ = admin.as_bytes();
+        let _ = title.as_bytes();
+        let _ = stamp.seconds();
         let mut items = BTreeMap::new(alloc);
         items.insert(Selector::root(), Item::empty_menu(alloc, title, stamp))?;
         Ok(MemSite {

@@ -18,6 +18,7 @@ pub enum SiteFault {
     /// A write or a sync failed, in this call or before.
     #[error("Failed")]
     Failed,
+    /// Memory is wanting.
     #[error("Memory")]
     Memory,
 }

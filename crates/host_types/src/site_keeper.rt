@@ -13,8 +13,11 @@ use crate::{Admin, Card, Change, Host, Selector, SiteFault, Stamp};
 /// Under which name clients find a site, and who keeps it.
 #[derive(Clone, Copy, Debug)]
 pub struct Front<'a> {
+    /// The name of the host that clients connect to.
     pub host: &'a Host,
+    /// The port that they connect to.
     pub port: u16,
+    /// Who keeps the site.
     pub admin: &'a Admin,
 }
 
