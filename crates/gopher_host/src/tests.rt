@@ -1,4 +1,6 @@
 // The command line, lines of a script, and escapes.
+mod replays;
+
 use crate::printed::escaped;
 use crate::script::{Command, LineFault, parse};
 use crate::words::{Task, read};
