@@ -1,4 +1,11 @@
 // Runs a script over a hub.
+ghost use Rattle.std.specs.Prelude.{◌≡◌, ℕ, List, None, Err, IfOk, IsTrue, IsUtf8};
+ghost use Rattle.std.specs.String.{string_bytes};
+ghost use Rattle.session_core.specs.Hub.{keeper_of, world_of};
+ghost use Rattle.gopher_host.specs.Script.{line_command};
+ghost use Rattle.gopher_host.specs.declared.fault.Fault.TheVariants.{Script};
+ghost use Rattle.gopher_host.specs.Lines.{IsAnswer, RunsLine};
+
 use crate::ask::{Asked, ask};
 use crate::fault::Fault;
 use crate::printed::line_of;
@@ -16,7 +23,10 @@ fn answer<S: SiteKeeper>(
     alloc: Global,
     hub: &mut Hub<S>,
     event: Event,
-) -> Result<String, AllocError> {
+) -> Result<String, AllocError>
+    ensures answer { IsTrue (S.keeping (keeper_of hub.old)).honest → IfOk result (λ printed. IsAnswer (world_of S.keeping hub.old) (world_of S.keeping hub.new) event (string_bytes printed)) }
+    ensures honest { (S.keeping (keeper_of hub.new)).honest ≡ (S.keeping (keeper_of hub.old)).honest }
+{
     let Ok(outcomes) = hub.run(&[event]) else {
         return String::from_str(alloc, "fault Memory");
     };
@@ -32,7 +42,11 @@ fn answer_line<S: SiteKeeper>(
     hub: &mut Hub<S>,
     line: &[u8],
     now: Stamp,
-) -> Result<(Stamp, String), LineFault> {
+) -> Result<(Stamp, String), LineFault>
+    ensures line { IsTrue (S.keeping (keeper_of hub.old)).honest → IfOk result (λ (after, printed). RunsLine (world_of S.keeping hub.old) (world_of S.keeping hub.new) now after line.now (string_bytes printed)) }
+    ensures form { result ≡ Err LineFault.Form → (hub.new ≡ hub.old) × (IsUtf8 line.now → line_command line.now ≡ None) }
+    ensures honest { (S.keeping (keeper_of hub.new)).honest ≡ (S.keeping (keeper_of hub.old)).honest }
+{
     match ask(alloc, parse(alloc, line)?, now)? {
         Asked::Moment(moment) => Ok((moment, String::from_str(alloc, "ok")?)),
         Asked::Event(event) => Ok((now, answer(alloc, hub, event)?)),
@@ -46,8 +60,13 @@ fn run_line<S: SiteKeeper, W: Write>(
     hub: &mut Hub<S>,
     writer: &mut W,
     now: Stamp,
-    (number, line): (u64, &[u8]),
-) -> Result<Stamp, Fault> {
+    number: u64,
+    line: &[u8],
+) -> Result<Stamp, Fault>
+    ensures line { IsTrue (S.keeping (keeper_of hub.old)).honest → IfOk result (λ after. (printed : List ℕ) × RunsLine (world_of S.keeping hub.old) (world_of S.keeping hub.new) now after line.now printed) }
+    ensures script { (n : ℕ) → result ≡ Err (Script n) → (n ≡ number) × (hub.new ≡ hub.old) }
+    ensures honest { (S.keeping (keeper_of hub.new)).honest ≡ (S.keeping (keeper_of hub.old)).honest }
+{
     let (moment, printed) = match answer_line(alloc, hub, line, now) {
         Ok(answered) => answered,
         Err(LineFault::Form) => return Err(Fault::Script(number)),
@@ -77,13 +96,13 @@ pub fn replay<R: Read, W: Write, S: SiteKeeper>(
         };
         if count == 0 {
             if !line.is_empty() {
-                let _ = run_line(alloc, hub, writer, now, (number, &line))?;
+                let _ = run_line(alloc, hub, writer, now, number, &line)?;
             }
             return Ok(());
         }
         for byte in &buffer[..count] {
             if *byte == b'\n' {
-                now = run_line(alloc, hub, writer, now, (number, &line))?;
+                now = run_line(alloc, hub, writer, now, number, &line)?;
                 line.clear();
                 number = number.saturating_add(1);
             } else if line.push(*byte).is_err() {

@@ -58,7 +58,6 @@ body_put old (bodies.Moved target) = bodies.Moved target
 abbrev pub item_put : Option (ℕ × ℕ) → Item → ℕ → Item
 item_put old item now = record { title = item.title; stamp = now; summary = item.summary; body = body_put old item.body }
 
--- From version 2 on `Root` comes also for an item with an expiry at the empty selector.
 unfoldable pub put : Site → List ℕ → Item → ℕ → Result Site Refused
 put s selector item now =
     refusals.Root when is_empty selector && not (is_menu item.body) else

@@ -1,4 +1,4 @@
--- The request line: selector and search words, parted by a TAB. RFC 1436, and RFC 1738, sections 3.4.1 and 3.4.2. What is refused, and which empty fields are left out, is this project's profile.
+-- The request line: selector and search words, parted by a TAB. RFC 1436, section 2, and RFC 1738, sections 3.4.1 and 3.4.2. What is refused, and which empty fields are left out, is this project's profile.
 use Rattle.std.specs.Prelude.{ℕ, Bool, false, List, [], ◌∷◌, ◌==◌, ◌||◌, if◌then◌else◌, length, nat_lt, Option, Some, None, Result, Ok, Err}
 use Rattle.std.specs.List.{list_any, slice_split, before_first, after_first}
 use Rattle.request_reader.specs.Request.{Request}

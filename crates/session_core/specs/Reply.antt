@@ -1,4 +1,4 @@
--- The reply to a request, by what stands at its selector. RFC 1436, sections 3.1 and 3.8. What isn't served yet is not found.
+-- The reply to a request, by what stands at its selector. RFC 1436, sections 2 and 3.8. What isn't served yet is not found.
 use Rattle.std.specs.Prelude.{ℕ, Bool, true, false, List, [], ◌∷◌, Option, Some, None, if◌then◌else◌}
 use Rattle.host_types.specs.Site.{Site, item_at}
 use Rattle.host_types.specs.declared.view.View.{View}

@@ -1,4 +1,4 @@
--- Lines of a body, text as it is sent, and what a client reads. RFC 1436, sections 3.7 and 3.9 (Lastline); the dropped CR is this project's profile.
+-- Lines of a body, text as it is sent, and what a client reads. RFC 1436, appendix (TextFile Entity, Lastline); the dropped CR is this project's profile.
 use Rattle.std.specs.Prelude.{ℕ, Bool, false, List, [], ◌∷◌, ◌++◌, ◌==◌, ◌&&◌, if◌then◌else◌, flat_map}
 use Rattle.std.specs.Str.{bytes_eq}
 

@@ -7,7 +7,7 @@ use host_types::Bytes;
 use std::alloc::{AllocError, Global};
 
 /// A body as it is sent to a client that asked for text: each line ends with CR LF, one that begins
-/// with a period has one more, and a line of one period ends the text (RFC 1436, section 3.7).
+/// with a period has one more, and a line of one period ends the text (RFC 1436, appendix).
 pub fn text(alloc: Global, body: &[u8]) -> Result<Bytes, AllocError>
     ensures bytes { IfOk result (λ t. t ≡ spec.text body.now) }
     ensures client { IfOk result (λ t. spec.client t ≡ spec.lines body.now) }
