@@ -2,6 +2,7 @@ pub mod Request
 pub mod Lines
 pub mod RequestLine
 pub mod Verdict
+pub mod Examples
 pub mod Heard
 pub mod Laws
 pub mod Seen

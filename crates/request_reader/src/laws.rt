@@ -1,4 +1,5 @@
 // What those who feed a reader rest on, as laws of the definitions.
+ghost use Rattle.request_reader.specs.Examples.{Examples};
 ghost use Rattle.request_reader.specs.Laws.{IsSettled, IsDecided, IsLawful, SaysTheWhole, SaysTheEnd};
 
 /// What a stream says is said whatever follows.
@@ -20,4 +21,9 @@ pub fn lawful()
 pub fn any_cuts()
     ensures open { SaysTheWhole }
     ensures ended { SaysTheEnd }
+{}
+
+/// Worked examples of requests.
+pub fn worked_examples()
+    ensures { Examples }
 {}

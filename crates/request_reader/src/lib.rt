@@ -10,7 +10,7 @@ mod request;
 mod stream;
 
 pub use cause::Cause;
-pub use laws::{any_cuts, decided, lawful, settled};
+pub use laws::{any_cuts, decided, lawful, settled, worked_examples};
 pub use reader::Reader;
 pub use request::{Answer, Request};
 pub use stream::answer_to;
