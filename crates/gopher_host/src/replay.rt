@@ -1,10 +1,12 @@
 // Runs a script over a hub.
-ghost use Rattle.std.specs.Prelude.{◌≡◌, ℕ, List, None, Err, IfOk, IsTrue, IsUtf8};
+ghost use Rattle.std.specs.Prelude.{◌≡◌, ℕ, false, List, [], ◌∷◌, ◌++◌, None, Err, IfOk, IfSome, OnOk, IsTrue, IsUtf8};
+ghost use Rattle.std.specs.List.{list_any};
+ghost use Rattle.std.specs.Io.KnownBytes.{Appends};
 ghost use Rattle.std.specs.String.{string_bytes};
 ghost use Rattle.session_core.specs.Hub.{keeper_of, world_of};
 ghost use Rattle.gopher_host.specs.Script.{line_command};
 ghost use Rattle.gopher_host.specs.declared.fault.Fault.TheVariants.{Script};
-ghost use Rattle.gopher_host.specs.Lines.{IsAnswer, RunsLine};
+ghost use Rattle.gopher_host.specs.Lines.{IsAnswer, RunsLine, IsRunTo, IsLastRun, IsReplayed, is_lf};
 
 use crate::ask::{Asked, ask};
 use crate::fault::Fault;
@@ -63,7 +65,7 @@ fn run_line<S: SiteKeeper, W: Write>(
     number: u64,
     line: &[u8],
 ) -> Result<Stamp, Fault>
-    ensures line { IsTrue (S.keeping (keeper_of hub.old)).honest → IfOk result (λ after. (printed : List ℕ) × RunsLine (world_of S.keeping hub.old) (world_of S.keeping hub.new) now after line.now printed) }
+    ensures line { IsTrue (S.keeping (keeper_of hub.old)).honest → IfOk result (λ after. (printed : List ℕ) × RunsLine (world_of S.keeping hub.old) (world_of S.keeping hub.new) now after line.now printed × Appends (W.contents writer.old) (W.contents writer.new) (printed ++ 10 ∷ [])) }
     ensures script { (n : ℕ) → result ≡ Err (Script n) → (n ≡ number) × (hub.new ≡ hub.old) }
     ensures honest { (S.keeping (keeper_of hub.new)).honest ≡ (S.keeping (keeper_of hub.old)).honest }
 {
@@ -78,6 +80,71 @@ fn run_line<S: SiteKeeper, W: Write>(
     }
 }
 
+/// Where a script stands: the line so far, its number, and the moment.
+#[derive(Drop)]
+struct Place {
+    line: Vec<u8>,
+    number: u64,
+    moment: Stamp,
+}
+
+/// Takes one byte of a script, and runs the line that it ends.
+fn run_byte<S: SiteKeeper, W: Write>(
+    alloc: Global,
+    hub: &mut Hub<S>,
+    writer: &mut W,
+    place: &mut Place,
+    byte: u8,
+) -> Result<(), Fault>
+    ensures run { IsTrue (S.keeping (keeper_of hub.old)).honest → list_any is_lf place.old.line.items ≡ false → OnOk result (IsRunTo (world_of S.keeping hub.old) (world_of S.keeping hub.new) place.old.moment place.new.moment (W.contents writer.old) (W.contents writer.new) (place.old.line.items ++ byte ∷ []) place.new.line.items) }
+    ensures honest { (S.keeping (keeper_of hub.new)).honest ≡ (S.keeping (keeper_of hub.old)).honest }
+{
+    if byte != b'\n' {
+        return match place.line.push(byte) {
+            Ok(()) => Ok(()),
+            Err(_) => Err(Fault::Memory),
+        };
+    }
+    place.moment = run_line(alloc, hub, writer, place.moment, place.number, &place.line)?;
+    place.line.clear();
+    place.number = place.number.saturating_add(1);
+    Ok(())
+}
+
+/// Takes the next piece of a script, and runs the lines that it ends.
+fn run_piece<S: SiteKeeper, W: Write>(
+    alloc: Global,
+    hub: &mut Hub<S>,
+    writer: &mut W,
+    place: &mut Place,
+    piece: &[u8],
+) -> Result<(), Fault>
+    ensures run { IsTrue (S.keeping (keeper_of hub.old)).honest → list_any is_lf place.old.line.items ≡ false → OnOk result (IsRunTo (world_of S.keeping hub.old) (world_of S.keeping hub.new) place.old.moment place.new.moment (W.contents writer.old) (W.contents writer.new) (place.old.line.items ++ piece.now) place.new.line.items) }
+    ensures honest { (S.keeping (keeper_of hub.new)).honest ≡ (S.keeping (keeper_of hub.old)).honest }
+{
+    for byte in piece {
+        run_byte(alloc, hub, writer, place, *byte)?;
+    }
+    Ok(())
+}
+
+/// Runs what stands behind the last LF, where it has bytes.
+fn run_last<S: SiteKeeper, W: Write>(
+    alloc: Global,
+    hub: &mut Hub<S>,
+    writer: &mut W,
+    place: &Place,
+) -> Result<(), Fault>
+    ensures run { IsTrue (S.keeping (keeper_of hub.old)).honest → OnOk result (IsLastRun (world_of S.keeping hub.old) (world_of S.keeping hub.new) place.now.moment (W.contents writer.old) (W.contents writer.new) place.now.line.items) }
+{
+    let line = place.line.as_slice();
+    if line.is_empty() {
+        return Ok(());
+    }
+    let _ = run_line(alloc, hub, writer, place.moment, place.number, line)?;
+    Ok(())
+}
+
 /// Reads a script to its end, a line at a time, and prints one line for each. Lines count from 1, and the last may lack
 /// its LF. A line of another form, a read that fails, and the end of the reads that it may take end it as `Fault::Script`.
 pub fn replay<R: Read, W: Write, S: SiteKeeper>(
@@ -85,30 +152,23 @@ pub fn replay<R: Read, W: Write, S: SiteKeeper>(
     reader: &mut R,
     writer: &mut W,
     hub: &mut Hub<S>,
-) -> Result<(), Fault> {
+) -> Result<(), Fault>
+    ensures run { IsTrue (S.keeping (keeper_of hub.old)).honest → OnOk result (IfSome (R.remaining reader.old) (IsReplayed (world_of S.keeping hub.old) (world_of S.keeping hub.new) (W.contents writer.old) (W.contents writer.new))) }
+{
     let mut buffer = [0; 4096];
-    let mut line: Vec<u8> = Vec::new(alloc);
-    let mut number = 1u64;
-    let mut now = Stamp::start();
+    let mut place = Place {
+        line: Vec::new(alloc),
+        number: 1,
+        moment: Stamp::start(),
+    };
     for _ in 0..MOST_READS {
         let Ok(count) = reader.read(&mut buffer) else {
-            return Err(Fault::Script(number));
+            return Err(Fault::Script(place.number));
         };
         if count == 0 {
-            if !line.is_empty() {
-                let _ = run_line(alloc, hub, writer, now, number, &line)?;
-            }
-            return Ok(());
+            return run_last(alloc, hub, writer, &place);
         }
-        for byte in &buffer[..count] {
-            if *byte == b'\n' {
-                now = run_line(alloc, hub, writer, now, number, &line)?;
-                line.clear();
-                number = number.saturating_add(1);
-            } else if line.push(*byte).is_err() {
-                return Err(Fault::Memory);
-            }
-        }
+        run_piece(alloc, hub, writer, &mut place, &buffer[..count])?;
     }
-    Err(Fault::Script(number))
+    Err(Fault::Script(place.number))
 }

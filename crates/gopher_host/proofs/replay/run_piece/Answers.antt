@@ -1,0 +1,25 @@
+use Rattle.std.proofs.Common.{[], ◌∷◌, ◌++◌, take, sym, subst, ◌∙◌, append_assoc, refl, get_or}
+use Rattle.std.specs.Prelude.{IsTrue}
+use Rattle.std.proofs.lemmas.List.{take_more, append-nil}
+use Rattle.gopher_host.proofs.Replays.{run_more, run_none}
+use Rattle.gopher_host.proofs.replay.run_piece.Goals as goal
+
+pub loop-byte-init : goal.loop-byte-init
+loop-byte-init g c = record {
+  honest = refl;
+  run = λ honest plain. rw (append-nil c.args.place.now.line.items) (run_none _ _ _ c.args.place.now.line.items plain);
+}
+
+pub loop-byte-preserved : goal.loop-byte-preserved
+loop-byte-preserved g c =
+    let line = c.args.place.now.line.items in
+    let piece = c.args.piece.now in
+    let i = c.loop-byte.byte-index in
+    record {
+      honest = c.run_byte.ensures.honest ∙ c.loop-byte.invariant.honest;
+      run = λ honest plain.
+          let before = c.loop-byte.invariant.run honest plain in
+          rw (take_more piece i 0 c.loop-byte-test.true, sym (append_assoc line (take i piece) (get_or piece i 0 ∷ [])))
+          (run_more _ _ _ _ _ _ _ _ _ (line ++ take i piece) c.loop-byte.place.line.items (get_or piece i 0 ∷ []) _ before
+          (c.in_ok-run_byte.ensures.run (subst IsTrue (sym c.loop-byte.invariant.honest) honest) before.cut.rest_plain));
+    }
