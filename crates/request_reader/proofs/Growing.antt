@@ -13,8 +13,8 @@ use Rattle.request_reader.specs.Verdict.{Verdict, verdict, line_verdict, asked_v
 use Rattle.request_reader.specs.Laws.{IsSettled, IsDecided}
 
 -- a front stays, and grows where it was short
-take_grows : (n : ℕ) (a b : List ℕ) → take n (a ++ b) ≡ take n a ++ take (n - length a) b
-take_grows n a b =
+take_extends : (n : ℕ) (a b : List ℕ) → take n (a ++ b) ≡ take n a ++ take (n - length a) b
+take_extends n a b =
     elim (cases_lt (length a) n) [
       | inl less ↦
           let whole : take n a ≡ a = take_all n a (omega arith) in
@@ -49,7 +49,7 @@ not_yet s none short = rw (le-ltb _ _ none, le-leb _ _ short) refl
 
 front_grows : (a b : List ℕ) → front (a ++ b) ≡ front a ++ take (1025 - length a) b
 unfolding front
-front_grows a b = take_grows 1025 a b
+front_grows a b = take_extends 1025 a b
 
 pub front_whole : (a : List ℕ) → length a < 1025 → front a ≡ a
 unfolding front
