@@ -102,7 +102,7 @@ set_host s host port = refusals.BadName when port == 0 else Ok (record s { host 
 abbrev pub set_admin : Site → List ℕ → Result Site Refused
 set_admin s admin = Ok (record s { admin = admin })
 
--- From here on a post's text is at most this long, in every version.
+-- the most bytes of a post's text
 unfoldable pub most_post_bytes : ℕ
 most_post_bytes = 65536
 

@@ -8,3 +8,4 @@ pub mod Stops
 pub mod Keeping
 pub mod Front
 pub mod Kept
+pub mod Examples

@@ -10,3 +10,4 @@ pub mod Causes
 pub mod Hub
 pub mod Rooms
 pub mod Laws
+pub mod Examples

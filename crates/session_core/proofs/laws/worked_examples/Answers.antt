@@ -1,0 +1,23 @@
+use Rattle.std.proofs.Common.{refl}
+use Rattle.host_types.specs.Change.{put, remove}
+use Rattle.host_types.specs.Items.{most_view_bytes}
+use Rattle.request_reader.specs.Lines.{front, first_line}
+use Rattle.request_reader.specs.RequestLine.{asked_by}
+use Rattle.request_reader.specs.Verdict.{verdict}
+use Rattle.text_writer.specs.Errors.{plain_error, not_found}
+use Rattle.text_writer.specs.Text.{text}
+use Rattle.session_core.specs.Step.{joined}
+use Rattle.session_core.proofs.laws.worked_examples.Goals as goal
+
+pub returns : goal.returns
+unfolding put remove most_view_bytes front first_line asked_by verdict plain_error not_found text joined
+returns c = record {
+  text_document = refl;
+  pieces = refl;
+  a_half_drawn_reply_stays = refl;
+  top_menu = refl;
+  early_end = refl;
+  not_ready = refl;
+  spent = refl;
+  refused = refl;
+}
