@@ -1,15 +1,15 @@
 -- Scripts that go on.
-use Rattle.std.proofs.Common.{◌≡◌, ℕ, List, [], ◌∷◌, ◌++◌, Option, Some, None, refl, true, false, length, arith, eqb-true, ◌||◌, ◌==◌, ap, sym, ◌∙◌, subst}
+use Rattle.std.proofs.Common.{◌≡◌, ℕ, List, [], ◌∷◌, ◌++◌, Option, Some, None, refl, true, false, length, take, drop, arith, eqb-true, ◌||◌, ◌==◌, ap, sym, ◌∙◌, subst}
 use Rattle.std.specs.Prelude.{Result, Ok, Err, OnOk, IfSome}
 use Rattle.std.specs.List.{list_any}
 use Rattle.std.proofs.lemmas.Bool.{true≢false}
 use Rattle.std.proofs.lemmas.List.Folds.{list_any-append}
 use Rattle.std.specs.Io.KnownBytes.{Appends, Consumes, IsAtEnd}
 use Rattle.std.proofs.lemmas.Grind.{flat_map-append}
-use Rattle.std.proofs.lemmas.List.{append_assoc, append-nil}
+use Rattle.std.proofs.lemmas.List.{append_assoc, append-nil, take-append-drop}
 use Rattle.std.proofs.lemmas.List.Elements.{All-nil, All-append, All-push}
 use Rattle.session_core.specs.World.{World}
-use Rattle.gopher_host.specs.Lines.{RunsLines, IsCut, RunsLine, IsRunTo, IsReplayed, IsLastRun, ended, is_lf, last_line}
+use Rattle.gopher_host.specs.Lines.{RunsLines, IsCut, RunsLine, IsRunInPart, IsRunTo, IsReplayed, IsLastRun, ended, is_lf, last_line}
 
 -- what a writer was given, and then more
 pub appends_more : (a b c : Option (List ℕ)) (xs ys : List ℕ) → Appends a b xs → Appends b c ys → Appends a c (xs ++ ys)
@@ -141,3 +141,29 @@ pub replayed_known : (old mid new : World) (then : ℕ) (a b c : Option (List �
     IsReadTo old mid then a b from left rest → IsAtEnd left → IsLastRun mid new then b c rest → IfSome from (IsReplayed old new a c)
 replayed_known old mid new then a b c None left rest p end last = tt
 replayed_known old mid new then a b c (Some script) left rest p end last = replayed old mid new then a b c script left rest p end last
+
+-- a fault after a part of a piece
+pub in_part : (old new : World) (now after : ℕ) (a b : Option (List ℕ)) (line piece : List ℕ) (i : ℕ) (rest : List ℕ) →
+    IsRunTo old new now after a b (line ++ take i piece) rest → IsRunInPart old new now a b line piece
+in_part old new now after a b line piece i rest run = record { front = take i piece; left = drop i piece; is = sym (take-append-drop i piece); after = after; line = rest; run = run }
+
+-- a fault before the next piece
+pub read_in_part : (old mid : World) (then : ℕ) (a b from left : Option (List ℕ)) (rest : List ℕ) → IsReadTo old mid then a b from left rest → IfSome from (IsRunInPart old mid 0 a b [])
+read_in_part old mid then a b None left rest p = tt
+read_in_part old mid then a b (Some script) None rest p = absurd p.consumed
+read_in_part old mid then a b (Some script) (Some others) rest p = record { front = p.text; left = others; is = p.consumed; after = then; line = rest; run = p.run }
+
+-- a fault within it
+pub in_part_more : (old mid new : World) (then : ℕ) (a b c from left later : Option (List ℕ)) (piece rest : List ℕ) →
+    IsReadTo old mid then a b from left rest → Consumes left later piece → IsRunInPart mid new then b c rest piece → IfSome from (IsRunInPart old new 0 a c [])
+in_part_more old mid new then a b c None left later piece rest p consumed q = tt
+in_part_more old mid new then a b c (Some script) None later piece rest p consumed q = absurd p.consumed
+in_part_more old mid new then a b c (Some script) (Some others) None piece rest p consumed q = absurd consumed
+in_part_more old mid new then a b c (Some script) (Some others) (Some more) piece rest p consumed q = record {
+  front = p.text ++ q.front;
+  left = q.left ++ more;
+  is = p.consumed ∙ ap (λ l. p.text ++ l) (consumed ∙ ap (λ l. l ++ more) q.is ∙ append_assoc q.front q.left more) ∙ sym (append_assoc p.text q.front (q.left ++ more));
+  after = q.after;
+  line = q.line;
+  run = run_more old mid new 0 then q.after a b c p.text rest q.front q.line p.run q.run;
+}

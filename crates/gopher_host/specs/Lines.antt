@@ -67,6 +67,15 @@ pub record IsRunTo (old new : World) (now after : ℕ) (given took : Option (Lis
   pub run : RunsLines old new now after lines printed
   pub written : Appends given took (ended printed)
 
+-- A front of a text was run, behind what stood before it, as far as its last LF, and no more.
+pub record IsRunInPart (old new : World) (now : ℕ) (given took : Option (List ℕ)) (before text : List ℕ) : Type 0 where
+  pub front : List ℕ
+  pub left : List ℕ
+  pub is : text ≡ front ++ left
+  pub after : ℕ
+  pub line : List ℕ
+  pub run : IsRunTo old new now after given took (before ++ front) line
+
 -- what stands behind the last LF is a line where it has bytes
 abbrev pub last_line : List ℕ → List (List ℕ)
 last_line [] = []

@@ -6,7 +6,7 @@ ghost use Rattle.std.specs.String.{string_bytes};
 ghost use Rattle.session_core.specs.Hub.{keeper_of, world_of};
 ghost use Rattle.gopher_host.specs.Script.{line_command};
 ghost use Rattle.gopher_host.specs.declared.fault.Fault.TheVariants.{Script};
-ghost use Rattle.gopher_host.specs.Lines.{IsAnswer, RunsLine, IsRunTo, IsLastRun, IsReplayed, is_lf};
+ghost use Rattle.gopher_host.specs.Lines.{IsAnswer, RunsLine, IsRunTo, IsRunInPart, IsLastRun, IsReplayed, is_lf};
 
 use crate::ask::{Asked, ask};
 use crate::fault::Fault;
@@ -66,7 +66,7 @@ fn run_line<S: SiteKeeper, W: Write>(
     line: &[u8],
 ) -> Result<Stamp, Fault>
     ensures line { IsTrue (S.keeping (keeper_of hub.old)).honest → IfOk result (λ after. (printed : List ℕ) × RunsLine (world_of S.keeping hub.old) (world_of S.keeping hub.new) now after line.now printed × Appends (W.contents writer.old) (W.contents writer.new) (printed ++ 10 ∷ [])) }
-    ensures script { (n : ℕ) → result ≡ Err (Script n) → (n ≡ number) × (hub.new ≡ hub.old) }
+    ensures script { (n : ℕ) → result ≡ Err (Script n) → (n ≡ number) × (hub.new ≡ hub.old) × (writer.new ≡ writer.old) × (IsUtf8 line.now → line_command line.now ≡ None) }
     ensures honest { (S.keeping (keeper_of hub.new)).honest ≡ (S.keeping (keeper_of hub.old)).honest }
 {
     let (moment, printed) = match answer_line(alloc, hub, line, now) {
@@ -97,6 +97,7 @@ fn run_byte<S: SiteKeeper, W: Write>(
     byte: u8,
 ) -> Result<(), Fault>
     ensures run { IsTrue (S.keeping (keeper_of hub.old)).honest → list_any is_lf place.old.line.items ≡ false → OnOk result (IsRunTo (world_of S.keeping hub.old) (world_of S.keeping hub.new) place.old.moment place.new.moment (W.contents writer.old) (W.contents writer.new) (place.old.line.items ++ byte ∷ []) place.new.line.items) }
+    ensures script { (n : ℕ) → result ≡ Err (Script n) → (n ≡ place.old.number) × (hub.new ≡ hub.old) × (writer.new ≡ writer.old) × (byte ≡ 10) × (IsUtf8 place.old.line.items → line_command place.old.line.items ≡ None) }
     ensures honest { (S.keeping (keeper_of hub.new)).honest ≡ (S.keeping (keeper_of hub.old)).honest }
 {
     if byte != b'\n' {
@@ -120,6 +121,7 @@ fn run_piece<S: SiteKeeper, W: Write>(
     piece: &[u8],
 ) -> Result<(), Fault>
     ensures run { IsTrue (S.keeping (keeper_of hub.old)).honest → list_any is_lf place.old.line.items ≡ false → OnOk result (IsRunTo (world_of S.keeping hub.old) (world_of S.keeping hub.new) place.old.moment place.new.moment (W.contents writer.old) (W.contents writer.new) (place.old.line.items ++ piece.now) place.new.line.items) }
+    ensures script { IsTrue (S.keeping (keeper_of hub.old)).honest → list_any is_lf place.old.line.items ≡ false → (n : ℕ) → result ≡ Err (Script n) → IsRunInPart (world_of S.keeping hub.old) (world_of S.keeping hub.new) place.old.moment (W.contents writer.old) (W.contents writer.new) place.old.line.items piece.now }
     ensures honest { (S.keeping (keeper_of hub.new)).honest ≡ (S.keeping (keeper_of hub.old)).honest }
 {
     for byte in piece {
@@ -136,6 +138,7 @@ fn run_last<S: SiteKeeper, W: Write>(
     place: &Place,
 ) -> Result<(), Fault>
     ensures run { IsTrue (S.keeping (keeper_of hub.old)).honest → OnOk result (IsLastRun (world_of S.keeping hub.old) (world_of S.keeping hub.new) place.now.moment (W.contents writer.old) (W.contents writer.new) place.now.line.items) }
+    ensures script { (n : ℕ) → result ≡ Err (Script n) → (hub.new ≡ hub.old) × (writer.new ≡ writer.old) }
 {
     let line = place.line.as_slice();
     if line.is_empty() {
@@ -154,6 +157,7 @@ pub fn replay<R: Read, W: Write, S: SiteKeeper>(
     hub: &mut Hub<S>,
 ) -> Result<(), Fault>
     ensures run { IsTrue (S.keeping (keeper_of hub.old)).honest → OnOk result (IfSome (R.remaining reader.old) (IsReplayed (world_of S.keeping hub.old) (world_of S.keeping hub.new) (W.contents writer.old) (W.contents writer.new))) }
+    ensures script { IsTrue (S.keeping (keeper_of hub.old)).honest → (n : ℕ) → result ≡ Err (Script n) → IfSome (R.remaining reader.old) (IsRunInPart (world_of S.keeping hub.old) (world_of S.keeping hub.new) 0 (W.contents writer.old) (W.contents writer.new) []) }
 {
     let mut buffer = [0; 4096];
     let mut place = Place {

@@ -1,7 +1,9 @@
-use Rattle.std.proofs.Common.{[], ◌∷◌, ◌++◌, take, sym, subst, ◌∙◌, append_assoc, refl, get_or}
+use Rattle.std.proofs.Common.{◌≡◌, [], ◌∷◌, ◌++◌, take, sym, subst, ◌∙◌, append_assoc, refl, get_or, Err, arith}
 use Rattle.std.specs.Prelude.{IsTrue}
+use Rattle.std.proofs.lemmas.Grind.{common_steps}
+use Rattle.gopher_host.specs.declared.fault.Fault.TheVariants.{Script}
 use Rattle.std.proofs.lemmas.List.{take_more, append-nil}
-use Rattle.gopher_host.proofs.Replays.{run_more, run_none}
+use Rattle.gopher_host.proofs.Replays.{run_more, run_none, in_part}
 use Rattle.gopher_host.proofs.replay.run_piece.Goals as goal
 
 pub loop-byte-init : goal.loop-byte-init
@@ -23,3 +25,13 @@ loop-byte-preserved g c =
           (run_more _ _ _ _ _ _ _ _ _ (line ++ take i piece) c.loop-byte.place.line.items (get_or piece i 0 ∷ []) _ before
           (c.in_ok-run_byte.ensures.run (subst IsTrue (sym c.loop-byte.invariant.honest) honest) before.cut.rest_plain));
     }
+
+pub returns-in_err-run_byte-clause-script : goal.returns-in_err-run_byte-clause-script
+returns-in_err-run_byte-clause-script g c =
+    λ honest plain n is.
+    let line = c.args.place.now.line.items in
+    let piece = c.args.piece.now in
+    let i = c.loop-byte.byte-index in
+    let same : c.run_byte.result ≡ Err (Script n) = grind (arith, common_steps, is) in
+    let kept = c.run_byte.ensures.script n same in
+    rw (kept.1, kept.2) (in_part _ _ _ _ _ _ line piece i _ (c.loop-byte.invariant.run honest plain))
