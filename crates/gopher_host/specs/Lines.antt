@@ -8,7 +8,7 @@ use Rattle.session_core.specs.declared.event.Event.{Event as HubEvent}
 use Rattle.session_core.specs.declared.event.Outcome.{Outcome}
 use Rattle.gopher_host.specs.Script.{line_command}
 use Rattle.gopher_host.specs.Asked.{asked_of}
-use Rattle.gopher_host.specs.Printed.{IsLineOf}
+use Rattle.gopher_host.specs.Printed.{IsFaultLine, IsLineOf}
 use Rattle.gopher_host.specs.declared.script.Command.{Command}
 use Rattle.gopher_host.specs.declared.ask.Asked.{Asked}
 use Rattle.gopher_host.specs.declared.ask.Asked.TheVariants.{Moment, Event, Refused}
@@ -25,11 +25,11 @@ pub record IsAnswered (old new : World) (event : HubEvent) (printed : List ℕ) 
 abbrev pub IsAnswer : World → World → HubEvent → List ℕ → Type 0
 IsAnswer old new event printed = IsAnswered old new event printed ⊎ ((new ≡ old) × (printed ≡ codes "fault Memory"))
 
--- What is asked for at a moment, the world and the moment after it, and what is printed. (How a refusal is printed is shown by tests.)
+-- What is asked for at a moment, the world and the moment after it, and what is printed.
 abbrev pub IsDone : World → World → ℕ → ℕ → List ℕ → Asked → Type 0
 IsDone old new now after printed (Moment stamp) = (new ≡ old) × (after ≡ stamp) × (printed ≡ codes "ok")
 IsDone old new now after printed (Event event) = (after ≡ now) × IsAnswer old new event printed
-IsDone old new now after printed (Refused refused) = (new ≡ old) × (after ≡ now)
+IsDone old new now after printed (Refused refused) = (new ≡ old) × (after ≡ now) × IsFaultLine printed
 
 -- A line is a command, and what that asks for is done.
 pub record RunsLine (old new : World) (now after : ℕ) (line printed : List ℕ) : Type 0 where

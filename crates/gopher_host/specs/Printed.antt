@@ -8,7 +8,11 @@ use Rattle.session_core.specs.declared.event.Outcome.TheVariants.{Joined, More, 
 abbrev pub shown : List ℕ → List ℕ
 shown bytes = encode_utf8_all (escaped bytes)
 
--- The line of an outcome, without its LF. (The name of a fault is shown by tests.)
+-- The line of a fault, without its LF: `fault`, a space, and a name. (Which name is shown by tests.)
+abbrev pub IsFaultLine : List ℕ → Type 0
+IsFaultLine line = (name : List ℕ) × (line ≡ codes "fault " ++ name)
+
+-- The line of an outcome, without its LF.
 abbrev pub IsLineOf : Outcome → List ℕ → Type 0
 IsLineOf (Joined id) line = line ≡ codes "id " ++ decimal id
 IsLineOf More line = line ≡ codes "more"
@@ -17,4 +21,4 @@ IsLineOf Finished line = line ≡ codes "finished"
 IsLineOf (Drawn bytes) line = line ≡ codes "drawn " ++ shown bytes
 IsLineOf Gone line = line ≡ codes "ok"
 IsLineOf Done line = line ≡ codes "ok"
-IsLineOf (Fault fault) line = Unit {0}
+IsLineOf (Fault fault) line = IsFaultLine line

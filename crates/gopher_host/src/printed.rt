@@ -1,17 +1,27 @@
 // Answers as the program prints them.
 ghost use Rattle.std.specs.Prelude.{◌≡◌, IfOk};
 ghost use Rattle.std.specs.String.{string_bytes};
-ghost use Rattle.gopher_host.specs.Printed.{shown, IsLineOf};
+ghost use Rattle.gopher_host.specs.Printed.{shown, IsFaultLine, IsLineOf};
 
 use bstr::ByteSlice;
 use session_core::Outcome;
 use std::alloc::{AllocError, Global};
+use std::fmt::Display;
 
 /// The bytes with escapes for all but printable ASCII and whole characters of more bytes. A space is `\x20`.
 pub fn escaped(alloc: Global, bytes: &[u8]) -> Result<String, AllocError>
     ensures { IfOk result (λ t. string_bytes t ≡ shown bytes.now) }
 {
     bytes.escape_bytes().to_string(alloc)
+}
+
+/// The line of a fault, without its LF: `fault`, a space, and its name.
+pub fn fault_line<F: Display>(alloc: Global, fault: &F) -> Result<String, AllocError>
+    ensures { IfOk result (λ t. IsFaultLine (string_bytes t)) }
+{
+    let mut line = String::from_str(alloc, "fault ")?;
+    line.push_str(&fault.to_string(alloc)?)?;
+    Ok(line)
 }
 
 /// The line of an outcome, without its LF.
@@ -29,6 +39,6 @@ pub fn line_of(alloc: Global, outcome: &Outcome) -> Result<String, AllocError>
             Ok(line)
         }
         Outcome::Gone | Outcome::Done => String::from_str(alloc, "ok"),
-        Outcome::Fault(fault) => format!(in alloc; "fault {fault}"),
+        Outcome::Fault(fault) => fault_line(alloc, fault),
     }
 }

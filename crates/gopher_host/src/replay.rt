@@ -10,7 +10,7 @@ ghost use Rattle.gopher_host.specs.Lines.{IsAnswer, RunsLine, IsRunTo, IsRunInPa
 
 use crate::ask::{Asked, ask};
 use crate::fault::Fault;
-use crate::printed::line_of;
+use crate::printed::{fault_line, line_of};
 use crate::script::{LineFault, parse};
 use host_types::{SiteKeeper, Stamp};
 use session_core::{Event, Hub};
@@ -52,7 +52,7 @@ fn answer_line<S: SiteKeeper>(
     match ask(alloc, parse(alloc, line)?, now)? {
         Asked::Moment(moment) => Ok((moment, String::from_str(alloc, "ok")?)),
         Asked::Event(event) => Ok((now, answer(alloc, hub, event)?)),
-        Asked::Refused(refused) => Ok((now, format!(in alloc; "fault {refused}")?)),
+        Asked::Refused(refused) => Ok((now, fault_line(alloc, &refused)?)),
     }
 }
 
