@@ -2,3 +2,4 @@ pub mod Posts
 pub mod ShortViews
 pub mod KeptPairs
 pub mod FreshSite
+pub mod CutLines

@@ -1,9 +1,17 @@
--- Host, port and administrator of a site, as they are lent.
-use Rattle.std.specs.Prelude.{◌≡◌}
+-- Under which name clients find a site, and who keeps it.
+use Rattle.std.specs.Prelude.{ℕ, List}
 use Rattle.host_types.specs.Site.{Site}
 use Rattle.host_types.specs.declared.site_keeper.Front.{Front}
 
-pub record IsFront (front : Front) (s : Site) : Type 0 where
-  pub host : front.host.now ≡ s.host
-  pub port : front.port ≡ s.port
-  pub admin : front.admin.now ≡ s.admin
+pub record Address : Type 0 where
+  pub host : List ℕ
+  pub port : ℕ
+  pub admin : List ℕ
+
+-- that of a site
+abbrev pub address : Site → Address
+address s = record { host = s.host; port = s.port; admin = s.admin }
+
+-- as it is lent
+abbrev pub lent : Front → Address
+lent front = record { host = front.host.now; port = front.port; admin = front.admin.now }

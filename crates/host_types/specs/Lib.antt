@@ -7,5 +7,6 @@ pub mod Card
 pub mod Stops
 pub mod Keeping
 pub mod Front
+pub mod Lines
 pub mod Kept
 pub mod Examples

@@ -4,7 +4,7 @@ ghost use Rattle.host_types.specs.Site.{Site, item_at, with_item, without_item, 
 ghost use Rattle.host_types.specs.Change.{apply, put, remove, move_to, set_host, set_admin, post, oldest_post, without_any};
 ghost use Rattle.host_types.specs.Keeping.{IsMemoryFault};
 ghost use Rattle.host_types.specs.Card.{has_short_views, card_at, viewed_at};
-ghost use Rattle.host_types.specs.Front.{IsFront};
+ghost use Rattle.host_types.specs.Front.{address, lent};
 
 use crate::item::keeps_cap;
 use crate::{
@@ -34,34 +34,6 @@ impl Model for MemSite {
     ghost view = { λ m. record { items = m.items.entries; host = m.host; port = m.port; admin = m.admin } };
 
     ghost invariant = { λ m. AllByRecursion IsKept m.items.entries };
-}
-
-/// The bytes of a post's selector.
-fn post_name(alloc: Global, board: &[u8], number: u64) -> Result<Vec<u8>, AllocError>
-    ensures { IfOk result (λ name. name.items ≡ post_selector board.now number) }
-{
-    let digits = format!(in alloc; "{number}")?;
-    let mut name = Vec::new(alloc);
-    name.extend_from_slice(b"post/")?;
-    name.extend_from_slice(board)?;
-    name.extend_from_slice(b"/")?;
-    name.extend_from_slice(digits.as_bytes())?;
-    Ok(name)
-}
-
-/// The selector of a post, or none where it would have over 255 bytes.
-fn post_selector(
-    alloc: Global,
-    board: &Selector,
-    number: u64,
-) -> Result<Option<Selector>, AllocError>
-    ensures { IfOk result (λ o. MatchOption o (255 < length (post_selector board.now number)) (λ s. s ≡ post_selector board.now number)) }
-{
-    let name = post_name(alloc, board.as_bytes(), number)?;
-    match Selector::new(&name) {
-        Ok(selector) => Ok(Some(selector)),
-        Err(_) => Ok(None),
-    }
 }
 
 impl MemSite {
@@ -131,8 +103,16 @@ impl MemSite {
         }
     }
 
+    /// All items by their selectors, in byte order.
+    pub fn items(&self) -> &BTreeMap<Selector, Item>
+        ensures { result.now.entries ≡ self.now.items }
+    {
+        let items = &self.items;
+        items
+    }
+
     pub(crate) fn shown(&self) -> Front<'_>
-        ensures { IsFront result self.now }
+        ensures { lent result ≡ address self.now }
     {
         Front {
             host: &self.host,
@@ -145,7 +125,7 @@ impl MemSite {
         ensures { IfOk result (λ there. there ≡ is_some (item_at self.now (post_selector board.now number))) }
     {
         self.long_selectors();
-        match post_selector(alloc, board, number)? {
+        match Selector::of_post(alloc, board, number)? {
             Some(selector) => Ok(self.item(&selector).is_some()),
             None => Ok(false),
         }
@@ -380,7 +360,7 @@ impl MemSite {
             return Err(SiteFault::Refused(Refused::Spent));
         }
         let stood = item.after_post(cap, next, now)?;
-        let Some(selector) = post_selector(alloc, board, next)? else {
+        let Some(selector) = Selector::of_post(alloc, board, next)? else {
             return Err(SiteFault::Memory);
         };
         let posted = Item::text(alloc, title, now, text)?;
@@ -412,7 +392,7 @@ impl MemSite {
         if next <= u64::from(cap) {
             return Ok(None);
         }
-        match post_selector(alloc, board, next - u64::from(cap))? {
+        match Selector::of_post(alloc, board, next - u64::from(cap))? {
             Some(selector) => Ok(Some(selector)),
             None => Err(SiteFault::Memory),
         }

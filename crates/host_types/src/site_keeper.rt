@@ -5,7 +5,7 @@ ghost use Rattle.host_types.specs.Change.{apply};
 ghost use Rattle.host_types.specs.Card.{card_at, viewed_at, chunk_of};
 ghost use Rattle.host_types.specs.Stops.{Stops, LeavesOnly, IsQuiet, may_leave};
 ghost use Rattle.host_types.specs.Keeping.{Keeping, HasRead, HasTried, HasNotChanged, IsReadFault, IsChangeFault};
-ghost use Rattle.host_types.specs.Front.{IsFront};
+ghost use Rattle.host_types.specs.Front.{address, lent};
 ghost use Rattle.host_types.specs.declared.site_fault.SiteFault.TheVariants.{Failed};
 
 use crate::{Admin, Card, Change, Host, Selector, SiteFault, Stamp};
@@ -39,7 +39,7 @@ pub trait SiteKeeper {
 
     /// Host, port and administrator. It takes no memory.
     fn front(&self) -> Front<'_>
-        ensures { IsTrue (keeping self.now).honest → IsFront result (keeping self.now).site };
+        ensures { IsTrue (keeping self.now).honest → lent result ≡ address (keeping self.now).site };
 
     /// Whether no write or sync has failed.
     fn is_usable(&self) -> bool

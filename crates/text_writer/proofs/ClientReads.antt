@@ -2,7 +2,8 @@
 use Rattle.std.proofs.Common.{◌≡◌, ℕ, Bool, true, false, List, [], ◌∷◌, ◌++◌, ◌==◌, ◌&&◌, if◌then◌else◌, refl, sym, ap, ◌∙◌, inl, inr, flat_map, arith, append_assoc}
 use Rattle.std.proofs.lemmas.Bool.{cases_Bool}
 use Rattle.std.specs.List.{list_all}
-use Rattle.text_writer.specs.Text.{begins, lines, text, client, onto_first_line, sent_line, line_end, text_end, read_lines}
+use Rattle.host_types.specs.Lines.{begins, lines, onto_first_line}
+use Rattle.text_writer.specs.Text.{text, client, sent_line, line_end, text_end, read_lines}
 
 -- no LF stands in the line
 abbrev pub has_no_lf : List ℕ → Bool
@@ -20,7 +21,7 @@ no_lf_follows [] rest h = refl
 no_lf_follows (b ∷ bs) rest h = first_is_not b bs h
 
 -- one line and its end
-line_read : (l rest : List ℕ) → has_no_lf l ≡ true → lines (l ++ 13 ∷ 10 ∷ rest) ≡ l ∷ lines rest
+pub line_read : (l rest : List ℕ) → has_no_lf l ≡ true → lines (l ++ 13 ∷ 10 ∷ rest) ≡ l ∷ lines rest
 line_read [] rest h = refl
 line_read (b ∷ bs) rest h =
     let ih = line_read bs rest (rest_has_none b bs h) in

@@ -2,7 +2,8 @@
 use Rattle.std.proofs.Common.{◌≡◌, ℕ, Bool, true, false, List, [], ◌∷◌, ◌++◌, ap, sym, ◌∙◌, inl, inr, refl, subst, ◌==◌}
 use Rattle.std.specs.List.{flat_map}
 use Rattle.std.proofs.lemmas.Bool.{cases_Bool, eqb-true}
-use Rattle.text_writer.specs.Text.{lines, text, sent_line, line_end, text_end, onto_first_line}
+use Rattle.host_types.specs.Lines.{lines, onto_first_line}
+use Rattle.text_writer.specs.Text.{text, sent_line, line_end, text_end}
 use Rattle.text_writer.specs.Place.{emitted, after, closing}
 use Rattle.text_writer.specs.declared.place.Place.{Place}
 

@@ -1,2 +1,3 @@
 pub mod ClientReads
 pub mod Joins
+pub mod MenuLines

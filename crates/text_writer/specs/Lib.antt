@@ -2,3 +2,4 @@ pub mod Errors
 pub mod Examples
 pub mod Place
 pub mod Text
+pub mod Menu

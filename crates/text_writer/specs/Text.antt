@@ -1,23 +1,7 @@
--- Lines of a body, text as it is sent, and what a client reads. RFC 1436, appendix (TextFile Entity, Lastline); the dropped CR is this project's profile.
-use Rattle.std.specs.Prelude.{ℕ, Bool, false, List, [], ◌∷◌, ◌++◌, ◌==◌, ◌&&◌, if◌then◌else◌, flat_map}
+-- Text as it is sent, and what a client reads. RFC 1436, appendix (TextFile Entity, Lastline).
+use Rattle.std.specs.Prelude.{◌≡◌, ℕ, Bool, true, false, not, List, [], ◌∷◌, ◌++◌, ◌==◌, ◌&&◌, if◌then◌else◌, flat_map}
 use Rattle.std.specs.Str.{bytes_eq}
-
-abbrev pub begins : ℕ → List ℕ → Bool
-begins byte [] = false
-begins byte (b ∷ bs) = b == byte
-
--- a byte in front of the first line
-abbrev pub onto_first_line : ℕ → List (List ℕ) → List (List ℕ)
-onto_first_line b [] = (b ∷ []) ∷ []
-onto_first_line b (line ∷ others) = (b ∷ line) ∷ others
-
--- The body cut at each LF, one CR before it dropped; a last part without LF is a line where it has bytes.
-abbrev pub lines : List ℕ → List (List ℕ)
-lines [] = []
-lines (b ∷ bs) =
-    if b == 10 then [] ∷ lines bs
-    else if b == 13 && begins 10 bs then lines bs
-    else onto_first_line b (lines bs)
+use Rattle.host_types.specs.Lines.{begins, lines}
 
 abbrev pub line_end : List ℕ
 line_end = 13 ∷ 10 ∷ []
@@ -49,3 +33,12 @@ read_lines (line ∷ others) = if is_period line then [] else without_period lin
 -- what a client reads of a reply
 abbrev pub client : List ℕ → List (List ℕ)
 client reply = read_lines (lines reply)
+
+-- The last line is one period, and no line before it begins with one, so that every client finds the end.
+abbrev pub is_ended_once : List (List ℕ) → Bool
+is_ended_once [] = false
+is_ended_once (line ∷ []) = is_period line
+is_ended_once (line ∷ other ∷ others) = not (begins 46 line) && is_ended_once (other ∷ others)
+
+abbrev pub EndsOnce : List ℕ → Type 0
+EndsOnce reply = is_ended_once (lines reply) ≡ true

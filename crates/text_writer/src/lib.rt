@@ -3,13 +3,13 @@
 
 mod error;
 mod laws;
-mod menu;
+mod menus;
 mod place;
 #[cfg(test)]
 mod tests;
 mod whole;
 
 pub use error::{ErrorText, error_reply};
-pub use laws::{reads_back, worked_examples};
-pub use menu::empty_menu;
+pub use laws::{menus_end_once, reads_back, worked_examples};
+pub use menus::{item_line, link_line, menu, menu_line};
 pub use whole::text;

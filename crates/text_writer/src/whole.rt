@@ -1,5 +1,6 @@
 // A whole body as text.
 ghost use Rattle.std.specs.Prelude.{◌≡◌, IfOk};
+ghost use Rattle.host_types.specs.Lines.{lines};
 ghost use Rattle.text_writer.specs.Text as spec;
 
 use crate::place::{Place, after, send_byte, send_closing};
@@ -10,7 +11,7 @@ use std::alloc::{AllocError, Global};
 /// with a period has one more, and a line of one period ends the text (RFC 1436, appendix).
 pub fn text(alloc: Global, body: &[u8]) -> Result<Bytes, AllocError>
     ensures bytes { IfOk result (λ t. t ≡ spec.text body.now) }
-    ensures client { IfOk result (λ t. spec.client t ≡ spec.lines body.now) }
+    ensures client { IfOk result (λ t. spec.client t ≡ lines body.now) }
 {
     let mut sent = Vec::new(alloc);
     let mut place = Place {

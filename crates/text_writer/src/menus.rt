@@ -1,0 +1,156 @@
+// Menus.
+ghost use Rattle.std.specs.Prelude.{◌≡◌, ◌∷◌, ◌++◌, Some, IfOk, decimal};
+ghost use Rattle.host_types.specs.Front.{lent};
+ghost use Rattle.text_writer.specs.Menu as spec;
+
+use host_types::{Bytes, Card, CardBody, Entry, Front, LineList, Selector};
+use std::alloc::{AllocError, Global};
+
+/// The letter that a menu line begins with (RFC 1436, section 3.8).
+fn type_letter(body: &CardBody) -> u8
+    ensures { result ≡ spec.type_letter body.now }
+{
+    match body {
+        CardBody::Views(kind, _) => kind.letter(),
+        CardBody::Menu(_) => b'1',
+        CardBody::Board { .. } => b'1',
+        CardBody::Form { .. } => b'1',
+        CardBody::Search { .. } => b'7',
+        CardBody::Moved { .. } => b'3',
+    }
+}
+
+fn plus_sign(body: &CardBody) -> &'static [u8]
+    ensures { result.now ≡ spec.plus_sign body.now }
+{
+    match body {
+        CardBody::Form { .. } => b"?",
+        _ => b"+",
+    }
+}
+
+/// The first four fields of a menu line, with a TAB between each two.
+fn four_fields(
+    alloc: Global,
+    letter: u8,
+    title: &[u8],
+    selector: &[u8],
+    host: &[u8],
+    port: u16,
+) -> Result<Vec<u8>, AllocError>
+    ensures { IfOk result (λ line. line.items ≡ letter ∷ title.now ++ 9 ∷ selector.now ++ 9 ∷ host.now ++ 9 ∷ decimal port) }
+{
+    let digits = format!(in alloc; "{port}")?;
+    let mut line = Vec::new(alloc);
+    line.push(letter)?;
+    line.extend_from_slice(title)?;
+    line.push(b'\t')?;
+    line.extend_from_slice(selector)?;
+    line.push(b'\t')?;
+    line.extend_from_slice(host)?;
+    line.push(b'\t')?;
+    line.extend_from_slice(digits.as_bytes())?;
+    Ok(line)
+}
+
+/// The line of an item of this site: its letter and title, selector, host, port, and the sign of Gopher+ (RFC 1436, section 3.8).
+pub fn item_line(
+    alloc: Global,
+    front: Front<'_>,
+    selector: &Selector,
+    card: &Card,
+) -> Result<Bytes, AllocError>
+    ensures line { IfOk result (λ line. line ≡ spec.item_line (lent front.entry) selector.now card.now) }
+{
+    let letter = type_letter(&card.body);
+    let mut line = four_fields(
+        alloc,
+        letter,
+        card.title.as_bytes(),
+        selector.as_bytes(),
+        front.host.as_bytes(),
+        front.port,
+    )?;
+    line.push(b'\t')?;
+    line.extend_from_slice(plus_sign(&card.body))?;
+    line.extend_from_slice(b"\r\n")?;
+    Ok(Bytes::from(line))
+}
+
+/// The line that a menu has for what stands at a selector; none for an item that has moved.
+pub fn menu_line(
+    alloc: Global,
+    front: Front<'_>,
+    selector: &Selector,
+    card: &Card,
+) -> Result<Option<Bytes>, AllocError>
+    ensures line { IfOk result (λ line. line ≡ spec.found_line (lent front.entry) selector.now (Some card.now)) }
+{
+    if let CardBody::Moved { .. } = &card.body {
+        return Ok(None);
+    }
+    Ok(Some(item_line(alloc, front, selector, card)?))
+}
+
+/// The line of an entry that names no item of this site; none for one that does.
+pub fn link_line(
+    alloc: Global,
+    front: Front<'_>,
+    entry: &Entry,
+) -> Result<Option<Bytes>, AllocError>
+    ensures line { IfOk result (λ line. line ≡ spec.link_line (lent front.entry) entry.now) }
+{
+    let mut line = match entry {
+        Entry::Local(_) => return Ok(None),
+        Entry::Info(title) => four_fields(
+            alloc,
+            b'i',
+            title.as_bytes(),
+            &[],
+            front.host.as_bytes(),
+            front.port,
+        )?,
+        Entry::Url { title, url } => {
+            let mut selector = Vec::new(alloc);
+            selector.extend_from_slice(b"URL:")?;
+            selector.extend_from_slice(url.as_bytes())?;
+            four_fields(
+                alloc,
+                b'h',
+                title.as_bytes(),
+                &selector,
+                front.host.as_bytes(),
+                front.port,
+            )?
+        }
+        Entry::Remote {
+            kind,
+            title,
+            selector,
+            host,
+            port,
+        } => four_fields(
+            alloc,
+            kind.letter(),
+            title.as_bytes(),
+            selector.as_bytes(),
+            host.as_bytes(),
+            *port,
+        )?,
+    };
+    line.extend_from_slice(b"\r\n")?;
+    Ok(Some(Bytes::from(line)))
+}
+
+/// A menu of these lines: they, and the line that is one period (RFC 1436, section 3.8).
+#[tactic(auto, unfolding(crate::specs::Menu::menu))]
+pub fn menu(alloc: Global, lines: &LineList) -> Result<Bytes, AllocError>
+    ensures menu { IfOk result (λ m. m ≡ spec.menu lines.now) }
+{
+    let mut menu = Vec::new(alloc);
+    for line in lines.as_slice() {
+        menu.extend_from_slice(line.as_slice())?;
+    }
+    menu.extend_from_slice(b".\r\n")?;
+    Ok(Bytes::from(menu))
+}

@@ -1,0 +1,14 @@
+//! Pages that lead a browser on to a link out of gopherspace.
+#![tactic(auto)]
+
+mod fault;
+mod laws;
+mod names;
+mod page;
+#[cfg(test)]
+mod tests;
+
+pub use fault::UrlFault;
+pub use laws::{reads_back, worked_examples};
+pub use names::{escape, unescape};
+pub use page::redirect;
