@@ -103,6 +103,11 @@ impl MemSite {
         }
     }
 
+    /// Where the site takes its memory.
+    pub fn alloc(&self) -> Global {
+        self.alloc
+    }
+
     /// All items by their selectors, in byte order.
     pub fn items(&self) -> &BTreeMap<Selector, Item>
         ensures { result.now.entries ≡ self.now.items }

@@ -1,0 +1,4 @@
+pub mod EachImage
+pub mod Kept
+pub mod Picks
+pub mod Time

@@ -1,0 +1,10 @@
+pub mod AfterStop
+pub mod Calls
+pub mod Device
+pub mod Disk
+pub mod Examples
+pub mod Fuse
+pub mod FuseState
+pub mod Images
+pub mod Lying
+pub mod MemDisk

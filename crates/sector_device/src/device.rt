@@ -1,0 +1,97 @@
+// A disk of sectors, as the layers above see it.
+ghost use Rattle.std.specs.Prelude.{◌≡◌, ◌≤◌, ◌<◌, ◌+◌, ◌-◌, ◌^◌, min, List, ℕ, IfOk, OnOk, OnErr, IfErr, IsTrue, length, slice_get, Some};
+ghost use Rattle.sector_device.specs.declared.device.DeviceFault.{DeviceFault as Fault};
+ghost use Rattle.sector_device.specs.declared.device.DeviceFault.TheVariants.{Device as Failing};
+ghost use Rattle.sector_device.specs.Disk.{Sectors, Disk, IsImage, written, synced, WriteFailed, SyncFailed};
+ghost use Rattle.sector_device.specs.Device.{State, Rose, Counts, Elapses};
+
+use thiserror::Error;
+
+/// Why a call of a device fails.
+#[derive(Clone, Copy, Debug, PartialEq, Eq, Error)]
+pub enum DeviceFault {
+    /// A read, a write or a sync failed, and was counted.
+    #[error("Device")]
+    Device,
+    /// A file can't be opened as a device.
+    #[error("NoFile")]
+    NoFile,
+    /// Memory is wanting. No call of the trait answers it.
+    #[error("Memory")]
+    Memory,
+}
+
+/// Counts a call that fails, and gives its fault.
+pub(crate) fn counted(failed: &mut u64) -> DeviceFault
+    ensures rose { Rose failed.old failed.new }
+    ensures next { failed.new ≡ min (failed.old + 1) (2 ^ 64 - 1) }
+    ensures fault { result ≡ Failing }
+{
+    *failed = failed.saturating_add(1);
+    DeviceFault::Device
+}
+
+/// A disk of sectors of 512 bytes.
+///
+/// Whatever speaks of sectors, or of what a stop may leave, holds where the device is honest, that is, keeps its written meaning. No call
+/// makes an honest device dishonest, or the other way round. Sizes, counts and the kind of a fault hold on every device.
+pub trait Device {
+    /// The disk, its size in sectors, whether the device is honest, and the counts of failed calls.
+    ghost state: { Self → State };
+
+    /// The moment, as a number that doesn't fall.
+    ghost moment: { Self → ℕ };
+
+    /// What a stop at some moment from that one on might have left.
+    ghost left_since: { Self → ℕ → Sectors → Type 0 };
+
+    /// How many sectors there are. It takes no memory.
+    fn sectors(&self) -> u64
+        ensures { result ≡ (state self.now).size };
+
+    /// Reads sector n. A read that fails changes nothing but its count. It takes no memory.
+    fn read(&mut self, n: u64, buffer: &mut [u8; 512]) -> Result<(), DeviceFault>
+        requires { n < (state self.old).size }
+        ensures read { IsTrue (state self.old).honest → OnOk result (slice_get (state self.old).disk.view n ≡ Some buffer.new) }
+        ensures disk { IsTrue (state self.old).honest → (state self.new).disk ≡ (state self.old).disk }
+        ensures size { (state self.new).size ≡ (state self.old).size }
+        ensures honest { (state self.new).honest ≡ (state self.old).honest }
+        ensures reads { Counts result (state self.old).failed_reads (state self.new).failed_reads }
+        ensures writes { (state self.new).failed_writes ≡ (state self.old).failed_writes }
+        ensures fault { IfErr result (λ e. e ≡ Failing) }
+        ensures time { IsTrue (state self.old).honest → Elapses (moment self.old) (moment self.new) (left_since self.old) (left_since self.new) };
+
+    /// Writes sector n. Reads show it at once; a stop may leave it or not until a sync succeeds.
+    fn write(&mut self, n: u64, bytes: &[u8; 512]) -> Result<(), DeviceFault>
+        requires { n < (state self.old).size }
+        ensures written { IsTrue (state self.old).honest → OnOk result ((state self.new).disk ≡ written n bytes.now (state self.old).disk) }
+        ensures failed { IsTrue (state self.old).honest → OnErr result (WriteFailed n bytes.now (state self.old).disk (state self.new).disk) }
+        ensures size { (state self.new).size ≡ (state self.old).size }
+        ensures honest { (state self.new).honest ≡ (state self.old).honest }
+        ensures reads { (state self.new).failed_reads ≡ (state self.old).failed_reads }
+        ensures writes { Counts result (state self.old).failed_writes (state self.new).failed_writes }
+        ensures fault { IfErr result (λ e. e ≡ Failing) }
+        ensures time { IsTrue (state self.old).honest → Elapses (moment self.old) (moment self.new) (left_since self.old) (left_since self.new) };
+
+    /// Makes sure of all that reads give.
+    fn sync(&mut self) -> Result<(), DeviceFault>
+        ensures synced { IsTrue (state self.old).honest → OnOk result ((state self.new).disk ≡ synced (state self.old).disk) }
+        ensures failed { IsTrue (state self.old).honest → OnErr result (SyncFailed (state self.old).disk (state self.new).disk) }
+        ensures size { (state self.new).size ≡ (state self.old).size }
+        ensures honest { (state self.new).honest ≡ (state self.old).honest }
+        ensures reads { (state self.new).failed_reads ≡ (state self.old).failed_reads }
+        ensures writes { Counts result (state self.old).failed_writes (state self.new).failed_writes }
+        ensures fault { IfErr result (λ e. e ≡ Failing) }
+        ensures time { IsTrue (state self.old).honest → Elapses (moment self.old) (moment self.new) (left_since self.old) (left_since self.new) };
+
+    /// A stop at this moment leaves an image.
+    ghost leaves_images: { (d : Self) (c : Sectors) → IsTrue (state d).honest → left_since d (moment d) c → IsImage (state d).disk c };
+
+    /// Each image may be left by a stop at this moment.
+    ghost each_may_be_left: { (d : Self) (c : Sectors) → IsTrue (state d).honest → IsImage (state d).disk c → left_since d (moment d) c };
+
+    /// What reads give is an image.
+    ghost view_is_image: { (d : Self) → IsTrue (state d).honest → IsImage (state d).disk (state d).disk.view };
+
+    ghost base_has_size: { (d : Self) → IsTrue (state d).honest → length (state d).disk.base ≡ (state d).size };
+}

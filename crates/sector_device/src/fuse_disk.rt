@@ -1,0 +1,182 @@
+// A device that passes so many calls on, and then fails each.
+ghost use Rattle.std.specs.Prelude.{◌≡◌, ◌≤◌, ◌<◌, ◌-◌, ◌+◌, ◌^◌, ◌↔◌, ℕ, IfOk, OnOk, OnErr, IfErr, IsErr, IsTrue, length, slice_get, Some};
+ghost use Rattle.sector_device.specs.declared.device.DeviceFault.TheVariants.{Device as Failing};
+ghost use Rattle.sector_device.specs.Disk.{Sectors, Disk, IsImage, written, synced, WriteFailed, SyncFailed};
+ghost use Rattle.sector_device.specs.Device.{State, Counts, Elapses};
+
+use crate::device::counted;
+use crate::{Device, DeviceFault};
+
+/// A device around another: it passes so many reads, writes and syncs on, and then each fails. Its own failures count beside those inside.
+#[derive(Drop)]
+pub struct FuseDisk<D: Device> {
+    inner: D,
+    calls_left: u64,
+    failed_reads: u64,
+    failed_writes: u64,
+}
+
+/// Takes one of the calls that are left, and says whether there was one.
+fn burns(calls_left: &mut u64) -> bool
+    ensures burns { calls_left.new ≡ calls_left.old - 1 }
+    ensures passes { IsTrue result ↔ 0 < calls_left.old }
+{
+    if *calls_left == 0 {
+        return false;
+    }
+    *calls_left -= 1;
+    true
+}
+
+impl<D: Device> FuseDisk<D> {
+    ghost use Rattle.sector_device.specs.FuseState.{inside, calls_left, refused_reads, refused_writes};
+
+    /// A fuse that lets so many calls pass.
+    pub fn new(inner: D, calls: u64) -> Self
+        ensures inside { inside result ≡ inner }
+        ensures calls { calls_left result ≡ calls }
+        ensures reads { refused_reads result ≡ 0 }
+        ensures writes { refused_writes result ≡ 0 }
+    {
+        FuseDisk {
+            inner,
+            calls_left: calls,
+            failed_reads: 0,
+            failed_writes: 0,
+        }
+    }
+
+    /// The device inside.
+    pub fn into_inner(self) -> D
+        ensures { result ≡ inside self }
+    {
+        let FuseDisk {
+            inner,
+            calls_left: _,
+            failed_reads: _,
+            failed_writes: _,
+        } = self;
+        inner
+    }
+
+    /// How many reads the fuse itself failed. At the greatest u64 the count stays.
+    pub fn refused_reads(&self) -> u64
+        ensures { result ≡ refused_reads self.now }
+    {
+        self.failed_reads
+    }
+
+    /// How many writes and syncs the fuse itself failed. At the greatest u64 the count stays.
+    pub fn refused_writes(&self) -> u64
+        ensures { result ≡ refused_writes self.now }
+    {
+        self.failed_writes
+    }
+}
+
+impl<D: Device> Device for FuseDisk<D> {
+    ghost use Rattle.sector_device.specs.FuseState.{inside, calls_left, fuse_state};
+
+    ghost state = { λ d. fuse_state D.state d };
+
+    ghost moment = { λ d. D.moment d.inner };
+
+    ghost left_since = { λ d. D.left_since d.inner };
+
+    ghost leaves_images = { λ d c h left. D.leaves_images d.inner c h left };
+
+    ghost each_may_be_left = { λ d c h image. D.each_may_be_left d.inner c h image };
+
+    ghost view_is_image = { λ d h. D.view_is_image d.inner h };
+
+    ghost base_has_size = { λ d h. D.base_has_size d.inner h };
+
+    fn sectors(&self) -> u64 {
+        self.inner.sectors()
+    }
+
+    fn read(&mut self, n: u64, buffer: &mut [u8; 512]) -> Result<(), DeviceFault>
+        requires { n < (fuse_state D.state self.old).size }
+        ensures read { IsTrue (fuse_state D.state self.old).honest → OnOk result (slice_get (fuse_state D.state self.old).disk.view n ≡ Some buffer.new) }
+        ensures disk { IsTrue (fuse_state D.state self.old).honest → (fuse_state D.state self.new).disk ≡ (fuse_state D.state self.old).disk }
+        ensures size { (fuse_state D.state self.new).size ≡ (fuse_state D.state self.old).size }
+        ensures honest { (fuse_state D.state self.new).honest ≡ (fuse_state D.state self.old).honest }
+        ensures reads { Counts result (fuse_state D.state self.old).failed_reads (fuse_state D.state self.new).failed_reads }
+        ensures writes { (fuse_state D.state self.new).failed_writes ≡ (fuse_state D.state self.old).failed_writes }
+        ensures fault { IfErr result (λ e. e ≡ Failing) }
+        ensures time { IsTrue (fuse_state D.state self.old).honest → Elapses (D.moment (inside self.old)) (D.moment (inside self.new)) (D.left_since (inside self.old)) (D.left_since (inside self.new)) }
+        ensures burns { calls_left self.new ≡ calls_left self.old - 1 }
+        ensures blown { calls_left self.old ≡ 0 → IsErr result × (inside self.new ≡ inside self.old) }
+        ensures passes { 0 < calls_left self.old → Counts result (D.state (inside self.old)).failed_reads (D.state (inside self.new)).failed_reads }
+    {
+        if !burns(&mut self.calls_left) {
+            return Err(counted(&mut self.failed_reads));
+        }
+        self.inner.read(n, buffer)
+    }
+
+    fn write(&mut self, n: u64, bytes: &[u8; 512]) -> Result<(), DeviceFault>
+        requires { n < (fuse_state D.state self.old).size }
+        ensures written { IsTrue (fuse_state D.state self.old).honest → OnOk result ((fuse_state D.state self.new).disk ≡ written n bytes.now (fuse_state D.state self.old).disk) }
+        ensures failed { IsTrue (fuse_state D.state self.old).honest → OnErr result (WriteFailed n bytes.now (fuse_state D.state self.old).disk (fuse_state D.state self.new).disk) }
+        ensures size { (fuse_state D.state self.new).size ≡ (fuse_state D.state self.old).size }
+        ensures honest { (fuse_state D.state self.new).honest ≡ (fuse_state D.state self.old).honest }
+        ensures reads { (fuse_state D.state self.new).failed_reads ≡ (fuse_state D.state self.old).failed_reads }
+        ensures writes { Counts result (fuse_state D.state self.old).failed_writes (fuse_state D.state self.new).failed_writes }
+        ensures fault { IfErr result (λ e. e ≡ Failing) }
+        ensures time { IsTrue (fuse_state D.state self.old).honest → Elapses (D.moment (inside self.old)) (D.moment (inside self.new)) (D.left_since (inside self.old)) (D.left_since (inside self.new)) }
+        ensures burns { calls_left self.new ≡ calls_left self.old - 1 }
+        ensures blown { calls_left self.old ≡ 0 → IsErr result × (inside self.new ≡ inside self.old) }
+        ensures passes { 0 < calls_left self.old → Counts result (D.state (inside self.old)).failed_writes (D.state (inside self.new)).failed_writes }
+    {
+        if !burns(&mut self.calls_left) {
+            return Err(counted(&mut self.failed_writes));
+        }
+        self.inner.write(n, bytes)
+    }
+
+    fn sync(&mut self) -> Result<(), DeviceFault>
+        ensures synced { IsTrue (fuse_state D.state self.old).honest → OnOk result ((fuse_state D.state self.new).disk ≡ synced (fuse_state D.state self.old).disk) }
+        ensures failed { IsTrue (fuse_state D.state self.old).honest → OnErr result (SyncFailed (fuse_state D.state self.old).disk (fuse_state D.state self.new).disk) }
+        ensures size { (fuse_state D.state self.new).size ≡ (fuse_state D.state self.old).size }
+        ensures honest { (fuse_state D.state self.new).honest ≡ (fuse_state D.state self.old).honest }
+        ensures reads { (fuse_state D.state self.new).failed_reads ≡ (fuse_state D.state self.old).failed_reads }
+        ensures writes { Counts result (fuse_state D.state self.old).failed_writes (fuse_state D.state self.new).failed_writes }
+        ensures fault { IfErr result (λ e. e ≡ Failing) }
+        ensures time { IsTrue (fuse_state D.state self.old).honest → Elapses (D.moment (inside self.old)) (D.moment (inside self.new)) (D.left_since (inside self.old)) (D.left_since (inside self.new)) }
+        ensures burns { calls_left self.new ≡ calls_left self.old - 1 }
+        ensures blown { calls_left self.old ≡ 0 → IsErr result × (inside self.new ≡ inside self.old) }
+        ensures passes { 0 < calls_left self.old → Counts result (D.state (inside self.old)).failed_writes (D.state (inside self.new)).failed_writes }
+    {
+        if !burns(&mut self.calls_left) {
+            return Err(counted(&mut self.failed_writes));
+        }
+        self.inner.sync()
+    }
+}
+
+#[cfg(test)]
+mod tests {
+    use super::*;
+    use crate::MemDisk;
+    use std::alloc::AllocError;
+
+    /// A count at its end stays there.
+    #[test]
+    fn counts_at_their_end(rt: HostRuntime) -> Result<(), AllocError> {
+        let mut fuse = FuseDisk {
+            inner: MemDisk::new(rt.alloc(), 1)?,
+            calls_left: 0,
+            failed_reads: u64::MAX,
+            failed_writes: u64::MAX - 1,
+        };
+        assert!(rt; fuse.sync().is_err());
+        assert_eq!(rt; fuse.refused_writes(), u64::MAX);
+        assert!(rt; fuse.sync().is_err());
+        assert_eq!(rt; fuse.refused_writes(), u64::MAX);
+        let mut buffer = [0; 512];
+        assert!(rt; fuse.read(0, &mut buffer).is_err());
+        assert_eq!(rt; fuse.refused_reads(), u64::MAX);
+        Ok(())
+    }
+}

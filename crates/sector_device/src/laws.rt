@@ -1,0 +1,37 @@
+// What holds of the definitions, and a caller over any device.
+ghost use Rattle.std.specs.Prelude.{◌≡◌, ◌<◌, ℕ, List, Some, IfOk, IsTrue, slice_get};
+ghost use Rattle.sector_device.specs.Disk.{Sectors, Disk, IsImage};
+ghost use Rattle.sector_device.specs.AfterStop.{after_stop};
+ghost use Rattle.sector_device.specs.Examples.{Examples};
+
+use crate::{Device, DeviceFault};
+
+/// Worked examples of what a stop leaves.
+pub fn worked_examples()
+    ensures { Examples }
+{}
+
+/// Whatever places are picked, what is left is an image.
+pub fn picks_leave_images()
+    ensures { (picks : List ℕ) (disk : Disk) → IsImage disk (after_stop picks disk) }
+{}
+
+/// Every image is left by some picks.
+pub fn each_image_is_picked()
+    ensures { (disk : Disk) (image : Sectors) → IsImage disk image → (picks : List ℕ) × (after_stop picks disk ≡ image) }
+{}
+
+/// Writes a sector, makes sure of it, and reads it again.
+pub fn store<D: Device>(device: &mut D, n: u64, bytes: &[u8; 512]) -> Result<[u8; 512], DeviceFault>
+    requires { n < (D.state device.old).size }
+    ensures size { (D.state device.new).size ≡ (D.state device.old).size }
+    ensures honest { (D.state device.new).honest ≡ (D.state device.old).honest }
+    ensures read { IsTrue (D.state device.old).honest → IfOk result (λ read. read ≡ bytes.now) }
+    ensures stays { IsTrue (D.state device.old).honest → IfOk result (λ _. (image : Sectors) → D.left_since device.new (D.moment device.new) image → slice_get image n ≡ Some bytes.now) }
+{
+    device.write(n, bytes)?;
+    device.sync()?;
+    let mut buffer = [0; 512];
+    device.read(n, &mut buffer)?;
+    Ok(buffer)
+}

@@ -1,0 +1,7 @@
+-- What of an index of words goes and comes when an item changes.
+use Rattle.std.specs.Prelude.{ℕ, not, List, filter}
+use Rattle.word_index.specs.Words.{is_among}
+
+-- the old words that the new ones lack
+abbrev pub dropped : List (List ℕ) → List (List ℕ) → List (List ℕ)
+dropped old new = filter (λ word. not (is_among new word)) old

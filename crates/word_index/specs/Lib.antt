@@ -1,0 +1,5 @@
+pub mod Words
+pub mod Search
+pub mod IndexChange
+pub mod Gathered
+pub mod Examples

@@ -1,0 +1,18 @@
+//! The words of items, and searches by them.
+#![tactic(auto)]
+
+mod changed_words;
+mod laws;
+mod mem_search;
+mod search_keeper;
+mod selector_list;
+#[cfg(test)]
+mod tests;
+mod word;
+mod word_list;
+
+pub use changed_words::{IndexChange, index_change};
+pub use laws::worked_examples;
+pub use search_keeper::SearchKeeper;
+pub use selector_list::SelectorList;
+pub use word_list::{card_words, words};

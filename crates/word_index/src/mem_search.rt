@@ -1,0 +1,107 @@
+// A site in memory is searched by looking at each item.
+ghost use Rattle.std.specs.Prelude.{◌≡◌, OnOk, IfOk, map, filter, take};
+ghost use Rattle.std.specs.List.{list_all, starts_with};
+ghost use Rattle.host_types.specs.Stops.{quiet, nothing};
+ghost use Rattle.word_index.specs.Gathered.{looked_at};
+ghost use Rattle.word_index.specs.Search as spec;
+ghost use Rattle.word_index.specs.Words as words;
+
+use crate::word::words_in;
+use crate::word_list::{is_among, words};
+use crate::{SearchKeeper, SelectorList};
+use host_types::{Item, LineList, MemSite, Selector, SiteFault};
+use std::alloc::{AllocError, Global};
+
+/// How many items a search finds at most.
+const MOST_FOUND: usize = 100;
+
+/// Whether a word is asked for, and all are there.
+fn holds(there: &LineList, asked: &LineList) -> bool
+    ensures { result ≡ spec.holds there.now asked.now }
+{
+    for word in asked.as_slice() {
+        if !is_among(there, word) {
+            return false;
+        }
+    }
+    !asked.as_slice().is_empty()
+}
+
+fn is_found(
+    alloc: Global,
+    scope: &Selector,
+    asked: &LineList,
+    selector: &Selector,
+    item: &Item,
+) -> Result<bool, AllocError>
+    ensures { IfOk result (λ found. found ≡ spec.is_found scope.now asked.now (selector.now, item.now)) }
+{
+    if !selector.as_bytes().starts_with(scope.as_bytes()) {
+        return Ok(false);
+    }
+    let there = words(alloc, item)?;
+    Ok(holds(&there, asked))
+}
+
+/// The items of a site, in byte order of their selectors.
+fn entries(alloc: Global, site: &MemSite) -> Result<Vec<(&Selector, &Item)>, AllocError>
+    ensures { IfOk result (λ all. map (λ e. (e.0.now, e.1.now)) all.items ≡ site.now.items) }
+{
+    site.items().iter().collect(alloc)
+}
+
+/// Adds the selector of an item that is found, while there is room.
+#[tactic(auto, unfolding(crate::specs::Gathered::looked_at))]
+fn look_at(
+    alloc: Global,
+    found: &mut SelectorList,
+    scope: &Selector,
+    asked: &LineList,
+    entry: (&Selector, &Item),
+) -> Result<(), AllocError>
+    ensures { OnOk result (found.new ≡ looked_at scope.now asked.now found.old (entry.entry.0.now, entry.entry.1.now)) }
+{
+    if found.as_slice().len() < MOST_FOUND && is_found(alloc, scope, asked, entry.0, entry.1)? {
+        found.push(entry.0.clone()?)?;
+    }
+    Ok(())
+}
+
+/// The first of these items that are found.
+#[tactic(auto, using(crate::proofs::Found::found_all))]
+fn search_in(
+    alloc: Global,
+    entries: &[(&Selector, &Item)],
+    scope: &Selector,
+    asked: &LineList,
+) -> Result<SelectorList, AllocError>
+    ensures { IfOk result (λ found. found ≡ map (λ e. e.0) (take 100 (filter (spec.is_found scope.now asked.now) (map (λ e. (e.0.now, e.1.now)) entries.now)))) }
+{
+    let mut found = SelectorList::new(alloc);
+    for entry in entries {
+        look_at(alloc, &mut found, scope, asked, *entry)?;
+    }
+    Ok(found)
+}
+
+/// The first items of a site that are found.
+#[tactic(auto, unfolding(crate::specs::Search::search_of))]
+fn search_all(
+    alloc: Global,
+    site: &MemSite,
+    scope: &Selector,
+    query: &[u8],
+) -> Result<SelectorList, AllocError>
+    ensures { IfOk result (λ found. found ≡ spec.search_of site.now scope.now query.now) }
+{
+    let asked = words_in(alloc, query)?;
+    let entries = entries(alloc, site)?;
+    search_in(alloc, &entries, scope, &asked)
+}
+
+impl SearchKeeper for MemSite {
+    fn search(&mut self, scope: &Selector, query: &[u8]) -> Result<SelectorList, SiteFault> {
+        let alloc = self.alloc();
+        Ok(search_all(alloc, self, scope, query)?)
+    }
+}

@@ -1,0 +1,95 @@
+// The words of an item.
+ghost use Rattle.std.specs.Prelude.{◌≡◌, ◌++◌, ◌==◌, OnOk, IfOk, []};
+ghost use Rattle.word_index.specs.Gathered.{added, gathered};
+ghost use Rattle.word_index.specs.Words as spec;
+
+use crate::word::words_in;
+use host_types::{Body, Bytes, Card, CardBody, Item, Kind, LineList};
+use std::alloc::{AllocError, Global};
+
+/// How many different words of an item are found.
+const MOST_WORDS: usize = 200;
+
+/// Whether the word is one of these.
+pub fn is_among(words: &LineList, word: &Bytes) -> bool
+    ensures { result ≡ spec.is_among words.now word.now }
+{
+    for other in words.as_slice() {
+        if word == other {
+            return true;
+        }
+    }
+    false
+}
+
+/// Adds a word that is new, while there is room.
+#[tactic(auto, unfolding(crate::specs::Gathered::added))]
+fn add(words: &mut LineList, word: &Bytes) -> Result<(), AllocError>
+    ensures { OnOk result (words.new ≡ added words.old word.now) }
+{
+    if words.as_slice().len() < MOST_WORDS && !is_among(words, word) {
+        words.push(word.clone()?)?;
+    }
+    Ok(())
+}
+
+/// Adds the words of some bytes, each that is new, while there is room.
+fn gather(alloc: Global, words: &mut LineList, bytes: &[u8]) -> Result<(), AllocError>
+    ensures { OnOk result (words.new ≡ gathered words.old (spec.words_in bytes.now)) }
+{
+    let more = words_in(alloc, bytes)?;
+    for word in more.as_slice() {
+        add(words, word)?;
+    }
+    Ok(())
+}
+
+/// The first 200 different words of a title, a summary and a text, in this order.
+#[tactic(auto, using(crate::proofs::Distinct::gathered_thrice))]
+fn first_words(
+    alloc: Global,
+    title: &[u8],
+    summary: &[u8],
+    text: &[u8],
+) -> Result<LineList, AllocError>
+    ensures { IfOk result (λ words. words ≡ spec.first_words (spec.words_in title.now ++ spec.words_in summary.now ++ spec.words_in text.now)) }
+{
+    let mut words = LineList::new(alloc);
+    gather(alloc, &mut words, title)?;
+    gather(alloc, &mut words, summary)?;
+    gather(alloc, &mut words, text)?;
+    Ok(words)
+}
+
+#[tactic(auto, unfolding(crate::specs::Words::first_words))]
+fn no_words(alloc: Global) -> LineList
+    ensures { result ≡ spec.first_words [] }
+{
+    LineList::new(alloc)
+}
+
+/// The words of an item: the first 200 different ones of its title, its summary and, of a text, its first view. One that has moved has none.
+
+pub fn words(alloc: Global, item: &Item) -> Result<LineList, AllocError>
+    ensures { IfOk result (λ words. words ≡ spec.words_of item.now) }
+{
+    let text = match &item.body {
+        Body::Views(Kind::Text, _) => item.body.viewed(0),
+        Body::Moved { .. } => return Ok(no_words(alloc)),
+        _ => &[],
+    };
+    first_words(alloc, item.title.as_bytes(), item.summary.as_slice(), text)
+}
+
+/// The words of an item by its card and the bytes of its first view, which are looked at where it is a text.
+
+pub fn card_words(alloc: Global, card: &Card, bytes: &[u8]) -> Result<LineList, AllocError>
+    ensures { IfOk result (λ words. words ≡ spec.card_words card.now bytes.now) }
+{
+    let text = match &card.body {
+        CardBody::Views(Kind::Text, _) => bytes,
+        CardBody::Moved { .. } => return Ok(no_words(alloc)),
+        _ => &[],
+    };
+    first_words(alloc, card.title.as_bytes(), card.summary.as_slice(), text)
+}
