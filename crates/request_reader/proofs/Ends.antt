@@ -1,12 +1,14 @@
 -- Lines and fields by their last byte.
-use Rattle.std.proofs.Common.{◌≡◌, ℕ, suc, ◌+◌, ◌-◌, ◌<◌, ◌≤◌, false, List, [], ◌∷◌, ◌++◌, ◌==◌, length, take, drop, get_or, arith, ap, sym, ◌∙◌, inl, inr, refl}
-use Rattle.std.specs.Prelude.{Err}
+use Rattle.std.proofs.Common.{◌≡◌, ℕ, suc, ◌+◌, ◌-◌, ◌<◌, ◌≤◌, true, false, ◌&&◌, List, [], ◌∷◌, ◌++◌, ◌==◌, length, take, drop, get_or, arith, ap, sym, ◌∙◌, inl, inr, refl}
 use Rattle.std.specs.List.{slice_split, position_or_len}
 use Rattle.std.proofs.lemmas.List.{take_all, take_more, take_rest}
 use Rattle.std.proofs.lemmas.List.Splits.{slice_split_first}
 use Rattle.std.proofs.lemmas.Bool.{cases_Bool}
-use Rattle.request_reader.specs.Lines.{without_cr}
-use Rattle.request_reader.specs.RequestLine.{is_tab, is_plus_field, before_fields, without_empty_end, behind_selector}
+use Rattle.std.proofs.lemmas.Slice.Eq.{bytes_eq-Decides}
+use Rattle.std.specs.Prelude.{Ok, Err}
+use Rattle.std.specs.Str.{bytes_eq}
+use Rattle.host_types.specs.Lines.{without_cr}
+use Rattle.request_reader.specs.RequestLine.{is_tab, before_fields, without_empty_end, is_fetch, data_flag}
 use Rattle.request_reader.specs.declared.cause.Cause.TheVariants.{NotUnderstood}
 
 -- a list is its front and its last byte
@@ -107,6 +109,28 @@ fields_stay xs some other =
     let same = all_stay (take (length xs - 1) xs) (get_or xs (length xs - 1) 0) other in
     ap (slice_split is_tab) (sym apart) ∙ sym same ∙ ap (λ l. without_empty_end (slice_split is_tab l)) apart
 
--- behind the search words there is no further field
-pub further_field : (selector line words more : List ℕ) → slice_split is_tab line ≡ words ∷ slice_split is_tab more → is_plus_field words ≡ false → Err NotUnderstood ≡ behind_selector selector (slice_split is_tab line)
-further_field selector line words more parts plain = let rest = fields_of more in rw (parts, plain, rest.is) refl
+-- a line of one field is that field
+one_part : (xs f : List ℕ) → slice_split is_tab xs ≡ f ∷ [] → xs ≡ f
+one_part [] f is = cc is
+one_part (x ∷ xs) f is =
+    let rest = fields_of xs in
+    elim (cases_Bool (x == 9)) [
+      | inl tab ↦ absurd (let k = rw (tab, rest.is) at is in cc k)
+      | inr off ↦ (let k = rw (off, rest.is) at is in
+          let alone : rest.others ≡ [] = cc k in
+          let first : x ∷ rest.first ≡ f = cc k in
+          ap (λ l. x ∷ l) (one_part xs rest.first (rest.is ∙ ap (λ l. rest.first ∷ l) alone)) ∙ first)
+    ]
+
+pub no_data_flag : (plus flag : List ℕ) → bytes_eq flag (48 ∷ []) ≡ true → Ok false ≡ data_flag plus (slice_split is_tab flag)
+no_data_flag plus flag is = rw ((bytes_eq-Decides flag (48 ∷ [])).0 is) refl
+
+pub data_flag_set : (plus flag : List ℕ) → bytes_eq flag (49 ∷ []) ≡ true → is_fetch plus ≡ true → Ok true ≡ data_flag plus (slice_split is_tab flag)
+data_flag_set plus flag is fetch = rw ((bytes_eq-Decides flag (49 ∷ [])).0 is, fetch) refl
+
+one_flag : (plus flag f : List ℕ) (others : List (List ℕ)) → slice_split is_tab flag ≡ f ∷ others → bytes_eq flag (48 ∷ []) ≡ false → (bytes_eq flag (49 ∷ []) && is_fetch plus) ≡ false → Err NotUnderstood ≡ data_flag plus (f ∷ others)
+one_flag plus flag f [] is none other = let same = one_part flag f is in rw (← same, none, other) refl
+one_flag plus flag f (g ∷ gs) is none other = refl
+
+pub other_flag : (plus flag : List ℕ) → bytes_eq flag (48 ∷ []) ≡ false → (bytes_eq flag (49 ∷ []) && is_fetch plus) ≡ false → Err NotUnderstood ≡ data_flag plus (slice_split is_tab flag)
+other_flag plus flag none other = let all = fields_of flag in rw all.is (one_flag plus flag all.first all.others all.is none other)

@@ -1,16 +1,22 @@
 -- A stream that says something says it whatever follows.
-use Rattle.std.proofs.Common.{◌≡◌, ℕ, ◌+◌, ◌-◌, ◌<◌, ◌≤◌, Bool, true, false, List, ◌++◌, length, take, drop, arith, ap, sym, ◌∙◌, inl, inr, refl, length-append, length-take}
-use Rattle.std.specs.Prelude.{Ok, Err}
-use Rattle.std.specs.List.{position_or_len, before_first}
+use Rattle.std.proofs.Common.{◌≡◌, ℕ, ◌+◌, ◌-◌, ◌<◌, ◌≤◌, Bool, true, false, List, [], ◌∷◌, ◌++◌, ◌==◌, length, take, drop, map, arith, ap, sym, ◌∙◌, inl, inr, refl, nat_le, length-append, length-take, one-add}
+use Rattle.std.specs.Prelude.{Result, Ok, Err}
+use Rattle.std.specs.List.{position_or_len, before_first, list_any}
 use Rattle.std.proofs.Math.Seq.{take-append-add}
 use Rattle.std.proofs.lemmas.List.{take_all, take-append-le, drop-append-le}
 use Rattle.std.proofs.lemmas.List.Folds.{prefix_len-append}
-use Rattle.std.proofs.lemmas.Bool.{cases_lt, lt-ltb, le-ltb, lt-leb, le-leb, ne_eqb}
+use Rattle.std.proofs.lemmas.Bool.{cases_lt, cases_Bool, ltb-true, lt-ltb, le-ltb, leb-true, lt-leb, le-leb, ne_eqb, both_ways}
 use Rattle.std.proofs.lemmas.Grind.{common_steps}
-use Rattle.request_reader.specs.Lines.{Cut, NotYet, TooLate, Line, first_line, front, is_lf, without_cr}
-use Rattle.request_reader.specs.RequestLine.{asked_by}
-use Rattle.request_reader.specs.Verdict.{Verdict, verdict, line_verdict, asked_verdict, is_open}
+use Rattle.host_types.specs.Lines.{lines, without_cr}
+use Rattle.request_reader.specs.Lines.{Cut, NotYet, TooLate, Line, first_line, front, is_lf, ended_parts, ended_lines, onto_ended}
+use Rattle.request_reader.specs.RequestLine.{Asked, asked_by}
+use Rattle.request_reader.specs.DataHead.{extent_of, most_data}
+use Rattle.request_reader.specs.DataLines.{is_period, unstuffed, room, is_too_much}
+use Rattle.request_reader.specs.Verdict.{Verdict, Whole, verdict, line_verdict, asked_verdict, head_verdict, extent_verdict, data_verdict, is_open, with_data}
 use Rattle.request_reader.specs.Laws.{IsSettled, IsDecided}
+use Rattle.request_reader.specs.declared.data_head.Extent.{Extent}
+use Rattle.request_reader.specs.declared.data_head.Extent.TheVariants.{ToPeriod, ToEnd, Count}
+use Rattle.request_reader.specs.declared.cause.Cause.{Cause}
 
 -- a front stays, and grows where it was short
 take_extends : (n : ℕ) (a b : List ℕ) → take n (a ++ b) ≡ take n a ++ take (n - length a) b
@@ -59,7 +65,7 @@ front_short : (a : List ℕ) → length (front a) ≤ length a
 unfolding front
 front_short a = simp length-take (omega arith)
 
-first_line_grows : (a b : List ℕ) → Grows (first_line a) (first_line (a ++ b)) b
+pub first_line_grows : (a b : List ℕ) → Grows (first_line a) (first_line (a ++ b)) b
 first_line_grows a b =
     elim (cases_lt (position_or_len is_lf (front a)) (length (front a))) [
       | inl less ↦
@@ -82,23 +88,147 @@ first_line_grows a b =
           ]
     ]
 
+-- the lines that have ended stay, and more may end
+pub record More (new old : List (List ℕ)) : Type 0 where
+  pub more : List (List ℕ)
+  pub is : new ≡ old ++ more
+
+onto_more : (b : ℕ) (old more : List (List ℕ)) → More (onto_ended b (old ++ more)) (onto_ended b old)
+onto_more b [] more = record { more = onto_ended b more; is = refl }
+onto_more b (l ∷ ls) more = record { more = more; is = refl }
+
+parts_grow : (a b : List ℕ) → More (ended_parts (a ++ b)) (ended_parts a)
+parts_grow [] b = record { more = ended_parts b; is = refl }
+parts_grow (c ∷ cs) b =
+    let ih = parts_grow cs b in
+    elim (cases_Bool (c == 10)) [
+      | inl e ↦ rw e (record { more = ih.more; is = ap (λ x. [] ∷ x) ih.is })
+      | inr n ↦ rw n (let m = onto_more c (ended_parts cs) ih.more in record { more = m.more; is = ap (onto_ended c) ih.is ∙ m.is })
+    ]
+
+pub map_append : (f : List ℕ → List ℕ) (xs ys : List (List ℕ)) → map f (xs ++ ys) ≡ map f xs ++ map f ys
+map_append f [] ys = refl
+map_append f (x ∷ xs) ys = ap (λ l. f x ∷ l) (map_append f xs ys)
+
+lines_grow : (a b : List ℕ) → More (ended_lines (a ++ b)) (ended_lines a)
+lines_grow a b = let g = parts_grow a b in record { more = map without_cr g.more; is = ap (map without_cr) g.is ∙ map_append without_cr (ended_parts a) g.more }
+
+-- what stands before the first that passes does not change by what follows
+any_stays : (p : List ℕ → Bool) (xs ys : List (List ℕ)) → list_any p xs ≡ true → list_any p (xs ++ ys) ≡ true
+any_stays p [] ys h = absurd (cc h)
+any_stays p (x ∷ xs) ys h = elim (cases_Bool (p x)) [ inl e ↦ rw e refl | inr n ↦ rw n (any_stays p xs ys (sym (rw n refl) ∙ h)) ]
+
+before_stays : (p : List ℕ → Bool) (xs ys : List (List ℕ)) → list_any p xs ≡ true → before_first p (xs ++ ys) ≡ before_first p xs
+before_stays p [] ys h = absurd (cc h)
+before_stays p (x ∷ xs) ys h =
+    elim (cases_Bool (p x)) [
+      | inl e ↦ rw e refl
+      | inr n ↦ rw (n, one-add (position_or_len p (xs ++ ys)), one-add (position_or_len p xs)) (ap (λ l. x ∷ l) (before_stays p xs ys (sym (rw n refl) ∙ h)))
+    ]
+
+too_much_stays : (a b : List ℕ) → is_too_much a ≡ true → is_too_much (a ++ b) ≡ true
+unfolding is_too_much
+too_much_stays a b h = lt-ltb most_data (length (a ++ b)) (omega (arith, ltb-true most_data (length a) h, length-append {A = ℕ}))
+
+room_full : (a b : List ℕ) → is_too_much a ≡ true → room (a ++ b) ≡ room a
+unfolding is_too_much room
+room_full a b h = take-append-le most_data a b (omega (arith, ltb-true most_data (length a) h))
+
+pub front_length : (n : ℕ) (xs : List ℕ) → n < length xs → n ≡ length (take n xs)
+front_length n xs less = simp length-take (omega arith)
+
+pub room_whole : (a : List ℕ) → length a ≤ most_data → room a ≡ a
+unfolding room
+room_whole a fits = take_all most_data a fits
+
+pub room_grows : (a b : List ℕ) → room (a ++ b) ≡ room a ++ take (most_data - length a) b
+unfolding room
+room_grows a b = take_extends most_data a b
+
 abbrev pub Stays : Verdict → Verdict → Type 0
 Stays old new = is_open old ≡ false → new ≡ old
+
+data_stays : (a : Asked) (extent : Extent) (s b : List ℕ) (ended : Bool) → Stays (data_verdict a extent s false) (data_verdict a extent (s ++ b) ended)
+data_stays a (Count n) s b ended closed =
+    elim (cases_Bool (nat_le n (length s))) [
+      | inl e ↦
+          let fits : n ≤ length s = leb-true n (length s) e in
+          let still : nat_le n (length (s ++ b)) ≡ true = le-leb n (length (s ++ b)) (omega (arith, length-append {A = ℕ})) in
+          rw (e, still) (ap (λ x. Whole (with_data a (lines x))) (take-append-le n s b fits))
+      | inr off ↦ absurd (both_ways _ closed (rw off refl))
+    ]
+data_stays a ToEnd s b ended closed =
+    elim (cases_Bool (is_too_much s)) [
+      | inl e ↦ rw (e, too_much_stays s b e) refl
+      | inr off ↦ absurd (both_ways _ closed (rw off refl))
+    ]
+data_stays a ToPeriod s b ended closed =
+    elim (cases_Bool (list_any is_period (ended_lines (room s)))) [
+      | inl e ↦
+          let g = lines_grow (room s) (take (most_data - length s) b) in
+          let grown : ended_lines (room (s ++ b)) ≡ ended_lines (room s) ++ g.more = ap ended_lines (room_grows s b) ∙ g.is in
+          let still : list_any is_period (ended_lines (room (s ++ b))) ≡ true = ap (list_any is_period) grown ∙ any_stays is_period (ended_lines (room s)) g.more e in
+          let same : before_first is_period (ended_lines (room (s ++ b))) ≡ before_first is_period (ended_lines (room s)) = ap (before_first is_period) grown ∙ before_stays is_period (ended_lines (room s)) g.more e in
+          rw (e, still) (ap (λ x. Whole (with_data a (map unstuffed x))) same)
+      | inr off ↦ elim (cases_Bool (is_too_much s)) [
+        | inl e ↦ rw (room_full s b e, off, e, too_much_stays s b e) refl
+        | inr short ↦ absurd (both_ways _ closed (rw (off, short) refl))
+      ]
+    ]
+
+extent_stays : (a : Asked) (r : Result Extent Cause) (s b : List ℕ) (ended : Bool) → Stays (extent_verdict a r s false) (extent_verdict a r (s ++ b) ended)
+extent_stays a (Ok extent) s b ended closed = data_stays a extent s b ended closed
+extent_stays a (Err cause) s b ended closed = refl
+
+head_stays : (a : Asked) (old new : Cut) (b : List ℕ) (ended : Bool) → Grows old new b → Stays (head_verdict a old false) (head_verdict a new ended)
+head_stays a NotYet new b ended g closed = absurd (cc closed)
+head_stays a TooLate new b ended g closed = ap (λ c. head_verdict a c ended) g
+head_stays a (Line line rest) new b ended g closed = ap (λ c. head_verdict a c ended) g ∙ extent_stays a (extent_of line) rest b ended closed
+
+asked_stays : (r : Result Asked Cause) (s b : List ℕ) (ended : Bool) → Stays (asked_verdict r s false) (asked_verdict r (s ++ b) ended)
+asked_stays (Err cause) s b ended closed = refl
+asked_stays (Ok a) s b ended closed =
+    elim (cases_Bool a.has_data) [
+      | inl e ↦ rw e (head_stays a (first_line s) (first_line (s ++ b)) b ended (first_line_grows s b) (sym (rw e refl) ∙ closed))
+      | inr off ↦ rw off refl
+    ]
 
 line_stays : (old new : Cut) (b : List ℕ) (ended : Bool) → Grows old new b → Stays (line_verdict old false) (line_verdict new ended)
 line_stays NotYet new b ended g closed = absurd (cc closed)
 line_stays TooLate new b ended g closed = ap (λ c. line_verdict c ended) g
-line_stays (Line line rest) new b ended g closed = ap (λ c. line_verdict c ended) g
+line_stays (Line line rest) new b ended g closed = ap (λ c. line_verdict c ended) g ∙ asked_stays (asked_by line) rest b ended closed
 
 pub settled_lem : IsSettled
 unfolding verdict
 settled_lem front rest ended closed = line_stays (first_line front) (first_line (front ++ rest)) rest ended (first_line_grows front rest) closed
 
 -- at the end of input nothing is open
+data_decided : (a : Asked) (extent : Extent) (s : List ℕ) → is_open (data_verdict a extent s true) ≡ false
+data_decided a (Count n) s = elim (cases_Bool (nat_le n (length s))) [ inl e ↦ rw e refl | inr e ↦ rw e refl ]
+data_decided a ToEnd s = elim (cases_Bool (is_too_much s)) [ inl e ↦ rw e refl | inr e ↦ rw e refl ]
+data_decided a ToPeriod s =
+    elim (cases_Bool (list_any is_period (ended_lines (room s)))) [
+      | inl e ↦ rw e refl
+      | inr off ↦ elim (cases_Bool (is_too_much s)) [ inl e ↦ rw (off, e) refl | inr e ↦ rw (off, e) refl ]
+    ]
+
+extent_decided : (a : Asked) (r : Result Extent Cause) (s : List ℕ) → is_open (extent_verdict a r s true) ≡ false
+extent_decided a (Ok extent) s = data_decided a extent s
+extent_decided a (Err cause) s = refl
+
+head_decided : (a : Asked) (c : Cut) → is_open (head_verdict a c true) ≡ false
+head_decided a NotYet = refl
+head_decided a TooLate = refl
+head_decided a (Line line rest) = extent_decided a (extent_of line) rest
+
+asked_decided : (r : Result Asked Cause) (s : List ℕ) → is_open (asked_verdict r s true) ≡ false
+asked_decided (Err cause) s = refl
+asked_decided (Ok a) s = elim (cases_Bool a.has_data) [ inl e ↦ rw e (head_decided a (first_line s)) | inr off ↦ rw off refl ]
+
 line_decided : (c : Cut) → is_open (line_verdict c true) ≡ false
 line_decided NotYet = refl
 line_decided TooLate = refl
-line_decided (Line line rest) = elim (asked_by line) as (λ r. is_open (asked_verdict r) ≡ false) [ Ok request ↦ refl | Err cause ↦ refl ]
+line_decided (Line line rest) = asked_decided (asked_by line) rest
 
 pub decided_lem : IsDecided
 unfolding verdict

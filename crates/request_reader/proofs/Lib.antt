@@ -1,5 +1,7 @@
 pub mod Places
 pub mod Ends
 pub mod Growing
-pub mod Names
+pub mod CleanLines
 pub mod Cuts
+pub mod Periods
+pub mod Wholes

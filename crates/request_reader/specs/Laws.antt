@@ -1,8 +1,11 @@
 -- What those who feed a reader rest on.
-use Rattle.std.specs.Prelude.{◌≡◌, ℕ, Bool, true, false, List, ◌++◌, IsTrue, fold}
-use Rattle.std.specs.List.{flat_map}
+use Rattle.std.specs.Prelude.{◌≡◌, ℕ, Bool, true, false, List, [], ◌∷◌, ◌++◌, Option, Some, None, unwrap_or, IsTrue, fold}
+use Rattle.std.specs.List.{flat_map, list_any}
+use Rattle.std.specs.Option.{option_to_list}
 use Rattle.host_types.specs.Items.{is_selector}
-use Rattle.request_reader.specs.Request.{Request}
+use Rattle.host_types.specs.Names.{is_barred}
+use Rattle.request_reader.specs.Request.{Request, Wanted, Plus, Fetch, Attributes, EntryAttributes}
+use Rattle.request_reader.specs.Lines.{is_lf}
 use Rattle.request_reader.specs.Verdict.{Whole, verdict, is_open}
 use Rattle.request_reader.specs.Heard.{Heard, said_by, silence, fed, finished}
 
@@ -17,6 +20,29 @@ IsDecided = (stream : List ℕ) → is_open (verdict stream true) ≡ false
 -- The selector of a whole request may name an item.
 abbrev pub IsLawful : Type 0
 IsLawful = (stream : List ℕ) (ended : Bool) (request : Request) → verdict stream ended ≡ Whole request → IsTrue (is_selector request.selector)
+
+-- The lines of data of a whole request are lines: none holds an LF.
+abbrev pub HasLines : Type 0
+HasLines = (stream : List ℕ) (ended : Bool) (request : Request) → verdict stream ended ≡ Whole request → list_any (list_any is_lf) (unwrap_or request.lines []) ≡ false
+
+-- what a fetch names
+abbrev pub names_wanted : Option Wanted → List (List ℕ)
+names_wanted None = []
+names_wanted (Some wanted) = wanted.name ∷ option_to_list wanted.language
+
+-- what a Gopher+ part names
+abbrev pub named_by : Plus → List (List ℕ)
+named_by (Fetch wanted) = names_wanted wanted
+named_by (Attributes names) = names
+named_by (EntryAttributes names) = names
+
+abbrev pub names_asked : Option Plus → List (List ℕ)
+names_asked None = []
+names_asked (Some plus) = named_by plus
+
+-- The views, languages and blocks that a whole request names can stand in a field: none holds TAB, CR, LF or NUL.
+abbrev pub HasNames : Type 0
+HasNames = (stream : List ℕ) (ended : Bool) (request : Request) → verdict stream ended ≡ Whole request → list_any (list_any is_barred) (names_asked request.plus) ≡ false
 
 -- the bytes of the pieces, one behind the other
 abbrev pub joined : List (List ℕ) → List ℕ

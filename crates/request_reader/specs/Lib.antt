@@ -1,7 +1,10 @@
 pub mod Request
 pub mod Lines
 pub mod RequestLine
+pub mod DataHead
+pub mod DataLines
 pub mod Verdict
+pub mod Looked
 pub mod Examples
 pub mod Heard
 pub mod Laws

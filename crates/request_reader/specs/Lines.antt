@@ -1,15 +1,7 @@
 -- How a stream is cut into lines. RFC 1436 ends a line by CR LF; that LF alone ends one, and the limit, are this project's profile.
-use Rattle.std.specs.Prelude.{ℕ, Bool, List, [], ◌∷◌, ◌+◌, ◌==◌, if◌then◌else◌, length, take, drop, nat_lt, nat_le}
+use Rattle.std.specs.Prelude.{ℕ, List, [], ◌∷◌, ◌+◌, ◌==◌, if◌then◌else◌, length, take, drop, map, nat_lt, nat_le}
 use Rattle.std.specs.List.{position_or_len, before_first}
-
-abbrev pub is_lf : ℕ → Bool
-is_lf b = b == 10
-
--- without one CR at its end
-abbrev pub without_cr : List ℕ → List ℕ
-without_cr [] = []
-without_cr (b ∷ []) = if b == 13 then [] else b ∷ []
-without_cr (b ∷ c ∷ bs) = b ∷ without_cr (c ∷ bs)
+pub use Rattle.host_types.specs.Lines.{is_lf, without_cr}
 
 -- A stream's first line and what follows its LF, or that the LF has not come yet, or will come too late.
 pub data Cut : Type 0 where
@@ -27,3 +19,17 @@ first_line stream =
     then Line (without_cr (before_first is_lf (front stream))) (drop (position_or_len is_lf (front stream) + 1) stream)
     else if nat_le (length stream) 1024 then NotYet
     else TooLate
+
+-- a byte in front of the first part, where there is one
+abbrev pub onto_ended : ℕ → List (List ℕ) → List (List ℕ)
+onto_ended b [] = []
+onto_ended b (part ∷ others) = (b ∷ part) ∷ others
+
+-- what stands before each LF, from the LF before it on
+abbrev pub ended_parts : List ℕ → List (List ℕ)
+ended_parts [] = []
+ended_parts (b ∷ bs) = if b == 10 then [] ∷ ended_parts bs else onto_ended b (ended_parts bs)
+
+-- the lines whose LF has come
+abbrev pub ended_lines : List ℕ → List (List ℕ)
+ended_lines stream = map without_cr (ended_parts stream)

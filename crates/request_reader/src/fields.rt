@@ -6,10 +6,12 @@ ghost use Rattle.host_types.specs.Items.{is_selector};
 ghost use Rattle.request_reader.specs.Lines.{is_lf};
 ghost use Rattle.request_reader.specs.RequestLine as spec;
 ghost use Rattle.request_reader.specs.RequestLine.{is_tab, fields, asked_by};
-ghost use Rattle.request_reader.specs.Seen.{asked_of};
+ghost use Rattle.request_reader.specs.Seen.{asked_result};
 
+use crate::Cause;
+use crate::asked::Asked;
 use crate::line::{first_of, has_barred};
-use crate::{Cause, Request};
+use crate::plus::{data_flag, is_plus_field, plus_of};
 
 /// The greatest length of a selector in bytes.
 const LONGEST_SELECTOR: usize = 255;
@@ -50,46 +52,78 @@ fn without_empty_front(left: Option<&[u8]>) -> Option<&[u8]>
     if first.is_empty() { rest } else { left }
 }
 
-/// Whether the field is one of Gopher+.
-fn is_plus_field(field: &[u8]) -> bool
-    ensures { result ≡ spec.is_plus_field field.now }
+/// What is asked for by a Gopher+ part and what is left behind it.
+fn with_plus<'a>(
+    selector: &'a [u8],
+    search: Option<&'a [u8]>,
+    plus: &'a [u8],
+    left: Option<&'a [u8]>,
+) -> Result<Asked<'a>, Cause>
+    requires lawful { IsTrue (is_selector selector.now) }
+    ensures { asked_result result
+        ≡ spec.with_plus selector.now (option_copied search.entry) plus.now
+        (spec.data_flag plus.now (fields (option_copied left.entry))) }
 {
-    match field {
-        [b'+' | b'!' | b'$', ..] => true,
-        _ => false,
-    }
+    let has_data = data_flag(plus, left)?;
+    let plus = plus_of(plus)?;
+    Ok(Asked {
+        selector,
+        search,
+        plus: Some(plus),
+        has_data,
+    })
 }
 
-/// The request whose selector this is, where this is left behind it.
-#[tactic(auto, using(crate::proofs::Ends::further_field))]
-fn behind_selector<'a>(selector: &'a [u8], left: Option<&'a [u8]>) -> Result<Request<'a>, Cause>
+/// What is asked for by search words and what is left behind them.
+fn behind_words<'a>(
+    selector: &'a [u8],
+    words: &'a [u8],
+    left: Option<&'a [u8]>,
+) -> Result<Asked<'a>, Cause>
     requires lawful { IsTrue (is_selector selector.now) }
-    ensures { asked_of result ≡ spec.behind_selector selector.now (fields (option_copied left.entry)) }
+    ensures { asked_result result ≡ spec.behind_words selector.now words.now (fields (option_copied left.entry)) }
 {
     let Some(line) = left else {
-        return Ok(Request {
-            selector,
-            search: None,
-        });
-    };
-    let (words, others) = first_field(line);
-    if is_plus_field(words) {
-        return Err(Cause::NotUnderstood);
-    }
-    match others {
-        Some(_) => Err(Cause::NotUnderstood),
-        None => Ok(Request {
+        return Ok(Asked {
             selector,
             search: Some(words),
-        }),
+            plus: None,
+            has_data: false,
+        });
+    };
+    let (field, others) = first_field(line);
+    if !is_plus_field(field) {
+        return Err(Cause::NotUnderstood);
+    }
+    with_plus(selector, Some(words), field, others)
+}
+
+/// What is asked for by a selector and what is left behind it.
+fn behind_selector<'a>(selector: &'a [u8], left: Option<&'a [u8]>) -> Result<Asked<'a>, Cause>
+    requires lawful { IsTrue (is_selector selector.now) }
+    ensures { asked_result result ≡ spec.behind_selector selector.now (fields (option_copied left.entry)) }
+{
+    let Some(line) = left else {
+        return Ok(Asked {
+            selector,
+            search: None,
+            plus: None,
+            has_data: false,
+        });
+    };
+    let (field, others) = first_field(line);
+    if is_plus_field(field) {
+        with_plus(selector, None, field, others)
+    } else {
+        behind_words(selector, field, others)
     }
 }
 
 /// What a request line says, without its LF and the CR before it.
-#[tactic(auto, using(crate::proofs::Names::first_lawful), unfolding(crate::specs::RequestLine::asked_by))]
-pub fn asked_by(line: &[u8]) -> Result<Request<'_>, Cause>
+#[tactic(auto, using(crate::proofs::CleanLines::first_lawful), unfolding(crate::specs::RequestLine::asked_by))]
+pub fn asked_by(line: &[u8]) -> Result<Asked<'_>, Cause>
     requires line { list_any is_lf line.now ≡ false }
-    ensures { asked_of result ≡ asked_by line.now }
+    ensures { asked_result result ≡ asked_by line.now }
 {
     if has_barred(line) {
         return Err(Cause::NotUnderstood);

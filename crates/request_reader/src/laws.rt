@@ -1,6 +1,6 @@
 // What those who feed a reader rest on, as laws of the definitions.
-ghost use Rattle.request_reader.specs.Examples.{Examples};
-ghost use Rattle.request_reader.specs.Laws.{IsSettled, IsDecided, IsLawful, SaysTheWhole, SaysTheEnd};
+ghost use Rattle.request_reader.specs.Examples.{RequestLines, PlusParts, DataOfRequests, MuchData};
+ghost use Rattle.request_reader.specs.Laws.{IsSettled, IsDecided, IsLawful, HasLines, HasNames, SaysTheWhole, SaysTheEnd};
 
 /// What a stream says is said whatever follows.
 pub fn settled()
@@ -12,9 +12,12 @@ pub fn decided()
     ensures { IsDecided }
 {}
 
-/// The selector of a whole request may name an item.
+/// The selector of a whole request may name an item, its lines of data are lines, and what it names
+/// can stand in a field.
 pub fn lawful()
-    ensures { IsLawful }
+    ensures selector { IsLawful }
+    ensures lines { HasLines }
+    ensures names { HasNames }
 {}
 
 /// However a stream is cut into pieces, a reader of the pieces says what the stream says.
@@ -25,5 +28,8 @@ pub fn any_cuts()
 
 /// Worked examples of requests.
 pub fn worked_examples()
-    ensures { Examples }
+    ensures lines { RequestLines }
+    ensures plus { PlusParts }
+    ensures sent { DataOfRequests }
+    ensures much { MuchData }
 {}

@@ -2,11 +2,12 @@
 ghost use Rattle.std.specs.Prelude.{◌≡◌, ◌≤◌, true, false, IfOk, IsOk, IfSome, take, vec_len};
 ghost use Rattle.std.specs.Option.{option_map};
 ghost use Rattle.request_reader.specs.Verdict.{is_open};
+ghost use Rattle.request_reader.specs.Looked.{IsLooked};
 ghost use Rattle.request_reader.specs.Heard.{Heard, said_by, silence, fed, finished, undone, unmarked};
 ghost use Rattle.request_reader.specs.Seen.{seen};
 
 use crate::Answer;
-use crate::stream::answer_to;
+use crate::stream::{answer_from, look_at_data};
 use std::alloc::{AllocError, Global};
 use std::marker::Model;
 
@@ -24,6 +25,8 @@ pub struct Reader {
     heard: Vec<u8>,
     ended: bool,
     before: Option<Before>,
+    /// How many bytes of the data were looked at, so that no line is looked at twice.
+    looked: usize,
 }
 
 impl Model for Reader {
@@ -31,7 +34,8 @@ impl Model for Reader {
 
     ghost view = { λ r. record { input = record { bytes = r.heard.items; ended = r.ended }; before = option_map (λ b. record { bytes = take b.length r.heard.items; ended = b.ended }) r.before } };
 
-    ghost invariant = { λ r. IfSome r.before (λ b. b.length ≤ vec_len r.heard) };
+    ghost invariant = { λ r. IfSome r.before (λ b. b.length ≤ vec_len r.heard)
+        × IsLooked r.heard.items r.looked };
 }
 
 impl Reader {
@@ -39,7 +43,7 @@ impl Reader {
     ghost use Rattle.request_reader.specs.Rests.{RestsFed, RestsFinished};
 
     /// A reader that heard nothing. Takes no memory.
-    #[tactic(auto, unfolding(crate::specs::Verdict::verdict, crate::specs::Lines::first_line, crate::specs::Lines::front))]
+    #[tactic(auto, using(crate::proofs::Periods::not_looked), unfolding(crate::specs::Verdict::verdict, crate::specs::Lines::first_line, crate::specs::Lines::front))]
     pub fn new(alloc: Global) -> Self
         ensures silent { result ≡ silence }
         ensures open { is_open (said_by result.input) ≡ true }
@@ -48,6 +52,7 @@ impl Reader {
             heard: Vec::new(alloc),
             ended: false,
             before: None,
+            looked: 0,
         }
     }
 
@@ -55,7 +60,7 @@ impl Reader {
     pub fn answer(&self) -> Answer<'_>
         ensures { seen result ≡ said_by self.now.input }
     {
-        answer_to(&self.heard, self.ended)
+        answer_from(&self.heard, self.ended, self.looked)
     }
 
     /// Whether the stream so far says nothing yet.
@@ -90,12 +95,14 @@ impl Reader {
     }
 
     /// Takes back what the call just before took. Takes no memory.
+    #[tactic(auto, using(crate::proofs::Periods::not_looked))]
     pub fn undo(&mut self)
         ensures { self.new ≡ undone self.old }
     {
         if let Some(before) = self.before.take() {
             self.heard.truncate(before.length);
             self.ended = before.ended;
+            self.looked = 0;
         }
     }
 }
@@ -103,6 +110,7 @@ impl Reader {
 impl Reader {
     ghost use Rattle.std.specs.Prelude.{OnOk, OnErr};
 
+    #[tactic(auto, using(crate::proofs::Periods::still_looked))]
     fn take_piece(&mut self, piece: &[u8]) -> Result<(), AllocError>
         ensures ok { OnOk result (self.new ≡ fed self.old piece.now) }
         ensures err { OnErr result (self.new ≡ unmarked self.old) }
@@ -115,6 +123,7 @@ impl Reader {
         }
         let length = self.heard.len();
         self.heard.extend_from_slice(piece)?;
+        self.looked = look_at_data(&self.heard, self.looked);
         self.before = Some(Before {
             length,
             ended: self.ended,

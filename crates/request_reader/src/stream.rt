@@ -1,43 +1,165 @@
 // What a whole stream says.
-ghost use Rattle.std.specs.Prelude.{◌≡◌};
-ghost use Rattle.request_reader.specs.Lines as lines;
-ghost use Rattle.request_reader.specs.Verdict.{verdict};
-ghost use Rattle.request_reader.specs.Seen.{seen};
+ghost use Rattle.std.specs.Prelude.{◌≡◌, Ok};
+ghost use Rattle.std.specs.Option.{option_copied};
+ghost use Rattle.request_reader.specs.Lines.{first_line};
+ghost use Rattle.request_reader.specs.DataLines as spec;
+ghost use Rattle.request_reader.specs.DataLines.{is_too_much};
+ghost use Rattle.request_reader.specs.Looked.{IsLooked, IsLookedAt, IsLookedIn, data_to_period, of_extent, of_head};
+ghost use Rattle.request_reader.specs.Verdict.{verdict, pending, data_verdict, head_verdict};
+ghost use Rattle.request_reader.specs.Seen.{asked_of, seen};
+ghost use Rattle.request_reader.specs.declared.data_head.Extent.TheVariants.{ToPeriod};
 
+use crate::asked::Asked;
+use crate::data_head::{Extent, MOST_DATA, extent_of};
 use crate::fields::asked_by;
-use crate::line::{first_of, without_cr};
-use crate::{Answer, Cause};
+use crate::line::{Cut, first_line};
+use crate::period::look;
+use crate::{Answer, Cause, Data};
 
-/// The greatest length of a line in bytes, a CR counted and the LF not.
-const LONGEST_LINE: usize = 1024;
-
-/// The bytes among which the LF of the request line has to be.
-#[tactic(auto, using(crate::proofs::Growing::front_whole), unfolding(crate::specs::Lines::front))]
-fn front(stream: &[u8]) -> &[u8]
-    ensures { result.now ≡ lines.front stream.now }
+/// What is not whole yet.
+fn pending<'a>(ended: bool) -> Answer<'a>
+    ensures { seen result ≡ pending ended }
 {
-    if stream.len() <= LONGEST_LINE {
+    if ended { Answer::Early } else { Answer::More }
+}
+
+/// All that may follow the head line of data.
+#[tactic(auto, using(crate::proofs::Growing::room_whole), unfolding(crate::specs::DataLines::room, crate::specs::DataHead::most_data))]
+fn room(stream: &[u8]) -> &[u8]
+    ensures { result.now ≡ spec.room stream.now }
+{
+    if stream.len() <= MOST_DATA {
         stream
     } else {
-        &stream[..LONGEST_LINE + 1]
+        &stream[..MOST_DATA]
     }
 }
 
-/// What a stream says, by a look at all of it, and a mark whether the input ended there.
-#[tactic(auto, using(crate::proofs::Names::line_lacks), unfolding(crate::specs::Verdict::verdict, crate::specs::Lines::first_line))]
+#[tactic(auto, unfolding(crate::specs::DataLines::is_too_much, crate::specs::DataHead::most_data))]
+fn is_too_much(stream: &[u8]) -> bool
+    ensures { result ≡ is_too_much stream.now }
+{
+    stream.len() > MOST_DATA
+}
+
+/// What data say that end with a line that is one period.
+fn period_answer<'a>(asked: Asked<'a>, stream: &'a [u8], ended: bool, looked: usize) -> Answer<'a>
+    requires { IsLookedAt (spec.room stream.now) looked }
+    ensures { seen result ≡ data_verdict (asked_of asked.entry) ToPeriod stream.now ended }
+{
+    let bytes = room(stream);
+    let period = look(bytes, looked);
+    if period.is_found {
+        return Answer::Whole(asked.with_data(Data::stuffed(&bytes[..period.at])));
+    }
+    if is_too_much(stream) {
+        Answer::Bad(Cause::TooLong)
+    } else {
+        pending(ended)
+    }
+}
+
+/// What the bytes behind the head line of data say.
+fn data_answer<'a>(
+    asked: Asked<'a>,
+    extent: Extent,
+    stream: &'a [u8],
+    ended: bool,
+    looked: usize,
+) -> Answer<'a>
+    requires { IsLookedIn (of_extent (Ok extent) stream.now) looked }
+    ensures { seen result ≡ data_verdict (asked_of asked.entry) extent stream.now ended }
+{
+    match extent {
+        Extent::ToPeriod => period_answer(asked, stream, ended, looked),
+        Extent::ToEnd => {
+            if is_too_much(stream) {
+                Answer::Bad(Cause::TooLong)
+            } else if ended {
+                Answer::Whole(asked.with_data(Data::plain(stream)))
+            } else {
+                Answer::More
+            }
+        }
+        Extent::Count(count) => {
+            if count <= stream.len() {
+                Answer::Whole(asked.with_data(Data::plain(&stream[..count])))
+            } else {
+                pending(ended)
+            }
+        }
+    }
+}
+
+/// What the bytes behind a request line that data follow say.
+fn head_answer<'a>(asked: Asked<'a>, stream: &'a [u8], ended: bool, looked: usize) -> Answer<'a>
+    requires { IsLookedIn (of_head (first_line stream.now)) looked }
+    ensures { seen result ≡ head_verdict (asked_of asked.entry) (first_line stream.now) ended }
+{
+    match first_line(stream) {
+        Cut::NotYet => pending(ended),
+        Cut::TooLate => Answer::Bad(Cause::TooLong),
+        Cut::Line(line, rest) => match extent_of(line) {
+            Ok(extent) => data_answer(asked, extent, rest, ended, looked),
+            Err(cause) => Answer::Bad(cause),
+        },
+    }
+}
+
+/// What a stream says, with a mark whether the input ended there, where so many bytes of its data
+/// were looked at already.
+#[tactic(auto, using(crate::proofs::CleanLines::clean_line), unfolding(crate::specs::Verdict::verdict, crate::specs::Looked::data_to_period))]
+pub fn answer_from(stream: &[u8], ended: bool, looked: usize) -> Answer<'_>
+    requires { IsLooked stream.now looked }
+    ensures { seen result ≡ verdict stream.now ended }
+{
+    match first_line(stream) {
+        Cut::NotYet => pending(ended),
+        Cut::TooLate => Answer::Bad(Cause::TooLong),
+        Cut::Line(line, rest) => match asked_by(line) {
+            Ok(asked) if asked.has_data => head_answer(asked, rest, ended, looked),
+            Ok(asked) => Answer::Whole(asked.without_data()),
+            Err(cause) => Answer::Bad(cause),
+        },
+    }
+}
+
+/// What a stream says, with a mark whether the input ended there.
+#[tactic(auto, using(crate::proofs::Periods::not_looked))]
 pub fn answer_to(stream: &[u8], ended: bool) -> Answer<'_>
     ensures { seen result ≡ verdict stream.now ended }
 {
-    let front = front(stream);
-    let end = first_of(b'\n', front);
-    if end < front.len() {
-        return match asked_by(without_cr(&front[..end])) {
-            Ok(request) => Answer::Whole(request),
-            Err(cause) => Answer::Bad(cause),
-        };
+    answer_from(stream, ended, 0)
+}
+
+/// The data that a line with one period is to end, where their head line has come.
+#[tactic(auto, using(crate::proofs::CleanLines::clean_line), unfolding(crate::specs::Looked::data_to_period))]
+fn data_to_period(stream: &[u8]) -> Option<&[u8]>
+    ensures { option_copied result ≡ data_to_period stream.now }
+{
+    let Cut::Line(line, rest) = first_line(stream) else {
+        return None;
+    };
+    let asked = asked_by(line).ok()?;
+    if !asked.has_data {
+        return None;
     }
-    if stream.len() > LONGEST_LINE {
-        return Answer::Bad(Cause::TooLong);
+    let Cut::Line(head, bytes) = first_line(rest) else {
+        return None;
+    };
+    match extent_of(head) {
+        Ok(Extent::ToPeriod) => Some(room(bytes)),
+        _ => None,
     }
-    if ended { Answer::Early } else { Answer::More }
+}
+
+/// How many bytes of the stream's data are looked at once each is.
+pub fn look_at_data(stream: &[u8], looked: usize) -> usize
+    requires { IsLooked stream.now looked }
+    ensures { IsLooked stream.now result }
+{
+    match data_to_period(stream) {
+        Some(bytes) => look(bytes, looked).at,
+        None => looked,
+    }
 }

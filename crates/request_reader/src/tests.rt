@@ -3,9 +3,13 @@ ghost use Rattle.std.specs.Prelude.{◌≡◌, IfOk, OnErr, OnSome, IfNone};
 ghost use Rattle.request_reader.specs.Heard.{fed, finished, unmarked};
 
 use crate::{Answer, Cause, Reader, Request, answer_to, any_cuts, decided, lawful, settled};
-use host_types::Selector;
+use host_types::{LineList, Selector};
 use std::alloc::AllocError;
 use std::test::Fail;
+
+mod much;
+mod plus;
+mod sent;
 
 /// An answer, to be compared.
 #[derive(Clone, Copy, Debug, PartialEq)]
@@ -27,6 +31,19 @@ fn shown(answer: Answer<'_>) -> Row<'_> {
         Answer::Whole(request) => Row::Whole(request.selector, request.search),
         Answer::Bad(cause) => Row::Bad(cause),
     }
+}
+
+fn is_list(list: &LineList, want: &[&[u8]]) -> bool {
+    let lines = list.as_slice();
+    if lines.len() != want.len() {
+        return false;
+    }
+    for (line, wanted) in lines.iter().zip(want) {
+        if line.as_slice() != *wanted {
+            return false;
+        }
+    }
+    true
 }
 
 /// The name that a request asks for, with no test: each request's selector is one.
@@ -51,7 +68,7 @@ fn name_after(reader: &mut Reader, piece: &[u8]) -> Result<Option<Selector>, All
 
 #[test]
 fn reads_lines(rt: HostRuntime) -> Result<(), Fail> {
-    let table: [(&[u8], Row<'_>); 15] = [
+    let table: [(&[u8], Row<'_>); 13] = [
         (b"", Row::More),
         (b"/abo", Row::More),
         (b"/about\r", Row::More),
@@ -64,8 +81,6 @@ fn reads_lines(rt: HostRuntime) -> Result<(), Fail> {
         (b"/a\t\t\t\r\n", Row::Whole(b"/a", None)),
         (b"/a\0b\r\n", NOT_UNDERSTOOD),
         (b"/a\rb\r\n", NOT_UNDERSTOOD),
-        (b"/about\t+\tx\r\n", NOT_UNDERSTOOD),
-        (b"/about\t!\r\n", NOT_UNDERSTOOD),
         (b"/a\tw\tx\r\n", NOT_UNDERSTOOD),
     ];
     for (stream, want) in table {

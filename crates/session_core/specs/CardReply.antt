@@ -2,14 +2,14 @@
 use Rattle.std.specs.Prelude.{◌≡◌, ℕ, List, [], ◌∷◌, length}
 use Rattle.host_types.specs.declared.card.CardBody.{CardBody}
 use Rattle.host_types.specs.declared.card.CardBody.TheVariants as cards
-use Rattle.text_writer.specs.Text.{text_end}
+use Rattle.text_writer.specs.Menu.{menu}
 use Rattle.text_writer.specs.declared.error.ErrorText.TheVariants.{ItemNotFound, ViewNotFound}
 use Rattle.session_core.specs.Reply.{told, sent}
 
 abbrev pub card_reply : CardBody → List ℕ → List ℕ
 card_reply (cards.Views kind []) bytes = told ViewNotFound
 card_reply (cards.Views kind (view ∷ views)) bytes = sent kind bytes
-card_reply (cards.Menu entries) bytes = text_end
+card_reply (cards.Menu entries) bytes = menu []
 card_reply (cards.Board cap next) bytes = told ItemNotFound
 card_reply (cards.Form board questions) bytes = told ItemNotFound
 card_reply (cards.Search scope) bytes = told ItemNotFound

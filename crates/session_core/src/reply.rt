@@ -3,21 +3,28 @@ ghost use Rattle.std.specs.Prelude.{◌≡◌, ◌+◌, ◌*◌, true, length, t
 ghost use Rattle.host_types.specs.Card.{viewed_at};
 ghost use Rattle.host_types.specs.Keeping.{HasRead, IsReadFault};
 ghost use Rattle.request_reader.specs.Seen.{request_of};
-ghost use Rattle.session_core.specs.Reply.{reply, bad_reply, is_sent_as_text, sent};
+ghost use Rattle.session_core.specs.Reply.{told, item_reply, reply, bad_reply, is_sent_as_text, sent};
+ghost use Rattle.host_types.specs.Site.{item_at};
 ghost use Rattle.session_core.specs.CardReply.{card_reply, IsAsLong};
 
-use host_types::{Bytes, CHUNK, CardBody, Kind, Selector, SiteFault, SiteKeeper};
+use host_types::{Bytes, CHUNK, CardBody, Kind, LineList, Selector, SiteFault, SiteKeeper};
 use request_reader::{Cause, Request};
 use std::alloc::{AllocError, Global};
-use text_writer::{ErrorText, empty_menu, error_reply, text};
+use text_writer::{ErrorText, error_reply, menu, text};
+
+fn told(alloc: Global, error: ErrorText) -> Result<Bytes, AllocError>
+    ensures { IfOk result (λ bytes. bytes ≡ told error) }
+{
+    error_reply(alloc, false, error, &[])
+}
 
 /// The reply to what is no request.
 pub fn bad_reply(alloc: Global, cause: Cause) -> Result<Bytes, AllocError>
     ensures { IfOk result (λ bytes. bytes ≡ bad_reply cause) }
 {
     match cause {
-        Cause::TooLong => error_reply(alloc, ErrorText::RequestTooLong),
-        Cause::NotUnderstood => error_reply(alloc, ErrorText::RequestNotUnderstood),
+        Cause::TooLong => told(alloc, ErrorText::RequestTooLong),
+        Cause::NotUnderstood => told(alloc, ErrorText::RequestNotUnderstood),
     }
 }
 
@@ -94,14 +101,33 @@ fn card_reply<S: SiteKeeper>(
                 let bytes = first_view(alloc, site, selector, view.length)?;
                 Ok(sent(alloc, *kind, bytes)?)
             }
-            [] => Ok(error_reply(alloc, ErrorText::ViewNotFound)?),
+            [] => Ok(told(alloc, ErrorText::ViewNotFound)?),
         },
-        CardBody::Menu(_) => Ok(empty_menu(alloc)?),
-        _ => Ok(error_reply(alloc, ErrorText::ItemNotFound)?),
+        CardBody::Menu(_) => Ok(menu(alloc, &LineList::new(alloc))?),
+        _ => Ok(told(alloc, ErrorText::ItemNotFound)?),
     }
 }
 
-/// The reply to a request, from the site as it stands.
+/// The reply to a request without a Gopher+ part, by what stands at its selector.
+fn plain_reply<S: SiteKeeper>(
+    alloc: Global,
+    site: &mut S,
+    request: Request<'_>,
+) -> Result<Bytes, SiteFault>
+    ensures bytes { IsTrue (S.keeping site.old).honest → IfOk result (λ b. b ≡ item_reply (item_at (S.keeping site.old).site (request_of request.entry).selector)) }
+    ensures kept { HasRead (S.keeping site.old) (S.keeping site.new) }
+    ensures fault { IfErr result (IsReadFault true (S.keeping site.old) (S.keeping site.new)) }
+{
+    let Ok(selector) = Selector::new(request.selector) else {
+        unreachable!()
+    };
+    let Some(card) = site.card(&selector)? else {
+        return Ok(told(alloc, ErrorText::ItemNotFound)?);
+    };
+    card_reply(alloc, site, &selector, &card.body)
+}
+
+/// The reply to a request, from the site as it stands. Gopher+ isn't served yet.
 pub fn reply<S: SiteKeeper>(
     alloc: Global,
     site: &mut S,
@@ -111,11 +137,8 @@ pub fn reply<S: SiteKeeper>(
     ensures kept { HasRead (S.keeping site.old) (S.keeping site.new) }
     ensures fault { IfErr result (IsReadFault true (S.keeping site.old) (S.keeping site.new)) }
 {
-    let Ok(selector) = Selector::new(request.selector) else {
-        unreachable!()
-    };
-    let Some(card) = site.card(&selector)? else {
-        return Ok(error_reply(alloc, ErrorText::ItemNotFound)?);
-    };
-    card_reply(alloc, site, &selector, &card.body)
+    match request.plus {
+        None => plain_reply(alloc, site, request),
+        Some(_) => Ok(told(alloc, ErrorText::RequestNotUnderstood)?),
+    }
 }

@@ -37,7 +37,7 @@ fn site(alloc: Global) -> Result<MemSite, Fail> {
 
 fn put(site: &mut MemSite, selector: &[u8], item: Item) -> Result<(), Fail> {
     let selector = Selector::new(selector)?;
-    Ok(site.change(Change::Put { selector, item }, Stamp::start())?)
+    Ok(site.change(Change::Put(selector, item), Stamp::start())?)
 }
 
 /// Whether a list has these words, in this order.

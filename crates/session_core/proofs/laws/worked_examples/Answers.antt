@@ -4,13 +4,14 @@ use Rattle.host_types.specs.Items.{most_view_bytes}
 use Rattle.request_reader.specs.Lines.{front, first_line}
 use Rattle.request_reader.specs.RequestLine.{asked_by}
 use Rattle.request_reader.specs.Verdict.{verdict}
-use Rattle.text_writer.specs.Errors.{plain_error, not_found}
+use Rattle.text_writer.specs.Errors.{plain_error, words_of}
+use Rattle.text_writer.specs.Menu.{menu}
 use Rattle.text_writer.specs.Text.{text}
 use Rattle.session_core.specs.Step.{joined}
 use Rattle.session_core.proofs.laws.worked_examples.Goals as goal
 
 pub returns : goal.returns
-unfolding put remove most_view_bytes front first_line asked_by verdict plain_error not_found text joined
+unfolding put remove most_view_bytes front first_line asked_by verdict plain_error words_of menu text joined
 returns c = record {
   text_document = refl;
   pieces = refl;

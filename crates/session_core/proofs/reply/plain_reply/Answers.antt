@@ -1,7 +1,7 @@
 use Rattle.std.proofs.Common.{sym, ◌∙◌}
 use Rattle.host_types.specs.Names.{is_field}
 use Rattle.session_core.proofs.CardReplies.{named, replied}
-use Rattle.session_core.proofs.reply.reply.Goals as goal
+use Rattle.session_core.proofs.reply.plain_reply.Goals as goal
 
 pub returns-clause-bytes : goal.returns-clause-bytes
 returns-clause-bytes g c = λ honest.

@@ -1,0 +1,5 @@
+use Rattle.ask_forms.proofs.Both.{both}
+use Rattle.ask_forms.proofs.laws.reads_answers.Goals as goal
+
+pub returns : goal.returns
+returns c = both

@@ -1,0 +1,6 @@
+pub mod Digits
+pub mod Answers
+pub mod Reading
+pub mod Seen
+pub mod Post
+pub mod Examples

@@ -1,0 +1,4 @@
+pub mod Blocks
+pub mod Calendar
+pub mod Date
+pub mod Examples

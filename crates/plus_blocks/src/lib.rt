@@ -1,0 +1,13 @@
+//! Heads of Gopher+ replies, and the attribute blocks of items.
+#![tactic(auto)]
+
+mod blocks;
+mod date;
+mod item;
+mod laws;
+#[cfg(test)]
+mod tests;
+
+pub use blocks::{abstract_block, admin, ask_block, head, info, views};
+pub use item::{attributes, entry_attributes, item_blocks};
+pub use laws::{replies_end_once, worked_examples};

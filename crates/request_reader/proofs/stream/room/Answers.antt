@@ -1,0 +1,5 @@
+use Rattle.request_reader.proofs.Growing.{front_length}
+use Rattle.request_reader.proofs.stream.room.Goals as goal
+
+pub slice_bounds-result-end : goal.slice_bounds-result-end
+slice_bounds-result-end c = front_length 32768 c.args.stream.now c.if-stream-le-MOST_DATA.false
