@@ -37,12 +37,11 @@ fn day_at(days: u64) -> (Civil, u8)
     ensures weekday { result.1 ≡ weekday_of days }
 {
     let date = date_after(days);
-    let civil = Civil {
-        year: date.year().unsigned_abs(),
-        month: date.month().unsigned_abs(),
-        day: date.day().unsigned_abs(),
-    };
-    (civil, date.weekday().to_monday_zero_offset().unsigned_abs())
+    let year = date.year().unsigned_abs();
+    let month = date.month().unsigned_abs();
+    let day = date.day().unsigned_abs();
+    let weekday = date.weekday().to_monday_zero_offset().unsigned_abs();
+    (Civil { year, month, day }, weekday)
 }
 
 /// Adds the last two digits of a number.
