@@ -12,16 +12,17 @@ use crate::ask::{Asked, ask};
 use crate::fault::Fault;
 use crate::printed::{fault_line, line_of};
 use crate::script::{LineFault, parse};
-use host_types::{SiteKeeper, Stamp};
+use host_types::Stamp;
 use session_core::{Event, Hub};
 use std::alloc::{AllocError, Global};
 use std::io::{Read, Write};
+use word_index::SearchKeeper;
 
 /// How many reads a script may take.
 pub const MOST_READS: u64 = 1_000_000;
 
 /// What is printed of an event.
-fn answer<S: SiteKeeper>(
+fn answer<S: SearchKeeper>(
     alloc: Global,
     hub: &mut Hub<S>,
     event: Event,
@@ -39,7 +40,7 @@ fn answer<S: SiteKeeper>(
 }
 
 /// The moment after a line of a script, and what is printed of it.
-fn answer_line<S: SiteKeeper>(
+fn answer_line<S: SearchKeeper>(
     alloc: Global,
     hub: &mut Hub<S>,
     line: &[u8],
@@ -57,7 +58,7 @@ fn answer_line<S: SiteKeeper>(
 }
 
 /// Runs one line of a script, and answers the moment after it.
-fn run_line<S: SiteKeeper, W: Write>(
+fn run_line<S: SearchKeeper, W: Write>(
     alloc: Global,
     hub: &mut Hub<S>,
     writer: &mut W,
@@ -89,7 +90,7 @@ struct Place {
 }
 
 /// Takes one byte of a script, and runs the line that it ends.
-fn run_byte<S: SiteKeeper, W: Write>(
+fn run_byte<S: SearchKeeper, W: Write>(
     alloc: Global,
     hub: &mut Hub<S>,
     writer: &mut W,
@@ -113,7 +114,7 @@ fn run_byte<S: SiteKeeper, W: Write>(
 }
 
 /// Takes the next piece of a script, and runs the lines that it ends.
-fn run_piece<S: SiteKeeper, W: Write>(
+fn run_piece<S: SearchKeeper, W: Write>(
     alloc: Global,
     hub: &mut Hub<S>,
     writer: &mut W,
@@ -131,7 +132,7 @@ fn run_piece<S: SiteKeeper, W: Write>(
 }
 
 /// Runs what stands behind the last LF, where it has bytes.
-fn run_last<S: SiteKeeper, W: Write>(
+fn run_last<S: SearchKeeper, W: Write>(
     alloc: Global,
     hub: &mut Hub<S>,
     writer: &mut W,
@@ -150,7 +151,7 @@ fn run_last<S: SiteKeeper, W: Write>(
 
 /// Reads a script to its end, a line at a time, and prints one line for each. Lines count from 1, and the last may lack
 /// its LF. A line of another form, a read that fails, and the end of the reads that it may take end it as `Fault::Script`.
-pub fn replay<R: Read, W: Write, S: SiteKeeper>(
+pub fn replay<R: Read, W: Write, S: SearchKeeper>(
     alloc: Global,
     reader: &mut R,
     writer: &mut W,

@@ -11,6 +11,7 @@ use host_types::{MemSite, SiteKeeper, Stamp};
 use session_core::{Drawn, Heard, Hub};
 use std::alloc::Global;
 use std::test::Fail;
+use word_index::SearchKeeper;
 
 /// A hub over a site with one text document at `/about`.
 fn hub_with(alloc: Global, body: &[u8]) -> Result<Hub<MemSite>, Fail> {
@@ -24,7 +25,7 @@ fn hub_with(alloc: Global, body: &[u8]) -> Result<Hub<MemSite>, Fail> {
 }
 
 /// All that is left of a session's reply, drawn by so many bytes at a time.
-fn drawn<S: SiteKeeper>(
+fn drawn<S: SearchKeeper>(
     alloc: Global,
     hub: &mut Hub<S>,
     id: u64,
@@ -43,7 +44,7 @@ fn drawn<S: SiteKeeper>(
 }
 
 /// The reply to a request that comes by pieces of so many bytes and is drawn by as many.
-fn asked<S: SiteKeeper>(
+fn asked<S: SearchKeeper>(
     alloc: Global,
     hub: &mut Hub<S>,
     request: &[u8],

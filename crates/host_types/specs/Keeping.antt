@@ -5,11 +5,12 @@ use Rattle.host_types.specs.declared.refused.Refused.{Refused}
 use Rattle.host_types.specs.declared.site_fault.SiteFault.{SiteFault}
 use Rattle.host_types.specs.declared.site_fault.SiteFault.TheVariants as faults
 
--- `honest`: what the site is kept on keeps its written meaning. `usable`: no write or sync has failed. The counts are of failed reads, and of failed writes and syncs.
+-- `honest`: what the site is kept on keeps its written meaning. `usable`: no write or sync has failed. `free`: how much a change may take. The counts are of failed reads, and of failed writes and syncs.
 pub record Keeping : Type 0 where
   pub site : Site
   pub honest : Bool
   pub usable : Bool
+  pub free : ℕ
   pub failed_reads : ℕ
   pub failed_writes : ℕ
 
@@ -22,6 +23,7 @@ pub record HasRead (old new : Keeping) : Type 0 where
   pub site : IsTrue old.honest → new.site ≡ old.site
   pub honest : new.honest ≡ old.honest
   pub usable : new.usable ≡ old.usable
+  pub free : IsTrue old.honest → new.free ≡ old.free
   pub reads : old.failed_reads ≤ new.failed_reads
   pub writes : new.failed_writes ≡ old.failed_writes
 
@@ -29,6 +31,8 @@ pub record HasRead (old new : Keeping) : Type 0 where
 abbrev pub IsReadFault : Bool → Keeping → Keeping → SiteFault → Type 0
 IsReadFault wants_memory old new (faults.Refused r) = ⊥
 IsReadFault wants_memory old new faults.Read = IsTrue old.honest → Rose old.failed_reads new.failed_reads
+IsReadFault wants_memory old new (faults.Full need free) = ⊥
+IsReadFault wants_memory old new faults.Spent = ⊥
 IsReadFault wants_memory old new faults.Failed = old.usable ≡ false
 IsReadFault wants_memory old new faults.Memory = IsTrue wants_memory
 
@@ -44,12 +48,14 @@ pub record HasFailed (old new : Keeping) (applied : Result Site Refused) : Type 
   pub cause : IsTrue old.honest → old.usable ≡ true → Rose old.failed_writes new.failed_writes
   pub right : IsTrue old.honest → old.usable ≡ true → IsOk applied
 
--- When a fault may come of a change, and what stands then; `applied` is the site that the change would make, or its first refusal.
-abbrev pub IsChangeFault : Keeping → Keeping → Result Site Refused → SiteFault → Type 0
-IsChangeFault old new applied (faults.Refused r) = HasNotChanged old new × (IsTrue old.honest → applied ≡ Err r)
-IsChangeFault old new applied faults.Read = HasNotChanged old new × (IsTrue old.honest → Rose old.failed_reads new.failed_reads)
-IsChangeFault old new applied faults.Failed = HasFailed old new applied
-IsChangeFault old new applied faults.Memory = HasNotChanged old new
+-- When a fault may come of a change, and what stands then; `applied` is the site that the change would make, or its first refusal, and `lacks` says which fault a lawful change may get for want of room, or because no further change is taken.
+abbrev pub IsChangeFault : (SiteFault → Type 0) → Keeping → Keeping → Result Site Refused → SiteFault → Type 0
+IsChangeFault lacks old new applied (faults.Refused r) = HasNotChanged old new × (IsTrue old.honest → applied ≡ Err r)
+IsChangeFault lacks old new applied faults.Read = HasNotChanged old new × (IsTrue old.honest → Rose old.failed_reads new.failed_reads)
+IsChangeFault lacks old new applied (faults.Full need free) = HasNotChanged old new × (free < need) × (IsTrue old.honest → (free ≡ old.free) × IsOk applied × lacks (faults.Full need free))
+IsChangeFault lacks old new applied faults.Spent = HasNotChanged old new × (IsTrue old.honest → IsOk applied × lacks faults.Spent)
+IsChangeFault lacks old new applied faults.Failed = HasFailed old new applied
+IsChangeFault lacks old new applied faults.Memory = HasNotChanged old new
 
 -- What every change leaves, whatever it answers.
 pub record HasTried (old new : Keeping) : Type 0 where
@@ -61,5 +67,7 @@ pub record HasTried (old new : Keeping) : Type 0 where
 abbrev pub IsMemoryFault : SiteFault → Result Site Refused → Type 0
 IsMemoryFault (faults.Refused r) applied = applied ≡ Err r
 IsMemoryFault faults.Read applied = ⊥
+IsMemoryFault (faults.Full need free) applied = ⊥
+IsMemoryFault faults.Spent applied = ⊥
 IsMemoryFault faults.Failed applied = ⊥
 IsMemoryFault faults.Memory applied = Unit {0}

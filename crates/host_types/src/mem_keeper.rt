@@ -6,7 +6,9 @@ use crate::card::chunk_of;
 use crate::{Card, Change, Front, MemSite, Selector, SiteFault, SiteKeeper, Stamp};
 
 impl SiteKeeper for MemSite {
-    ghost keeping = { λ m. record { site = m; honest = true; usable = true; failed_reads = 0; failed_writes = 0 } };
+    ghost keeping = { λ m. record { site = m; honest = true; usable = true; free = 0; failed_reads = 0; failed_writes = 0 } };
+
+    ghost lacks = { λ m change now fault. ⊥ };
 
     ghost Left = { ℕ };
 

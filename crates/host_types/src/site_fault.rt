@@ -15,6 +15,17 @@ pub enum SiteFault {
     /// A read of what the site is kept on failed.
     #[error("Read")]
     Read,
+    /// The change needs more than is free.
+    #[error("Full {need} {free}")]
+    Full {
+        /// How much it would take.
+        need: u64,
+        /// How much it may take.
+        free: u64,
+    },
+    /// What the site is kept on takes no further change.
+    #[error("Spent")]
+    Spent,
     /// A write or a sync failed, in this call or before.
     #[error("Failed")]
     Failed,

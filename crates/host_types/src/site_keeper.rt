@@ -6,6 +6,8 @@ ghost use Rattle.host_types.specs.Card.{card_at, viewed_at, chunk_of};
 ghost use Rattle.host_types.specs.Stops.{Stops, LeavesOnly, IsQuiet, may_leave};
 ghost use Rattle.host_types.specs.Keeping.{Keeping, HasRead, HasTried, HasNotChanged, IsReadFault, IsChangeFault};
 ghost use Rattle.host_types.specs.Front.{address, lent};
+ghost use Rattle.host_types.specs.declared.change.Change.{Change as ChangeValue};
+ghost use Rattle.host_types.specs.declared.site_fault.SiteFault.{SiteFault as SiteFaultValue};
 ghost use Rattle.host_types.specs.declared.site_fault.SiteFault.TheVariants.{Failed};
 
 use crate::{Admin, Card, Change, Host, Selector, SiteFault, Stamp};
@@ -27,6 +29,9 @@ pub struct Front<'a> {
 pub trait SiteKeeper {
     /// The site, the flags and the counts of failed calls.
     ghost keeping: { Self → Keeping };
+
+    /// For want of what a lawful change at a moment may be refused: room, or a further change at all.
+    ghost lacks: { Self → ChangeValue → ℕ → SiteFaultValue → Type 0 };
 
     /// What a stop leaves.
     ghost Left: { Type 0 };
@@ -72,13 +77,13 @@ pub trait SiteKeeper {
     fn change(&mut self, change: Change, now: Stamp) -> Result<(), SiteFault>
         ensures done { IsTrue (keeping self.old).honest → OnOk result (apply (keeping self.old).site change now ≡ Ok (keeping self.new).site) }
         ensures still_usable { OnOk result ((keeping self.new).usable ≡ true) }
-        ensures fault { IfErr result (IsChangeFault (keeping self.old) (keeping self.new) (apply (keeping self.old).site change now)) }
+        ensures fault { IfErr result (IsChangeFault (lacks self.old change now) (keeping self.old) (keeping self.new) (apply (keeping self.old).site change now)) }
         ensures closed { (keeping self.old).usable ≡ false → IsErrOf result Failed }
         ensures tried { HasTried (keeping self.old) (keeping self.new) }
 
-        // A stop within the call leaves what stood for the site before it, or what stands for the changed one.
+        // A stop within the call leaves what stands for the site before it, or for the changed one.
         ensures stop { IsTrue (keeping self.old).honest → (keeping self.old).usable ≡ true →
-            LeavesOnly (stops self.old) (stops self.new) (λ c. may_leave (stops self.old) c ⊎ ((s : Site) × (apply (keeping self.old).site change now ≡ Ok s) × stands_for c s)) }
+            LeavesOnly (stops self.old) (stops self.new) (λ c. stands_for c (keeping self.old).site ⊎ ((s : Site) × (apply (keeping self.old).site change now ≡ Ok s) × stands_for c s)) }
 
         // Where nothing failed and nothing was changed, nothing was written.
         ensures quiet { IsTrue (keeping self.old).honest → IfErr result (λ e. (keeping self.new).usable ≡ true → IsQuiet (stops self.old) (stops self.new)) }

@@ -7,7 +7,7 @@ use Rattle.host_types.specs.Change.{apply}
 use Rattle.host_types.specs.declared.refused.Refused.{Refused}
 use Rattle.request_reader.specs.Verdict.{Verdict, Open, Early as EndedEarly, Whole, Bad, verdict}
 use Rattle.session_core.specs.World.{World, Phase, Heard, Reply, Early, phase_in, phase_of, moved_in}
-use Rattle.session_core.specs.Step.{Said, Next, understood, listens, ends, draws, at_session, joined, left, changed, answer, failed_answer}
+use Rattle.session_core.specs.Step.{Said, Next, understood, listens, ends, draws, at_session, at_hearing, joined, left, changed, answer, failed_answer}
 use Rattle.session_core.specs.Run.{Step, StepBy, IsAnswer, IsFaulty}
 use Rattle.session_core.specs.Causes.{IsAsBefore}
 use Rattle.session_core.specs.declared.event.Event.{Event}
@@ -45,21 +45,21 @@ joined_keeps w fault is =
       ]
     ]
 
-no_fault_understood : (site : Site) (stream : List ℕ) (v : Verdict) (fault : HubFault) → Fault fault ≡ (understood site stream v).outcome → ⊥
-no_fault_understood site stream Open fault is = absurd (cc is)
-no_fault_understood site stream EndedEarly fault is = absurd (cc is)
-no_fault_understood site stream (Whole request) fault is = absurd (cc is)
-no_fault_understood site stream (Bad cause) fault is = absurd (cc is)
+no_fault_understood : (site : Site) (now : ℕ) (stream : List ℕ) (v : Verdict) (fault : HubFault) → Fault fault ≡ (understood site now stream v).outcome → ⊥
+no_fault_understood site now stream Open fault is = absurd (cc is)
+no_fault_understood site now stream EndedEarly fault is = absurd (cc is)
+no_fault_understood site now stream (Whole request) fault is = absurd (cc is)
+no_fault_understood site now stream (Bad cause) fault is = absurd (cc is)
 
-no_fault_listens : (site : Site) (piece : List ℕ) (p : Phase) (fault : HubFault) → Fault fault ≡ (listens site piece p).outcome → ⊥
-no_fault_listens site piece (Heard stream) fault is = no_fault_understood site (stream ++ piece) (verdict (stream ++ piece) false) fault is
-no_fault_listens site piece (Reply rest) fault is = absurd (cc is)
-no_fault_listens site piece Early fault is = absurd (cc is)
+no_fault_listens : (site : Site) (now : ℕ) (piece : List ℕ) (p : Phase) (fault : HubFault) → Fault fault ≡ (listens site now piece p).outcome → ⊥
+no_fault_listens site now piece (Heard stream) fault is = no_fault_understood site now (stream ++ piece) (verdict (stream ++ piece) false) fault is
+no_fault_listens site now piece (Reply rest) fault is = absurd (cc is)
+no_fault_listens site now piece Early fault is = absurd (cc is)
 
-no_fault_ends : (site : Site) (p : Phase) (fault : HubFault) → Fault fault ≡ (ends site p).outcome → ⊥
-no_fault_ends site (Heard stream) fault is = no_fault_understood site stream (verdict stream true) fault is
-no_fault_ends site (Reply rest) fault is = absurd (cc is)
-no_fault_ends site Early fault is = absurd (cc is)
+no_fault_ends : (site : Site) (now : ℕ) (p : Phase) (fault : HubFault) → Fault fault ≡ (ends site now p).outcome → ⊥
+no_fault_ends site now (Heard stream) fault is = no_fault_understood site now stream (verdict stream true) fault is
+no_fault_ends site now (Reply rest) fault is = absurd (cc is)
+no_fault_ends site now Early fault is = absurd (cc is)
 
 -- a session that says a fault stays in its phase
 draws_keeps : (room : ℕ) (p : Phase) (fault : HubFault) → Fault fault ≡ (draws room p).outcome → (draws room p).phase ≡ p
@@ -72,6 +72,10 @@ at_keeps : (w : World) (id : ℕ) (f : Phase → Said) (o : Option Phase) → ph
 at_keeps w id f None at keeps fault is = refl
 at_keeps w id f (Some p) at keeps fault is = ap (λ (ss : List (ℕ × Phase)). let v : World = record w { sessions = ss } in v) (ap (moved_in w.sessions id) (keeps p fault is) ∙ stays_in w.sessions id p at)
 
+hearing_keeps : (w : World) (id now : ℕ) (f : Phase → Said) (o : Option Phase) → ((p : Phase) (fault : HubFault) → Fault fault ≡ (f p).outcome → ⊥) → KeepsOnFault w (at_hearing w id now f o)
+hearing_keeps w id now f None none fault is = refl
+hearing_keeps w id now f (Some p) none fault is = absurd (none p fault is)
+
 left_keeps : (w : World) (id : ℕ) (o : Option Phase) → KeepsOnFault w (left w id o)
 left_keeps w id None fault is = refl
 left_keeps w id (Some p) fault is = absurd (cc is)
@@ -82,8 +86,8 @@ changed_keeps w (Err refused) fault is = refl
 
 answer_keeps : (w : World) (e : Event) → KeepsOnFault w (answer w e)
 answer_keeps w Join = joined_keeps w
-answer_keeps w (Bytes id piece now) = at_keeps w id (listens w.site piece) (phase_of w id) refl (λ p fault is. absurd (no_fault_listens w.site piece p fault is))
-answer_keeps w (End id now) = at_keeps w id (ends w.site) (phase_of w id) refl (λ p fault is. absurd (no_fault_ends w.site p fault is))
+answer_keeps w (Bytes id piece now) = hearing_keeps w id now (listens w.site now piece) (phase_of w id) (no_fault_listens w.site now piece)
+answer_keeps w (End id now) = hearing_keeps w id now (ends w.site now) (phase_of w id) (no_fault_ends w.site now)
 answer_keeps w (Draw id room) = at_keeps w id (draws room) (phase_of w id) refl (draws_keeps room)
 answer_keeps w (Leave id) = left_keeps w id (phase_of w id)
 answer_keeps w (Admin change now) = changed_keeps w (apply w.site change now)
@@ -109,6 +113,7 @@ before (hub.Refused r) w new same = same
 before hub.Broken w new same = same
 before hub.Memory w new same = same
 before hub.NotReady w new same = same
+before (hub.Full need free) w new same = same
 
 answered_before : (w new : World) (e : Event) (fault : HubFault) → IsAnswer w e (Fault fault) new → IsAsBefore fault w new
 answered_before w new e fault is = before fault w new (is.1 ∙ by_keeps w.failed w e fault is.0)
@@ -122,6 +127,7 @@ faulty_before w new e (hub.Refused r) is = is.1
 faulty_before w new e hub.Broken is = is.1
 faulty_before w new e hub.Memory is = is.1
 faulty_before w new e hub.NotReady is = is.1
+faulty_before w new e (hub.Full need free) is = is.1
 
 step_before : (b : Bool) (w new : World) (e : Event) (fault : HubFault) → StepBy b w e (Fault fault) new → IsAsBefore fault w new
 step_before true w new e fault is = answered_before w new e fault is

@@ -7,7 +7,7 @@ use Rattle.host_types.specs.Site.{Site}
 use Rattle.host_types.specs.Change.{apply}
 use Rattle.host_types.specs.declared.refused.Refused.{Refused}
 use Rattle.session_core.specs.World.{World, Phase, Heard, Reply, phase_in, phase_of, moved_in, others_in, with_phase, with_site, without_session}
-use Rattle.session_core.specs.Step.{Said, Next, at_session, listens, ends, draws, joined, left, changed, answer, failed_answer}
+use Rattle.session_core.specs.Step.{Said, Next, at_session, at_hearing, listens, ends, draws, joined, left, changed, answer, failed_answer}
 use Rattle.session_core.specs.Run.{StepBy, IsAnswer, IsFaulty, Run}
 use Rattle.session_core.specs.Laws.{drawn_in, drawn_by, is_leave, stays_in, Continues}
 use Rattle.session_core.specs.declared.event.Event.{Event}
@@ -98,6 +98,10 @@ at_keeps w n id reply e f (Some p) at has none keeps =
       | inr other ↦ still id reply e (f p).outcome (with_phase w n (f p).phase) (none (f p).outcome) (other_phase w.sessions n id (f p).phase other ∙ has)
     ]
 
+hears_keep : (w : World) (n id now : ℕ) (reply : List ℕ) (e : Event) (f : Phase → Said) (o : Option Phase) → phase_of w n ≡ o → Has w id reply → ((out : Outcome) → drawn_in id e out ≡ []) → (f (Reply reply)).phase ≡ Reply reply → KeepsNext id reply e (at_hearing w n now f o)
+hears_keep w n id now reply e f None at has none keeps = at_keeps w n id reply e f None at has none keeps
+hears_keep w n id now reply e f (Some p) at has none keeps = at_keeps w n id reply e f (Some p) at has none keeps
+
 -- a draw of the session itself
 own_draw : (w : World) (n id room : ℕ) (reply : List ℕ) → (n == id) ≡ true → Has w id reply → KeepsNext id reply (Draw n room) (at_session w n (draws room) (Some (Reply reply)))
 own_draw w n id room [] same has =
@@ -149,8 +153,8 @@ unnot false h = refl
 
 answer_keeps : (w : World) (e : Event) (id : ℕ) (reply : List ℕ) → Has w id reply → not (is_leave id e) ≡ true → KeepsNext id reply e (answer w e)
 answer_keeps w Join id reply has stays = joined_keeps w id reply has
-answer_keeps w (Bytes n piece now) id reply has stays = at_keeps w n id reply (Bytes n piece now) (listens w.site piece) (phase_of w n) refl has (λ o. refl) refl
-answer_keeps w (End n now) id reply has stays = at_keeps w n id reply (End n now) (ends w.site) (phase_of w n) refl has (λ o. refl) refl
+answer_keeps w (Bytes n piece now) id reply has stays = hears_keep w n id now reply (Bytes n piece now) (listens w.site now piece) (phase_of w n) refl has (λ o. refl) refl
+answer_keeps w (End n now) id reply has stays = hears_keep w n id now reply (End n now) (ends w.site now) (phase_of w n) refl has (λ o. refl) refl
 answer_keeps w (Draw n room) id reply has stays = draw_keeps w n id room reply has
 answer_keeps w (Leave n) id reply has stays = leave_keeps w n id reply (phase_of w n) (unnot (n == id) stays) has
 answer_keeps w (Admin change now) id reply has stays = admin_keeps w id reply (Admin change now) (apply w.site change now) (λ o. refl) has
@@ -188,6 +192,7 @@ faulty_keeps w new e (outcomes.Fault hub.Broken) id reply has is = still id repl
 faulty_keeps w new e (outcomes.Fault hub.Failed) id reply has is = still id reply e _ new (fault_draws id e hub.Failed) (ap (λ (v : World). phase_of v id) is.1 ∙ has)
 faulty_keeps w new e (outcomes.Fault hub.Memory) id reply has is = still id reply e _ new (fault_draws id e hub.Memory) (ap (λ (v : World). phase_of v id) is.1 ∙ has)
 faulty_keeps w new e (outcomes.Fault hub.NotReady) id reply has is = still id reply e _ new (fault_draws id e hub.NotReady) (ap (λ (v : World). phase_of v id) is.1 ∙ has)
+faulty_keeps w new e (outcomes.Fault (hub.Full need free)) id reply has is = still id reply e _ new (fault_draws id e (hub.Full need free)) (ap (λ (v : World). phase_of v id) is.1 ∙ has)
 faulty_keeps w new e (outcomes.Joined k) id reply has is = absurd is
 faulty_keeps w new e outcomes.More id reply has is = absurd is
 faulty_keeps w new e outcomes.Ready id reply has is = absurd is

@@ -1,8 +1,13 @@
-pub mod Readings
+pub mod AfterReads
+pub mod Cards
 pub mod Chunks
-pub mod CardReplies
+pub mod Picks
+pub mod PostNames
+pub mod Posted
+pub mod Right
 pub mod SeatPlaces
 pub mod Steps
-pub mod Runs
-pub mod Goes
 pub mod FaultsKeep
+pub mod Goes
+pub mod Hearings
+pub mod Runs

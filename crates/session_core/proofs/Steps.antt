@@ -1,15 +1,20 @@
 -- Calls of a hub as steps of its world.
 use Rattle.std.proofs.Common.{◌≡◌, ℕ, ◌+◌, ◌-◌, ◌^◌, ◌<◌, ◌≤◌, Bool, true, false, not, List, [], ◌∷◌, ◌++◌, length, get_or, set, remove, refl, ap, sym, ◌∙◌, arith, inl, inr}
-use Rattle.std.specs.Prelude.{◌==◌, Some, None, Result, Ok, Err, IfOk, IfErr, OnOk, OnErr, IsOk, IsTrue, if◌then◌else◌}
+use Rattle.std.specs.Prelude.{◌==◌, Option, Some, None, is_some, Result, Ok, Err, IfOk, IfErr, OnOk, OnErr, IsOk, IsTrue, if◌then◌else◌}
 use Rattle.std.specs.List.{position}
 use Rattle.std.proofs.lemmas.Bool.{cases_Bool, le-leb, lt-leb, ne_eqb, eq-eqb}
 use Rattle.std.proofs.lemmas.List.{length-map, map-append}
-use Rattle.host_types.specs.Keeping.{Keeping, HasRead}
+use Rattle.host_types.specs.Site.{Site}
+use Rattle.host_types.specs.Keeping.{Keeping}
+use Rattle.host_types.specs.declared.change.Change.{Change}
+use Rattle.host_types.specs.declared.site_fault.SiteFault.{SiteFault}
+use Rattle.host_types.specs.declared.site_fault.SiteFault.TheVariants as faults
 use Rattle.session_core.specs.World as world
 use Rattle.session_core.specs.World.{World, phase_in}
-use Rattle.session_core.specs.Step.{Said, Next, then_is, at_session, draws, joined, left, answer, failed_answer, step}
-use Rattle.session_core.specs.Run.{Step, StepBy, IsAnswer, IsFaulty, is_hearing, may_work}
-use Rattle.session_core.specs.Understood.{IsHearFault}
+use Rattle.session_core.specs.Step.{Said, Next, then_is, at_session, at_hearing, with_change, draws, joined, left, answer, failed_answer, step}
+use Rattle.session_core.specs.Run.{Step, StepBy, IsAnswer, IsFaulty, is_hearing, may_work, change_in, post_in}
+use Rattle.session_core.specs.Causes.{IsLackingSince}
+use Rattle.session_core.specs.Understood.{IsPostFault, IsHearFault}
 use Rattle.session_core.specs.Outcomes.{heard_outcome, bytes_outcome, draw_outcome}
 use Rattle.session_core.specs.Sessions.{phase_of, session_of, sessions_of}
 use Rattle.session_core.specs.declared.event.Event.{Event}
@@ -74,9 +79,35 @@ world_at k next sessions = record { site = k.site; next = next; failed = not k.u
 pub is_open : (k : Keeping) (next : ℕ) (sessions : List (ℕ × world.Phase)) → k.usable ≡ true → (world_at k next sessions).failed ≡ false
 is_open k next sessions usable = ap not usable
 
--- a keeper that was only read makes the same world
-same_world : (a b : Keeping) (next : ℕ) (old new : List (ℕ × world.Phase)) → HasRead a b → IsTrue a.honest → new ≡ old → world_at b next new ≡ world_at a next old
-same_world a b next old new kept honest same = let site = kept.site honest in let usable = kept.usable in cc
+-- a world by its parts
+abbrev world_by_parts : Site → Bool → ℕ → List (ℕ × world.Phase) → World
+world_by_parts site usable next sessions = record { site = site; next = next; failed = not usable; sessions = sessions }
+
+same_parts : (s t : Site) (u v : Bool) (next : ℕ) (ss ts : List (ℕ × world.Phase)) → s ≡ t → u ≡ v → ss ≡ ts → world_by_parts s u next ss ≡ world_by_parts t v next ts
+same_parts s t u v next ss ts site flags seats = cc (site, flags, seats)
+
+-- a fault that leaves the site and the sessions, or marks a first failure
+post_fault : (a b : Keeping) (lacking : Option Change → ℕ → SiteFault → Type 0) (next : ℕ) (old new : List (ℕ × world.Phase)) (now : ℕ) (e : Event) (post : Option Change) (fault : HubFault) →
+    ((post : Option Change) (what : SiteFault) → lacking post now what → is_some post ≡ true)
+    → IsTrue a.honest → a.usable ≡ true → may_work (world_at a next old) e ≡ true → change_in (world_at a next old) e ≡ post → new ≡ old → IsPostFault lacking post now a b fault
+    → IsFaulty (world_at a next old) e (Fault fault) (world_at b next new)
+post_fault a b lacking next old new now e post hub.Memory only honest usable works change seats cause = (works, same_parts b.site a.site b.usable a.usable next new old (cause.site honest) cause.usable seats)
+post_fault a b lacking next old new now e post hub.Broken only honest usable works change seats cause = (works, same_parts b.site a.site b.usable a.usable next new old (cause.0.site honest) cause.0.usable seats)
+post_fault a b lacking next old new now e post (hub.Full need free) only honest usable works change seats cause =
+    (ap is_some change ∙ only post (faults.Full need free) (cause.2 honest).1, same_parts b.site a.site b.usable a.usable next new old (cause.0.site honest) cause.0.usable seats)
+post_fault a b lacking next old new now e post hub.Spent only honest usable works change seats cause =
+    (ap is_some change ∙ only post faults.Spent (cause.1 honest), same_parts b.site a.site b.usable a.usable next new old (cause.0.site honest) cause.0.usable seats)
+post_fault a b lacking next old new now e post hub.Failed only honest usable works change seats cause =
+    (ap is_some change ∙ cause.change honest, same_parts b.site a.site b.usable false next new old (cause.site honest) cause.shut seats)
+post_fault a b lacking next old new now e post hub.Unknown only honest usable works change seats cause = absurd cause
+post_fault a b lacking next old new now e post hub.Crowded only honest usable works change seats cause = absurd cause
+post_fault a b lacking next old new now e post (hub.Refused r) only honest usable works change seats cause = absurd cause
+post_fault a b lacking next old new now e post hub.NotReady only honest usable works change seats cause = absurd cause
+
+-- what a keeper lacks, it lacks of a change
+pub only_changes : {S : Type 0} (keeping : S → Keeping) (lacks : S → Change → ℕ → SiteFault → Type 0) (old : Keeping) (now : ℕ) (post : Option Change) (what : SiteFault) → IsLackingSince keeping lacks old post now what → is_some post ≡ true
+only_changes keeping lacks old now None what is = absurd is.2
+only_changes keeping lacks old now (Some change) what is = refl
 
 -- ---- sessions
 
@@ -88,52 +119,59 @@ unknown k next items id e f usable found asks =
     let w = world_at k next (sessions_of items) in
     is_answer w e (then_is (Fault hub.Unknown) w) (Fault hub.Unknown) w (is_open k next (sessions_of items) usable) (asks ∙ ap (at_session w id f) (nobody items id found)) refl refl
 
--- a session says what it says, and is in its new phase
-pub said : (a b : Keeping) (next : ℕ) (items : List Session) (id at : ℕ) (x : Session) (phase : Phase) (e : Event) (f : world.Phase → Said) (o : Outcome) →
-    HasRead a b → IsTrue a.honest → a.usable ≡ true → position (λ s. s.id == id) items ≡ Some at → x ≡ get_or items at x
-    → answer (world_at a next (sessions_of items)) e ≡ at_session (world_at a next (sessions_of items)) id f (phase_in (sessions_of items) id)
+-- the same of a session that should hear something
+pub unheard : (k : Keeping) (next : ℕ) (items : List Session) (id now : ℕ) (e : Event) (f : world.Phase → Said) → k.usable ≡ true → position (λ s. s.id == id) items ≡ None
+    → answer (world_at k next (sessions_of items)) e ≡ at_hearing (world_at k next (sessions_of items)) id now f (phase_in (sessions_of items) id)
+    → Step (world_at k next (sessions_of items)) e (Fault hub.Unknown) (world_at k next (sessions_of items))
+unheard k next items id now e f usable found asks =
+    let w = world_at k next (sessions_of items) in
+    is_answer w e (then_is (Fault hub.Unknown) w) (Fault hub.Unknown) w (is_open k next (sessions_of items) usable) (asks ∙ ap (at_hearing w id now f) (nobody items id found)) refl refl
+
+-- a session says what it says, is in its new phase, and the site has the change that it makes
+heard_well : (a b : Keeping) (next : ℕ) (items : List Session) (id at now : ℕ) (x : Session) (phase : Phase) (e : Event) (f : world.Phase → Said) (o : Outcome) →
+    a.usable ≡ true → b.usable ≡ true → b.site ≡ with_change a.site now (f (phase_of x.phase)).post → position (λ s. s.id == id) items ≡ Some at → x ≡ get_or items at x
+    → answer (world_at a next (sessions_of items)) e ≡ at_hearing (world_at a next (sessions_of items)) id now f (phase_in (sessions_of items) id)
     → o ≡ (f (phase_of x.phase)).outcome → phase_of phase ≡ (f (phase_of x.phase)).phase
     → Step (world_at a next (sessions_of items)) e o (world_at b next (sessions_of (set items at (record { id = x.id; phase = phase }))))
-said a b next items id at x phase e f o kept honest usable found read asks outcome moved =
+heard_well a b next items id at now x phase e f o usable still site found read asks outcome moved =
     let w = world_at a next (sessions_of items) in
     let s = seat items id at x found read in
-    let after : world_at b next (sessions_of (set items at (record { id = x.id; phase = phase }))) ≡ world.with_phase w id (f (phase_of x.phase)).phase =
-    same_world a b next (world.moved_in (sessions_of items) id (f (phase_of x.phase)).phase) (sessions_of (set items at (record { id = x.id; phase = phase }))) kept honest (s.moved phase ∙ ap (world.moved_in (sessions_of items) id) moved) in
-    is_answer w e _ o _ (is_open a next (sessions_of items) usable) (asks ∙ ap (at_session w id f) s.there) outcome after
+    let seats : sessions_of (set items at (record { id = x.id; phase = phase })) ≡ world.moved_in (sessions_of items) id (f (phase_of x.phase)).phase = s.moved phase ∙ ap (world.moved_in (sessions_of items) id) moved in
+    let flags : b.usable ≡ a.usable = still ∙ sym usable in
+    is_answer w e _ o _ (is_open a next (sessions_of items) usable) (asks ∙ ap (at_hearing w id now f) s.there) outcome (same_parts b.site _ b.usable a.usable next _ _ site flags seats)
 
 -- a session that could not be answered is as it was
-pub not_said : (a b : Keeping) (next : ℕ) (items : List Session) (id at : ℕ) (x : Session) (phase : Phase) (e : Event) (fault : HubFault) →
-    HasRead a b → IsTrue a.honest → a.usable ≡ true → position (λ s. s.id == id) items ≡ Some at → x ≡ get_or items at x
+not_heard : (a b : Keeping) (lacking : Option Change → ℕ → SiteFault → Type 0) (next : ℕ) (items : List Session) (id at now : ℕ) (x : Session) (phase : Phase) (e : Event) (f : world.Phase → Said) (fault : HubFault) →
+    ((post : Option Change) (what : SiteFault) → lacking post now what → is_some post ≡ true)
+    → IsTrue a.honest → a.usable ≡ true → position (λ s. s.id == id) items ≡ Some at → x ≡ get_or items at x
     → may_work (world_at a next (sessions_of items)) e ≡ is_hearing (phase_in (sessions_of items) id)
-    → phase_of phase ≡ phase_of x.phase → IsHearFault (phase_of x.phase) a b fault
+    → change_in (world_at a next (sessions_of items)) e ≡ post_in (phase_in (sessions_of items) id) f
+    → phase_of phase ≡ phase_of x.phase → IsHearFault lacking (phase_of x.phase) (f (phase_of x.phase)).post now a b fault
     → Step (world_at a next (sessions_of items)) e (Fault fault) (world_at b next (sessions_of (set items at (record { id = x.id; phase = phase }))))
-not_said a b next items id at x phase e fault kept honest usable found read works same cause =
+not_heard a b lacking next items id at now x phase e f fault only honest usable found read works changes same cause =
     let w = world_at a next (sessions_of items) in
     let s = seat items id at x found read in
-    let after : world_at b next (sessions_of (set items at (record { id = x.id; phase = phase }))) ≡ w =
-    same_world a b next (sessions_of items) (sessions_of (set items at (record { id = x.id; phase = phase }))) kept honest (s.moved phase ∙ ap (world.moved_in (sessions_of items) id) same ∙ s.stays) in
-    faulty_by w.failed w e (Fault fault) _ (is_open a next (sessions_of items) usable) (hear_fault w e a b (phase_of x.phase) fault _ usable (works ∙ ap is_hearing s.there) cause after)
-  where
-    hear_fault : (w : World) (e : Event) (a b : Keeping) (p : world.Phase) (fault : HubFault) (new : World) → a.usable ≡ true → may_work w e ≡ is_hearing (Some p) → IsHearFault p a b fault → new ≡ w → IsFaulty w e (Fault fault) new
-    hear_fault w e a b p hub.Memory new usable works cause same = (works ∙ cause, same)
-    hear_fault w e a b p hub.Broken new usable works cause same = (works ∙ cause.0, same)
-    hear_fault w e a b p hub.Failed new usable works cause same = (let no : true ≡ false = sym usable ∙ cause in absurd (cc no))
-    hear_fault w e a b p hub.Unknown new usable works cause same = absurd cause
-    hear_fault w e a b p hub.Crowded new usable works cause same = absurd cause
-    hear_fault w e a b p hub.Spent new usable works cause same = absurd cause
-    hear_fault w e a b p (hub.Refused r) new usable works cause same = absurd cause
-    hear_fault w e a b p hub.NotReady new usable works cause same = absurd cause
+    let seats : sessions_of (set items at (record { id = x.id; phase = phase })) ≡ sessions_of items = s.moved phase ∙ ap (world.moved_in (sessions_of items) id) same ∙ s.stays in
+    let hears : may_work w e ≡ true = works ∙ ap is_hearing s.there ∙ cause.0 in
+    let change : change_in w e ≡ (f (phase_of x.phase)).post = changes ∙ ap (λ (p : Option world.Phase). post_in p f) s.there in
+    faulty_by w.failed w e (Fault fault) _ (is_open a next (sessions_of items) usable)
+    (post_fault a b lacking next (sessions_of items) _ now e (f (phase_of x.phase)).post fault only honest usable hears change seats cause.1)
 
 -- a session hears a piece or the end of its input
-pub hears : (a b : Keeping) (next : ℕ) (items : List Session) (id at : ℕ) (x : Session) (phase : Phase) (e : Event) (f : world.Phase → Said) (result : Result Heard HubFault) →
-    HasRead a b → IsTrue a.honest → a.usable ≡ true → position (λ s. s.id == id) items ≡ Some at → x ≡ get_or items at x
-    → answer (world_at a next (sessions_of items)) e ≡ at_session (world_at a next (sessions_of items)) id f (phase_in (sessions_of items) id)
+pub hears : (a b : Keeping) (lacking : Option Change → ℕ → SiteFault → Type 0) (next : ℕ) (items : List Session) (id at now : ℕ) (x : Session) (phase : Phase) (e : Event) (f : world.Phase → Said) (result : Result Heard HubFault) →
+    ((post : Option Change) (what : SiteFault) → lacking post now what → is_some post ≡ true)
+    → IsTrue a.honest → a.usable ≡ true → position (λ s. s.id == id) items ≡ Some at → x ≡ get_or items at x
+    → answer (world_at a next (sessions_of items)) e ≡ at_hearing (world_at a next (sessions_of items)) id now f (phase_in (sessions_of items) id)
     → may_work (world_at a next (sessions_of items)) e ≡ is_hearing (phase_in (sessions_of items) id)
+    → change_in (world_at a next (sessions_of items)) e ≡ post_in (phase_in (sessions_of items) id) f
     → IfOk result (λ h. heard_outcome h ≡ (f (phase_of x.phase)).outcome) → OnOk result (phase_of phase ≡ (f (phase_of x.phase)).phase)
-    → OnErr result (phase_of phase ≡ phase_of x.phase) → IfErr result (IsHearFault (phase_of x.phase) a b)
+    → OnOk result (b.site ≡ with_change a.site now (f (phase_of x.phase)).post) → OnOk result (b.usable ≡ true)
+    → OnErr result (phase_of phase ≡ phase_of x.phase) → IfErr result (IsHearFault lacking (phase_of x.phase) (f (phase_of x.phase)).post now a b)
     → Step (world_at a next (sessions_of items)) e (bytes_outcome result) (world_at b next (sessions_of (set items at (record { id = x.id; phase = phase }))))
-hears a b next items id at x phase e f (Ok h) kept honest usable found read asks works outcome moved same cause = said a b next items id at x phase e f (heard_outcome h) kept honest usable found read asks outcome moved
-hears a b next items id at x phase e f (Err fault) kept honest usable found read asks works outcome moved same cause = not_said a b next items id at x phase e fault kept honest usable found read works same cause
+hears a b lacking next items id at now x phase e f (Ok h) only honest usable found read asks works changes outcome moved site still same cause =
+    heard_well a b next items id at now x phase e f (heard_outcome h) usable still site found read asks outcome moved
+hears a b lacking next items id at now x phase e f (Err fault) only honest usable found read asks works changes outcome moved site still same cause =
+    not_heard a b lacking next items id at now x phase e f fault only honest usable found read works changes same cause
 
 -- a session draws
 pub draws_so : (k : Keeping) (next : ℕ) (items : List Session) (id at : ℕ) (x : Session) (phase : Phase) (room : ℕ) (o : Outcome) → k.usable ≡ true → position (λ s. s.id == id) items ≡ Some at → x ≡ get_or items at x
@@ -206,6 +244,7 @@ no_draw_fault w new id room hub.Broken is = absurd (cc is.0)
 no_draw_fault w new id room hub.Failed is = absurd (cc is.0)
 no_draw_fault w new id room hub.Memory is = absurd (cc is.0)
 no_draw_fault w new id room hub.NotReady is = absurd (cc is.0)
+no_draw_fault w new id room (hub.Full need free) is = absurd (cc is.0)
 
 no_fault_by : (b : Bool) (w new : World) (id room : ℕ) (rest : List ℕ) (fault : HubFault) → w.failed ≡ b → b ≡ false → world.phase_of w id ≡ Some (world.Reply rest) → StepBy b w (Draw id room) (Fault fault) new → ⊥
 no_fault_by true w new id room rest fault failed usable has is = absurd (cc usable)

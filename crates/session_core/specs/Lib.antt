@@ -1,13 +1,13 @@
 pub mod Reply
-pub mod CardReply
+pub mod Lengths
+pub mod PostReply
 pub mod World
 pub mod Step
 pub mod Run
+pub mod Causes
 pub mod Understood
 pub mod Outcomes
 pub mod Sessions
-pub mod Causes
 pub mod Hub
 pub mod Rooms
 pub mod Laws
-pub mod Examples

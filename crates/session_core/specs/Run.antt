@@ -1,14 +1,17 @@
 -- Steps and runs of a hub, with the faults that may come in place of an answer.
-use Rattle.std.specs.Prelude.{◌≡◌, ◌⊎◌, Bool, true, false, List, [], ◌∷◌, Option, Some, IsTrue, is_ok}
+use Rattle.std.specs.Prelude.{◌≡◌, ◌⊎◌, Bool, true, false, List, [], ◌∷◌, Option, Some, None, Result, Ok, Err, IsTrue, is_some}
+use Rattle.host_types.specs.Site.{Site}
 use Rattle.host_types.specs.Change.{apply}
+use Rattle.host_types.specs.declared.change.Change.{Change}
+use Rattle.host_types.specs.declared.refused.Refused.{Refused}
 use Rattle.session_core.specs.World.{World, Phase, Heard, phase_of}
-use Rattle.session_core.specs.Step.{step}
+use Rattle.session_core.specs.Step.{Said, listens, ends, with_change, step}
 use Rattle.session_core.specs.declared.event.Event.{Event}
 use Rattle.session_core.specs.declared.event.Event.TheVariants.{Bytes, End, Admin}
 use Rattle.session_core.specs.declared.event.Outcome.{Outcome}
 use Rattle.session_core.specs.declared.event.Outcome.TheVariants.{Fault}
 use Rattle.session_core.specs.declared.fault.HubFault.{HubFault}
-use Rattle.session_core.specs.declared.fault.HubFault.TheVariants.{Broken, Failed, Memory}
+use Rattle.session_core.specs.declared.fault.HubFault.TheVariants.{Full, Spent, Broken, Failed, Memory}
 
 abbrev pub is_hearing : Option Phase → Bool
 is_hearing (Some (Heard stream)) = true
@@ -21,15 +24,39 @@ may_work w (End id now) = is_hearing (phase_of w id)
 may_work w (Admin change now) = true
 may_work w e = false
 
--- The event has a change to make.
+-- the change, where it is lawful
+abbrev pub lawful_one : Change → Result Site Refused → Option Change
+lawful_one change (Ok after) = Some change
+lawful_one change (Err refused) = None
+
+-- the post that a session makes
+abbrev pub post_in : Option Phase → (Phase → Said) → Option Change
+post_in None f = None
+post_in (Some phase) f = (f phase).post
+
+-- the change that the event has: the administrator's, or a post
+abbrev pub change_in : World → Event → Option Change
+change_in w (Bytes id piece now) = post_in (phase_of w id) (listens w.site now piece)
+change_in w (End id now) = post_in (phase_of w id) (ends w.site now)
+change_in w (Admin change now) = lawful_one change (apply w.site change now)
+change_in w e = None
+
 abbrev pub has_change : World → Event → Bool
-has_change w (Admin change now) = is_ok (apply w.site change now)
-has_change w e = false
+has_change w e = is_some (change_in w e)
+
+-- the site with the event's change, where it has one
+abbrev pub site_after : World → Event → Site
+site_after w (Bytes id piece now) = with_change w.site now (change_in w (Bytes id piece now))
+site_after w (End id now) = with_change w.site now (change_in w (End id now))
+site_after w (Admin change now) = with_change w.site now (change_in w (Admin change now))
+site_after w e = w.site
 
 -- The fault may come in place of the answer.
 abbrev pub may_come : World → Event → HubFault → Bool
 may_come w e Memory = may_work w e
 may_come w e Broken = may_work w e
+may_come w e (Full need free) = has_change w e
+may_come w e Spent = has_change w e
 may_come w e Failed = has_change w e
 may_come w e fault = false
 

@@ -2,9 +2,11 @@
 use Rattle.std.specs.Prelude.{ℕ, ◌+◌, ◌-◌, ◌^◌, true, false, List, [], ◌∷◌, ◌++◌, Option, Some, None, Result, Ok, Err, if◌then◌else◌, ◌==◌, nat_le, length, take, drop}
 use Rattle.host_types.specs.Site.{Site}
 use Rattle.host_types.specs.Change.{apply}
+use Rattle.host_types.specs.declared.change.Change.{Change}
 use Rattle.host_types.specs.declared.refused.Refused.{Refused}
 use Rattle.request_reader.specs.Verdict.{Verdict, Open, Early as EndedEarly, Whole, Bad, verdict}
 use Rattle.session_core.specs.Reply.{reply, bad_reply}
+use Rattle.session_core.specs.declared.answered.Answered.{Answered}
 use Rattle.session_core.specs.World.{World, Phase, Heard, Reply, Early, phase_of, with_phase, with_site, without_session}
 use Rattle.session_core.specs.declared.event.Event.{Event}
 use Rattle.session_core.specs.declared.event.Event.TheVariants.{Join, Bytes, End, Draw, Leave, Admin}
@@ -14,32 +16,36 @@ use Rattle.session_core.specs.declared.fault.HubFault.TheVariants.{Unknown, Crow
 
 -- ---- one session
 
--- What a session answers, and the phase that it is in then.
+-- What a session answers, the phase that it is in then, and the post that it makes.
 pub record Said : Type 0 where
   pub outcome : Outcome
   pub phase : Phase
+  pub post : Option Change
 
 abbrev pub says : Outcome → Phase → Said
-says outcome phase = record { outcome = outcome; phase = phase }
+says outcome phase = record { outcome = outcome; phase = phase; post = None }
+
+abbrev pub replies : Answered → Said
+replies answered = record { outcome = Ready; phase = Reply answered.bytes; post = answered.post }
 
 -- by what its input so far says
-abbrev pub understood : Site → List ℕ → Verdict → Said
-understood site stream Open = says More (Heard stream)
-understood site stream EndedEarly = says Finished Early
-understood site stream (Whole request) = says Ready (Reply (reply site request))
-understood site stream (Bad cause) = says Ready (Reply (bad_reply cause))
+abbrev pub understood : Site → ℕ → List ℕ → Verdict → Said
+understood site now stream Open = says More (Heard stream)
+understood site now stream EndedEarly = says Finished Early
+understood site now stream (Whole request) = replies (reply site request now)
+understood site now stream (Bad cause) = says Ready (Reply (bad_reply cause))
 
--- a piece of input
-abbrev pub listens : Site → List ℕ → Phase → Said
-listens site piece (Heard stream) = understood site (stream ++ piece) (verdict (stream ++ piece) false)
-listens site piece (Reply rest) = says Ready (Reply rest)
-listens site piece Early = says Finished Early
+-- a piece of input, at a moment
+abbrev pub listens : Site → ℕ → List ℕ → Phase → Said
+listens site now piece (Heard stream) = understood site now (stream ++ piece) (verdict (stream ++ piece) false)
+listens site now piece (Reply rest) = says Ready (Reply rest)
+listens site now piece Early = says Finished Early
 
 -- the end of input
-abbrev pub ends : Site → Phase → Said
-ends site (Heard stream) = understood site stream (verdict stream true)
-ends site (Reply rest) = says Ready (Reply rest)
-ends site Early = says Finished Early
+abbrev pub ends : Site → ℕ → Phase → Said
+ends site now (Heard stream) = understood site now stream (verdict stream true)
+ends site now (Reply rest) = says Ready (Reply rest)
+ends site now Early = says Finished Early
 
 -- the next bytes of a reply, as many as there are and fit
 abbrev pub draws : ℕ → Phase → Said
@@ -70,6 +76,21 @@ abbrev pub at_session : World → ℕ → (Phase → Said) → Option Phase → 
 at_session w id f None = then_is (Fault Unknown) w
 at_session w id f (Some phase) = then_is (f phase).outcome (with_phase w id (f phase).phase)
 
+-- A change that isn't lawful leaves the site as it is.
+abbrev pub made_or : Site → Result Site Refused → Site
+made_or site (Ok after) = after
+made_or site (Err refused) = site
+
+-- the site with a change that is made at a moment, where there is one
+abbrev pub with_change : Site → ℕ → Option Change → Site
+with_change site now None = site
+with_change site now (Some change) = made_or site (apply site change now)
+
+-- a session hears something, and may make a post
+abbrev pub at_hearing : World → ℕ → ℕ → (Phase → Said) → Option Phase → Next
+at_hearing w id now f None = then_is (Fault Unknown) w
+at_hearing w id now f (Some phase) = then_is (f phase).outcome (with_site (with_phase w id (f phase).phase) (with_change w.site now (f phase).post))
+
 abbrev pub left : World → ℕ → Option Phase → Next
 left w id None = then_is (Fault Unknown) w
 left w id (Some phase) = then_is Gone (without_session w id)
@@ -80,8 +101,8 @@ changed w (Err refused) = then_is (Fault (RefusedBy refused)) w
 
 abbrev pub answer : World → Event → Next
 answer w Join = joined w
-answer w (Bytes id piece now) = at_session w id (listens w.site piece) (phase_of w id)
-answer w (End id now) = at_session w id (ends w.site) (phase_of w id)
+answer w (Bytes id piece now) = at_hearing w id now (listens w.site now piece) (phase_of w id)
+answer w (End id now) = at_hearing w id now (ends w.site now) (phase_of w id)
 answer w (Draw id room) = at_session w id (draws room) (phase_of w id)
 answer w (Leave id) = left w id (phase_of w id)
 answer w (Admin change now) = changed w (apply w.site change now)

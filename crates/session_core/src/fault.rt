@@ -14,12 +14,20 @@ pub enum HubFault {
     /// 32 sessions are there.
     #[error("Crowded")]
     Crowded,
-    /// The greatest number would be next.
+    /// The greatest number would be next: of a session, or of a change of what the site is kept on.
     #[error("Spent")]
     Spent,
     /// The change is not lawful on the site as it stands.
     #[error("{0}")]
     Refused(Refused),
+    /// The change needs more than is free.
+    #[error("Full {need} {free}")]
+    Full {
+        /// How much it would take.
+        need: u64,
+        /// How much it may take.
+        free: u64,
+    },
     /// A read of what the site is kept on failed in this call.
     #[error("Broken")]
     Broken,
@@ -41,6 +49,8 @@ impl HubFault {
         match fault {
             SiteFault::Refused(refused) => HubFault::Refused(refused),
             SiteFault::Read => HubFault::Broken,
+            SiteFault::Full { need, free } => HubFault::Full { need, free },
+            SiteFault::Spent => HubFault::Spent,
             SiteFault::Failed => HubFault::Failed,
             SiteFault::Memory => HubFault::Memory,
         }

@@ -5,8 +5,9 @@ ghost use Rattle.std.specs.List.{position};
 use crate::phase::{draw, hear, hear_end, new_phase};
 use crate::session::Session;
 use crate::{Drawn, Heard, HubFault};
-use host_types::{Change, SiteKeeper, Stamp};
+use host_types::{Change, Stamp};
 use std::alloc::Global;
+use word_index::SearchKeeper;
 
 /// How many sessions may be there at one time.
 pub const MOST_SESSIONS: usize = 32;
@@ -14,7 +15,7 @@ pub const MOST_SESSIONS: usize = 32;
 /// Sessions over one site. One call is one event of the world.
 ///
 /// Whatever speaks of the site holds where what it is kept on is honest.
-pub struct Hub<S: SiteKeeper> {
+pub struct Hub<S: SearchKeeper> {
     alloc: Global,
     site: S,
     next: u64,
@@ -31,13 +32,15 @@ fn place_in(sessions: &[Session], id: u64) -> Option<usize>
     sessions.iter().position(|session| session.id == id)
 }
 
-impl<S: SiteKeeper> Hub<S> {
+impl<S: SearchKeeper> Hub<S> {
     ghost use Rattle.session_core.specs.World.{Reply, started, phase_of};
-    ghost use Rattle.session_core.specs.Run.{Step};
+    ghost use Rattle.std.specs.Prelude.{◌⊎◌, false};
+    ghost use Rattle.host_types.specs.Stops.{LeavesOnly};
+    ghost use Rattle.session_core.specs.Run.{Step, change_in, site_after};
     ghost use Rattle.session_core.specs.Outcomes.{join_outcome, bytes_outcome, draw_outcome, leave_outcome, admin_outcome};
     ghost use Rattle.session_core.specs.Hub.{keeper_of, seats_of, world_of};
     ghost use Rattle.session_core.specs.declared.event.Event.TheVariants.{Join, Bytes, End, Draw, Leave, Admin};
-    ghost use Rattle.session_core.specs.Causes.{IsHeardCause, IsAdminCause, IsAsBefore};
+    ghost use Rattle.session_core.specs.Causes.{IsLackingSince, IsHeardCause, IsAdminCause, IsAsBefore};
     ghost use Rattle.session_core.specs.declared.fault.HubFault.TheVariants.{Memory};
 
     /// A hub without sessions, whose first has this number. It makes room for all sessions, or hands the site back with `Memory`.
@@ -84,11 +87,13 @@ impl<S: SiteKeeper> Hub<S> {
     pub fn bytes(&mut self, id: u64, piece: &[u8], now: Stamp) -> Result<Heard, HubFault>
         ensures step { IsTrue (S.keeping (keeper_of self.old)).honest → Step (world_of S.keeping self.old) (Bytes id piece.now now) (bytes_outcome result) (world_of S.keeping self.new) }
         ensures as_before { IsTrue (S.keeping (keeper_of self.old)).honest → IfErr result (λ e. IsAsBefore e (world_of S.keeping self.old) (world_of S.keeping self.new)) }
-        ensures cause { IfErr result (IsHeardCause (S.keeping (keeper_of self.old)) (S.keeping (keeper_of self.new))) }
+        ensures cause { IfErr result (IsHeardCause (IsLackingSince S.keeping S.lacks (S.keeping (keeper_of self.old))) (change_in (world_of S.keeping self.old) (Bytes id piece.now now)) now (S.keeping (keeper_of self.old)) (S.keeping (keeper_of self.new))) }
         ensures kept { OnErr result (seats_of self.new ≡ seats_of self.old) }
         ensures honest { (S.keeping (keeper_of self.new)).honest ≡ (S.keeping (keeper_of self.old)).honest }
+        ensures stop { IsTrue (S.keeping (keeper_of self.old)).honest → (S.keeping (keeper_of self.old)).usable ≡ true → LeavesOnly (S.stops (keeper_of self.old)) (S.stops (keeper_of self.new))
+            (λ c. S.stands_for c (S.keeping (keeper_of self.old)).site ⊎ S.stands_for c (site_after (world_of S.keeping self.old) (Bytes id piece.now now))) }
+        ensures closed { (S.keeping (keeper_of self.old)).usable ≡ false → keeper_of self.new ≡ keeper_of self.old }
     {
-        let _ = now;
         if !self.site.is_usable() {
             return Err(HubFault::Failed);
         }
@@ -96,18 +101,20 @@ impl<S: SiteKeeper> Hub<S> {
             return Err(HubFault::Unknown);
         };
         let session = &mut self.sessions[at];
-        hear(self.alloc, &mut self.site, &mut session.phase, piece)
+        hear(self.alloc, &mut self.site, &mut session.phase, piece, now)
     }
 
     /// The end of a session's input.
     pub fn end(&mut self, id: u64, now: Stamp) -> Result<Heard, HubFault>
         ensures step { IsTrue (S.keeping (keeper_of self.old)).honest → Step (world_of S.keeping self.old) (End id now) (bytes_outcome result) (world_of S.keeping self.new) }
         ensures as_before { IsTrue (S.keeping (keeper_of self.old)).honest → IfErr result (λ e. IsAsBefore e (world_of S.keeping self.old) (world_of S.keeping self.new)) }
-        ensures cause { IfErr result (IsHeardCause (S.keeping (keeper_of self.old)) (S.keeping (keeper_of self.new))) }
+        ensures cause { IfErr result (IsHeardCause (IsLackingSince S.keeping S.lacks (S.keeping (keeper_of self.old))) (change_in (world_of S.keeping self.old) (End id now)) now (S.keeping (keeper_of self.old)) (S.keeping (keeper_of self.new))) }
         ensures kept { OnErr result (seats_of self.new ≡ seats_of self.old) }
         ensures honest { (S.keeping (keeper_of self.new)).honest ≡ (S.keeping (keeper_of self.old)).honest }
+        ensures stop { IsTrue (S.keeping (keeper_of self.old)).honest → (S.keeping (keeper_of self.old)).usable ≡ true → LeavesOnly (S.stops (keeper_of self.old)) (S.stops (keeper_of self.new))
+            (λ c. S.stands_for c (S.keeping (keeper_of self.old)).site ⊎ S.stands_for c (site_after (world_of S.keeping self.old) (End id now))) }
+        ensures closed { (S.keeping (keeper_of self.old)).usable ≡ false → keeper_of self.new ≡ keeper_of self.old }
     {
-        let _ = now;
         if !self.site.is_usable() {
             return Err(HubFault::Failed);
         }
@@ -115,7 +122,7 @@ impl<S: SiteKeeper> Hub<S> {
             return Err(HubFault::Unknown);
         };
         let session = &mut self.sessions[at];
-        hear_end(self.alloc, &mut self.site, &mut session.phase)
+        hear_end(self.alloc, &mut self.site, &mut session.phase, now)
     }
 
     /// The next bytes of a session's reply, as many as there are and fit. It takes no memory.
@@ -152,9 +159,12 @@ impl<S: SiteKeeper> Hub<S> {
     pub fn admin(&mut self, change: Change, now: Stamp) -> Result<(), HubFault>
         ensures step { IsTrue (S.keeping (keeper_of self.old)).honest → Step (world_of S.keeping self.old) (Admin change now) (admin_outcome result) (world_of S.keeping self.new) }
         ensures as_before { IsTrue (S.keeping (keeper_of self.old)).honest → IfErr result (λ e. IsAsBefore e (world_of S.keeping self.old) (world_of S.keeping self.new)) }
-        ensures cause { IfErr result (IsAdminCause (S.keeping (keeper_of self.old)) (S.keeping (keeper_of self.new))) }
+        ensures cause { IfErr result (IsAdminCause (IsLackingSince S.keeping S.lacks (S.keeping (keeper_of self.old))) (change_in (world_of S.keeping self.old) (Admin change now)) now (S.keeping (keeper_of self.old)) (S.keeping (keeper_of self.new))) }
         ensures kept { seats_of self.new ≡ seats_of self.old }
         ensures honest { (S.keeping (keeper_of self.new)).honest ≡ (S.keeping (keeper_of self.old)).honest }
+        ensures stop { IsTrue (S.keeping (keeper_of self.old)).honest → (S.keeping (keeper_of self.old)).usable ≡ true → LeavesOnly (S.stops (keeper_of self.old)) (S.stops (keeper_of self.new))
+            (λ c. S.stands_for c (S.keeping (keeper_of self.old)).site ⊎ S.stands_for c (site_after (world_of S.keeping self.old) (Admin change now))) }
+        ensures closed { (S.keeping (keeper_of self.old)).usable ≡ false → keeper_of self.new ≡ keeper_of self.old }
     {
         if !self.site.is_usable() {
             return Err(HubFault::Failed);

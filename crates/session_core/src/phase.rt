@@ -1,19 +1,25 @@
 // What moves one session.
-ghost use Rattle.std.specs.Prelude.{◌≡◌, ◌≤◌, true, [], length, OnErr, OnOk, IfOk, IfErr, IsTrue, option_map};
-ghost use Rattle.host_types.specs.Keeping.{HasRead, IsReadFault};
+ghost use Rattle.std.specs.Prelude.{◌≡◌, ◌⊎◌, true, [], length, OnErr, OnOk, IfOk, IfErr, IsTrue, option_map};
+ghost use Rattle.host_types.specs.Keeping.{HasRead, HasTried, IsReadFault};
+ghost use Rattle.host_types.specs.Stops.{IsQuiet, LeavesOnly};
 ghost use Rattle.session_core.specs.World as world;
-ghost use Rattle.session_core.specs.Step.{listens, ends, draws};
-ghost use Rattle.session_core.specs.Understood.{reply_by, answered, IsHearFault};
+ghost use Rattle.session_core.specs.Step.{listens, ends, draws, with_change};
+ghost use Rattle.session_core.specs.Run.{is_hearing};
+ghost use Rattle.session_core.specs.Causes.{IsLacking, IsLackingSince};
+ghost use Rattle.session_core.specs.Understood.{reply_by, answered, post_of, IsRight, IsPostFault, IsHearFault};
 ghost use Rattle.session_core.specs.Outcomes.{heard_outcome, draw_outcome};
 ghost use Rattle.session_core.specs.Sessions.{phase_of};
+ghost use Rattle.session_core.specs.declared.fault.HubFault.TheVariants.{Memory as Wanting};
 ghost use Rattle.request_reader.specs.Seen.{seen};
 
+use crate::answered::{Answered, said};
 use crate::reply::{bad_reply, reply};
 use crate::session::{Hearing, Phase, Replying};
 use crate::{Drawn, Heard, HubFault};
-use host_types::{Bytes, SiteFault, SiteKeeper};
+use host_types::{Change, SiteFault, Stamp};
 use request_reader::{Answer, Reader};
 use std::alloc::Global;
+use word_index::SearchKeeper;
 
 /// A session that has heard nothing.
 pub fn new_phase(alloc: Global) -> Phase
@@ -25,45 +31,111 @@ pub fn new_phase(alloc: Global) -> Phase
 }
 
 /// The reply to what is a request or none, or nothing where it is not known yet or ended too early.
-fn reply_to<S: SiteKeeper>(
+fn reply_to<S: SearchKeeper>(
     alloc: Global,
     site: &mut S,
     answer: Answer<'_>,
-) -> Result<Option<Bytes>, SiteFault>
-    ensures bytes { IsTrue (S.keeping site.old).honest → IfOk result (λ made. made ≡ reply_by (S.keeping site.old).site (seen answer.entry)) }
+    now: Stamp,
+) -> Result<Option<Answered>, SiteFault>
+    ensures reply { IsTrue (S.keeping site.old).honest → IfOk result (λ made. made ≡ reply_by (S.keeping site.old).site now (seen answer.entry)) }
     ensures kept { HasRead (S.keeping site.old) (S.keeping site.new) }
+    ensures quiet { IsTrue (S.keeping site.old).honest → IsQuiet (S.stops site.old) (S.stops site.new) }
     ensures fault { IfErr result (IsReadFault true (S.keeping site.old) (S.keeping site.new)) }
 {
     match answer {
-        Answer::Whole(request) => Ok(Some(reply(alloc, site, request)?)),
-        Answer::Bad(cause) => Ok(Some(bad_reply(alloc, cause)?)),
+        Answer::Whole(request) => Ok(Some(reply(alloc, site, request, now)?)),
+        Answer::Bad(cause) => Ok(Some(said(bad_reply(alloc, cause)?))),
         Answer::More | Answer::Early => Ok(None),
     }
 }
 
-/// The session has its reply, or has none.
-fn answer_by(made: Option<Bytes>) -> (Heard, Phase)
-    ensures said { heard_outcome result.0 ≡ (answered made).outcome }
-    ensures phase { phase_of result.1 ≡ (answered made).phase }
+/// Makes a post that the site takes, where there is one.
+fn store<S: SearchKeeper>(site: &mut S, post: Option<Change>, now: Stamp) -> Result<(), HubFault>
+    requires usable { (S.keeping site.old).usable ≡ true }
+    requires right { IsTrue (S.keeping site.old).honest → IsRight (S.keeping site.old).site now post }
+    ensures done { IsTrue (S.keeping site.old).honest → OnOk result ((S.keeping site.new).site ≡ with_change (S.keeping site.old).site now post) }
+    ensures still_usable { OnOk result ((S.keeping site.new).usable ≡ true) }
+    ensures fault { IfErr result (IsPostFault (IsLacking (S.lacks site.old)) post now (S.keeping site.old) (S.keeping site.new)) }
+    ensures tried { HasTried (S.keeping site.old) (S.keeping site.new) }
+    ensures stop { IsTrue (S.keeping site.old).honest → LeavesOnly (S.stops site.old) (S.stops site.new)
+        (λ c. S.stands_for c (S.keeping site.old).site ⊎ S.stands_for c (with_change (S.keeping site.old).site now post)) }
 {
-    match made {
-        Some(bytes) => (Heard::Ready, Phase::Replying(Replying { bytes, drawn: 0 })),
-        None => (Heard::Finished, Phase::Early),
+    let Some(change) = post else {
+        return Ok(());
+    };
+    match site.change(change, now) {
+        Ok(()) => Ok(()),
+        // What was read before is no more there.
+        Err(SiteFault::Refused(_)) => Err(HubFault::Broken),
+        Err(fault) => Err(HubFault::of_site(fault)),
+    }
+}
+
+/// The session has its reply, once the post is made, or has none.
+fn settle<S: SearchKeeper>(
+    site: &mut S,
+    made: Option<Answered>,
+    now: Stamp,
+) -> Result<(Heard, Phase), HubFault>
+    requires usable { (S.keeping site.old).usable ≡ true }
+    requires right { IsTrue (S.keeping site.old).honest → IsRight (S.keeping site.old).site now (post_of made) }
+    ensures heard { IfOk result (λ r. heard_outcome r.0 ≡ (answered made).outcome) }
+    ensures phase { IfOk result (λ r. phase_of r.1 ≡ (answered made).phase) }
+    ensures done { IsTrue (S.keeping site.old).honest → OnOk result ((S.keeping site.new).site ≡ with_change (S.keeping site.old).site now (post_of made)) }
+    ensures still_usable { OnOk result ((S.keeping site.new).usable ≡ true) }
+    ensures fault { IfErr result (IsPostFault (IsLacking (S.lacks site.old)) (post_of made) now (S.keeping site.old) (S.keeping site.new)) }
+    ensures tried { HasTried (S.keeping site.old) (S.keeping site.new) }
+    ensures stop { IsTrue (S.keeping site.old).honest → LeavesOnly (S.stops site.old) (S.stops site.new)
+        (λ c. S.stands_for c (S.keeping site.old).site ⊎ S.stands_for c (with_change (S.keeping site.old).site now (post_of made))) }
+{
+    let Some(Answered { bytes, post }) = made else {
+        return Ok((Heard::Finished, Phase::Early));
+    };
+    store(site, post, now)?;
+    Ok((Heard::Ready, Phase::Replying(Replying { bytes, drawn: 0 })))
+}
+
+/// Answers what has been heard to its end, and makes the post that it comes to.
+fn conclude<S: SearchKeeper>(
+    alloc: Global,
+    site: &mut S,
+    answer: Answer<'_>,
+    now: Stamp,
+) -> Result<(Heard, Phase), HubFault>
+    requires usable { (S.keeping site.old).usable ≡ true }
+    ensures heard { IsTrue (S.keeping site.old).honest → IfOk result (λ r. heard_outcome r.0 ≡ (answered (reply_by (S.keeping site.old).site now (seen answer.entry))).outcome) }
+    ensures phase { IsTrue (S.keeping site.old).honest → IfOk result (λ r. phase_of r.1 ≡ (answered (reply_by (S.keeping site.old).site now (seen answer.entry))).phase) }
+    ensures done { IsTrue (S.keeping site.old).honest → OnOk result ((S.keeping site.new).site ≡ with_change (S.keeping site.old).site now (answered (reply_by (S.keeping site.old).site now (seen answer.entry))).post) }
+    ensures still_usable { OnOk result ((S.keeping site.new).usable ≡ true) }
+    ensures fault { IfErr result (IsPostFault (IsLackingSince S.keeping S.lacks (S.keeping site.old)) (answered (reply_by (S.keeping site.old).site now (seen answer.entry))).post now (S.keeping site.old) (S.keeping site.new)) }
+    ensures tried { HasTried (S.keeping site.old) (S.keeping site.new) }
+    ensures stop { IsTrue (S.keeping site.old).honest → LeavesOnly (S.stops site.old) (S.stops site.new)
+        (λ c. S.stands_for c (S.keeping site.old).site ⊎ S.stands_for c (with_change (S.keeping site.old).site now (answered (reply_by (S.keeping site.old).site now (seen answer.entry))).post)) }
+{
+    match reply_to(alloc, site, answer, now) {
+        Ok(made) => settle(site, made, now),
+        Err(fault) => Err(HubFault::of_site(fault)),
     }
 }
 
 /// A piece comes. An `Err` leaves the phase as it was.
-pub fn hear<S: SiteKeeper>(
+pub fn hear<S: SearchKeeper>(
     alloc: Global,
     site: &mut S,
     phase: &mut Phase,
     piece: &[u8],
+    now: Stamp,
 ) -> Result<Heard, HubFault>
-    ensures said { IsTrue (S.keeping site.old).honest → IfOk result (λ h. heard_outcome h ≡ (listens (S.keeping site.old).site piece.now (phase_of phase.old)).outcome) }
-    ensures phase { IsTrue (S.keeping site.old).honest → OnOk result (phase_of phase.new ≡ (listens (S.keeping site.old).site piece.now (phase_of phase.old)).phase) }
+    requires usable { (S.keeping site.old).usable ≡ true }
+    ensures said { IsTrue (S.keeping site.old).honest → IfOk result (λ h. heard_outcome h ≡ (listens (S.keeping site.old).site now piece.now (phase_of phase.old)).outcome) }
+    ensures phase { IsTrue (S.keeping site.old).honest → OnOk result (phase_of phase.new ≡ (listens (S.keeping site.old).site now piece.now (phase_of phase.old)).phase) }
     ensures err { OnErr result (phase_of phase.new ≡ phase_of phase.old) }
-    ensures kept { HasRead (S.keeping site.old) (S.keeping site.new) }
-    ensures fault { IfErr result (IsHearFault (phase_of phase.old) (S.keeping site.old) (S.keeping site.new)) }
+    ensures done { IsTrue (S.keeping site.old).honest → OnOk result ((S.keeping site.new).site ≡ with_change (S.keeping site.old).site now (listens (S.keeping site.old).site now piece.now (phase_of phase.old)).post) }
+    ensures still_usable { OnOk result ((S.keeping site.new).usable ≡ true) }
+    ensures fault { IfErr result (IsHearFault (IsLackingSince S.keeping S.lacks (S.keeping site.old)) (phase_of phase.old) (listens (S.keeping site.old).site now piece.now (phase_of phase.old)).post now (S.keeping site.old) (S.keeping site.new)) }
+    ensures tried { HasTried (S.keeping site.old) (S.keeping site.new) }
+    ensures stop { IsTrue (S.keeping site.old).honest → LeavesOnly (S.stops site.old) (S.stops site.new)
+        (λ c. S.stands_for c (S.keeping site.old).site ⊎ S.stands_for c (with_change (S.keeping site.old).site now (listens (S.keeping site.old).site now piece.now (phase_of phase.old)).post)) }
 {
     let hearing = match phase {
         Phase::Hearing(hearing) => hearing,
@@ -76,29 +148,30 @@ pub fn hear<S: SiteKeeper>(
     if let Answer::More = answer {
         return Ok(Heard::More);
     }
-    let made = reply_to(alloc, site, answer);
+    let concluded = conclude(alloc, site, answer, now);
     hearing.reader.undo();
-    match made {
-        Ok(made) => {
-            let (heard, moved) = answer_by(made);
-            *phase = moved;
-            Ok(heard)
-        }
-        Err(fault) => Err(HubFault::of_site(fault)),
-    }
+    let (heard, moved) = concluded?;
+    *phase = moved;
+    Ok(heard)
 }
 
 /// The input ends. An `Err` leaves the phase as it was.
-pub fn hear_end<S: SiteKeeper>(
+pub fn hear_end<S: SearchKeeper>(
     alloc: Global,
     site: &mut S,
     phase: &mut Phase,
+    now: Stamp,
 ) -> Result<Heard, HubFault>
-    ensures said { IsTrue (S.keeping site.old).honest → IfOk result (λ h. heard_outcome h ≡ (ends (S.keeping site.old).site (phase_of phase.old)).outcome) }
-    ensures phase { IsTrue (S.keeping site.old).honest → OnOk result (phase_of phase.new ≡ (ends (S.keeping site.old).site (phase_of phase.old)).phase) }
+    requires usable { (S.keeping site.old).usable ≡ true }
+    ensures said { IsTrue (S.keeping site.old).honest → IfOk result (λ h. heard_outcome h ≡ (ends (S.keeping site.old).site now (phase_of phase.old)).outcome) }
+    ensures phase { IsTrue (S.keeping site.old).honest → OnOk result (phase_of phase.new ≡ (ends (S.keeping site.old).site now (phase_of phase.old)).phase) }
     ensures err { OnErr result (phase_of phase.new ≡ phase_of phase.old) }
-    ensures kept { HasRead (S.keeping site.old) (S.keeping site.new) }
-    ensures fault { IfErr result (IsHearFault (phase_of phase.old) (S.keeping site.old) (S.keeping site.new)) }
+    ensures done { IsTrue (S.keeping site.old).honest → OnOk result ((S.keeping site.new).site ≡ with_change (S.keeping site.old).site now (ends (S.keeping site.old).site now (phase_of phase.old)).post) }
+    ensures still_usable { OnOk result ((S.keeping site.new).usable ≡ true) }
+    ensures fault { IfErr result (IsHearFault (IsLackingSince S.keeping S.lacks (S.keeping site.old)) (phase_of phase.old) (ends (S.keeping site.old).site now (phase_of phase.old)).post now (S.keeping site.old) (S.keeping site.new)) }
+    ensures tried { HasTried (S.keeping site.old) (S.keeping site.new) }
+    ensures stop { IsTrue (S.keeping site.old).honest → LeavesOnly (S.stops site.old) (S.stops site.new)
+        (λ c. S.stands_for c (S.keeping site.old).site ⊎ S.stands_for c (with_change (S.keeping site.old).site now (ends (S.keeping site.old).site now (phase_of phase.old)).post)) }
 {
     let hearing = match phase {
         Phase::Hearing(hearing) => hearing,
@@ -106,20 +179,15 @@ pub fn hear_end<S: SiteKeeper>(
         Phase::Early => return Ok(Heard::Finished),
     };
     let answer = hearing.reader.finish();
-    let is_open = matches!(answer, Answer::More);
-    let made = reply_to(alloc, site, answer);
-    hearing.reader.undo();
-    if is_open {
+    if let Answer::More = answer {
+        hearing.reader.undo();
         return Ok(Heard::More);
     }
-    match made {
-        Ok(made) => {
-            let (heard, moved) = answer_by(made);
-            *phase = moved;
-            Ok(heard)
-        }
-        Err(fault) => Err(HubFault::of_site(fault)),
-    }
+    let concluded = conclude(alloc, site, answer, now);
+    hearing.reader.undo();
+    let (heard, moved) = concluded?;
+    *phase = moved;
+    Ok(heard)
 }
 
 /// The next bytes of a reply, as many as there are and fit.

@@ -4,8 +4,9 @@ ghost use Rattle.session_core.specs.Outcomes.{bytes_outcome};
 ghost use Rattle.session_core.specs.Rooms.{room_of};
 
 use crate::{Drawn, Event, Heard, Hub, HubFault, Outcome, OutcomeList};
-use host_types::{Bytes, Change, SiteKeeper, Stamp};
+use host_types::{Bytes, Change, Stamp};
 use std::alloc::{AllocError, Global};
+use word_index::SearchKeeper;
 
 /// Room for what each event may draw.
 fn rooms(alloc: Global, events: &[Event]) -> Result<Vec<Vec<u8>>, AllocError>
@@ -34,7 +35,7 @@ fn heard(answer: Result<Heard, HubFault>) -> Outcome
     }
 }
 
-impl<S: SiteKeeper> Hub<S> {
+impl<S: SearchKeeper> Hub<S> {
     ghost use Rattle.std.specs.Prelude.{OnErr, IsTrue, length};
     ghost use Rattle.session_core.specs.Run.{Step, Run};
     ghost use Rattle.session_core.specs.Hub.{keeper_of, world_of};

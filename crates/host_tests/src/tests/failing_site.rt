@@ -3,6 +3,7 @@ ghost use Rattle.std.specs.Prelude.{◌≡◌, ℕ, true, false};
 ghost use Rattle.host_types.specs.Stops.{nothing, no_stop};
 
 use host_types::{Card, Change, Front, MemSite, Selector, SiteFault, SiteKeeper, Stamp};
+use word_index::{SearchKeeper, SelectorList};
 
 /// A site of which one read fails, or the next change.
 #[derive(Drop)]
@@ -49,7 +50,9 @@ impl FailingSite {
 }
 
 impl SiteKeeper for FailingSite {
-    ghost keeping = { λ m. record { site = m.site; honest = false; usable = m.usable; failed_reads = 0; failed_writes = 0 } };
+    ghost keeping = { λ m. record { site = m.site; honest = false; usable = m.usable; free = 0; failed_reads = 0; failed_writes = 0 } };
+
+    ghost lacks = { λ m change now fault. ⊥ };
 
     ghost Left = { ℕ };
 
@@ -102,5 +105,17 @@ impl SiteKeeper for FailingSite {
             return Err(SiteFault::Failed);
         }
         self.site.change(change, now)
+    }
+}
+
+impl SearchKeeper for FailingSite {
+    fn search(&mut self, scope: &Selector, query: &[u8]) -> Result<SelectorList, SiteFault> {
+        if !self.usable {
+            return Err(SiteFault::Failed);
+        }
+        if self.read_fails() {
+            return Err(SiteFault::Read);
+        }
+        self.site.search(scope, query)
     }
 }
