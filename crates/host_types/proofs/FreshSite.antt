@@ -22,7 +22,7 @@ only_top host port admin title stamp fits field early [] item found =
     subst (λ (i : Item). MayStand (fresh_site host port admin title stamp) [] i) same (empty_menu_may_stand (fresh_site host port admin title stamp) title stamp fits field early)
 only_top host port admin title stamp fits field early (b ∷ bs) item found = absurd (cc found)
 
-fresh_keeps : (host : List ℕ) (port : ℕ) (admin title : List ℕ) (stamp : ℕ) → length host ≤ 100 → IsTrue (is_word host) → 0 < port → port < 2 ^ 16 → length admin ≤ 100 → IsTrue (is_field admin)
+pub fresh_keeps : (host : List ℕ) (port : ℕ) (admin title : List ℕ) (stamp : ℕ) → length host ≤ 100 → IsTrue (is_word host) → 0 < port → port < 2 ^ 16 → length admin ≤ 100 → IsTrue (is_field admin)
     → length title ≤ 69 → IsTrue (is_field title) → stamp ≤ 253402300799 → IsSite (fresh_site host port admin title stamp)
 fresh_keeps host port admin title stamp host_fits word given fits admin_fits admin_field title_fits title_field early = record {
   sorted = refl;

@@ -3,3 +3,10 @@ pub mod ShortViews
 pub mod KeptPairs
 pub mod FreshSite
 pub mod CutLines
+pub mod LookUps
+pub mod Boards
+pub mod LawfulItems
+pub mod LawfulPut
+pub mod LawfulRemove
+pub mod LawfulMove
+pub mod LawfulPost

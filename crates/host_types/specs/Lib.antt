@@ -3,7 +3,10 @@ pub mod Items
 pub mod Site
 pub mod SiteLaws
 pub mod Change
+pub mod LawfulChanges
+pub mod Standing
 pub mod Card
+pub mod Words
 pub mod Stops
 pub mod Keeping
 pub mod Front

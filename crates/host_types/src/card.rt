@@ -35,6 +35,24 @@ impl Model for CardViewList {
 }
 
 impl CardViewList {
+    /// No views, which take no memory.
+    pub fn new(alloc: Global) -> Self
+        ensures { result ≡ [] }
+    {
+        CardViewList {
+            views: Vec::new(alloc),
+        }
+    }
+
+    /// Adds one at the end; where memory is wanting, none.
+    pub fn push(&mut self, one: CardView) -> Result<(), AllocError>
+        ensures ok { OnOk result (self.new ≡ self.old ++ one ∷ []) }
+        ensures err { OnErr result (self.new ≡ self.old) }
+    {
+        self.views.push(one)?;
+        Ok(())
+    }
+
     /// The views in their order.
     pub fn as_slice(&self) -> &[CardView]
         ensures { result.now ≡ self.now }

@@ -19,6 +19,7 @@ mod site_fault;
 mod site_keeper;
 #[cfg(test)]
 mod tests;
+mod typed;
 mod view;
 
 pub use bytes::Bytes;
@@ -26,7 +27,7 @@ pub use card::{CHUNK, Card, CardBody, CardView, CardViewList, chunk_of};
 pub use change::Change;
 pub use form::{ChoiceList, Question, QuestionList};
 pub use item::{Body, Item};
-pub use laws::worked_examples;
+pub use laws::{changes_keep_sites_lawful, what_stands_has_limits, worked_examples};
 pub use limits::MOST_VIEW_BYTES;
 pub use line_list::LineList;
 pub use mem_site::MemSite;

@@ -51,12 +51,12 @@ no_fault_understood site now stream EndedEarly fault is = absurd (cc is)
 no_fault_understood site now stream (Whole request) fault is = absurd (cc is)
 no_fault_understood site now stream (Bad cause) fault is = absurd (cc is)
 
-no_fault_listens : (site : Site) (now : ℕ) (piece : List ℕ) (p : Phase) (fault : HubFault) → Fault fault ≡ (listens site now piece p).outcome → ⊥
+pub no_fault_listens : (site : Site) (now : ℕ) (piece : List ℕ) (p : Phase) (fault : HubFault) → Fault fault ≡ (listens site now piece p).outcome → ⊥
 no_fault_listens site now piece (Heard stream) fault is = no_fault_understood site now (stream ++ piece) (verdict (stream ++ piece) false) fault is
 no_fault_listens site now piece (Reply rest) fault is = absurd (cc is)
 no_fault_listens site now piece Early fault is = absurd (cc is)
 
-no_fault_ends : (site : Site) (now : ℕ) (p : Phase) (fault : HubFault) → Fault fault ≡ (ends site now p).outcome → ⊥
+pub no_fault_ends : (site : Site) (now : ℕ) (p : Phase) (fault : HubFault) → Fault fault ≡ (ends site now p).outcome → ⊥
 no_fault_ends site now (Heard stream) fault is = no_fault_understood site now stream (verdict stream true) fault is
 no_fault_ends site now (Reply rest) fault is = absurd (cc is)
 no_fault_ends site now Early fault is = absurd (cc is)
@@ -100,7 +100,7 @@ failed_keeps w (End id now) = λ fault is. refl
 failed_keeps w (Draw id room) = λ fault is. refl
 failed_keeps w (Admin change now) = λ fault is. refl
 
-by_keeps : (b : Bool) (w : World) (e : Event) → KeepsOnFault w (if b then failed_answer w e else answer w e)
+pub by_keeps : (b : Bool) (w : World) (e : Event) → KeepsOnFault w (if b then failed_answer w e else answer w e)
 by_keeps true w e = failed_keeps w e
 by_keeps false w e = answer_keeps w e
 

@@ -9,5 +9,7 @@ pub mod SeatPlaces
 pub mod Steps
 pub mod FaultsKeep
 pub mod Goes
+pub mod After
+pub mod MoreEvents
 pub mod Hearings
 pub mod Runs

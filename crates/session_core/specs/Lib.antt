@@ -11,3 +11,4 @@ pub mod Sessions
 pub mod Hub
 pub mod Rooms
 pub mod Laws
+pub mod Stopped

@@ -35,8 +35,9 @@ fn place_in(sessions: &[Session], id: u64) -> Option<usize>
 impl<S: SearchKeeper> Hub<S> {
     ghost use Rattle.session_core.specs.World.{Reply, started, phase_of};
     ghost use Rattle.std.specs.Prelude.{◌⊎◌, false};
-    ghost use Rattle.host_types.specs.Stops.{LeavesOnly};
-    ghost use Rattle.session_core.specs.Run.{Step, change_in, site_after};
+    ghost use Rattle.host_types.specs.Stops.{LeavesOnly, may_leave};
+    ghost use Rattle.session_core.specs.Run.{Step, change_in};
+    ghost use Rattle.session_core.specs.Stopped.{StandsBy};
     ghost use Rattle.session_core.specs.Outcomes.{join_outcome, bytes_outcome, draw_outcome, leave_outcome, admin_outcome};
     ghost use Rattle.session_core.specs.Hub.{keeper_of, seats_of, world_of};
     ghost use Rattle.session_core.specs.declared.event.Event.TheVariants.{Join, Bytes, End, Draw, Leave, Admin};
@@ -90,8 +91,10 @@ impl<S: SearchKeeper> Hub<S> {
         ensures cause { IfErr result (IsHeardCause (IsLackingSince S.keeping S.lacks (S.keeping (keeper_of self.old))) (change_in (world_of S.keeping self.old) (Bytes id piece.now now)) now (S.keeping (keeper_of self.old)) (S.keeping (keeper_of self.new))) }
         ensures kept { OnErr result (seats_of self.new ≡ seats_of self.old) }
         ensures honest { (S.keeping (keeper_of self.new)).honest ≡ (S.keeping (keeper_of self.old)).honest }
-        ensures stop { IsTrue (S.keeping (keeper_of self.old)).honest → (S.keeping (keeper_of self.old)).usable ≡ true → LeavesOnly (S.stops (keeper_of self.old)) (S.stops (keeper_of self.new))
-            (λ c. S.stands_for c (S.keeping (keeper_of self.old)).site ⊎ S.stands_for c (site_after (world_of S.keeping self.old) (Bytes id piece.now now))) }
+
+        // A stop within the call leaves what one before it might have left, or what stands for the site from before or from after it, or with a change that nobody is told of.
+        ensures stop { IsTrue (S.keeping (keeper_of self.old)).honest → LeavesOnly (S.stops (keeper_of self.old)) (S.stops (keeper_of self.new))
+            (λ c. may_leave (S.stops (keeper_of self.old)) c ⊎ StandsBy S.stands_for (world_of S.keeping self.old) (Bytes id piece.now now) (bytes_outcome result) (world_of S.keeping self.new) c) }
         ensures closed { (S.keeping (keeper_of self.old)).usable ≡ false → keeper_of self.new ≡ keeper_of self.old }
     {
         if !self.site.is_usable() {
@@ -111,8 +114,10 @@ impl<S: SearchKeeper> Hub<S> {
         ensures cause { IfErr result (IsHeardCause (IsLackingSince S.keeping S.lacks (S.keeping (keeper_of self.old))) (change_in (world_of S.keeping self.old) (End id now)) now (S.keeping (keeper_of self.old)) (S.keeping (keeper_of self.new))) }
         ensures kept { OnErr result (seats_of self.new ≡ seats_of self.old) }
         ensures honest { (S.keeping (keeper_of self.new)).honest ≡ (S.keeping (keeper_of self.old)).honest }
-        ensures stop { IsTrue (S.keeping (keeper_of self.old)).honest → (S.keeping (keeper_of self.old)).usable ≡ true → LeavesOnly (S.stops (keeper_of self.old)) (S.stops (keeper_of self.new))
-            (λ c. S.stands_for c (S.keeping (keeper_of self.old)).site ⊎ S.stands_for c (site_after (world_of S.keeping self.old) (End id now))) }
+
+        // A stop within the call leaves what one before it might have left, or what stands for the site from before or from after it, or with a change that nobody is told of.
+        ensures stop { IsTrue (S.keeping (keeper_of self.old)).honest → LeavesOnly (S.stops (keeper_of self.old)) (S.stops (keeper_of self.new))
+            (λ c. may_leave (S.stops (keeper_of self.old)) c ⊎ StandsBy S.stands_for (world_of S.keeping self.old) (End id now) (bytes_outcome result) (world_of S.keeping self.new) c) }
         ensures closed { (S.keeping (keeper_of self.old)).usable ≡ false → keeper_of self.new ≡ keeper_of self.old }
     {
         if !self.site.is_usable() {
@@ -162,8 +167,10 @@ impl<S: SearchKeeper> Hub<S> {
         ensures cause { IfErr result (IsAdminCause (IsLackingSince S.keeping S.lacks (S.keeping (keeper_of self.old))) (change_in (world_of S.keeping self.old) (Admin change now)) now (S.keeping (keeper_of self.old)) (S.keeping (keeper_of self.new))) }
         ensures kept { seats_of self.new ≡ seats_of self.old }
         ensures honest { (S.keeping (keeper_of self.new)).honest ≡ (S.keeping (keeper_of self.old)).honest }
-        ensures stop { IsTrue (S.keeping (keeper_of self.old)).honest → (S.keeping (keeper_of self.old)).usable ≡ true → LeavesOnly (S.stops (keeper_of self.old)) (S.stops (keeper_of self.new))
-            (λ c. S.stands_for c (S.keeping (keeper_of self.old)).site ⊎ S.stands_for c (site_after (world_of S.keeping self.old) (Admin change now))) }
+
+        // A stop within the call leaves what one before it might have left, or what stands for the site from before or from after it, or with a change that nobody is told of.
+        ensures stop { IsTrue (S.keeping (keeper_of self.old)).honest → LeavesOnly (S.stops (keeper_of self.old)) (S.stops (keeper_of self.new))
+            (λ c. may_leave (S.stops (keeper_of self.old)) c ⊎ StandsBy S.stands_for (world_of S.keeping self.old) (Admin change now) (admin_outcome result) (world_of S.keeping self.new) c) }
         ensures closed { (S.keeping (keeper_of self.old)).usable ≡ false → keeper_of self.new ≡ keeper_of self.old }
     {
         if !self.site.is_usable() {

@@ -57,6 +57,7 @@ fn store<S: SearchKeeper>(site: &mut S, post: Option<Change>, now: Stamp) -> Res
     ensures still_usable { OnOk result ((S.keeping site.new).usable ≡ true) }
     ensures fault { IfErr result (IsPostFault (IsLacking (S.lacks site.old)) post now (S.keeping site.old) (S.keeping site.new)) }
     ensures tried { HasTried (S.keeping site.old) (S.keeping site.new) }
+    ensures still { IsTrue (S.keeping site.old).honest → IfErr result (λ e. (S.keeping site.new).usable ≡ true → IsQuiet (S.stops site.old) (S.stops site.new)) }
     ensures stop { IsTrue (S.keeping site.old).honest → LeavesOnly (S.stops site.old) (S.stops site.new)
         (λ c. S.stands_for c (S.keeping site.old).site ⊎ S.stands_for c (with_change (S.keeping site.old).site now post)) }
 {
@@ -85,6 +86,7 @@ fn settle<S: SearchKeeper>(
     ensures still_usable { OnOk result ((S.keeping site.new).usable ≡ true) }
     ensures fault { IfErr result (IsPostFault (IsLacking (S.lacks site.old)) (post_of made) now (S.keeping site.old) (S.keeping site.new)) }
     ensures tried { HasTried (S.keeping site.old) (S.keeping site.new) }
+    ensures still { IsTrue (S.keeping site.old).honest → IfErr result (λ e. (S.keeping site.new).usable ≡ true → IsQuiet (S.stops site.old) (S.stops site.new)) }
     ensures stop { IsTrue (S.keeping site.old).honest → LeavesOnly (S.stops site.old) (S.stops site.new)
         (λ c. S.stands_for c (S.keeping site.old).site ⊎ S.stands_for c (with_change (S.keeping site.old).site now (post_of made))) }
 {
@@ -109,6 +111,7 @@ fn conclude<S: SearchKeeper>(
     ensures still_usable { OnOk result ((S.keeping site.new).usable ≡ true) }
     ensures fault { IfErr result (IsPostFault (IsLackingSince S.keeping S.lacks (S.keeping site.old)) (answered (reply_by (S.keeping site.old).site now (seen answer.entry))).post now (S.keeping site.old) (S.keeping site.new)) }
     ensures tried { HasTried (S.keeping site.old) (S.keeping site.new) }
+    ensures still { IsTrue (S.keeping site.old).honest → IfErr result (λ e. (S.keeping site.new).usable ≡ true → IsQuiet (S.stops site.old) (S.stops site.new)) }
     ensures stop { IsTrue (S.keeping site.old).honest → LeavesOnly (S.stops site.old) (S.stops site.new)
         (λ c. S.stands_for c (S.keeping site.old).site ⊎ S.stands_for c (with_change (S.keeping site.old).site now (answered (reply_by (S.keeping site.old).site now (seen answer.entry))).post)) }
 {
@@ -134,6 +137,7 @@ pub fn hear<S: SearchKeeper>(
     ensures still_usable { OnOk result ((S.keeping site.new).usable ≡ true) }
     ensures fault { IfErr result (IsHearFault (IsLackingSince S.keeping S.lacks (S.keeping site.old)) (phase_of phase.old) (listens (S.keeping site.old).site now piece.now (phase_of phase.old)).post now (S.keeping site.old) (S.keeping site.new)) }
     ensures tried { HasTried (S.keeping site.old) (S.keeping site.new) }
+    ensures still { IsTrue (S.keeping site.old).honest → IfErr result (λ e. (S.keeping site.new).usable ≡ true → IsQuiet (S.stops site.old) (S.stops site.new)) }
     ensures stop { IsTrue (S.keeping site.old).honest → LeavesOnly (S.stops site.old) (S.stops site.new)
         (λ c. S.stands_for c (S.keeping site.old).site ⊎ S.stands_for c (with_change (S.keeping site.old).site now (listens (S.keeping site.old).site now piece.now (phase_of phase.old)).post)) }
 {
@@ -170,6 +174,7 @@ pub fn hear_end<S: SearchKeeper>(
     ensures still_usable { OnOk result ((S.keeping site.new).usable ≡ true) }
     ensures fault { IfErr result (IsHearFault (IsLackingSince S.keeping S.lacks (S.keeping site.old)) (phase_of phase.old) (ends (S.keeping site.old).site now (phase_of phase.old)).post now (S.keeping site.old) (S.keeping site.new)) }
     ensures tried { HasTried (S.keeping site.old) (S.keeping site.new) }
+    ensures still { IsTrue (S.keeping site.old).honest → IfErr result (λ e. (S.keeping site.new).usable ≡ true → IsQuiet (S.stops site.old) (S.stops site.new)) }
     ensures stop { IsTrue (S.keeping site.old).honest → LeavesOnly (S.stops site.old) (S.stops site.new)
         (λ c. S.stands_for c (S.keeping site.old).site ⊎ S.stands_for c (with_change (S.keeping site.old).site now (ends (S.keeping site.old).site now (phase_of phase.old)).post)) }
 {

@@ -36,7 +36,9 @@ fn heard(answer: Result<Heard, HubFault>) -> Outcome
 }
 
 impl<S: SearchKeeper> Hub<S> {
-    ghost use Rattle.std.specs.Prelude.{OnErr, IsTrue, length};
+    ghost use Rattle.std.specs.Prelude.{OnErr, IsTrue, length, true, ◌⊎◌};
+    ghost use Rattle.host_types.specs.Stops.{LeavesOnly, may_leave};
+    ghost use Rattle.session_core.specs.Stopped.{StandsBy, IsStopped};
     ghost use Rattle.session_core.specs.Run.{Step, Run};
     ghost use Rattle.session_core.specs.Hub.{keeper_of, world_of};
     ghost use Rattle.session_core.specs.declared.event.Event.TheVariants as events;
@@ -60,6 +62,8 @@ impl<S: SearchKeeper> Hub<S> {
     /// A copy of a change is made.
     fn admin_by(&mut self, change: &Change, now: Stamp) -> Outcome
         ensures step { IsTrue (S.keeping (keeper_of self.old)).honest → Step (world_of S.keeping self.old) (events.Admin change.now now) result (world_of S.keeping self.new) }
+        ensures stop { IsTrue (S.keeping (keeper_of self.old)).honest → LeavesOnly (S.stops (keeper_of self.old)) (S.stops (keeper_of self.new))
+            (λ c. may_leave (S.stops (keeper_of self.old)) c ⊎ StandsBy S.stands_for (world_of S.keeping self.old) (events.Admin change.now now) result (world_of S.keeping self.new) c) }
         ensures honest { (S.keeping (keeper_of self.new)).honest ≡ (S.keeping (keeper_of self.old)).honest }
     {
         if !self.is_usable() {
@@ -78,6 +82,8 @@ impl<S: SearchKeeper> Hub<S> {
     fn step(&mut self, event: &Event, room: Vec<u8>) -> Outcome
         requires { vec_len room ≡ room_of event.now }
         ensures step { IsTrue (S.keeping (keeper_of self.old)).honest → Step (world_of S.keeping self.old) event.now result (world_of S.keeping self.new) }
+        ensures stop { IsTrue (S.keeping (keeper_of self.old)).honest → LeavesOnly (S.stops (keeper_of self.old)) (S.stops (keeper_of self.new))
+            (λ c. may_leave (S.stops (keeper_of self.old)) c ⊎ StandsBy S.stands_for (world_of S.keeping self.old) event.now result (world_of S.keeping self.new) c) }
         ensures honest { (S.keeping (keeper_of self.new)).honest ≡ (S.keeping (keeper_of self.old)).honest }
     {
         match event {
@@ -100,6 +106,10 @@ impl<S: SearchKeeper> Hub<S> {
     pub fn run(&mut self, events: &[Event]) -> Result<OutcomeList, AllocError>
         ensures run { IsTrue (S.keeping (keeper_of self.old)).honest → IfOk result (λ outcomes. Run (world_of S.keeping self.old) events.now outcomes (world_of S.keeping self.new)) }
         ensures each { IfOk result (λ outcomes. length outcomes ≡ length events.now) }
+
+        // What a stop at any moment of the run leaves stands for the site after some of the events, with each change that was acknowledged by then, or for the one with the change that nobody was told of.
+        ensures stop { IsTrue (S.keeping (keeper_of self.old)).honest → (S.keeping (keeper_of self.old)).usable ≡ true →
+            IfOk result (λ outcomes. IsStopped S.stands_for (world_of S.keeping self.old) (world_of S.keeping self.new) (S.stops (keeper_of self.old)) (S.stops (keeper_of self.new)) events.now outcomes) }
         ensures honest { (S.keeping (keeper_of self.new)).honest ≡ (S.keeping (keeper_of self.old)).honest }
         ensures err { OnErr result (self.new ≡ self.old) }
     {

@@ -3,7 +3,7 @@ use Rattle.std.proofs.Common.{◌≡◌, ℕ, Bool, true, false, List, [], ◌�
 use Rattle.std.specs.Prelude.{◌||◌, ◌&&◌, not, bytes_eq}
 use Rattle.std.proofs.lemmas.Bool.{cases_Bool}
 use Rattle.std.proofs.lemmas.Slice.Eq.{bytes_eq-Decides}
-use Rattle.word_index.specs.Words.{is_among}
+use Rattle.host_types.specs.Words.{is_among}
 use Rattle.word_index.specs.IndexChange.{dropped}
 
 both_false : (b : Bool) → b && not true ≡ false

@@ -5,7 +5,7 @@ use Rattle.std.proofs.lemmas.Bool.{cases_Bool, cases_lt, le-ltb, lt-ltb}
 use Rattle.std.proofs.lemmas.List.{append-nil, append_assoc, length-append, length-take-le, take_all, take-append-le}
 use Rattle.std.proofs.lemmas.List.Elements.{filter-append}
 use Rattle.std.proofs.lemmas.Slice.Eq.{bytes_eq-Decides}
-use Rattle.word_index.specs.Words.{is_among, distinct, first_words}
+use Rattle.host_types.specs.Words.{is_among, distinct, first_words}
 use Rattle.word_index.specs.Gathered.{added, gathered}
 
 -- the words that differ from one

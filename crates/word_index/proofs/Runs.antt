@@ -7,7 +7,7 @@ use Rattle.std.proofs.lemmas.Bool.{cases_Bool}
 use Rattle.std.proofs.lemmas.List.{append-nil, append_assoc, take_all}
 use Rattle.std.proofs.lemmas.List.Folds.{list_any-append}
 use Rattle.std.proofs.lemmas.List.Splits.{slice_split-cons_yes, slice_split-cons_no}
-use Rattle.word_index.specs.Words.{is_gap, is_some_run, word_of, words_in}
+use Rattle.host_types.specs.Words.{is_gap, is_some_run, word_of, words_in}
 
 left_false : (a b : Bool) → a || b ≡ false → a ≡ false
 left_false false b h = refl

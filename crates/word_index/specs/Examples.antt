@@ -2,7 +2,7 @@
 use Rattle.std.specs.Prelude.{◌≡◌, [], ◌∷◌, codes, replicate}
 use Rattle.host_types.specs.Site.{Site, text_item}
 use Rattle.host_types.specs.declared.item.Body.TheVariants.{Moved, Search}
-use Rattle.word_index.specs.Words.{words_in, words_of}
+use Rattle.host_types.specs.Words.{words_in, words_of}
 use Rattle.word_index.specs.Search.{search_of}
 
 abbrev pub sample : Site

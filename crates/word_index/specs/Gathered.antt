@@ -1,7 +1,7 @@
 -- Words and finds that are gathered one by one.
 use Rattle.std.specs.Prelude.{ℕ, not, List, [], ◌∷◌, ◌++◌, ◌&&◌, length, nat_lt, fold, if◌then◌else◌}
 use Rattle.host_types.specs.declared.item.Item.{Item}
-use Rattle.word_index.specs.Words.{is_among}
+use Rattle.host_types.specs.Words.{is_among}
 use Rattle.word_index.specs.Search.{is_found}
 
 -- a word that is new, while there is room

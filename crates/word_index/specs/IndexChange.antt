@@ -1,6 +1,6 @@
 -- What of an index of words goes and comes when an item changes.
 use Rattle.std.specs.Prelude.{ℕ, not, List, filter}
-use Rattle.word_index.specs.Words.{is_among}
+use Rattle.host_types.specs.Words.{is_among}
 
 -- the old words that the new ones lack
 abbrev pub dropped : List (List ℕ) → List (List ℕ) → List (List ℕ)

@@ -1,4 +1,3 @@
-pub mod Words
 pub mod Search
 pub mod IndexChange
 pub mod Gathered

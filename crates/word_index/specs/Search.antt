@@ -3,7 +3,7 @@ use Rattle.std.specs.Prelude.{ℕ, Bool, false, List, [], ◌∷◌, ◌&&◌, f
 use Rattle.std.specs.List.{list_all, starts_with}
 use Rattle.host_types.specs.Site.{Site}
 use Rattle.host_types.specs.declared.item.Item.{Item}
-use Rattle.word_index.specs.Words.{words_in, words_of, is_among}
+use Rattle.host_types.specs.Words.{words_in, words_of, is_among}
 
 -- at least one word is asked for, and all are there
 abbrev pub holds : List (List ℕ) → List (List ℕ) → Bool

@@ -1,7 +1,7 @@
 // What of an index of words goes and comes when an item changes.
 ghost use Rattle.std.specs.Prelude.{◌≡◌, ◌&&◌, ◌||◌, not, ℕ, List, IfOk};
 ghost use Rattle.word_index.specs.IndexChange.{dropped};
-ghost use Rattle.word_index.specs.Words as spec;
+ghost use Rattle.host_types.specs.Words as spec;
 
 use crate::word_list::is_among;
 use host_types::LineList;

@@ -4,7 +4,7 @@ ghost use Rattle.std.specs.List.{list_all, starts_with};
 ghost use Rattle.host_types.specs.Stops.{quiet, nothing};
 ghost use Rattle.word_index.specs.Gathered.{looked_at};
 ghost use Rattle.word_index.specs.Search as spec;
-ghost use Rattle.word_index.specs.Words as words;
+ghost use Rattle.host_types.specs.Words as words;
 
 use crate::word::words_in;
 use crate::word_list::{is_among, words};

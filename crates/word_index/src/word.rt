@@ -1,7 +1,7 @@
 // Words in their order.
 ghost use Rattle.std.specs.Prelude.{◌≡◌, ◌∷◌, ◌++◌, [], ℕ, List, false, map, filter, take, OnOk, IfOk};
 ghost use Rattle.std.specs.List.{list_any};
-ghost use Rattle.word_index.specs.Words as spec;
+ghost use Rattle.host_types.specs.Words as spec;
 
 use host_types::{Bytes, LineList};
 use std::alloc::{AllocError, Global};
@@ -22,7 +22,7 @@ fn front(run: &[u8]) -> &[u8]
 }
 
 /// A run as a word: cut to 32 bytes, in lower case.
-#[tactic(auto, unfolding(crate::specs::Words::word_of))]
+#[tactic(auto, unfolding(host_types::specs::Words::word_of))]
 fn word_of(alloc: Global, run: &[u8]) -> Result<Bytes, AllocError>
     ensures { IfOk result (λ word. word ≡ spec.word_of run.now) }
 {

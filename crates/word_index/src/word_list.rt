@@ -1,7 +1,7 @@
 // The words of an item.
 ghost use Rattle.std.specs.Prelude.{◌≡◌, ◌++◌, ◌==◌, OnOk, IfOk, []};
 ghost use Rattle.word_index.specs.Gathered.{added, gathered};
-ghost use Rattle.word_index.specs.Words as spec;
+ghost use Rattle.host_types.specs.Words as spec;
 
 use crate::word::words_in;
 use host_types::{Body, Bytes, Card, CardBody, Item, Kind, LineList};
@@ -61,7 +61,7 @@ fn first_words(
     Ok(words)
 }
 
-#[tactic(auto, unfolding(crate::specs::Words::first_words))]
+#[tactic(auto, unfolding(host_types::specs::Words::first_words))]
 fn no_words(alloc: Global) -> LineList
     ensures { result ≡ spec.first_words [] }
 {

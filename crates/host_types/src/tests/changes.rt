@@ -5,7 +5,7 @@ use crate::tests::made::{
 };
 use crate::{
     Admin, Body, Bytes, Card, CardBody, Change, Host, Item, Kind, Refused, Selector, SiteKeeper,
-    Stamp, Title,
+    Stamp, Title, changes_keep_sites_lawful, what_stands_has_limits, worked_examples,
 };
 use std::alloc::{AllocError, Global};
 use std::process::Abort;
@@ -113,6 +113,7 @@ fn ask<S: SiteKeeper>(
 ) -> Result<(), Fail> {
     for (verb, selector, to, number, want) in steps {
         let change = change_of(alloc, verb, selector, to, *number)?;
+        change.lawful_names();
         let refused = refusal(keeper, &change, NOON + 1)?;
         assert_eq!(rt; refused, *want, "{verb} {selector} {to} {number}");
     }
@@ -129,6 +130,13 @@ fn look<S: SiteKeeper>(
         assert_eq!(rt; told(keeper, selector)?, *want, "at {selector}");
     }
     Ok(())
+}
+
+#[test]
+fn keeps_the_laws() {
+    worked_examples();
+    changes_keep_sites_lawful();
+    what_stands_has_limits();
 }
 
 #[test]

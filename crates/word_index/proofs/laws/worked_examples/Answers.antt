@@ -1,5 +1,5 @@
 use Rattle.std.proofs.Common.{refl}
-use Rattle.word_index.specs.Words.{word_of, first_words}
+use Rattle.host_types.specs.Words.{word_of, first_words}
 use Rattle.word_index.specs.Search.{search_of}
 use Rattle.word_index.proofs.laws.worked_examples.Goals as goal
 

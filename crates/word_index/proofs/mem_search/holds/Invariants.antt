@@ -1,6 +1,6 @@
 use Rattle.std.proofs.Common.{◌≡◌, take, true}
 use Rattle.std.specs.List.{list_all}
-use Rattle.word_index.specs.Words.{is_among}
+use Rattle.host_types.specs.Words.{is_among}
 use Rattle.word_index.proofs.mem_search.holds.Given as goal
 
 abbrev pub invariant-loop-word : goal.invariant-loop-word

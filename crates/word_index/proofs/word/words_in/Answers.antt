@@ -1,7 +1,7 @@
 use Rattle.std.proofs.Common.{◌≡◌, [], ◌∷◌, ◌++◌, drop, arith}
 use Rattle.std.specs.Prelude.{map, filter}
 use Rattle.std.proofs.lemmas.Grind.{common_steps}
-use Rattle.word_index.specs.Words.{word_of, is_some_run}
+use Rattle.host_types.specs.Words.{word_of, is_some_run}
 use Rattle.word_index.proofs.Runs.{all_cut}
 use Rattle.word_index.proofs.word.words_in.Goals as goal
 

@@ -1,6 +1,6 @@
 use Rattle.std.proofs.Common.{◌≡◌, ◌++◌, drop, false}
 use Rattle.std.specs.List.{list_any}
-use Rattle.word_index.specs.Words.{is_gap, words_in}
+use Rattle.host_types.specs.Words.{is_gap, words_in}
 use Rattle.word_index.proofs.word.words_in.Given as goal
 
 -- what was cut off, and the words of what is left, are those of the bytes; the run that has begun holds no gap

@@ -1,5 +1,5 @@
 use Rattle.std.proofs.Common.{◌≡◌, take, false}
-use Rattle.word_index.specs.Words.{is_among}
+use Rattle.host_types.specs.Words.{is_among}
 use Rattle.word_index.proofs.word_list.is_among.Given as goal
 
 abbrev pub invariant-loop-other : goal.invariant-loop-other

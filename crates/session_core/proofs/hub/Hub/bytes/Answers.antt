@@ -1,7 +1,9 @@
 use Rattle.std.proofs.Common.{◌≡◌, true, refl, sym, ap, ◌∙◌, rules}
-use Rattle.std.specs.Prelude.{◌==◌}
+use Rattle.std.specs.Prelude.{◌==◌, not}
 use Rattle.std.specs.List.{position}
-use Rattle.session_core.specs.Step.{listens}
+use Rattle.session_core.specs.Step.{listens, with_change}
+use Rattle.session_core.specs.Hub.{world_of}
+use Rattle.session_core.specs.declared.event.Event.TheVariants.{Bytes}
 use Rattle.session_core.specs.declared.session.Session.{Session}
 use Rattle.session_core.specs.Outcomes.{bytes_outcome}
 use Rattle.session_core.specs.Sessions.{phase_of}
@@ -43,8 +45,10 @@ returns-clause-cause g c =
     (ap (position (λ (s : Session). s.id == c.args.id)) (sym c.deref.ensures.value) ∙ sym c.in-Some.ensures.place) c.index_mut-session.ensures.value) c.hear.ensures.fault
 
 pub returns-clause-stop : goal.returns-clause-stop
-returns-clause-stop g c = λ honest usable.
+returns-clause-stop g c = λ honest.
     let k = g.S.SiteKeeper.keeping c.args.self.now.site in
-    heard_stop _ _ g.S.SiteKeeper.stands_for k.site c.args.now _ _
-    (post_is c.args.self.now.sessions.items c.args.id c.in-Some.at c.index_mut-session.result.now (listens k.site c.args.now c.args.piece.now)
-    (ap (position (λ (s : Session). s.id == c.args.id)) (sym c.deref.ensures.value) ∙ sym c.in-Some.ensures.place) c.index_mut-session.ensures.value) (c.hear.ensures.stop honest)
+    let usable : k.usable ≡ true = search rules in
+    heard_stop _ _ g.S.SiteKeeper.stands_for k (g.S.SiteKeeper.keeping c.hear.new.site) (IsLackingSince g.S.SiteKeeper.keeping g.S.SiteKeeper.lacks k) (world_of g.S.SiteKeeper.keeping c.args.self.now) (record (world_of g.S.SiteKeeper.keeping c.args.self.now) { site = (g.S.SiteKeeper.keeping c.hear.new.site).site }) (Bytes c.args.id c.args.piece.now c.args.now) c.args.now
+    (phase_of c.index_mut-session.result.now.phase) _ c.hear.result (ap not usable) usable
+    (ap (with_change k.site c.args.now) (post_is c.args.self.now.sessions.items c.args.id c.in-Some.at c.index_mut-session.result.now (listens k.site c.args.now c.args.piece.now)
+    (ap (position (λ (s : Session). s.id == c.args.id)) (sym c.deref.ensures.value) ∙ sym c.in-Some.ensures.place) c.index_mut-session.ensures.value)) refl (c.hear.ensures.done honest) (c.hear.ensures.stop honest) (c.hear.ensures.still honest) c.hear.ensures.fault
