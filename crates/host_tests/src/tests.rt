@@ -1,9 +1,15 @@
-// The worked rows of plain requests, over a site in memory and over one that fails. Expected bytes come from outside.
+// The worked rows of the protocol, over a site in memory and over one that fails. Expected bytes come from outside.
 ghost use Rattle.std.specs.Prelude.{◌<◌};
 
+mod documents;
 mod failing_site;
 mod faults;
+mod forms;
+mod hostile;
+mod made;
+mod menus;
 mod requests;
+mod searches;
 mod sessions;
 
 use crate::trial::{put_text, small_site};
@@ -43,7 +49,30 @@ fn drawn<S: SearchKeeper>(
     Err("no end".into())
 }
 
-/// The reply to a request that comes by pieces of so many bytes and is drawn by as many.
+/// The reply to a request that comes by pieces of so many bytes at a moment, and is drawn by as many.
+fn asked_at<S: SearchKeeper>(
+    alloc: Global,
+    hub: &mut Hub<S>,
+    request: &[u8],
+    size: usize,
+    now: Stamp,
+) -> Result<Vec<u8>, Fail>
+    requires { 0 < size }
+{
+    let id = hub.join().or(Err("join"))?;
+    let mut last = Ok(Heard::More);
+    for piece in request.chunks(size) {
+        last = hub.bytes(id, piece, now);
+    }
+    if last != Ok(Heard::Ready) {
+        return Err("not ready".into());
+    }
+    let all = drawn(alloc, hub, id, size)?;
+    hub.leave(id).or(Err("leave"))?;
+    Ok(all)
+}
+
+/// The same at the first moment of all.
 fn asked<S: SearchKeeper>(
     alloc: Global,
     hub: &mut Hub<S>,
@@ -52,15 +81,5 @@ fn asked<S: SearchKeeper>(
 ) -> Result<Vec<u8>, Fail>
     requires { 0 < size }
 {
-    let id = hub.join().or(Err("join"))?;
-    let mut last = Ok(Heard::More);
-    for piece in request.chunks(size) {
-        last = hub.bytes(id, piece, Stamp::start());
-    }
-    if last != Ok(Heard::Ready) {
-        return Err("not ready".into());
-    }
-    let all = drawn(alloc, hub, id, size)?;
-    hub.leave(id).or(Err("leave"))?;
-    Ok(all)
+    asked_at(alloc, hub, request, size, Stamp::start())
 }

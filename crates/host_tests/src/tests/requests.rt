@@ -80,7 +80,6 @@ fn plain_errors(rt: HostRuntime) -> Result<(), Fail> {
         (b"/a\0b\r\n".to_vec(alloc)?, NOT_UNDERSTOOD),
         (b"/a\rb\r\n".to_vec(alloc)?, NOT_UNDERSTOOD),
         (b"/about\twords\tmore\r\n".to_vec(alloc)?, NOT_UNDERSTOOD),
-        (b"/about\t+\r\n".to_vec(alloc)?, NOT_UNDERSTOOD),
     ];
     for (request, want) in &table {
         let drawn = reply(alloc, HELLO, request, 4096)?;

@@ -1,0 +1,159 @@
+// What the tests put on a site, and how they ask for it.
+ghost use Rattle.std.specs.Prelude.{◌<◌};
+
+use super::asked_at;
+use crate::trial::small_site;
+use host_types::{
+    Body, Bytes, Change, ChoiceList, Entry, EntryList, Item, Kind, MemSite, Question, QuestionList,
+    Refused, Selector, SiteFault, SiteKeeper, Stamp, Title, View, ViewList,
+};
+use session_core::Hub;
+use std::alloc::Global;
+use std::test::Fail;
+use word_index::SearchKeeper;
+
+/// 28 July 1993, 17:02:01.
+pub const EVENING: u64 = 743_878_921;
+
+pub fn evening() -> Result<Stamp, Fail> {
+    Ok(Stamp::new(EVENING)?)
+}
+
+/// A request and its reply.
+pub fn row<'a>(request: &'a [u8], reply: &'a [u8]) -> (&'a [u8], &'a [u8]) {
+    (request, reply)
+}
+
+/// The refusal of a change; none where it is made.
+pub fn refusal<S: SiteKeeper>(
+    site: &mut S,
+    change: Change,
+    now: Stamp,
+) -> Result<Option<Refused>, Fail> {
+    match site.change(change, now) {
+        Ok(()) => Ok(None),
+        Err(SiteFault::Refused(refused)) => Ok(Some(refused)),
+        Err(fault) => Err(Fail::from(fault)),
+    }
+}
+
+/// The change that puts an item without a summary.
+pub fn put(alloc: Global, selector: &[u8], title: &[u8], body: Body) -> Result<Change, Fail> {
+    let item = Item {
+        title: Title::new(title)?,
+        stamp: Stamp::start(),
+        summary: Bytes::new(alloc),
+        body,
+    };
+    Ok(Change::Put(Selector::new(selector)?, item))
+}
+
+/// One form of a document.
+pub fn view(alloc: Global, name: &[u8], language: &[u8], bytes: &[u8]) -> Result<View, Fail> {
+    Ok(View {
+        name: Bytes::from_slice(alloc, name)?,
+        language: Bytes::from_slice(alloc, language)?,
+        bytes: Bytes::from_slice(alloc, bytes)?,
+    })
+}
+
+/// A document of one view.
+pub fn document(alloc: Global, kind: Kind, name: &[u8], bytes: &[u8]) -> Result<Body, Fail> {
+    let mut views = ViewList::new(alloc);
+    views.push(view(alloc, name, b"", bytes)?)?;
+    Ok(Body::Views(kind, views))
+}
+
+pub fn text(alloc: Global, bytes: &[u8]) -> Result<Body, Fail> {
+    document(alloc, Kind::Text, b"Text/plain", bytes)
+}
+
+pub fn local(selector: &[u8]) -> Result<Entry, Fail> {
+    Ok(Entry::Local(Selector::new(selector)?))
+}
+
+pub fn info(title: &[u8]) -> Result<Entry, Fail> {
+    Ok(Entry::Info(Title::new(title)?))
+}
+
+/// The questions `Your name`, one line, and `Message`, some lines.
+pub fn questions(alloc: Global) -> Result<QuestionList, Fail> {
+    let mut questions = QuestionList::new(alloc);
+    questions.push(Question::Ask(Title::new(b"Your name")?))?;
+    questions.push(Question::AskL(Title::new(b"Message")?))?;
+    Ok(questions)
+}
+
+pub fn form(board: &[u8], questions: QuestionList) -> Result<Body, Fail> {
+    Ok(Body::Form {
+        board: Selector::new(board)?,
+        questions,
+    })
+}
+
+pub fn choices(alloc: Global, first: &[u8], second: &[u8]) -> Result<ChoiceList, Fail> {
+    let mut choices = ChoiceList::new(alloc);
+    choices.push(Bytes::from_slice(alloc, first)?)?;
+    choices.push(Bytes::from_slice(alloc, second)?)?;
+    Ok(choices)
+}
+
+/// Puts `/about` and the top menu with it and a line to read.
+pub fn fill<S: SiteKeeper>(alloc: Global, site: &mut S) -> Result<(), Fail> {
+    let now = evening()?;
+    let about = put(
+        alloc,
+        b"/about",
+        b"About us",
+        text(alloc, b"Hello\n.dot\nlast")?,
+    )?;
+    site.change(about, now)?;
+    let mut entries = EntryList::new(alloc);
+    entries.push(local(b"/about")?)?;
+    entries.push(info(b"Welcome")?)?;
+    site.change(put(alloc, b"", b"Top", Body::Menu(entries))?, now)?;
+    Ok(())
+}
+
+/// The sample site with a board at `/book` of so many posts, and a form for it at `/sign`.
+pub fn fill_board<S: SiteKeeper>(alloc: Global, site: &mut S, cap: u16) -> Result<(), Fail> {
+    fill(alloc, site)?;
+    let now = evening()?;
+    site.change(
+        put(alloc, b"/book", b"Book", Body::Board { cap, next: 1 })?,
+        now,
+    )?;
+    let body = form(b"/book", questions(alloc)?)?;
+    site.change(put(alloc, b"/sign", b"Sign", body)?, now)?;
+    Ok(())
+}
+
+/// A hub over the sample site in memory, with some changes more.
+pub fn hub_of(alloc: Global, changes: Vec<Change>) -> Result<Hub<MemSite>, Fail> {
+    let mut site = small_site(alloc).or(Err("site"))?;
+    fill_board(alloc, &mut site, 100)?;
+    let now = evening()?;
+    for change in changes {
+        site.change(change, now)?;
+    }
+    match Hub::new(alloc, site, 1) {
+        Ok(hub) => Ok(hub),
+        Err(_) => Err("hub".into()),
+    }
+}
+
+/// The first row of a table whose request has another reply, and that reply. Each request comes at once and is drawn at once.
+pub fn first_other<S: SearchKeeper>(
+    alloc: Global,
+    hub: &mut Hub<S>,
+    rows: &[(&[u8], &[u8])],
+) -> Result<Option<(usize, Vec<u8>)>, Fail> {
+    let now = evening()?;
+    for (place, (request, reply)) in rows.iter().enumerate() {
+        let drawn = asked_at(alloc, hub, request, 4096, now)?;
+        if drawn.as_slice() != *reply {
+            return Ok(Some((place, drawn)));
+        }
+    }
+    Ok(None)
+}

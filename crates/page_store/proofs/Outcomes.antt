@@ -1,0 +1,12 @@
+-- What is known once a call succeeded.
+use Rattle.std.proofs.Common.{◌≡◌, ℕ, Bool, false, Result, Ok, Err, OnOk}
+use Rattle.std.specs.Result.{is_err}
+use Rattle.sector_device.specs.Device.{Counts}
+
+pub on_ok : {T E : Type 0} (r : Result T E) (b : Bool) (P : Type 0) → b ≡ is_err r → b ≡ false → OnOk r P → P
+on_ok (Ok _) b P is off h = h
+on_ok (Err _) b P is off h = absurd (cc (is, off))
+
+pub counts_ok : {T E : Type 0} (r : Result T E) (b : Bool) (before now : ℕ) → b ≡ is_err r → b ≡ false → Counts r before now → now ≡ before
+counts_ok (Ok _) b before now is off h = h
+counts_ok (Err _) b before now is off h = absurd (cc (is, off))

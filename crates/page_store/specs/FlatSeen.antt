@@ -1,0 +1,21 @@
+-- A keeper of flat pages as its callers see it.
+use Rattle.std.specs.Prelude.{ℕ, List, Bool}
+use Rattle.page_store.specs.Pages.{Pair}
+use Rattle.page_store.specs.declared.banner.Banner.{Banner}
+use Rattle.page_store.specs.declared.flat_keeper.FlatKeeper.{FlatKeeper}
+
+abbrev pub device_of : {D : Type 0} {dict : _} → FlatKeeper D dict → D
+device_of k = k.device
+
+abbrev pub pairs_of : {D : Type 0} {dict : _} → FlatKeeper D dict → List Pair
+pairs_of k = k.pairs.items
+
+abbrev pub banner_of : {D : Type 0} {dict : _} → FlatKeeper D dict → Banner
+banner_of k = k.slot.root.banner
+
+-- the greatest generation that was found or tried
+abbrev pub top_of : {D : Type 0} {dict : _} → FlatKeeper D dict → ℕ
+top_of k = k.top
+
+abbrev pub is_open : {D : Type 0} {dict : _} → FlatKeeper D dict → Bool
+is_open k = k.usable

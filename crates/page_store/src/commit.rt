@@ -1,0 +1,65 @@
+// New pages, and a new root over them.
+ghost use Rattle.std.specs.Prelude.{◌≡◌, ◌≤◌, ◌+◌, ◌*◌, ℕ, IsTrue, OnOk, IfErr, Some, All, length};
+ghost use Rattle.sector_device.specs.declared.device.DeviceFault.TheVariants.{Device as Failing};
+ghost use Rattle.sector_device.specs.Device.{Counts};
+ghost use Rattle.host_types.specs.Stops.{LeavesOnly};
+ghost use Rattle.page_store.specs.declared.slot.Slot.{Slot};
+ghost use Rattle.page_store.specs.Content.{content};
+ghost use Rattle.page_store.specs.Switch.{IsSlotPage};
+ghost use Rattle.page_store.specs.Steps.{stops_of, Makes, AllAre};
+ghost use Rattle.page_store.specs.Commit.{numbers, IsSameOutside, ArePatched, Commit, IsReady, IsBetween, IsDone};
+
+use crate::pages::{switch_root, sync_all, write_page};
+use sector_device::{Device, DeviceFault};
+
+/// A page that is to be written.
+#[derive(Clone, Copy)]
+pub struct NewPage {
+    pub number: u32,
+    pub bytes: [u8; 4096],
+}
+
+/// Writes pages, one after another.
+pub fn write_pages<D: Device>(device: &mut D, pages: &[NewPage]) -> Result<(), DeviceFault>
+    requires { All (λ page. 8 * page.number + 8 ≤ (D.state device.old).size) pages.now }
+    ensures shows { IsTrue (D.state device.old).honest → OnOk result (ArePatched pages.now (D.state device.old).disk.view (D.state device.new).disk.view) }
+    ensures stop { IsTrue (D.state device.old).honest → Makes (stops_of D.moment D.left_since device.old) (stops_of D.moment D.left_since device.new) (IsSameOutside (numbers pages.now)) }
+    ensures size { (D.state device.new).size ≡ (D.state device.old).size }
+    ensures honest { (D.state device.new).honest ≡ (D.state device.old).honest }
+    ensures reads { (D.state device.new).failed_reads ≡ (D.state device.old).failed_reads }
+    ensures writes { Counts result (D.state device.old).failed_writes (D.state device.new).failed_writes }
+    ensures fault { IfErr result (λ e. e ≡ Failing) }
+{
+    for page in pages {
+        write_page(device, page.number, &page.bytes)?;
+    }
+    Ok(())
+}
+
+/// Writes pages to free places, makes sure of them, and then writes a root over them and makes sure of it.
+pub fn commit_pages<D: Device>(
+    device: &mut D,
+    pages: &[NewPage],
+    number: u32,
+    root: &[u8; 4096],
+) -> Result<(), DeviceFault>
+    requires fits { All (λ page. 8 * page.number + 8 ≤ (D.state device.old).size) pages.now }
+    requires slot { 8 * number + 8 ≤ (D.state device.old).size }
+    // Every stop leaves the content from before or the new one, and no page changed that wasn't free.
+    ensures stop { IsTrue (D.state device.old).honest → (commit : Commit) → commit.new.number ≡ number → IsSlotPage (D.state device.old).size commit.new root.now →
+        AllAre (stops_of D.moment D.left_since device.old) (D.state device.old).disk.view → IsReady commit pages.now (D.state device.old).disk.view →
+        LeavesOnly (stops_of D.moment D.left_since device.old) (stops_of D.moment D.left_since device.new) (IsBetween commit pages.now (D.state device.old).disk.view) }
+    // Once it is done, every image is the view, and that has the new content.
+    ensures done { IsTrue (D.state device.old).honest → (commit : Commit) → commit.new.number ≡ number → IsSlotPage (D.state device.old).size commit.new root.now →
+        AllAre (stops_of D.moment D.left_since device.old) (D.state device.old).disk.view → IsReady commit pages.now (D.state device.old).disk.view →
+        OnOk result (IsDone commit pages.now (stops_of D.moment D.left_since device.new) (D.state device.old).disk.view (D.state device.new).disk.view) }
+    ensures size { (D.state device.new).size ≡ (D.state device.old).size }
+    ensures honest { (D.state device.new).honest ≡ (D.state device.old).honest }
+    ensures reads { (D.state device.new).failed_reads ≡ (D.state device.old).failed_reads }
+    ensures writes { Counts result (D.state device.old).failed_writes (D.state device.new).failed_writes }
+    ensures fault { IfErr result (λ e. e ≡ Failing) }
+{
+    write_pages(device, pages)?;
+    sync_all(device)?;
+    switch_root(device, number, root)
+}

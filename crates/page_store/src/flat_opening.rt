@@ -1,0 +1,175 @@
+// Opening an image of flat pages.
+ghost use Rattle.std.specs.Prelude.{◌≡◌, ◌⊎◌, ◌≤◌, ◌<◌, ◌*◌, ◌+◌, ◌==◌, ◌^◌, ℕ, List, Bool, true, false, Some, IfOk, OnOk, IfErr, IsTrue, length, map};
+ghost use Rattle.std.specs.List.{list_all};
+ghost use Rattle.sector_device.specs.Device.{State};
+ghost use Rattle.page_store.specs.Keys.{rises};
+ghost use Rattle.page_store.specs.Pages.{key_of};
+ghost use Rattle.page_store.specs.Batch.{is_map, is_pair, is_key, is_value};
+ghost use Rattle.page_store.specs.Flat.{half_size, is_half};
+ghost use Rattle.page_store.specs.Content.{HasContent};
+ghost use Rattle.page_store.specs.Steps.{stops_of, AllAre};
+ghost use Rattle.page_store.specs.FlatKeeping.{IsFitted, IsSettled, IsOpened, IsOpenFault, HasOpened, found_in_half};
+ghost use Rattle.page_store.specs.FlatSeen.{pairs_of, banner_of, device_of, top_of, is_open};
+ghost use Rattle.page_store.specs.Roots.{FitsDevice, greatest_seal};
+ghost use Rattle.host_types.specs.Stops.{IsQuiet};
+
+use crate::flat_reading::read_half;
+use crate::pages::sync_all;
+use crate::roots::{Roots, open_roots};
+use crate::{FlatKeeper, KeeperFault, Pair, Root, Slot};
+use sector_device::Device;
+use std::alloc::Global;
+use std::cmp::Ordering;
+
+/// Whether the record names the first page of a half.
+fn is_half(root: &Root) -> bool
+    requires some { 2 ≤ root.now.pages }
+    requires small { root.now.pages ≤ 65536 }
+    ensures { result ≡ is_half root.now }
+{
+    root.height == 0 && (root.tree == 2 || root.tree == 2 + (root.pages - 2) / 2)
+}
+
+/// Whether the keys rise in byte order.
+fn keys_rise(pairs: &[Pair]) -> bool
+    ensures { result ≡ rises (map key_of pairs.now) }
+{
+    for place in 1..pairs.len() {
+        match pairs[place - 1].key().cmp(pairs[place].key()) {
+            Ordering::Less => {}
+            Ordering::Equal | Ordering::Greater => return false,
+        }
+    }
+    true
+}
+
+/// Makes sure of what is there, and finds the current slot of a flat image and the greatest seal.
+fn open_slot<D: Device>(device: &mut D) -> Result<(Slot, u64), KeeperFault>
+    ensures opened { IfOk result (λ found. IsOpened (D.state device.old) (D.state device.new) (stops_of D.moment D.left_since device.new) found.0 found.1) }
+    ensures fits { IfOk result (λ found. (found.0.number < 2) × FitsDevice (D.state device.old).size found.0.root) }
+    ensures version { IfOk result (λ found. found.0.root.banner.version ≡ 0) }
+    ensures large { IfOk result (λ found. 128 ≤ (D.state device.old).size) }
+    ensures fault { IfErr result (IsOpenFault (D.state device.old) (D.state device.new)) }
+    ensures stop { IsTrue (D.state device.old).honest → IsQuiet (stops_of D.moment D.left_since device.old) (stops_of D.moment D.left_since device.new) }
+    ensures size { (D.state device.new).size ≡ (D.state device.old).size }
+    ensures honest { (D.state device.new).honest ≡ (D.state device.old).honest }
+    ensures reads { (D.state device.old).failed_reads ≤ (D.state device.new).failed_reads }
+    ensures writes { (D.state device.old).failed_writes ≤ (D.state device.new).failed_writes }
+{
+    if device.sectors() < 128 {
+        return Err(KeeperFault::Small);
+    }
+    if sync_all(device).is_err() {
+        return Err(KeeperFault::Device);
+    }
+    let Ok(roots) = open_roots(device) else {
+        return Err(KeeperFault::Device);
+    };
+    let Roots { current, greatest } = roots;
+    let Some(slot) = current else {
+        return Err(KeeperFault::NoImage);
+    };
+    if slot.root.banner.version != 0 {
+        return Err(KeeperFault::Version);
+    }
+    Ok((slot, greatest))
+}
+
+/// Whether the key has 1 to 300 bytes, and the value at most 1,024.
+#[tactic(auto, unfolding(crate::specs::Batch::is_value))]
+fn is_pair(pair: &Pair) -> bool
+    ensures { result ≡ is_pair pair.now }
+{
+    let key = pair.key().len();
+    key >= 1 && key <= 300 && pair.value().len() <= 1024
+}
+
+fn are_pairs(pairs: &[Pair]) -> bool
+    ensures { result ≡ list_all is_pair pairs.now }
+{
+    pairs.iter().all(|pair| is_pair(pair))
+}
+
+/// Whether the keys rise, and no key or value has too many bytes.
+fn is_map(pairs: &[Pair]) -> bool
+    ensures { result ≡ is_map pairs.now }
+{
+    keys_rise(pairs) && are_pairs(pairs)
+}
+
+/// Finds the current slot of a flat image, its pairs and the greatest seal, and tests everything.
+fn open_parts<D: Device>(
+    alloc: Global,
+    device: &mut D,
+) -> Result<(Slot, Vec<Pair>, u64), KeeperFault>
+    ensures opened { IfOk result (λ parts. HasOpened (D.state device.old) (D.state device.new) (stops_of D.moment D.left_since device.new) parts.0 parts.1.items parts.2) }
+    ensures fitted { IfOk result (λ parts. IsFitted (D.state device.old).size parts.0 parts.1.items) }
+    ensures large { IfOk result (λ parts. 128 ≤ (D.state device.old).size) }
+    ensures fault { IfErr result (IsOpenFault (D.state device.old) (D.state device.new)) }
+    ensures stop { IsTrue (D.state device.old).honest → IsQuiet (stops_of D.moment D.left_since device.old) (stops_of D.moment D.left_since device.new) }
+    ensures size { (D.state device.new).size ≡ (D.state device.old).size }
+    ensures honest { (D.state device.new).honest ≡ (D.state device.old).honest }
+    ensures reads { (D.state device.old).failed_reads ≤ (D.state device.new).failed_reads }
+    ensures writes { (D.state device.old).failed_writes ≤ (D.state device.new).failed_writes }
+{
+    let (slot, top) = open_slot(device)?;
+    if !is_half(&slot.root) {
+        return Err(KeeperFault::Damaged { page: slot.number });
+    }
+    let pairs = match read_half(alloc, device, &slot) {
+        Ok(pairs) => pairs,
+        Err(fault) => return Err(fault),
+    };
+    if !is_map(&pairs) {
+        return Err(KeeperFault::Damaged {
+            page: slot.root.tree,
+        });
+    }
+    Ok((slot, pairs, top))
+}
+
+impl<D: Device> FlatKeeper<D> {
+    /// Opens the image on a device. A refusal hands the device back.
+    ///
+    /// Refusals in order: `Small` under 128 sectors; `Device` where a read or the sync failed; `NoImage` where no root slot is valid; `Version` where the current one isn't of flat pages; `Damaged` where what it names has no content. `Memory` may stand in place of `Damaged` and of success.
+    pub fn open(alloc: Global, device: D) -> Result<FlatKeeper<D>, (KeeperFault, D)>
+        ensures content { IsTrue (D.state device).honest → IfOk result (λ k. HasContent (D.state device).disk.view (pairs_of k) (banner_of k)) }
+        ensures top { IsTrue (D.state device).honest → IfOk result (λ k. top_of k ≡ greatest_seal (D.state device).disk.view 16) }
+        ensures usable { IfOk result (λ k. is_open k ≡ true) }
+        ensures honest { IfOk result (λ k. (D.state (device_of k)).honest ≡ (D.state device).honest) }
+        ensures large { IfOk result (λ k. 128 ≤ (D.state device).size) }
+        ensures fault { IfErr result (λ e. IsOpenFault (D.state device) (D.state e.1) e.0) }
+        // Nothing is written: a stop within the call leaves what one before it might have left.
+        ensures stop { IsTrue (D.state device).honest → IfOk result (λ k. IsQuiet (stops_of D.moment D.left_since device) (stops_of D.moment D.left_since (device_of k))) }
+        ensures stop_at_fault { IsTrue (D.state device).honest → IfErr result (λ e. IsQuiet (stops_of D.moment D.left_since device) (stops_of D.moment D.left_since e.1)) }
+        ensures handed_back { IfErr result (λ e. ((D.state e.1).size ≡ (D.state device).size) × ((D.state e.1).honest ≡ (D.state device).honest)) }
+    {
+        let mut device = device;
+        match open_parts(alloc, &mut device) {
+            Ok((slot, pairs, top)) => Ok(FlatKeeper {
+                alloc,
+                device,
+                slot,
+                pairs,
+                top,
+                usable: true,
+            }),
+            Err(fault) => Err((fault, device)),
+        }
+    }
+
+    /// The device, whether a write or a sync has failed or not.
+    pub fn into_device(self) -> D
+        ensures { result ≡ device_of self }
+    {
+        let FlatKeeper {
+            alloc: _,
+            device,
+            slot: _,
+            pairs: _,
+            top: _,
+            usable: _,
+        } = self;
+        device
+    }
+}

@@ -1,0 +1,88 @@
+// Making an image.
+ghost use Rattle.std.specs.Prelude.{◌≡◌, ◌⊎◌, ◌≤◌, ◌<◌, ◌*◌, IsTrue, OnOk, IfErr, true, length};
+ghost use Rattle.page_store.specs.Batch.{is_map};
+ghost use Rattle.page_store.specs.Spelling.{pages_needed};
+ghost use Rattle.page_store.specs.Steps.{stops_of, AllAre};
+ghost use Rattle.page_store.specs.Content.{HasContent};
+ghost use Rattle.page_store.specs.Formatting.{IsFirst, IsFormatFault};
+
+use crate::commit::write_pages;
+use crate::pages::{switch_root, write_page};
+use crate::spelling::{flat_pages, slot_page};
+use crate::{Banner, KeeperFault, Pair, Root, Slot};
+use sector_device::Device;
+use std::alloc::Global;
+
+/// Makes an image of flat pages, with pairs that fit one page: it clears the second slot and writes generation 1 to the first. What was there is gone.
+///
+/// `Small` where the count of pages isn't 16 to 65,536 or the device hasn't eight sectors for each; `Memory` before the first write; `Failed` where a write or a sync failed. A stop within the call may leave anything.
+pub fn format_flat<D: Device>(
+    alloc: Global,
+    device: &mut D,
+    pages: u32,
+    banner: Banner,
+    pairs: &[Pair],
+) -> Result<(), KeeperFault>
+    requires map { is_map pairs.now ≡ true }
+    requires one_page { pages_needed pairs.now ≤ 1 }
+    requires port { 0 < banner.port }
+    requires version { banner.version ≡ 0 }
+    ensures content { IsTrue (D.state device.old).honest → OnOk result (HasContent (D.state device.new).disk.view pairs.now banner) }
+    ensures first { IsTrue (D.state device.old).honest → OnOk result (IsFirst pages (D.state device.new).disk.view) }
+    ensures sure { IsTrue (D.state device.old).honest → OnOk result (AllAre (stops_of D.moment D.left_since device.new) (D.state device.new).disk.view) }
+    ensures fits { OnOk result ((16 ≤ pages) × (pages ≤ 65536) × (8 * pages ≤ (D.state device.old).size)) }
+    ensures fault { IfErr result (IsFormatFault pages (D.state device.old) (D.state device.new)) }
+    ensures size { (D.state device.new).size ≡ (D.state device.old).size }
+    ensures honest { (D.state device.new).honest ≡ (D.state device.old).honest }
+{
+    if pages < 16 || pages > 65_536 || 8 * u64::from(pages) > device.sectors() {
+        return Err(KeeperFault::Small);
+    }
+    let tree = flat_pages(alloc, 1, 2, pairs)?;
+    let slot = Slot {
+        number: 0,
+        seal: 1,
+        root: Root {
+            pages,
+            tree: 2,
+            height: 0,
+            keys: pairs.len() as u64,
+            banner,
+        },
+    };
+    let root = slot_page(alloc, &slot)?;
+    let cleared = [0; 4096];
+    if write_page(device, 1, &cleared).is_err() {
+        return Err(KeeperFault::Failed);
+    }
+    if write_pages(device, &tree).is_err() {
+        return Err(KeeperFault::Failed);
+    }
+    if switch_root(device, 0, &root).is_err() {
+        return Err(KeeperFault::Failed);
+    }
+    Ok(())
+}
+
+/// Makes an image of the form that keepers open, for now of flat pages: see `format_flat`.
+pub fn format<D: Device>(
+    alloc: Global,
+    device: &mut D,
+    pages: u32,
+    banner: Banner,
+    pairs: &[Pair],
+) -> Result<(), KeeperFault>
+    requires map { is_map pairs.now ≡ true }
+    requires one_page { pages_needed pairs.now ≤ 1 }
+    requires port { 0 < banner.port }
+    requires version { banner.version ≡ 0 }
+    ensures content { IsTrue (D.state device.old).honest → OnOk result (HasContent (D.state device.new).disk.view pairs.now banner) }
+    ensures first { IsTrue (D.state device.old).honest → OnOk result (IsFirst pages (D.state device.new).disk.view) }
+    ensures sure { IsTrue (D.state device.old).honest → OnOk result (AllAre (stops_of D.moment D.left_since device.new) (D.state device.new).disk.view) }
+    ensures fits { OnOk result ((16 ≤ pages) × (pages ≤ 65536) × (8 * pages ≤ (D.state device.old).size)) }
+    ensures fault { IfErr result (IsFormatFault pages (D.state device.old) (D.state device.new)) }
+    ensures size { (D.state device.new).size ≡ (D.state device.old).size }
+    ensures honest { (D.state device.new).honest ≡ (D.state device.old).honest }
+{
+    format_flat(alloc, device, pages, banner, pairs)
+}

@@ -1,0 +1,103 @@
+// A map of byte keys that is kept on a device.
+ghost use Rattle.std.specs.Prelude.{◌≡◌, ◌⊎◌, ◌≤◌, ◌<◌, ℕ, Bool, List, true, false, IfOk, OnOk, IfErr, IsErrOf, IfSome, IsTrue, length, take, option_map};
+ghost use Rattle.host_types.specs.Stops.{Stops, LeavesOnly, IsQuiet, may_leave};
+ghost use Rattle.page_store.specs.Pages.{Pair};
+ghost use Rattle.page_store.specs.Batch.{value_at, pair_after, updated, is_batch};
+ghost use Rattle.page_store.specs.Holding.{Holding, HasRead, HasTried, IsReadFault, IsCommitFault, last_generation};
+ghost use Rattle.page_store.specs.declared.banner.Banner.{Banner as BannerValue};
+ghost use Rattle.page_store.specs.declared.edit.Edit.{Edit as EditValue};
+ghost use Rattle.page_store.specs.declared.fault.KeeperFault.TheVariants.{Failed, Spent};
+
+use crate::{Banner, Edit, KeeperFault};
+
+/// A map of byte keys with a banner, which changes by whole batches: a stop within a commit leaves the map and the banner from before, or the new ones.
+///
+/// Keys have 1 to 300 bytes and values at most 1,024. Whatever speaks of the pairs holds where what they are kept on is honest, that is, keeps its written meaning.
+pub trait Keeper {
+    /// The pairs and the banner, the flags and the counts.
+    ghost holding: { Self → Holding };
+
+    /// How much a commit of a batch may need.
+    ghost may_need: { Self → List EditValue → ℕ → Type 0 };
+
+    /// Whether an image of that version is held.
+    ghost holds_version: { ℕ → Bool };
+
+    /// What a stop leaves.
+    ghost Left: { Type 0 };
+
+    /// What is left has these pairs and this banner.
+    ghost has_content: { Left → List Pair → BannerValue → Type 0 };
+
+    /// What a stop may leave.
+    ghost stops: { Self → Stops Left };
+
+    /// How the keeper writes: what a stop within a commit of a batch and a banner may leave once it writes.
+    ghost is_between: { Self → List EditValue → BannerValue → Left → Type 0 };
+
+    /// Version, host, port and administrator. It takes no memory.
+    fn banner(&self) -> &Banner
+        ensures { result.now ≡ (holding self.now).banner };
+
+    /// Whether no write or sync has failed.
+    fn is_usable(&self) -> bool
+        ensures { result ≡ (holding self.now).usable };
+
+    /// Puts the value at a key into the front of the buffer, and answers its length, or none where nothing stands there. It takes no memory.
+    fn get(&mut self, key: &[u8], buffer: &mut [u8; 1024]) -> Result<Option<usize>, KeeperFault>
+        ensures within { IfOk result (λ found. IfSome found (λ n. n ≤ length buffer.new)) }
+        ensures value { IsTrue (holding self.old).honest → IfOk result (λ found. option_map (λ n. take n buffer.new) found ≡ value_at (holding self.old).pairs key.now) }
+        ensures kept { HasRead (holding self.old) (holding self.new) }
+        ensures fault { IfErr result (IsReadFault (holding self.old) (holding self.new)) }
+        ensures closed { (holding self.old).usable ≡ false → IsErrOf result Failed }
+        ensures stop { IsTrue (holding self.old).honest → IsQuiet (stops self.old) (stops self.new) };
+
+    /// Puts the pair with the least key above this one into the fronts of the buffers, and answers its lengths, or none where no key is above. The empty key is below all. It takes no memory.
+    fn next(
+        &mut self,
+        after: &[u8],
+        key: &mut [u8; 300],
+        value: &mut [u8; 1024],
+    ) -> Result<Option<(usize, usize)>, KeeperFault>
+        ensures within { IfOk result (λ found. IfSome found (λ n. (n.0 ≤ length key.new) × (n.1 ≤ length value.new))) }
+        ensures pair { IsTrue (holding self.old).honest → IfOk result (λ found. option_map (λ n. (take n.0 key.new, take n.1 value.new)) found ≡ pair_after (holding self.old).pairs after.now) }
+        ensures kept { HasRead (holding self.old) (holding self.new) }
+        ensures fault { IfErr result (IsReadFault (holding self.old) (holding self.new)) }
+        ensures closed { (holding self.old).usable ≡ false → IsErrOf result Failed }
+        ensures stop { IsTrue (holding self.old).honest → IsQuiet (stops self.old) (stops self.new) };
+
+    /// Makes all edits of a batch, whose keys rise, and sets the banner, in one step.
+    ///
+    /// Faults in order: `Failed`, `Spent`, `Device` and `Damaged`, `Full`, and `Failed` again once a write or a sync has failed. `Memory` may stand in place of any fault or success after `Spent`; nothing is written then.
+    fn commit(&mut self, batch: &[Edit], banner: Banner) -> Result<(), KeeperFault>
+        requires batch { IsTrue (is_batch batch.now) }
+        requires port { 0 < banner.port }
+        requires version { IsTrue (holds_version banner.version) }
+        ensures done { IsTrue (holding self.old).honest → OnOk result ((holding self.new).pairs ≡ updated (holding self.old).pairs batch.now) }
+        ensures banner { OnOk result ((holding self.new).banner ≡ banner) }
+        ensures still_usable { OnOk result ((holding self.new).usable ≡ true) }
+        ensures rises { OnOk result ((holding self.old).top < (holding self.new).top) }
+        ensures fits { IsTrue (holding self.old).honest → OnOk result ((n : ℕ) × may_need self.old batch.now n × (n ≤ (holding self.old).free)) }
+        ensures fault { IfErr result (IsCommitFault (holding self.old) (holding self.new) (may_need self.old batch.now)) }
+        ensures closed { (holding self.old).usable ≡ false → IsErrOf result Failed }
+        ensures spent { (holding self.old).usable ≡ true → (holding self.old).top ≡ last_generation → IsErrOf result Spent }
+        ensures tried { HasTried (holding self.old) (holding self.new) }
+
+        // A stop within the call leaves the pairs and the banner from before it, or the new ones.
+        ensures stop { IsTrue (holding self.old).honest → (holding self.old).usable ≡ true →
+            LeavesOnly (stops self.old) (stops self.new) (λ c. has_content c (holding self.old).pairs (holding self.old).banner ⊎ has_content c (updated (holding self.old).pairs batch.now) banner) }
+
+        // It leaves what one before the call might have left, or what the keeper's way to write makes.
+        ensures between { IsTrue (holding self.old).honest → (holding self.old).usable ≡ true →
+            LeavesOnly (stops self.old) (stops self.new) (λ c. may_leave (stops self.old) c ⊎ is_between self.old batch.now banner c) }
+
+        // Where a write or a sync failed, the batch had room.
+        ensures tight { IsTrue (holding self.old).honest → (holding self.old).usable ≡ true → (holding self.new).usable ≡ false → (n : ℕ) × may_need self.old batch.now n × (n ≤ (holding self.old).free) }
+
+        // Where no write or sync has failed and nothing was changed, nothing was written.
+        ensures quiet { IsTrue (holding self.old).honest → IfErr result (λ e. (holding self.new).usable ≡ true → IsQuiet (stops self.old) (stops self.new)) }
+        ensures quiet_when_closed { IsTrue (holding self.old).honest → (holding self.old).usable ≡ false → IsQuiet (stops self.old) (stops self.new) };
+
+    /// What a stop between two calls leaves has the pairs and the banner.
+    ghost settled: { (k : Self) (c : Left) → IsTrue (holding k).honest → (holding k).usable ≡ true → may_leave (stops k) c → has_content c (holding k).pairs (holding k).banner };
+}

@@ -1,0 +1,39 @@
+//! Pages and root slots of an image, and a keeper of pairs on them.
+#![tactic(auto)]
+
+mod banner;
+mod batch;
+mod commit;
+mod edit;
+mod fault;
+mod flat_calls;
+mod flat_keeper;
+mod flat_opening;
+mod flat_reading;
+mod formatting;
+mod keeper;
+mod laws;
+mod pages;
+mod pair;
+mod reading;
+mod roots;
+mod slot;
+mod spelling;
+#[cfg(test)]
+mod tests;
+
+pub use banner::Banner;
+pub use commit::{NewPage, commit_pages, write_pages};
+pub use edit::Edit;
+pub use fault::KeeperFault;
+pub use flat_keeper::FlatKeeper;
+pub use formatting::{format, format_flat};
+pub use keeper::Keeper;
+pub use laws::{
+    a_greater_seal, a_valid_slot_has_one_seal, a_write_elsewhere, one_seal_makes_a_slot,
+    pages_decide, seals_are_at_most_the_greatest, the_current_slot_is_the_newest, worked_examples,
+};
+pub use pages::{read_page, read_sector, switch_root, sync_all, write_page, write_sector};
+pub use pair::Pair;
+pub use roots::{Roots, open_roots};
+pub use slot::{Root, Slot};

@@ -1,0 +1,139 @@
+// Sectors and pages of a device.
+ghost use Rattle.std.specs.Prelude.{◌≡◌, ◌+◌, ◌*◌, ◌<◌, ◌≤◌, IsTrue, OnOk, OnErr, IfErr, length};
+ghost use Rattle.sector_device.specs.declared.device.DeviceFault.TheVariants.{Device as Failing};
+ghost use Rattle.sector_device.specs.Device.{Counts};
+ghost use Rattle.host_types.specs.Stops.{IsQuiet, LeavesOnly};
+ghost use Rattle.page_store.specs.Sectors.{sector, page_of};
+ghost use Rattle.page_store.specs.declared.slot.Slot.{Slot};
+ghost use Rattle.page_store.specs.Switch.{IsSlotPage, IsAbove, IsSwitching, IsSwitched};
+ghost use Rattle.page_store.specs.Steps.{stops_of, Makes, AllAre, IsWritten, MayBeWritten, AreWritten, MayBeAllWritten, chunk};
+
+use sector_device::{Device, DeviceFault};
+
+/// Bytes 512 * k and on.
+fn chunk_of(bytes: &[u8; 4096], k: usize) -> [u8; 512]
+    requires { k < 8 }
+    ensures { result ≡ chunk bytes.now k }
+{
+    let mut sector = [0; 512];
+    sector.copy_from_slice(&bytes[512 * k..512 * k + 512]);
+    sector
+}
+
+/// Reads one sector. It takes no memory.
+pub fn read_sector<D: Device>(
+    device: &mut D,
+    n: u64,
+    buffer: &mut [u8; 512],
+) -> Result<(), DeviceFault>
+    requires { n < (D.state device.old).size }
+    ensures shows { IsTrue (D.state device.old).honest → OnOk result (sector (D.state device.old).disk.view n ≡ buffer.new) }
+    ensures disk { IsTrue (D.state device.old).honest → (D.state device.new).disk ≡ (D.state device.old).disk }
+    ensures stop { IsTrue (D.state device.old).honest → IsQuiet (stops_of D.moment D.left_since device.old) (stops_of D.moment D.left_since device.new) }
+    ensures size { (D.state device.new).size ≡ (D.state device.old).size }
+    ensures honest { (D.state device.new).honest ≡ (D.state device.old).honest }
+    ensures reads { Counts result (D.state device.old).failed_reads (D.state device.new).failed_reads }
+    ensures writes { (D.state device.new).failed_writes ≡ (D.state device.old).failed_writes }
+    ensures fault { IfErr result (λ e. e ≡ Failing) }
+{
+    device.read(n, buffer)
+}
+
+/// Reads the eight sectors of a page. It takes no memory.
+pub fn read_page<D: Device>(
+    device: &mut D,
+    page: u32,
+    bytes: &mut [u8; 4096],
+) -> Result<(), DeviceFault>
+    requires { 8 * page + 8 ≤ (D.state device.old).size }
+    ensures shows { IsTrue (D.state device.old).honest → OnOk result (page_of (D.state device.old).disk.view page ≡ bytes.new) }
+    ensures disk { IsTrue (D.state device.old).honest → (D.state device.new).disk ≡ (D.state device.old).disk }
+    ensures stop { IsTrue (D.state device.old).honest → IsQuiet (stops_of D.moment D.left_since device.old) (stops_of D.moment D.left_since device.new) }
+    ensures size { (D.state device.new).size ≡ (D.state device.old).size }
+    ensures honest { (D.state device.new).honest ≡ (D.state device.old).honest }
+    ensures reads { Counts result (D.state device.old).failed_reads (D.state device.new).failed_reads }
+    ensures writes { (D.state device.new).failed_writes ≡ (D.state device.old).failed_writes }
+    ensures fault { IfErr result (λ e. e ≡ Failing) }
+{
+    let first = 8 * page as u64;
+    let mut sector = [0; 512];
+    for part in 0..8 {
+        read_sector(device, first + part as u64, &mut sector)?;
+        bytes[512 * part..512 * part + 512].copy_from_slice(&sector);
+    }
+    Ok(())
+}
+
+/// Writes one sector.
+pub fn write_sector<D: Device>(device: &mut D, n: u64, bytes: &[u8; 512]) -> Result<(), DeviceFault>
+    requires { n < (D.state device.old).size }
+    ensures shows { IsTrue (D.state device.old).honest → OnOk result (IsWritten n bytes.now (D.state device.old).disk.view (D.state device.new).disk.view) }
+    ensures stop { IsTrue (D.state device.old).honest → Makes (stops_of D.moment D.left_since device.old) (stops_of D.moment D.left_since device.new) (MayBeWritten n bytes.now) }
+    ensures size { (D.state device.new).size ≡ (D.state device.old).size }
+    ensures honest { (D.state device.new).honest ≡ (D.state device.old).honest }
+    ensures reads { (D.state device.new).failed_reads ≡ (D.state device.old).failed_reads }
+    ensures writes { Counts result (D.state device.old).failed_writes (D.state device.new).failed_writes }
+    ensures fault { IfErr result (λ e. e ≡ Failing) }
+{
+    device.write(n, bytes)
+}
+
+/// Makes sure of all that the view shows.
+pub fn sync_all<D: Device>(device: &mut D) -> Result<(), DeviceFault>
+    ensures shows { IsTrue (D.state device.old).honest → OnOk result ((D.state device.new).disk.view ≡ (D.state device.old).disk.view) }
+    ensures sure { IsTrue (D.state device.old).honest → OnOk result (AllAre (stops_of D.moment D.left_since device.new) (D.state device.new).disk.view) }
+    ensures stop { IsTrue (D.state device.old).honest → IsQuiet (stops_of D.moment D.left_since device.old) (stops_of D.moment D.left_since device.new) }
+    ensures size { (D.state device.new).size ≡ (D.state device.old).size }
+    ensures honest { (D.state device.new).honest ≡ (D.state device.old).honest }
+    ensures reads { (D.state device.new).failed_reads ≡ (D.state device.old).failed_reads }
+    ensures writes { Counts result (D.state device.old).failed_writes (D.state device.new).failed_writes }
+    ensures fault { IfErr result (λ e. e ≡ Failing) }
+{
+    device.sync()
+}
+
+/// Writes the eight sectors of a page.
+pub fn write_page<D: Device>(
+    device: &mut D,
+    page: u32,
+    bytes: &[u8; 4096],
+) -> Result<(), DeviceFault>
+    requires { 8 * page + 8 ≤ (D.state device.old).size }
+    ensures shows { IsTrue (D.state device.old).honest → OnOk result (AreWritten (8 * page) 8 bytes.now (D.state device.old).disk.view (D.state device.new).disk.view) }
+    ensures page { IsTrue (D.state device.old).honest → OnOk result (page_of (D.state device.new).disk.view page ≡ bytes.now) }
+    ensures stop { IsTrue (D.state device.old).honest → Makes (stops_of D.moment D.left_since device.old) (stops_of D.moment D.left_since device.new) (MayBeAllWritten (8 * page) 8 bytes.now) }
+    ensures size { (D.state device.new).size ≡ (D.state device.old).size }
+    ensures honest { (D.state device.new).honest ≡ (D.state device.old).honest }
+    ensures reads { (D.state device.new).failed_reads ≡ (D.state device.old).failed_reads }
+    ensures writes { Counts result (D.state device.old).failed_writes (D.state device.new).failed_writes }
+    ensures fault { IfErr result (λ e. e ≡ Failing) }
+{
+    let first = 8 * page as u64;
+    for k in 0..8 {
+        let sector = chunk_of(bytes, k);
+        write_sector(device, first + k as u64, &sector)?;
+    }
+    Ok(())
+}
+
+/// Writes a slot's page, and makes sure of it.
+pub fn switch_root<D: Device>(
+    device: &mut D,
+    number: u32,
+    bytes: &[u8; 4096],
+) -> Result<(), DeviceFault>
+    requires { 8 * number + 8 ≤ (D.state device.old).size }
+    ensures done { IsTrue (D.state device.old).honest → (slot : Slot) → slot.number ≡ number → IsSlotPage (D.state device.old).size slot bytes.now →
+        OnOk result (IsSwitched slot (D.state device.old).disk.view (D.state device.new).disk.view × AllAre (stops_of D.moment D.left_since device.new) (D.state device.new).disk.view) }
+    ensures stop { IsTrue (D.state device.old).honest → (slot : Slot) → slot.number ≡ number → IsSlotPage (D.state device.old).size slot bytes.now →
+        AllAre (stops_of D.moment D.left_since device.old) (D.state device.old).disk.view → IsAbove slot.seal number (D.state device.old).disk.view →
+        LeavesOnly (stops_of D.moment D.left_since device.old) (stops_of D.moment D.left_since device.new) (IsSwitching slot (D.state device.old).disk.view) }
+    ensures size { (D.state device.new).size ≡ (D.state device.old).size }
+    ensures honest { (D.state device.new).honest ≡ (D.state device.old).honest }
+    ensures reads { (D.state device.new).failed_reads ≡ (D.state device.old).failed_reads }
+    ensures writes { Counts result (D.state device.old).failed_writes (D.state device.new).failed_writes }
+    ensures fault { IfErr result (λ e. e ≡ Failing) }
+{
+    write_page(device, number, bytes)?;
+    sync_all(device)
+}

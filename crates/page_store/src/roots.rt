@@ -1,0 +1,156 @@
+// Which root slots are valid, and which is current.
+ghost use Rattle.std.specs.Prelude.{◌⊎◌, IfSome, ◌≡◌, ◌+◌, ◌*◌, ◌<◌, ◌≤◌, ℕ, IsTrue, OnOk, IfOk, IfErr, length, drop, ◌++◌};
+ghost use Rattle.sector_device.specs.declared.device.DeviceFault.TheVariants.{Device as Failing};
+ghost use Rattle.sector_device.specs.Device.{Counts};
+ghost use Rattle.host_types.specs.Stops.{IsQuiet};
+ghost use Rattle.page_store.specs.Sectors.{sector};
+ghost use Rattle.page_store.specs.Roots.{FitsDevice, shared_seal, record_from, slot_in, newer, current, greater, seal_or_zero, greatest_seal};
+ghost use Rattle.page_store.specs.Steps.{stops_of};
+
+use crate::pages::read_sector;
+use crate::reading::{root_at, seal_at};
+use crate::{Root, Slot};
+use arrayvec::ArrayVec;
+use sector_device::{Device, DeviceFault};
+
+/// The root slots of an image as they were found.
+#[derive(Debug, Drop)]
+pub struct Roots {
+    /// The valid slot with the greater seal; of two equal seals, slot 0.
+    pub current: Option<Slot>,
+    /// The greatest seal in root sectors that bear magic word and number, whether their slot is valid or not; 0 where there is none.
+    pub greatest: u64,
+}
+
+/// The seal that the sectors of a slot share.
+fn shared_seal(sectors: &[[u8; 512]; 16], slot: usize) -> Option<u64>
+    requires { slot < 2 }
+    ensures { result ≡ shared_seal sectors.now (8 * slot) 8 }
+{
+    let first = 8 * slot;
+    let seal = seal_at(first as u64, &sectors[first])?;
+    for k in 1..8 {
+        if seal_at((first + k) as u64, &sectors[first + k]) != Some(seal) {
+            return None;
+        }
+    }
+    Some(seal)
+}
+
+/// Adds what a sector has of the record.
+fn push_part(out: &mut ArrayVec<u8, 3904>, sector: &[u8; 512])
+    requires { length out.old.items + 488 ≤ 3904 }
+    ensures items { out.new.items ≡ out.old.items ++ drop 24 sector.now }
+    ensures length { length out.new.items ≡ length out.old.items + 488 }
+{
+    let (_, part) = sector.split_at(24);
+    if out.try_extend_from_slice(part).is_err() {
+        unreachable!();
+    }
+}
+
+/// The record of a slot.
+fn record_of(sectors: &[[u8; 512]; 16], slot: usize) -> ArrayVec<u8, 3904>
+    requires { slot < 2 }
+    ensures { result.items ≡ record_from sectors.now (8 * slot) 8 }
+{
+    let mut record = ArrayVec::new();
+    for k in 0..8 {
+        push_part(&mut record, &sectors[8 * slot + k]);
+    }
+    record
+}
+
+/// A slot on a device of so many sectors, where it is valid.
+#[tactic(auto, unfolding(crate::specs::Roots::slot_in))]
+fn slot_in(total: u64, sectors: &[[u8; 512]; 16], slot: usize) -> Option<Slot>
+    requires { slot < 2 }
+    ensures slot { result ≡ slot_in total sectors.now slot }
+    ensures fits { IfSome result (λ found. (found.number ≡ slot) × FitsDevice total found.root) }
+{
+    let seal = shared_seal(sectors, slot)?;
+    let root = root_at(total, record_of(sectors, slot).as_slice())?;
+    Some(Slot {
+        number: slot as u32,
+        seal,
+        root,
+    })
+}
+
+/// The one with the greater seal, or else the first.
+fn newer(a: Option<Slot>, b: Option<Slot>) -> Option<Slot>
+    ensures newer { result ≡ newer a b }
+    ensures one { (result ≡ a) ⊎ (result ≡ b) }
+{
+    match (a, b) {
+        (None, b) => b,
+        (a, None) => a,
+        (Some(a), Some(b)) => { if a.seal < b.seal { Some(b) } else { Some(a) } }
+    }
+}
+
+/// The current slot on a device of so many sectors.
+fn current_of(total: u64, sectors: &[[u8; 512]; 16]) -> Option<Slot>
+    ensures current { result ≡ newer (slot_in total sectors.now 0) (slot_in total sectors.now 1) }
+    ensures fits { IfSome result (λ slot. (slot.number < 2) × FitsDevice total slot.root) }
+{
+    newer(slot_in(total, sectors, 0), slot_in(total, sectors, 1))
+}
+
+/// The greatest seal in the sectors of both slots, or 0.
+#[tactic(auto, unfolding(crate::specs::Roots::greatest_seal))]
+fn greatest_seal(sectors: &[[u8; 512]; 16]) -> u64
+    ensures { result ≡ greatest_seal sectors.now 16 }
+{
+    let mut greatest = 0;
+    for n in 0..16 {
+        let seal = seal_at(n as u64, &sectors[n]).unwrap_or(0);
+        if greatest < seal {
+            greatest = seal;
+        }
+    }
+    greatest
+}
+
+/// Reads the sectors of both slots.
+fn read_slots<D: Device>(device: &mut D, sectors: &mut [[u8; 512]; 16]) -> Result<(), DeviceFault>
+    requires { 16 ≤ (D.state device.old).size }
+    ensures shows { IsTrue (D.state device.old).honest → OnOk result ((n : ℕ) → n < 16 → sector (D.state device.old).disk.view n ≡ sector sectors.new n) }
+    ensures disk { IsTrue (D.state device.old).honest → (D.state device.new).disk ≡ (D.state device.old).disk }
+    ensures stop { IsTrue (D.state device.old).honest → IsQuiet (stops_of D.moment D.left_since device.old) (stops_of D.moment D.left_since device.new) }
+    ensures size { (D.state device.new).size ≡ (D.state device.old).size }
+    ensures honest { (D.state device.new).honest ≡ (D.state device.old).honest }
+    ensures reads { Counts result (D.state device.old).failed_reads (D.state device.new).failed_reads }
+    ensures writes { (D.state device.new).failed_writes ≡ (D.state device.old).failed_writes }
+    ensures fault { IfErr result (λ e. e ≡ Failing) }
+{
+    let mut sector = [0; 512];
+    for n in 0..16 {
+        read_sector(device, n as u64, &mut sector)?;
+        sectors[n] = sector;
+    }
+    Ok(())
+}
+
+/// Reads the root slots: which of them is current, and the greatest seal that stands in either. It takes no memory.
+pub fn open_roots<D: Device>(device: &mut D) -> Result<Roots, DeviceFault>
+    requires { 16 ≤ (D.state device.old).size }
+    ensures current { IsTrue (D.state device.old).honest → IfOk result (λ roots. roots.current ≡ current (D.state device.old).disk.view) }
+    ensures greatest { IsTrue (D.state device.old).honest → IfOk result (λ roots. roots.greatest ≡ greatest_seal (D.state device.old).disk.view 16) }
+    ensures fits { IfOk result (λ roots. IfSome roots.current (λ slot. (slot.number < 2) × FitsDevice (D.state device.old).size slot.root)) }
+    ensures disk { IsTrue (D.state device.old).honest → (D.state device.new).disk ≡ (D.state device.old).disk }
+    ensures stop { IsTrue (D.state device.old).honest → IsQuiet (stops_of D.moment D.left_since device.old) (stops_of D.moment D.left_since device.new) }
+    ensures size { (D.state device.new).size ≡ (D.state device.old).size }
+    ensures honest { (D.state device.new).honest ≡ (D.state device.old).honest }
+    ensures reads { Counts result (D.state device.old).failed_reads (D.state device.new).failed_reads }
+    ensures writes { (D.state device.new).failed_writes ≡ (D.state device.old).failed_writes }
+    ensures fault { IfErr result (λ e. e ≡ Failing) }
+{
+    let mut sectors = [[0; 512]; 16];
+    read_slots(device, &mut sectors)?;
+    let total = device.sectors();
+    Ok(Roots {
+        current: current_of(total, &sectors),
+        greatest: greatest_seal(&sectors),
+    })
+}

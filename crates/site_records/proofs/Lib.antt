@@ -1,0 +1,11 @@
+pub mod ChunkLaws
+pub mod EntryLaws
+pub mod Fillers
+pub mod Formats
+pub mod Lengths
+pub mod Loops
+pub mod Named
+pub mod QuestionLaws
+pub mod RecordLaws
+pub mod Sizes
+pub mod Tells

@@ -1,0 +1,5 @@
+use Rattle.site_records.proofs.Tells.{layout_tells}
+use Rattle.site_records.proofs.laws.layout_tells.Goals as goal
+
+pub returns : goal.returns
+returns c = layout_tells

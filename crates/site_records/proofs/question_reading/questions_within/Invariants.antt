@@ -1,0 +1,7 @@
+use Rattle.std.proofs.Common.{◌≡◌, ◌-◌}
+use Rattle.site_records.specs.Field.{until_end, with_all}
+use Rattle.site_records.specs.Reading.{question_at}
+use Rattle.site_records.proofs.question_reading.questions_within.Given as goal
+
+abbrev pub invariant-loop : goal.invariant-loop
+invariant-loop l = with_all l.questions (until_end question_at (l.most - l.counter) l.rest) ≡ until_end question_at l.most l.bytes

@@ -1,0 +1,112 @@
+-- The layout of a site: the pairs of keys and values that stand for it. docs/IMAGE.md, 'Layout of a site'.
+use Rattle.std.specs.Prelude.{ℕ, zero, suc, ◌+◌, ◌*◌, ◌/◌, Bool, false, List, [], ◌∷◌, ◌++◌, length, map, flat_map, nat_lt, slice_get, if◌then◌else◌, Option, Some, None, Result, Ok, Err, option_to_list}
+use Rattle.std.specs.Map.{lookup}
+use Rattle.std.specs.BTreeMap.{insert_entry, is_at}
+use Rattle.host_types.specs.Site.{Site, byte_cmp, item_at, board_at, post_selector}
+use Rattle.host_types.specs.Change.{apply, oldest_post}
+use Rattle.host_types.specs.declared.refused.Refused.{Refused}
+use Rattle.host_types.specs.Card.{chunk_of}
+use Rattle.host_types.specs.Words.{words_of, is_among}
+use Rattle.site_records.specs.Keys.{item_key, chunk_key, word_key}
+use Rattle.site_records.specs.Records.{item_bytes, parts_of}
+use Rattle.host_types.specs.declared.item.Item.{Item}
+use Rattle.host_types.specs.declared.change.Change.{Change}
+use Rattle.host_types.specs.declared.change.Change.TheVariants as changes
+
+-- a key and its value
+abbrev pub Pair : Type 0
+Pair = List ℕ × List ℕ
+
+abbrev pub Pairs : Type 0
+Pairs = List Pair
+
+-- how many chunks of 1,000 bytes so many bytes have; none have none
+unfoldable pub chunk_count : ℕ → ℕ
+chunk_count n = (n + 999) / 1000
+
+-- so many chunks of a part, from number k on
+abbrev pub chunk_pairs : List ℕ → ℕ → List ℕ → ℕ → ℕ → Pairs
+chunk_pairs selector v part zero k = []
+chunk_pairs selector v part (suc n) k = (chunk_key selector v k, chunk_of part k) ∷ chunk_pairs selector v part n (k + 1)
+
+-- the chunks of the parts, from part v on
+abbrev pub part_pairs : List ℕ → ℕ → List (List ℕ) → Pairs
+part_pairs selector v [] = []
+part_pairs selector v (part ∷ parts) = chunk_pairs selector v part (chunk_count (length part)) 0 ++ part_pairs selector (v + 1) parts
+
+-- the item's words have no value: their keys say all
+abbrev pub word_pairs : List ℕ → List (List ℕ) → Pairs
+word_pairs selector words = map (λ w. (word_key w selector, [])) words
+
+-- the pairs of one item
+unfoldable pub item_pairs : List ℕ → Item → Pairs
+item_pairs selector item = (item_key selector, item_bytes item) ∷ part_pairs selector 0 (parts_of item.body) ++ word_pairs selector (words_of item)
+
+-- some pairs in the order of their keys. At a key that stands twice the first counts
+abbrev pub in_order : Pairs → Pairs
+in_order [] = []
+in_order (p ∷ ps) = insert_entry byte_cmp (in_order ps) p.0 p.1
+
+-- the pairs of all items, one item after the other
+abbrev pub all_pairs : Site → Pairs
+all_pairs s = flat_map (λ e. item_pairs e.0 e.1) s.items
+
+-- the layout: the union, in byte order
+unfoldable pub layout : Site → Pairs
+layout s = in_order (all_pairs s)
+
+-- what stands at a key
+abbrev pub value_at : Pairs → List ℕ → Option (List ℕ)
+value_at pairs key = lookup (is_at (byte_cmp key)) pairs
+
+-- what stands at a key of what stands at a selector
+abbrev pub value_in : List ℕ → Option Item → List ℕ → Option (List ℕ)
+value_in selector None key = None
+value_in selector (Some item) key = value_at (item_pairs selector item) key
+
+-- a chunk of a part, where there is one
+abbrev pub chunk_in : Option (List ℕ) → ℕ → Option (List ℕ)
+chunk_in None k = None
+chunk_in (Some part) k = if nat_lt (1000 * k) (length part) then Some (chunk_of part k) else None
+
+-- chunk k of part v of what stands at a selector
+abbrev pub kept_chunk : Option Item → ℕ → ℕ → Option (List ℕ)
+kept_chunk None v k = None
+kept_chunk (Some item) v k = chunk_in (slice_get (parts_of item.body) v) k
+
+abbrev pub has_word : Option Item → List ℕ → Bool
+has_word None word = false
+has_word (Some item) word = is_among (words_of item) word
+
+-- ---- what a change touches
+
+abbrev pub keys_at : Option Item → List ℕ → List (List ℕ)
+keys_at None selector = []
+keys_at (Some item) selector = map (λ p. p.0) (item_pairs selector item)
+
+-- the keys of what stands at these selectors
+abbrev pub keys_in : Site → List (List ℕ) → List (List ℕ)
+keys_in s [] = []
+keys_in s (selector ∷ selectors) = keys_at (item_at s selector) selector ++ keys_in s selectors
+
+-- the selectors of a board's post n: the board, the post, and the post that it pushes out
+abbrev pub touched_by_post : List ℕ → Option (ℕ × ℕ) → List (List ℕ)
+touched_by_post board None = []
+touched_by_post board (Some b) = board ∷ post_selector board b.1 ∷ option_to_list (oldest_post board b.0 b.1)
+
+-- the selectors at which a change changes something
+abbrev pub touched : Site → Change → List (List ℕ)
+touched s (changes.Put selector item) = selector ∷ []
+touched s (changes.Remove selector) = selector ∷ []
+touched s (changes.Move from to) = from ∷ to ∷ []
+touched s (changes.SetHost host port) = []
+touched s (changes.SetAdmin admin) = []
+touched s (changes.Post board title text) = touched_by_post board (board_at s board)
+
+abbrev pub keys_after : Result Site Refused → List (List ℕ) → List (List ℕ)
+keys_after (Ok t) selectors = keys_in t selectors
+keys_after (Err e) selectors = []
+
+-- all keys of the layouts of the items that a change changes, before and after; a key may stand twice
+unfoldable pub keys_of : Site → Change → ℕ → List (List ℕ)
+keys_of s change now = keys_in s (touched s change) ++ keys_after (apply s change now) (touched s change)

@@ -1,0 +1,9 @@
+pub mod Keys
+pub mod Records
+pub mod Field
+pub mod Limits
+pub mod Reading
+pub mod Layout
+pub mod LayoutLaws
+pub mod Laws
+pub mod Examples

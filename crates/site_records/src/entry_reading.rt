@@ -1,0 +1,105 @@
+// Reading the entries of a menu.
+ghost use Rattle.std.specs.Prelude.{◌≡◌, ◌++◌, IfOk, IsTrue, List, Some};
+ghost use Rattle.host_types.specs.declared.menu.Entry.{Entry};
+ghost use Rattle.site_records.specs.Records.{entries_bytes};
+ghost use Rattle.site_records.specs.Limits.{are_entries};
+ghost use Rattle.site_records.specs.Field.{until_end};
+ghost use Rattle.site_records.specs.Reading.{Gives, entry_behind, entry_at, entries_at, remote_entry};
+
+use crate::RecordFault;
+use crate::fields::{byte_of, host_of, link_of, port_of, selector_of, title_of};
+use crate::letters::link_kind;
+use host_types::{Entry, EntryList};
+use std::alloc::Global;
+
+/// The most entries of a menu.
+const MOST_ENTRIES: usize = 100;
+
+#[tactic(auto, unfolding(crate::specs::Field::both, crate::specs::Field::mapped))]
+fn remote_of(bytes: &[u8]) -> Result<(Entry, &[u8]), RecordFault>
+    ensures { Gives (λ x. (x.0, x.1.now)) result (remote_entry bytes.now) }
+{
+    let (kind, rest) = link_kind(bytes)?;
+    let (title, rest) = title_of(rest)?;
+    let (selector, rest) = selector_of(rest)?;
+    let (host, rest) = host_of(rest)?;
+    let (port, rest) = port_of(rest)?;
+    let entry = Entry::Remote {
+        kind,
+        title,
+        selector,
+        host,
+        port,
+    };
+    Ok((entry, rest))
+}
+
+/// What stands behind a tag.
+#[tactic(auto, unfolding(crate::specs::Reading::entry_behind, crate::specs::Field::both, crate::specs::Field::mapped))]
+fn entry_behind(tag: u8, bytes: &[u8]) -> Result<(Entry, &[u8]), RecordFault>
+    ensures { Gives (λ x. (x.0, x.1.now)) result (entry_behind tag bytes.now) }
+{
+    match tag {
+        b'L' => {
+            let (selector, rest) = selector_of(bytes)?;
+            Ok((Entry::Local(selector), rest))
+        }
+        b'i' => {
+            let (title, rest) = title_of(bytes)?;
+            Ok((Entry::Info(title), rest))
+        }
+        b'h' => {
+            let (title, rest) = title_of(bytes)?;
+            let (url, rest) = link_of(rest)?;
+            Ok((Entry::Url { title, url }, rest))
+        }
+        b'R' => remote_of(bytes),
+        _ => Err(RecordFault::BadRecord),
+    }
+}
+
+#[tactic(auto, unfolding(crate::specs::Reading::entry_at))]
+fn entry_of(bytes: &[u8]) -> Result<(Entry, &[u8]), RecordFault>
+    ensures { Gives (λ x. (x.0, x.1.now)) result (entry_at bytes.now) }
+{
+    let (tag, rest) = byte_of(bytes)?;
+    entry_behind(tag, rest)
+}
+
+/// Entries to the end of the bytes, at most so many.
+fn entries_within(alloc: Global, most: usize, bytes: &[u8]) -> Result<EntryList, RecordFault>
+    ensures { Gives (λ x. x) result (until_end entry_at most bytes.now) }
+{
+    let mut entries = EntryList::new(alloc);
+    let mut rest = bytes;
+    for _ in 0..most {
+        if rest.is_empty() {
+            return Ok(entries);
+        }
+        let (entry, behind) = entry_of(rest)?;
+        entries.push(entry)?;
+        rest = behind;
+    }
+    if rest.is_empty() {
+        Ok(entries)
+    } else {
+        Err(RecordFault::BadRecord)
+    }
+}
+
+#[tactic(auto, unfolding(crate::specs::Reading::entries_at))]
+fn all_entries(alloc: Global, bytes: &[u8]) -> Result<EntryList, RecordFault>
+    ensures { Gives (λ x. x) result (entries_at bytes.now) }
+{
+    entries_within(alloc, MOST_ENTRIES, bytes)
+}
+
+/// The entries of a menu whose part has these bytes, all of them: `BadRecord` where no menu that keeps the limits has such a part.
+pub fn read_entries(alloc: Global, bytes: &[u8]) -> Result<EntryList, RecordFault>
+    // What is read is a menu's, written so.
+    ensures found { IfOk result (λ entries. IsTrue (are_entries entries) × (bytes.now ≡ entries_bytes entries)) }
+    // What is written so is read, unless memory runs out.
+    ensures only { (entries : List Entry) → IsTrue (are_entries entries) → bytes.now ≡ entries_bytes entries → Gives (λ x. x) result (Some entries) }
+{
+    all_entries(alloc, bytes)
+}

@@ -1,0 +1,150 @@
+// Reading what a record says of views.
+ghost use Rattle.std.specs.Prelude.{◌≡◌, ◌+◌, ℕ, not, nat_lt, nat_le, sum_by};
+ghost use Rattle.std.specs.List.{list_any};
+ghost use Rattle.host_types.specs.Items.{most_view_bytes};
+ghost use Rattle.site_records.specs.Limits as limits;
+ghost use Rattle.site_records.specs.Limits.{is_same_face, is_view_count, all_lengths};
+ghost use Rattle.site_records.specs.Field.{byte, passing, listed, times};
+ghost use Rattle.site_records.specs.Reading.{Gives, name_at, language_at, view_at, views_at};
+
+use crate::RecordFault;
+use crate::fields::{are_visible, byte_of, short_of, u32_of};
+use host_types::{Bytes, CardView, CardViewList, MOST_VIEW_BYTES};
+use std::alloc::Global;
+
+/// The name of a view: 1 to 40 bytes of 33 to 126.
+#[tactic(auto, unfolding(crate::specs::Field::passing))]
+fn name_of(alloc: Global, bytes: &[u8]) -> Result<(Bytes, &[u8]), RecordFault>
+    ensures { Gives (λ x. (x.0, x.1.now)) result (name_at bytes.now) }
+{
+    let (text, rest) = short_of(bytes)?;
+    if text.len() > 40 || text.is_empty() || !are_visible(text) {
+        return Err(RecordFault::BadRecord);
+    }
+    Ok((Bytes::from_slice(alloc, text)?, rest))
+}
+
+/// The language of a view: at most 10 bytes of 33 to 126.
+#[tactic(auto, unfolding(crate::specs::Field::passing))]
+fn language_of(alloc: Global, bytes: &[u8]) -> Result<(Bytes, &[u8]), RecordFault>
+    ensures { Gives (λ x. (x.0, x.1.now)) result (language_at bytes.now) }
+{
+    let (text, rest) = short_of(bytes)?;
+    if text.len() > 10 || !are_visible(text) {
+        return Err(RecordFault::BadRecord);
+    }
+    Ok((Bytes::from_slice(alloc, text)?, rest))
+}
+
+#[tactic(auto, unfolding(crate::specs::Reading::view_at, crate::specs::Field::both, crate::specs::Field::mapped))]
+fn view_of(alloc: Global, bytes: &[u8]) -> Result<(CardView, &[u8]), RecordFault>
+    ensures { Gives (λ x. (x.0, x.1.now)) result (view_at bytes.now) }
+{
+    let (name, rest) = name_of(alloc, bytes)?;
+    let (language, rest) = language_of(alloc, rest)?;
+    let (length, rest) = u32_of(rest)?;
+    let view = CardView {
+        name,
+        language,
+        length,
+    };
+    Ok((view, rest))
+}
+
+#[tactic(auto, unfolding(crate::specs::Field::passing))]
+fn view_count(bytes: &[u8]) -> Result<(u8, &[u8]), RecordFault>
+    ensures { Gives (λ x. (x.0, x.1.now)) result (passing is_view_count byte bytes.now) }
+{
+    let (count, rest) = byte_of(bytes)?;
+    if count < 1 || count > 8 {
+        return Err(RecordFault::BadRecord);
+    }
+    Ok((count, rest))
+}
+
+/// So many views.
+fn views_by(alloc: Global, count: u8, bytes: &[u8]) -> Result<(CardViewList, &[u8]), RecordFault>
+    ensures { Gives (λ x. (x.0, x.1.now)) result (times view_at count bytes.now) }
+{
+    let mut views = CardViewList::new(alloc);
+    let mut rest = bytes;
+    for _ in 0..count {
+        let (view, behind) = view_of(alloc, rest)?;
+        views.push(view)?;
+        rest = behind;
+    }
+    Ok((views, rest))
+}
+
+#[tactic(auto, unfolding(crate::specs::Field::listed))]
+fn listed_views(alloc: Global, bytes: &[u8]) -> Result<(CardViewList, &[u8]), RecordFault>
+    ensures { Gives (λ x. (x.0, x.1.now)) result (listed (passing is_view_count byte) view_at bytes.now) }
+{
+    let (count, rest) = view_count(bytes)?;
+    views_by(alloc, count, rest)
+}
+
+fn is_same_face(view: &CardView, other: &CardView) -> bool
+    ensures { result ≡ is_same_face view.now other.now }
+{
+    view.name == other.name && view.language == other.language
+}
+
+fn has_same(view: &CardView, views: &[CardView]) -> bool
+    ensures { result ≡ list_any (is_same_face view.now) views.now }
+{
+    for other in views {
+        if is_same_face(view, other) {
+            return true;
+        }
+    }
+    false
+}
+
+fn have_twins(views: &[CardView]) -> bool
+    ensures { result ≡ limits.have_twins views.now }
+{
+    let mut rest = views;
+    while let [view, others @ ..] = rest {
+        if has_same(view, others) {
+            return true;
+        }
+        rest = others;
+    }
+    false
+}
+
+/// Whether the views have more bytes together than they may.
+#[tactic(auto, unfolding(host_types::specs::Items::most_view_bytes))]
+fn are_large(views: &[CardView]) -> bool
+    ensures { result ≡ nat_lt most_view_bytes (all_lengths views.now) }
+{
+    let mut room = MOST_VIEW_BYTES;
+    for view in views {
+        let length = view.length as usize;
+        if length > room {
+            return true;
+        }
+        room -= length;
+    }
+    false
+}
+
+#[tactic(auto, unfolding(crate::specs::Limits::go_together))]
+fn go_together(views: &[CardView]) -> bool
+    ensures { result ≡ limits.go_together views.now }
+{
+    !have_twins(views) && !are_large(views)
+}
+
+/// The views of a document: 1 to 8, of different faces and not too long together.
+#[tactic(auto, unfolding(crate::specs::Reading::views_at, crate::specs::Field::passing))]
+pub fn views_of(alloc: Global, bytes: &[u8]) -> Result<(CardViewList, &[u8]), RecordFault>
+    ensures { Gives (λ x. (x.0, x.1.now)) result (views_at bytes.now) }
+{
+    let (views, rest) = listed_views(alloc, bytes)?;
+    if !go_together(views.as_slice()) {
+        return Err(RecordFault::BadRecord);
+    }
+    Ok((views, rest))
+}
