@@ -12,3 +12,4 @@ pub mod Hub
 pub mod Rooms
 pub mod Laws
 pub mod Stopped
+pub mod Examples

@@ -24,5 +24,5 @@ pub use answer::{Drawn, Heard};
 pub use event::{Event, Outcome};
 pub use fault::HubFault;
 pub use hub::{Hub, MOST_SESSIONS};
-pub use laws::continues;
+pub use laws::{continues, worked_examples};
 pub use outcome_list::OutcomeList;
