@@ -125,10 +125,11 @@ impl Item {
     pub fn moved(&self, alloc: Global, to: &Selector, now: Stamp) -> Result<Item, AllocError>
         ensures { IfOk result (λ item. item ≡ moved_item self.now to.now now) }
     {
+        let no_summary = Bytes::new(alloc);
         Ok(Item {
             title: self.title.clone()?,
             stamp: now,
-            summary: Bytes::new(alloc),
+            summary: no_summary,
             body: Body::Moved {
                 target: to.clone()?,
             },

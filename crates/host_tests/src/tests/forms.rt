@@ -73,25 +73,38 @@ fn asked_to_the_end<S: SearchKeeper>(
     drawn(alloc, hub, id, 7)
 }
 
+/// Two posts to the board.
+fn two_posts(alloc: Global) -> Result<Vec<Change>, Fail> {
+    let mut changes = Vec::new(alloc);
+    for _ in 0..2 {
+        changes.push(Change::Post {
+            board: Selector::new(b"/book")?,
+            title: Title::new(b"Ann")?,
+            text: Bytes::from_slice(alloc, b"Hi\n")?,
+        })?;
+    }
+    Ok(changes)
+}
+
 /// The reply to such a post, and the first row whose reply is another one.
 fn posted_at_the_end<S: SearchKeeper>(
     alloc: Global,
     hub: &mut Hub<S>,
 ) -> Result<(Vec<u8>, Option<(usize, Vec<u8>)>), Fail> {
     let reply = asked_to_the_end(alloc, hub, b"/sign\t+\t1\r\n+-2\r\nBob\r\n0\r\n")?;
-    let rows = [row(b"post//book/1\r\n", b"Your name: Bob\r\nMessage:\r\n.\r\n")];
+    let rows = [row(b"post//book/3\r\n", b"Your name: Bob\r\nMessage:\r\n.\r\n")];
     Ok((reply, first_other(alloc, hub, &rows)?))
 }
 
 #[test]
 fn data_to_the_end_of_input(rt: HostRuntime) -> Result<(), Fail> {
-    let mut hub = hub_of(rt.alloc(), Vec::new(rt.alloc()))?;
+    let mut hub = hub_of(rt.alloc(), two_posts(rt.alloc())?)?;
     let ended = posted_at_the_end(rt.alloc(), &mut hub);
     let _ = hub.close();
     let (reply, other) = ended?;
     assert_eq!(rt;
         reply.as_slice(),
-        b"+-1\r\n0Bob\tpost//book/1\tlocalhost\t7070\t+\r\n.\r\n".as_slice()
+        b"+-1\r\n0Bob\tpost//book/3\tlocalhost\t7070\t+\r\n.\r\n".as_slice()
     );
     assert_eq!(rt; other, None);
     Ok(())

@@ -1,13 +1,10 @@
 // What the tests put on a site, and how they ask for it.
-ghost use Rattle.std.specs.Prelude.{◌<◌};
-
-use super::asked_at;
 use crate::trial::small_site;
 use host_types::{
     Body, Bytes, Change, ChoiceList, Entry, EntryList, Item, Kind, MemSite, Question, QuestionList,
     Refused, Selector, SiteFault, SiteKeeper, Stamp, Title, View, ViewList,
 };
-use session_core::Hub;
+use session_core::{Event, Hub, Outcome};
 use std::alloc::Global;
 use std::test::Fail;
 use word_index::SearchKeeper;
@@ -142,15 +139,48 @@ pub fn hub_of(alloc: Global, changes: Vec<Change>) -> Result<Hub<MemSite>, Fail>
     }
 }
 
-/// The first row of a table whose request has another reply, and that reply. Each request comes at once and is drawn at once.
+/// The reply to a request, as a run of events gives it: the request at once, a draw, and the session leaves.
+fn run_of<S: SearchKeeper>(
+    alloc: Global,
+    hub: &mut Hub<S>,
+    request: &[u8],
+) -> Result<Vec<u8>, Fail> {
+    let now = evening()?;
+    let id = hub.join().or(Err("join"))?;
+    let piece = Bytes::from_slice(alloc, request)?;
+    let room = 16_384;
+    let events = [
+        Event::Bytes { id, piece, now },
+        Event::Draw { id, room },
+        Event::Draw { id, room },
+        Event::Leave { id },
+    ];
+    let outcomes = hub.run(&events)?;
+    match outcomes.as_slice() {
+        [
+            Outcome::Ready,
+            Outcome::Drawn(bytes),
+            Outcome::Finished,
+            Outcome::Gone,
+        ] => { Ok(bytes.as_slice().to_vec(alloc)?) }
+        [
+            Outcome::Ready,
+            Outcome::Finished,
+            Outcome::Finished,
+            Outcome::Gone,
+        ] => { Ok(Vec::new(alloc)) }
+        _ => Err("run".into()),
+    }
+}
+
+/// The first row of a table whose request has another reply, and that reply.
 pub fn first_other<S: SearchKeeper>(
     alloc: Global,
     hub: &mut Hub<S>,
     rows: &[(&[u8], &[u8])],
 ) -> Result<Option<(usize, Vec<u8>)>, Fail> {
-    let now = evening()?;
     for (place, (request, reply)) in rows.iter().enumerate() {
-        let drawn = asked_at(alloc, hub, request, 4096, now)?;
+        let drawn = run_of(alloc, hub, request)?;
         if drawn.as_slice() != *reply {
             return Ok(Some((place, drawn)));
         }
