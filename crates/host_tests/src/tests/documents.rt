@@ -1,5 +1,5 @@
 // Views, bytes, and pages of links.
-use super::made::{document, first_other, hub_of, put, row, view};
+use super::made::{document, other_reply, put, row, view};
 use host_types::{Body, Change, Kind, ViewList};
 use std::alloc::Global;
 use std::test::Fail;
@@ -48,10 +48,7 @@ fn views_and_bytes(rt: HostRuntime) -> Result<(), Fail> {
             b"+-1\r\nHello\r\n..dot\r\nlast\r\n.\r\n",
         ),
     ];
-    let mut hub = hub_of(alloc, documents(alloc)?)?;
-    let other = first_other(alloc, &mut hub, &rows);
-    let _ = hub.close();
-    assert_eq!(rt; other?, None);
+    assert_eq!(rt; other_reply(alloc, &documents(alloc)?, &rows)?, None);
     Ok(())
 }
 
@@ -81,9 +78,6 @@ fn links_out_of_gopherspace(rt: HostRuntime) -> Result<(), Fail> {
             b"--1\r\n1 Item not found\r\n.\r\n",
         ),
     ];
-    let mut hub = hub_of(alloc, Vec::new(alloc))?;
-    let other = first_other(alloc, &mut hub, &rows);
-    let _ = hub.close();
-    assert_eq!(rt; other?, None);
+    assert_eq!(rt; other_reply(alloc, &[], &rows)?, None);
     Ok(())
 }

@@ -1,7 +1,8 @@
 // Forms, and the posts that their answers make.
 use super::drawn;
 use super::made::{
-    choices, evening, fill_board, first_other, form, hub_of, put, questions, refusal, row,
+    choices, evening, fill_board, first_other, form, hub_of, other_reply, put, questions, refusal,
+    row,
 };
 use crate::trial::small_site;
 use host_types::{
@@ -52,10 +53,7 @@ fn posts_are_read_back(rt: HostRuntime) -> Result<(), Fail> {
             b"3Item not found\t\terror.host\t1\r\n.\r\n",
         ),
     ];
-    let mut hub = hub_of(alloc, Vec::new(alloc))?;
-    let other = first_other(alloc, &mut hub, &rows);
-    let _ = hub.close();
-    assert_eq!(rt; other?, None);
+    assert_eq!(rt; other_reply(alloc, &[], &rows)?, None);
     Ok(())
 }
 
@@ -98,7 +96,7 @@ fn posted_at_the_end<S: SearchKeeper>(
 
 #[test]
 fn data_to_the_end_of_input(rt: HostRuntime) -> Result<(), Fail> {
-    let mut hub = hub_of(rt.alloc(), two_posts(rt.alloc())?)?;
+    let mut hub = hub_of(rt.alloc(), &two_posts(rt.alloc())?)?;
     let ended = posted_at_the_end(rt.alloc(), &mut hub);
     let _ = hub.close();
     let (reply, other) = ended?;
@@ -136,10 +134,7 @@ fn answers_that_do_not_fit(rt: HostRuntime) -> Result<(), Fail> {
             b"+-1\r\n+INFO: 1Sign\t/sign\tlocalhost\t7070\t?\r\n+ASK:\r\n Ask: Your name\r\n AskL: Message\r\n.\r\n",
         ),
     ];
-    let mut hub = hub_of(alloc, Vec::new(alloc))?;
-    let other = first_other(alloc, &mut hub, &rows);
-    let _ = hub.close();
-    assert_eq!(rt; other?, None);
+    assert_eq!(rt; other_reply(alloc, &[], &rows)?, None);
     Ok(())
 }
 
@@ -220,10 +215,7 @@ fn choices_and_words(rt: HostRuntime) -> Result<(), Fail> {
             b"--1\r\n1 Board not found\r\n.\r\n",
         ),
     ];
-    let mut hub = hub_of(alloc, more_forms(alloc)?)?;
-    let other = first_other(alloc, &mut hub, &rows);
-    let _ = hub.close();
-    assert_eq!(rt; other?, None);
+    assert_eq!(rt; other_reply(alloc, &more_forms(alloc)?, &rows)?, None);
     Ok(())
 }
 
@@ -253,10 +245,7 @@ fn a_post_as_clients_send_it(rt: HostRuntime) -> Result<(), Fail> {
             b"Your name: alice\r\nMessage:\r\nhello\r\n..second line\r\n\r\n\r\npw\r\n\r\nMood: good\r\n.\r\n",
         ),
     ];
-    let mut hub = hub_of(alloc, guest_book(alloc)?)?;
-    let other = first_other(alloc, &mut hub, &rows);
-    let _ = hub.close();
-    assert_eq!(rt; other?, None);
+    assert_eq!(rt; other_reply(alloc, &guest_book(alloc)?, &rows)?, None);
     Ok(())
 }
 

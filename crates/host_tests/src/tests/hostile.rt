@@ -1,6 +1,6 @@
 // Requests of those who mean no good, and sessions by turns of one byte.
 use super::drawn;
-use super::made::{evening, first_other, hub_of, row};
+use super::made::{evening, first_other, hub_of, other_reply, row};
 use session_core::{Heard, Hub};
 use std::alloc::Global;
 use std::test::Fail;
@@ -29,10 +29,7 @@ fn no_requests(rt: HostRuntime) -> Result<(), Fail> {
             b"--1\r\n1 Answers do not fit the form\r\n.\r\n",
         ),
     ];
-    let mut hub = hub_of(alloc, Vec::new(alloc))?;
-    let other = first_other(alloc, &mut hub, &rows);
-    let _ = hub.close();
-    assert_eq!(rt; other?, None);
+    assert_eq!(rt; other_reply(alloc, &[], &rows)?, None);
     Ok(())
 }
 
@@ -65,7 +62,7 @@ fn long_data<S: SearchKeeper>(
 
 #[test]
 fn many_line_feeds(rt: HostRuntime) -> Result<(), Fail> {
-    let mut hub = hub_of(rt.alloc(), Vec::new(rt.alloc()))?;
+    let mut hub = hub_of(rt.alloc(), &[])?;
     let ended = long_data(rt.alloc(), &mut hub);
     let _ = hub.close();
     let (open, other) = ended?;
@@ -124,7 +121,7 @@ fn turns_and_rows<S: SearchKeeper>(
 
 #[test]
 fn sessions_by_turns(rt: HostRuntime) -> Result<(), Fail> {
-    let mut hub = hub_of(rt.alloc(), Vec::new(rt.alloc()))?;
+    let mut hub = hub_of(rt.alloc(), &[])?;
     let ended = turns_and_rows(rt.alloc(), &mut hub);
     let _ = hub.close();
     let (sizes, other) = ended?;

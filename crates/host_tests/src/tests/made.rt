@@ -126,12 +126,12 @@ pub fn fill_board<S: SiteKeeper>(alloc: Global, site: &mut S, cap: u16) -> Resul
 }
 
 /// A hub over the sample site in memory, with some changes more.
-pub fn hub_of(alloc: Global, changes: Vec<Change>) -> Result<Hub<MemSite>, Fail> {
+pub fn hub_of(alloc: Global, changes: &[Change]) -> Result<Hub<MemSite>, Fail> {
     let mut site = small_site(alloc).or(Err("site"))?;
     fill_board(alloc, &mut site, 100)?;
     let now = evening()?;
     for change in changes {
-        site.change(change, now)?;
+        site.change(change.clone()?, now)?;
     }
     match Hub::new(alloc, site, 1) {
         Ok(hub) => Ok(hub),
@@ -186,4 +186,16 @@ pub fn first_other<S: SearchKeeper>(
         }
     }
     Ok(None)
+}
+
+/// The same of the sample site with some changes more, kept in memory.
+pub fn other_reply(
+    alloc: Global,
+    changes: &[Change],
+    rows: &[(&[u8], &[u8])],
+) -> Result<Option<(usize, Vec<u8>)>, Fail> {
+    let mut hub = hub_of(alloc, changes)?;
+    let other = first_other(alloc, &mut hub, rows);
+    let _ = hub.close();
+    other
 }

@@ -1,5 +1,5 @@
 // Menus, links, attributes, and items that have moved.
-use super::made::{EVENING, evening, first_other, hub_of, info, local, put, refusal, row, text};
+use super::made::{EVENING, evening, info, local, other_reply, put, refusal, row, text};
 use crate::trial::small_site;
 use host_types::{
     Body, Bytes, Change, Entry, EntryList, Host, Item, LinkKind, Refused, Selector, SiteKeeper,
@@ -38,10 +38,7 @@ fn top_menu_and_attributes(rt: HostRuntime) -> Result<(), Fail> {
         row(b"/none\t+\r\n", b"--1\r\n1 Item not found\r\n.\r\n"),
         row(b"/none\t!\r\n", b"--1\r\n1 Item not found\r\n.\r\n"),
     ];
-    let mut hub = hub_of(alloc, Vec::new(alloc))?;
-    let other = first_other(alloc, &mut hub, &rows);
-    let _ = hub.close();
-    assert_eq!(rt; other?, None);
+    assert_eq!(rt; other_reply(alloc, &[], &rows)?, None);
     Ok(())
 }
 
@@ -89,10 +86,7 @@ fn links_and_summaries(rt: HostRuntime) -> Result<(), Fail> {
             b"+-1\r\n+INFO: 0Told\t/told\tlocalhost\t7070\t+\r\n+ABSTRACT:\r\n One line\r\n .two\r\n.\r\n",
         ),
     ];
-    let mut hub = hub_of(alloc, links(alloc)?)?;
-    let other = first_other(alloc, &mut hub, &rows);
-    let _ = hub.close();
-    assert_eq!(rt; other?, None);
+    assert_eq!(rt; other_reply(alloc, &links(alloc)?, &rows)?, None);
     Ok(())
 }
 
@@ -160,9 +154,6 @@ fn an_item_moves(rt: HostRuntime) -> Result<(), Fail> {
         row(b"\r\n", b"iWelcome\t\tlocalhost\t7070\r\n.\r\n"),
         row(b"/info\r\n", b"Hello\r\n..dot\r\nlast\r\n.\r\n"),
     ];
-    let mut hub = hub_of(alloc, changes)?;
-    let other = first_other(alloc, &mut hub, &rows);
-    let _ = hub.close();
-    assert_eq!(rt; other?, None);
+    assert_eq!(rt; other_reply(alloc, &changes, &rows)?, None);
     Ok(())
 }

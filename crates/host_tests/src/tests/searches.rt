@@ -1,5 +1,5 @@
 // Searches.
-use super::made::{first_other, hub_of, put, row, text};
+use super::made::{other_reply, put, row, text};
 use host_types::{Body, Change, Selector};
 use std::alloc::Global;
 use std::test::Fail;
@@ -26,10 +26,7 @@ fn words_of_a_document(rt: HostRuntime) -> Result<(), Fail> {
         row(b"/beside\tlast\r\n", b".\r\n"),
         row(b"/find\t$\r\n", b"--1\r\n1 Not a menu\r\n.\r\n"),
     ];
-    let mut hub = hub_of(alloc, changes)?;
-    let other = first_other(alloc, &mut hub, &rows);
-    let _ = hub.close();
-    assert_eq!(rt; other?, None);
+    assert_eq!(rt; other_reply(alloc, &changes, &rows)?, None);
     Ok(())
 }
 
@@ -63,10 +60,10 @@ fn the_first_hundred(rt: HostRuntime) -> Result<(), Fail> {
         reply.extend_from_slice(b"\tlocalhost\t7070\t+\r\n")?;
     }
     reply.extend_from_slice(b".\r\n")?;
-    let mut hub = hub_of(alloc, many(alloc)?)?;
-    let other = first_other(alloc, &mut hub, &[row(b"/find\tmany\r\n", &reply)]);
-    let _ = hub.close();
-    assert_eq!(rt; other?, None);
+    assert_eq!(rt;
+        other_reply(alloc, &many(alloc)?, &[row(b"/find\tmany\r\n", &reply)])?,
+        None
+    );
     Ok(())
 }
 
@@ -93,9 +90,6 @@ fn the_first_two_hundred_words(rt: HostRuntime) -> Result<(), Fail> {
         row(b"/find\tw199\r\n", b"0\t/w\tlocalhost\t7070\t+\r\n.\r\n"),
         row(b"/find\tw200\r\n", b".\r\n"),
     ];
-    let mut hub = hub_of(alloc, changes)?;
-    let other = first_other(alloc, &mut hub, &rows);
-    let _ = hub.close();
-    assert_eq!(rt; other?, None);
+    assert_eq!(rt; other_reply(alloc, &changes, &rows)?, None);
     Ok(())
 }
