@@ -4,6 +4,8 @@ pub mod KeptPairs
 pub mod FreshSite
 pub mod CutLines
 pub mod LookUps
+pub mod CutNames
+pub mod WholeSites
 pub mod Boards
 pub mod LawfulItems
 pub mod LawfulPut

@@ -4,6 +4,7 @@ pub mod Site
 pub mod SiteLaws
 pub mod Change
 pub mod LawfulChanges
+pub mod LawfulSites
 pub mod Standing
 pub mod Card
 pub mod Words

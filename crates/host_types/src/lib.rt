@@ -6,6 +6,7 @@ mod card;
 mod change;
 mod form;
 mod item;
+mod lawful_site;
 mod laws;
 mod limits;
 mod line_list;

@@ -1,5 +1,5 @@
 // A site in memory.
-ghost use Rattle.std.specs.Prelude.{◌≡◌, ◌≤◌, ◌<◌, ℕ, List, length, Some, None, Ok, Err, IfOk, OnOk, IfErr, OnErr, IsSome, IfSome, MatchOption, IsTrue, nat_eq, codes, option_copied, is_some};
+ghost use Rattle.std.specs.Prelude.{◌≡◌, ◌≤◌, ◌<◌, ℕ, List, [], length, Some, None, Ok, Err, IfOk, OnOk, IfErr, OnErr, IsSome, IfSome, MatchOption, IsTrue, nat_eq, codes, option_copied, is_some};
 ghost use Rattle.host_types.specs.Site.{Site, item_at, with_item, without_item, post_selector, board_at, posts_of, has_any, has_posts, fresh_site, IsSite};
 ghost use Rattle.host_types.specs.Change.{apply, put, remove, move_to, set_host, set_admin, post, oldest_post, without_any};
 ghost use Rattle.host_types.specs.Keeping.{IsMemoryFault};
@@ -65,8 +65,21 @@ impl MemSite {
         })
     }
 
+    /// A site of no items under these names. It keeps no rules yet: `insert` puts items, and `is_lawful` tells whether they hold.
+    pub fn empty(alloc: Global, host: Host, port: u16, admin: Admin) -> MemSite
+        ensures { result ≡ record { items = []; host = host; port = port; admin = admin } }
+    {
+        MemSite {
+            alloc,
+            items: BTreeMap::new(alloc),
+            host,
+            port,
+            admin,
+        }
+    }
+
     /// What stands at a selector.
-    fn item(&self, selector: &Selector) -> Option<&Item>
+    pub(crate) fn item(&self, selector: &Selector) -> Option<&Item>
         ensures item { option_copied result ≡ item_at self.now selector.now }
         ensures short { IfSome result (λ item. IsTrue (has_short_views item.now.body)) }
     {
@@ -173,7 +186,7 @@ impl MemSite {
     }
 
     /// How many posts the board at a selector keeps, and the number of the next.
-    fn board(&self, selector: &Selector) -> Option<(u16, u64)>
+    pub(crate) fn board(&self, selector: &Selector) -> Option<(u16, u64)>
         ensures { result ≡ board_at self.now selector.now }
     {
         match self.item(selector) {
@@ -182,7 +195,8 @@ impl MemSite {
         }
     }
 
-    fn insert(&mut self, selector: Selector, item: Item) -> Result<(), SiteFault>
+    /// Puts an item at a selector as it is, in place of what stands there, whatever the rules of a site say: `is_lawful` tells whether they hold. Its only fault is that of memory, and then nothing is changed.
+    pub fn insert(&mut self, selector: Selector, item: Item) -> Result<(), SiteFault>
         requires { IsTrue (has_short_views item.body) }
         ensures ok { OnOk result (self.new ≡ with_item self.old selector item) }
         ensures err { IfErr result (λ e. (e ≡ SiteFault.Memory) × (self.new ≡ self.old)) }

@@ -7,7 +7,7 @@ ghost use Rattle.host_types.specs.LawfulChanges.{is_typed_change};
 use crate::{Admin, Body, Change, Entry, Host, Item, Question, Selector, Title, Url};
 
 impl Selector {
-    fn lawful(&self)
+    pub(crate) fn lawful(&self)
         ensures { IsTrue (is_selector self.now) }
     {
         let _ = self.as_bytes();
@@ -23,7 +23,7 @@ impl Title {
 }
 
 impl Admin {
-    fn lawful(&self)
+    pub(crate) fn lawful(&self)
         ensures { IsTrue (is_admin self.now) }
     {
         let _ = self.as_bytes();
@@ -31,7 +31,7 @@ impl Admin {
 }
 
 impl Host {
-    fn lawful(&self)
+    pub(crate) fn lawful(&self)
         ensures { IsTrue (is_host self.now) }
     {
         let _ = self.as_bytes();
@@ -123,7 +123,7 @@ impl Body {
 }
 
 impl Item {
-    fn lawful_names(&self)
+    pub(crate) fn lawful_names(&self)
         ensures { IsTrue (is_typed_item self.now) }
     {
         self.title.lawful();

@@ -6,7 +6,7 @@ use Rattle.page_store.specs.Sectors.{Image}
 use Rattle.page_store.specs.Keys.{rises}
 use Rattle.page_store.specs.Pages.{Pair, key_of}
 use Rattle.page_store.specs.Batch.{is_map, is_batch, is_edit, is_pair, edit_key, updated}
-use Rattle.page_store.specs.Content.{content, pairs_and_banner, HasContent}
+use Rattle.page_store.specs.Content.{content, pairs_and_banner, is_opened, Holds}
 use Rattle.page_store.specs.Commit.{IsBetween}
 use Rattle.page_store.specs.Spelling.{flat_pages}
 use Rattle.page_store.specs.FlatKeeping.{flat_commit, found_in_half}
@@ -27,6 +27,7 @@ use Rattle.page_store.proofs.Ready.{ready, seals_after, other_bounds, other_is_h
 use Rattle.page_store.proofs.Images.{weaker}
 use Rattle.page_store.proofs.Stands.{both_true}
 use Rattle.page_store.proofs.Maps.{updated_map}
+use Rattle.page_store.specs.Settled.{opens_zero}
 
 pub now_map : (old seen now : List Pair) (batch : List Edit) → now ≡ updated seen batch → seen ≡ old → is_map old ≡ true → IsTrue (is_batch batch) → is_map now ≡ true
 now_map old seen now batch is same h b =
@@ -41,11 +42,11 @@ page_number seal first [] k d lt = absurd (omega arith)
 page_number seal first (group ∷ groups) zero d lt = (omega arith, omega arith)
 page_number seal first (group ∷ groups) (suc k) d lt = let rest = page_number seal (suc first) groups k d (omega arith) in (omega (arith, rest.0), omega (arith, rest.1))
 
-pub between_content : (slot : Slot) (pairs now : List Pair) (seal : ℕ) (banner : Banner) (pages : List NewPage) (a : Image) (old new : Stops Image) → LeavesOnly old new (IsBetween (flat_commit slot pairs seal now banner) pages a)
-    → LeavesOnly old new (λ c. HasContent c pairs slot.root.banner ⊎ HasContent c now banner)
-between_content slot pairs now seal banner pages a old new leaves =
-    weaker old new (IsBetween (flat_commit slot pairs seal now banner) pages a) (λ c. HasContent c pairs slot.root.banner ⊎ HasContent c now banner) leaves
-    (λ c is. ⊎_elim (λ old. inl (ap pairs_and_banner old.content_is)) (λ new. inr (ap pairs_and_banner new.content_is)) is.shows)
+pub between_content : (slot : Slot) (pairs now : List Pair) (seal : ℕ) (banner : Banner) (pages : List NewPage) (a : Image) (old new : Stops Image) → slot.root.banner.version ≡ 0 → IsTrue (is_opened banner.version)
+    → LeavesOnly old new (IsBetween (flat_commit slot pairs seal now banner) pages a) → LeavesOnly old new (λ c. Holds c pairs slot.root.banner ⊎ Holds c now banner)
+between_content slot pairs now seal banner pages a old new before after leaves =
+    weaker old new (IsBetween (flat_commit slot pairs seal now banner) pages a) (λ c. Holds c pairs slot.root.banner ⊎ Holds c now banner) leaves
+    (λ c is. ⊎_elim (λ old. inl (ap pairs_and_banner old.content_is, opens_zero slot.root.banner.version before)) (λ new. inr (ap pairs_and_banner new.content_is, after)) is.shows)
 
 pub between_flat : (slot : Slot) (pairs now : List Pair) (top : ℕ) (batch : List Edit) (banner : Banner) (seen : List NewPage) (a : Image) (old new : Stops Image) → now ≡ updated pairs batch → seen ≡ flat_pages (top + 1) (other_half slot.root) (by_pages now)
     → LeavesOnly old new (IsBetween (flat_commit slot pairs (top + 1) now banner) seen a) → LeavesOnly old new (λ c. may_leave old c ⊎ IsFlatBetween slot pairs top a batch banner c)

@@ -1,5 +1,5 @@
 -- What an image holds.
-use Rattle.std.specs.Prelude.{◌≡◌, ℕ, zero, suc, Bool, true, false, List, [], ◌∷◌, ◌++◌, length, Option, Some, None, nat_lt, nat_le, ◌==◌, ◌||◌, ◌&&◌, not}
+use Rattle.std.specs.Prelude.{◌≡◌, IsTrue, ℕ, zero, suc, Bool, true, false, List, [], ◌∷◌, ◌++◌, length, Option, Some, None, nat_lt, nat_le, ◌==◌, ◌||◌, ◌&&◌, not}
 use Rattle.page_store.specs.Reading.{◌>>=◌, where_true}
 use Rattle.page_store.specs.Sectors.{Image, page_of}
 use Rattle.page_store.specs.Roots.{current}
@@ -109,3 +109,11 @@ pairs_and_banner (Some c) = Some (told c)
 -- an image has these pairs and this banner
 abbrev pub HasContent : Image → List Pair → Banner → Type 0
 HasContent image pairs banner = pairs_and_banner (content image) ≡ Some (pairs, banner)
+
+-- the version of the images that are opened: that of flat pages
+abbrev pub is_opened : ℕ → Bool
+is_opened version = version == 0
+
+-- An image has these pairs and this banner, in the version that is opened.
+abbrev pub Holds : Image → List Pair → Banner → Type 0
+Holds image pairs banner = HasContent image pairs banner × IsTrue (is_opened banner.version)

@@ -1,10 +1,10 @@
 // The calls of a keeper of flat pages.
 ghost use Rattle.std.specs.Prelude.{◌≡◌, ◌≤◌, ◌<◌, ◌==◌, ℕ, true};
-ghost use Rattle.page_store.specs.Content.{HasContent};
+ghost use Rattle.page_store.specs.Content.{is_opened, Holds};
 ghost use Rattle.page_store.specs.Sectors.{Image};
 ghost use Rattle.page_store.specs.Steps.{stops_of};
 ghost use Rattle.page_store.specs.FlatKeeping.{NeedsPages, IsFlatBetween, flat_holding, other_half};
-ghost use Rattle.page_store.specs.Settled.{settled_content};
+ghost use Rattle.page_store.specs.Settled.{settled_content, opens_zero};
 
 use crate::batch::{next_pair, updated_pairs, value_of};
 use crate::commit::commit_pages;
@@ -30,17 +30,21 @@ impl<D: Device> Keeper for FlatKeeper<D> {
 
     ghost may_need = { λ k batch need. NeedsPages k.pairs.items batch need };
 
-    ghost holds_version = { λ version. version == 0 };
+    ghost holds_version = { is_opened };
 
     ghost Left = { Image };
 
-    ghost has_content = { HasContent };
+    ghost has_content = { Holds };
 
     ghost stops = { λ k. stops_of D.moment D.left_since k.device };
 
     ghost is_between = { λ k batch banner. IsFlatBetween k.slot k.pairs.items k.top (D.state k.device).disk.view batch banner };
 
-    ghost settled = { λ k c honest usable left. settled_content (D.state k.device).disk k.slot k.pairs.items k.top (k.settled honest usable) c (D.leaves_images k.device c honest left) };
+    ghost held = { λ k. opens_zero k.slot.root.banner.version k.fitted.version };
+
+    ghost ordered = { λ k honest. k.fitted.map };
+
+    ghost settled = { λ k c honest usable left. settled_content (D.state k.device).disk k.slot k.pairs.items k.top (k.settled honest usable) k.fitted.version c (D.leaves_images k.device c honest left) };
 
     fn banner(&self) -> &Banner {
         &self.slot.root.banner

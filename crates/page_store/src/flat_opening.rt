@@ -138,6 +138,7 @@ impl<D: Device> FlatKeeper<D> {
         ensures usable { IfOk result (λ k. is_open k ≡ true) }
         ensures honest { IfOk result (λ k. (D.state (device_of k)).honest ≡ (D.state device).honest) }
         ensures large { IfOk result (λ k. 128 ≤ (D.state device).size) }
+        ensures counts { IfOk result (λ k. ((D.state device).failed_reads ≤ (D.state (device_of k)).failed_reads) × ((D.state device).failed_writes ≤ (D.state (device_of k)).failed_writes)) }
         ensures fault { IfErr result (λ e. IsOpenFault (D.state device) (D.state e.1) e.0) }
         // Nothing is written: a stop within the call leaves what one before it might have left.
         ensures stop { IsTrue (D.state device).honest → IfOk result (λ k. IsQuiet (stops_of D.moment D.left_since device) (stops_of D.moment D.left_since (device_of k))) }

@@ -2,7 +2,7 @@
 ghost use Rattle.std.specs.Prelude.{◌≡◌, ◌⊎◌, ◌≤◌, ◌<◌, ℕ, Bool, List, true, false, IfOk, OnOk, IfErr, IsErrOf, IfSome, IsTrue, length, take, option_map};
 ghost use Rattle.host_types.specs.Stops.{Stops, LeavesOnly, IsQuiet, may_leave};
 ghost use Rattle.page_store.specs.Pages.{Pair};
-ghost use Rattle.page_store.specs.Batch.{value_at, pair_after, updated, is_batch};
+ghost use Rattle.page_store.specs.Batch.{value_at, pair_after, updated, is_batch, is_map};
 ghost use Rattle.page_store.specs.Holding.{Holding, HasRead, HasTried, IsReadFault, IsCommitFault, last_generation};
 ghost use Rattle.page_store.specs.declared.banner.Banner.{Banner as BannerValue};
 ghost use Rattle.page_store.specs.declared.edit.Edit.{Edit as EditValue};
@@ -97,6 +97,12 @@ pub trait Keeper {
         // Where no write or sync has failed and nothing was changed, nothing was written.
         ensures quiet { IsTrue (holding self.old).honest → IfErr result (λ e. (holding self.new).usable ≡ true → IsQuiet (stops self.old) (stops self.new)) }
         ensures quiet_when_closed { IsTrue (holding self.old).honest → (holding self.old).usable ≡ false → IsQuiet (stops self.old) (stops self.new) };
+
+    /// The banner is of a version that is held.
+    ghost held: { (k : Self) → IsTrue (holds_version (holding k).banner.version) };
+
+    /// The keys rise in byte order, and keys and values have their sizes.
+    ghost ordered: { (k : Self) → IsTrue (holding k).honest → IsTrue (is_map (holding k).pairs) };
 
     /// What a stop between two calls leaves has the pairs and the banner.
     ghost settled: { (k : Self) (c : Left) → IsTrue (holding k).honest → (holding k).usable ≡ true → may_leave (stops k) c → has_content c (holding k).pairs (holding k).banner };

@@ -1,5 +1,5 @@
 // Keys of a site's layout. To make one takes no memory.
-ghost use Rattle.std.specs.Prelude.{◌≡◌, ◌≤◌, ◌++◌, ◌∷◌, ◌+◌, [], length};
+ghost use Rattle.std.specs.Prelude.{◌≡◌, ◌<◌, ◌≤◌, ◌++◌, ◌∷◌, ◌+◌, [], length};
 ghost use Rattle.site_records.specs.Keys as spec;
 
 use arrayvec::ArrayVec;
@@ -46,6 +46,7 @@ impl Key {
     pub fn as_bytes(&self) -> &[u8]
         ensures bytes { result.now ≡ self.now }
         ensures length { length result.now ≤ LONGEST_KEY }
+        ensures some { 0 < length result.now }
     {
         let kept = &self.bytes;
         kept.as_slice()

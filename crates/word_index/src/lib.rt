@@ -13,6 +13,8 @@ mod word_list;
 
 pub use changed_words::{IndexChange, index_change};
 pub use laws::worked_examples;
+pub use mem_search::{MOST_FOUND, look_at};
 pub use search_keeper::SearchKeeper;
 pub use selector_list::SelectorList;
+pub use word::words_in;
 pub use word_list::{card_words, words};

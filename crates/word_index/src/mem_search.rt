@@ -13,7 +13,7 @@ use host_types::{Item, LineList, MemSite, Selector, SiteFault};
 use std::alloc::{AllocError, Global};
 
 /// How many items a search finds at most.
-const MOST_FOUND: usize = 100;
+pub const MOST_FOUND: usize = 100;
 
 /// Whether a word is asked for, and all are there.
 fn holds(there: &LineList, asked: &LineList) -> bool
@@ -52,7 +52,7 @@ fn entries(alloc: Global, site: &MemSite) -> Result<Vec<(&Selector, &Item)>, All
 
 /// Adds the selector of an item that is found, while there is room.
 #[tactic(auto, unfolding(crate::specs::Gathered::looked_at))]
-fn look_at(
+pub fn look_at(
     alloc: Global,
     found: &mut SelectorList,
     scope: &Selector,

@@ -3,7 +3,7 @@ use Rattle.std.specs.Prelude.{◌⊎◌, ◌^◌}
 use Rattle.host_types.specs.Stops.{LeavesOnly}
 use Rattle.page_store.specs.Sectors.{Image}
 use Rattle.page_store.specs.Pages.{Pair}
-use Rattle.page_store.specs.Content.{HasContent}
+use Rattle.page_store.specs.Content.{Holds}
 use Rattle.page_store.specs.Flat.{half_size}
 use Rattle.page_store.specs.Steps.{stops_of, AllAre}
 use Rattle.page_store.specs.Switch.{IsSlotPage}
@@ -47,8 +47,8 @@ returns-then-is_err-clause-stop g c = λ keeps up.
     let all : AllAre (stops_of g.D.Device.moment g.D.Device.left_since k.device) view = λ i left. s.images i (d.leaves_images k.device i keeps left) in
     let rd = ready_now view (g.D.Device.state k.device).size k.slot k.pairs.items now k.top c.args.banner c.deref-4.result.now k.fitted s.content s.seals small map_is c.requires.version few pages in
     let is : now ≡ updated k.pairs.items c.args.batch.now = c.in_ok-pairs.ensures ∙ ap (λ (l : List Pair). updated l c.args.batch.now) c.deref.ensures.value in
-    subst (λ (l : List Pair). LeavesOnly (stops_of g.D.Device.moment g.D.Device.left_since k.device) (stops_of g.D.Device.moment g.D.Device.left_since c.commit_pages.new.device) (λ i. HasContent i k.pairs.items k.slot.root.banner ⊎ HasContent i l c.args.banner)) is
-    (between_content k.slot k.pairs.items now (k.top + 1) c.args.banner c.deref-4.result.now view (stops_of g.D.Device.moment g.D.Device.left_since k.device) (stops_of g.D.Device.moment g.D.Device.left_since c.commit_pages.new.device) (c.commit_pages.ensures.stop keeps commit refl page all rd))
+    subst (λ (l : List Pair). LeavesOnly (stops_of g.D.Device.moment g.D.Device.left_since k.device) (stops_of g.D.Device.moment g.D.Device.left_since c.commit_pages.new.device) (λ i. Holds i k.pairs.items k.slot.root.banner ⊎ Holds i l c.args.banner)) is
+    (between_content k.slot k.pairs.items now (k.top + 1) c.args.banner c.deref-4.result.now view (stops_of g.D.Device.moment g.D.Device.left_since k.device) (stops_of g.D.Device.moment g.D.Device.left_since c.commit_pages.new.device) k.fitted.version c.requires.version (c.commit_pages.ensures.stop keeps commit refl page all rd))
 
 pub returns-then-is_err-clause-between : goal.returns-then-is_err-clause-between
 returns-then-is_err-clause-between g c = λ keeps up.
@@ -87,8 +87,8 @@ returns-clause-stop g c = λ keeps up.
     let all : AllAre (stops_of g.D.Device.moment g.D.Device.left_since k.device) view = λ i left. s.images i (d.leaves_images k.device i keeps left) in
     let rd = ready_now view (g.D.Device.state k.device).size k.slot k.pairs.items now k.top c.args.banner c.deref-4.result.now k.fitted s.content s.seals small map_is c.requires.version few pages in
     let is : now ≡ updated k.pairs.items c.args.batch.now = c.in_ok-pairs.ensures ∙ ap (λ (l : List Pair). updated l c.args.batch.now) c.deref.ensures.value in
-    subst (λ (l : List Pair). LeavesOnly (stops_of g.D.Device.moment g.D.Device.left_since k.device) (stops_of g.D.Device.moment g.D.Device.left_since c.commit_pages.new.device) (λ i. HasContent i k.pairs.items k.slot.root.banner ⊎ HasContent i l c.args.banner)) is
-    (between_content k.slot k.pairs.items now (k.top + 1) c.args.banner c.deref-4.result.now view (stops_of g.D.Device.moment g.D.Device.left_since k.device) (stops_of g.D.Device.moment g.D.Device.left_since c.commit_pages.new.device) (c.commit_pages.ensures.stop keeps commit refl page all rd))
+    subst (λ (l : List Pair). LeavesOnly (stops_of g.D.Device.moment g.D.Device.left_since k.device) (stops_of g.D.Device.moment g.D.Device.left_since c.commit_pages.new.device) (λ i. Holds i k.pairs.items k.slot.root.banner ⊎ Holds i l c.args.banner)) is
+    (between_content k.slot k.pairs.items now (k.top + 1) c.args.banner c.deref-4.result.now view (stops_of g.D.Device.moment g.D.Device.left_since k.device) (stops_of g.D.Device.moment g.D.Device.left_since c.commit_pages.new.device) k.fitted.version c.requires.version (c.commit_pages.ensures.stop keeps commit refl page all rd))
 
 pub returns-clause-between : goal.returns-clause-between
 returns-clause-between g c = λ keeps up.
