@@ -3,3 +3,6 @@ pub mod Script
 pub mod Asked
 pub mod Printed
 pub mod Lines
+pub mod ImageSites
+pub mod OpenFaults
+pub mod Headline

@@ -3,6 +3,10 @@
 
 mod ask;
 mod fault;
+pub mod laws;
+pub mod on_disk;
+pub mod open_fault;
+pub mod opening;
 mod printed;
 mod replay;
 mod script;

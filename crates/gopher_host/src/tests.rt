@@ -1,4 +1,5 @@
-// The command line, lines of a script, and escapes.
+// The command line, lines of a script, escapes, and runs over a disk.
+mod disks;
 mod replays;
 
 use crate::printed::escaped;

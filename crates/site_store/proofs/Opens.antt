@@ -1,0 +1,50 @@
+-- What a site that was read whole says of what is kept.
+use Rattle.std.proofs.Common.{◌≡◌, ◌<◌, ap, sym, ◌∙◌, arith}
+use Rattle.std.specs.Prelude.{IsTrue, List}
+use Rattle.host_types.specs.Site.{Site}
+use Rattle.page_store.specs.Pages.{Pair}
+use Rattle.page_store.specs.Holding.{Holding, HasRead}
+use Rattle.site_store.specs.Kept.{IsKept, KeepsSite, site_of, site_kept}
+use Rattle.site_store.specs.Opening.{site_under, with_all_named, HasAddress, IsLayoutOf}
+use Rattle.site_store.proofs.Named.{not_kept}
+use Rattle.site_store.proofs.Viewing.{kept_after}
+
+-- Where the site that was read hasn't the layout that was read, or breaks a rule, no site is kept.
+pub none_kept : (h k : Holding) (m : Site) (pairs : List Pair) → HasRead h k → IsTrue h.honest → pairs ≡ h.pairs
+    → (IsTrue k.honest → (s : Site) → IsKept k s → m ≡ with_all_named s (site_under k.banner) pairs) → (IsLayoutOf pairs m → ⊥) → ((s : Site) × IsKept h s) → ⊥
+none_kept h k m pairs read honest all named bad kept =
+    let now : IsTrue k.honest = read.honest ∙ honest in
+    let later = kept_after h k kept.0 read honest kept.1 in
+    not_kept k kept.0 m pairs later (all ∙ sym (read.same.pairs honest)) (named now kept.0 later) bad
+
+-- Else it is kept.
+pub is_kept_site : (h k : Holding) (m : Site) (pairs : List Pair) → HasRead h k → (IsTrue h.honest → pairs ≡ h.pairs) → HasAddress m k.banner → IsLayoutOf pairs m → KeepsSite h
+is_kept_site h k m pairs read all address whole = λ honest. (
+  m,
+  record {
+    lawful = ∣ whole.0 ∣₁;
+    all = sym (all honest) ∙ whole.1;
+    host = ap (λ b. b.host) (sym read.same.banner) ∙ sym address.host;
+    port = ap (λ b. b.port) (sym read.same.banner) ∙ sym address.port;
+    admin = ap (λ b. b.admin) (sym read.same.banner) ∙ sym address.admin;
+  },
+)
+
+pub has_port : (h k : Holding) (m : Site) (pairs : List Pair) → HasRead h k → HasAddress m k.banner → IsLayoutOf pairs m → 0 < h.banner.port
+has_port h k m pairs read address whole =
+    let given = whole.0.port_given in
+    let same : m.port ≡ h.banner.port = address.port ∙ ap (λ b. b.port) read.same.banner in
+    omega (arith, given, same)
+
+-- what is kept once it was read was kept before
+pub kept_before : (a b : Holding) (s : Site) → HasRead a b → IsTrue a.honest → IsKept b s → IsKept a s
+kept_before a b s read honest kept = record {
+  lawful = kept.lawful;
+  all = sym (read.same.pairs honest) ∙ kept.all;
+  host = ap (λ x. x.host) (sym read.same.banner) ∙ kept.host;
+  port = ap (λ x. x.port) (sym read.same.banner) ∙ kept.port;
+  admin = ap (λ x. x.admin) (sym read.same.banner) ∙ kept.admin;
+}
+
+pub site_before : (a b : Holding) (keeps : KeepsSite b) → HasRead a b → IsTrue a.honest → IsKept a (site_of b keeps)
+site_before a b keeps read honest = kept_before a b (site_of b keeps) read honest (site_kept b keeps (read.honest ∙ honest))

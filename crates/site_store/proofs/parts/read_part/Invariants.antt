@@ -1,0 +1,13 @@
+use Rattle.std.proofs.Common.{◌≡◌, ◌*◌, List, ℕ, length, take}
+use Rattle.std.specs.Prelude.{IsTrue}
+use Rattle.site_store.specs.Looking.{HasLooked, HasPart, HasSize}
+use Rattle.site_store.proofs.parts.read_part.Given as goal
+
+abbrev pub invariant-loop-k : goal.invariant-loop-k
+invariant-loop-k g l =
+    let holding = g.K.Keeper.holding in
+    record {
+      looked : HasLooked (holding l.fn.keeper) (holding l.keeper) (g.K.Keeper.stops l.fn.keeper) (g.K.Keeper.stops l.keeper);
+      bytes : IsTrue (holding l.fn.keeper).honest → (p : List ℕ) → length p ≡ l.size → HasPart (holding l.fn.keeper).pairs l.selector l.part p → l.bytes.items ≡ take (1000 * l.k) p;
+      size : HasSize (length l.bytes.items) (1000 * l.k) l.size;
+    }

@@ -1,0 +1,12 @@
+pub mod Kept
+pub mod Looking
+pub mod Strokes
+pub mod Edits
+pub mod Plan
+pub mod Seen
+pub mod Lacking
+pub mod Settled
+pub mod Opening
+pub mod WholeLayout
+pub mod Walking
+pub mod Searching

@@ -1,0 +1,47 @@
+-- Reading a whole site from its pairs.
+use Rattle.std.specs.Prelude.{◌≡◌, ℕ, ◌-◌, ◌==◌, length, take, slice_get, List, [], ◌∷◌, Option, Some, None, if◌then◌else◌}
+use Rattle.host_types.specs.Site.{Site, IsSite, item_at, with_item}
+use Rattle.host_types.specs.declared.item.Item.{Item}
+use Rattle.page_store.specs.Pages.{Pair}
+use Rattle.site_records.specs.Layout.{layout}
+use Rattle.page_store.specs.declared.banner.Banner.{Banner}
+
+abbrev pub key_or_none : Option Pair → List ℕ
+key_or_none None = []
+key_or_none (Some p) = p.0
+
+-- the key of the last pair; with none, the empty key
+abbrev pub last_key : List Pair → List ℕ
+last_key pairs = key_or_none (slice_get pairs (length pairs - 1))
+
+-- These pairs are the first ones of those.
+abbrev pub AreFirst : List Pair → List Pair → Type 0
+AreFirst some all = some ≡ take (length some) all
+
+-- a site of no items under the names of a banner
+abbrev pub site_under : Banner → Site
+site_under b = record { items = []; host = b.host; port = b.port; admin = b.admin }
+
+abbrev pub with_any : Site → List ℕ → Option Item → Site
+with_any s selector None = s
+with_any s selector (Some item) = with_item s selector item
+
+-- with the item that a key names in a site, where it names one
+abbrev pub with_named : Site → Site → List ℕ → Site
+with_named from s [] = s
+with_named from s (tag ∷ selector) = if tag == 73 then with_any s selector (item_at from selector) else s
+
+-- with the items that the keys of some pairs name in a site
+abbrev pub with_all_named : Site → Site → List Pair → Site
+with_all_named from s [] = s
+with_all_named from s (p ∷ ps) = with_all_named from (with_named from s p.0) ps
+
+-- the same host, port and administrator
+pub record HasAddress (s : Site) (b : Banner) : Type 0 where
+  pub host : s.host ≡ b.host
+  pub port : s.port ≡ b.port
+  pub admin : s.admin ≡ b.admin
+
+-- These pairs are the layout of a site that keeps all rules.
+abbrev pub IsLayoutOf : List Pair → Site → Type 0
+IsLayoutOf pairs s = IsSite s × (pairs ≡ layout s)

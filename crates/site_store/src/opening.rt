@@ -1,0 +1,193 @@
+// Opening a site: all of it is read, and its layout compared with what is kept.
+ghost use Rattle.std.specs.Prelude.{◌≡◌, ◌<◌, true, false, IfOk, IfErr, OnOk, IsErrOf, IsErrAnd, IsTrue, Decides, map};
+ghost use Rattle.host_types.specs.Site.{Site, IsSite};
+ghost use Rattle.page_store.specs.Batch.{pair_after};
+ghost use Rattle.page_store.specs.declared.fault.KeeperFault.TheVariants.{Failed};
+ghost use Rattle.site_records.specs.Layout.{layout};
+ghost use Rattle.site_store.specs.Kept.{IsKept, KeepsSite};
+ghost use Rattle.site_store.specs.Looking.{HasLooked, IsKeeperFault, IsLookFault, IsReadOrMemory};
+ghost use Rattle.site_store.specs.Opening.{last_key, site_under, with_named, with_all_named, HasAddress, IsLayoutOf};
+ghost use Rattle.site_store.specs.Seen.{keeper_of, seen_site};
+ghost use Rattle.site_store.specs.declared.fault.SiteOpenFault.TheVariants.{Keeper as Told};
+
+use crate::items::item_in;
+use crate::piece::Piece;
+use crate::whole_layout::{entries_in, layout_of};
+use crate::{DiskSite, SiteOpenFault};
+use host_types::{MemSite, Selector};
+use page_store::{Keeper, Pair};
+use site_records::Key;
+use std::alloc::{AllocError, Global};
+
+/// The pair behind these, the first ones of the keeper.
+fn pair_behind<K: Keeper>(
+    alloc: Global,
+    keeper: &mut K,
+    pairs: &[Pair],
+) -> Result<Option<Pair>, SiteOpenFault>
+    ensures pair { IsTrue (K.holding keeper.old).honest → IfOk result (λ found. found ≡ pair_after (K.holding keeper.old).pairs (last_key pairs.now)) }
+    ensures looked { HasLooked (K.holding keeper.old) (K.holding keeper.new) (K.stops keeper.old) (K.stops keeper.new) }
+    ensures fault { IfErr result (IsReadOrMemory (K.holding keeper.old) (K.holding keeper.new)) }
+    ensures closed { (K.holding keeper.old).usable ≡ false → IsErrOf result (Told Failed) }
+{
+    let (mut key, mut value) = ([0; 300], [0; 1024]);
+    let found = match pairs.last() {
+        Some(last) => keeper.next(last.key(), &mut key, &mut value),
+        None => keeper.next(&[], &mut key, &mut value),
+    };
+    match found {
+        Ok(Some((size, length))) => {
+            let pair = Pair::from_slices(alloc, &key[..size], &value[..length])?;
+            Ok(Some(pair))
+        }
+        Ok(None) => Ok(None),
+        Err(fault) => Err(SiteOpenFault::Keeper(fault)),
+    }
+}
+
+/// All pairs of a keeper.
+fn pairs_of<K: Keeper>(alloc: Global, keeper: &mut K) -> Result<Vec<Pair>, SiteOpenFault>
+    ensures pairs { IsTrue (K.holding keeper.old).honest → IfOk result (λ all. all.items ≡ (K.holding keeper.old).pairs) }
+    ensures looked { HasLooked (K.holding keeper.old) (K.holding keeper.new) (K.stops keeper.old) (K.stops keeper.new) }
+    ensures fault { IfErr result (IsReadOrMemory (K.holding keeper.old) (K.holding keeper.new)) }
+    ensures closed { (K.holding keeper.old).usable ≡ false → IsErrOf result (Told Failed) }
+{
+    let mut pairs = Vec::new(alloc);
+    for _ in 0..u64::MAX {
+        match pair_behind(alloc, keeper, &pairs) {
+            Ok(Some(pair)) => pairs.push(pair)?,
+            Ok(None) => return Ok(pairs),
+            Err(fault) => return Err(fault),
+        }
+    }
+    Err(SiteOpenFault::Memory)
+}
+
+/// Puts the item that a key names into a site, where it names one.
+fn put_named<K: Keeper>(
+    alloc: Global,
+    keeper: &mut K,
+    site: &mut MemSite,
+    key: &[u8],
+) -> Result<(), SiteOpenFault>
+    ensures named { IsTrue (K.holding keeper.old).honest → (s : Site) → IsKept (K.holding keeper.old) s → OnOk result (site.new ≡ with_named s site.old key.now) }
+    ensures host { OnOk result (site.new.host ≡ site.old.host) }
+    ensures port { OnOk result (site.new.port ≡ site.old.port) }
+    ensures admin { OnOk result (site.new.admin ≡ site.old.admin) }
+    ensures looked { HasLooked (K.holding keeper.old) (K.holding keeper.new) (K.stops keeper.old) (K.stops keeper.new) }
+    ensures fault { IfErr result (IsLookFault (K.holding keeper.old) (K.holding keeper.new)) }
+{
+    let [b'I', name @ ..] = key else {
+        return Ok(());
+    };
+    let Ok(selector) = Selector::new(name) else {
+        return Ok(());
+    };
+    match item_in(alloc, keeper, &selector) {
+        Ok(Some(item)) => match site.insert(selector, item) {
+            Ok(()) => Ok(()),
+            Err(_) => Err(SiteOpenFault::Memory),
+        },
+        Ok(None) => Ok(()),
+        Err(fault) => Err(fault),
+    }
+}
+
+/// The site whose items the keys of these pairs name.
+fn site_of<K: Keeper>(
+    alloc: Global,
+    keeper: &mut K,
+    pairs: &[Pair],
+) -> Result<MemSite, SiteOpenFault>
+    ensures named { IsTrue (K.holding keeper.old).honest → (s : Site) → IsKept (K.holding keeper.old) s → IfOk result (λ m. m ≡ with_all_named s (site_under (K.holding keeper.old).banner) pairs.now) }
+    ensures address { IfOk result (λ m. HasAddress m (K.holding keeper.old).banner) }
+    ensures looked { HasLooked (K.holding keeper.old) (K.holding keeper.new) (K.stops keeper.old) (K.stops keeper.new) }
+    ensures fault { IfErr result (IsLookFault (K.holding keeper.old) (K.holding keeper.new)) }
+{
+    let banner = keeper.banner();
+    let mut site = MemSite::empty(
+        alloc,
+        banner.host.clone()?,
+        banner.port,
+        banner.admin.clone()?,
+    );
+    for pair in pairs {
+        match put_named(alloc, keeper, &mut site, pair.key()) {
+            Ok(()) => {}
+            Err(fault) => return Err(fault),
+        }
+    }
+    Ok(site)
+}
+
+/// Whether a pair has this key and this value.
+fn is_same(pair: &Pair, key: &Key, value: &Piece) -> bool
+    ensures { Decides result (pair.now ≡ (key.now, value.now)) }
+{
+    pair.key() == key.as_bytes() && pair.value() == value.as_slice()
+}
+
+/// Whether these pairs are those.
+fn are_same(pairs: &[Pair], entries: &[(&Key, &Piece)]) -> bool
+    ensures { Decides result (pairs.now ≡ map (λ e. (e.0.now, e.1.now)) entries.now) }
+{
+    if pairs.len() != entries.len() {
+        return false;
+    }
+    for place in 0..pairs.len() {
+        let entry = &entries[place];
+        if !is_same(&pairs[place], entry.0, entry.1) {
+            return false;
+        }
+    }
+    true
+}
+
+/// Whether these pairs are the layout of this site, and it keeps all rules.
+fn has_layout(alloc: Global, site: &MemSite, pairs: &[Pair]) -> Result<bool, AllocError>
+    ensures { IfOk result (λ yes. Decides yes (IsLayoutOf pairs.now site.now)) }
+{
+    if !site.is_lawful(alloc)? {
+        return Ok(false);
+    }
+    let layout = layout_of(alloc, site)?;
+    let entries = entries_in(alloc, &layout)?;
+    Ok(are_same(pairs, &entries))
+}
+
+/// Reads all that is kept; it ends well where that is the layout of a lawful site.
+fn check<K: Keeper>(alloc: Global, keeper: &mut K) -> Result<(), SiteOpenFault>
+    ensures kept { OnOk result (KeepsSite (K.holding keeper.old)) }
+    ensures port { OnOk result (0 < (K.holding keeper.old).banner.port) }
+    ensures looked { HasLooked (K.holding keeper.old) (K.holding keeper.new) (K.stops keeper.old) (K.stops keeper.new) }
+    ensures fault { IfErr result (IsLookFault (K.holding keeper.old) (K.holding keeper.new)) }
+    ensures closed { (K.holding keeper.old).usable ≡ false → IsErrOf result (Told Failed) }
+{
+    let pairs = pairs_of(alloc, keeper)?;
+    let site = site_of(alloc, keeper, &pairs)?;
+    if has_layout(alloc, &site, &pairs)? {
+        Ok(())
+    } else {
+        Err(SiteOpenFault::BadRecord)
+    }
+}
+
+impl<K: Keeper> DiskSite<K> {
+    /// Opens the site whose layout a keeper holds, and reads all of it. A refusal hands the keeper back; nothing is written.
+    ///
+    /// `BadRecord` where what is kept is no lawful site's layout, else the keeper's fault or `Memory`.
+    pub fn open(alloc: Global, keeper: K) -> Result<DiskSite<K>, (SiteOpenFault, K)>
+        ensures site { IsTrue (K.holding keeper).honest → IfOk result (λ d. IsKept (K.holding keeper) (seen_site d)) }
+        ensures looked { IfOk result (λ d. HasLooked (K.holding keeper) (K.holding (keeper_of d)) (K.stops keeper) (K.stops (keeper_of d))) }
+        ensures usable { IfOk result (λ d. (K.holding (keeper_of d)).usable ≡ true) }
+        ensures fault { IfErr result (λ e. IsLookFault (K.holding keeper) (K.holding e.1) e.0) }
+        ensures handed_back { IfErr result (λ e. HasLooked (K.holding keeper) (K.holding e.1) (K.stops keeper) (K.stops e.1)) }
+        ensures closed { (K.holding keeper).usable ≡ false → IsErrAnd result (λ e. e.0 ≡ Told Failed) }
+    {
+        let mut keeper = keeper;
+        match check(alloc, &mut keeper) {
+            Ok(()) => Ok(DiskSite { alloc, keeper }),
+            Err(fault) => Err((fault, keeper)),
+        }
+    }
+}
