@@ -1,6 +1,7 @@
 // The worked rows of the protocol, over a site in memory and over one that fails. Expected bytes come from outside.
 ghost use Rattle.std.specs.Prelude.{◌<◌};
 
+mod disks;
 mod documents;
 mod failing_site;
 mod faults;
@@ -8,26 +9,42 @@ mod forms;
 mod hostile;
 mod made;
 mod menus;
+mod on_disk;
+mod random_scripts;
 mod requests;
+mod scripts;
 mod searches;
 mod sessions;
+mod stopped;
 
 use crate::trial::{put_text, small_site};
+use disks::small_disk_site;
 use host_types::{MemSite, SiteKeeper, Stamp};
+use made::hub_on;
+use page_store::FlatKeeper;
+use sector_device::MemDisk;
 use session_core::{Drawn, Heard, Hub};
+use site_store::DiskSite;
 use std::alloc::Global;
 use std::test::Fail;
 use word_index::SearchKeeper;
 
-/// A hub over a site with one text document at `/about`.
-fn hub_with(alloc: Global, body: &[u8]) -> Result<Hub<MemSite>, Fail> {
+/// The small site in memory.
+fn in_memory(alloc: Global) -> Result<MemSite, Fail> {
+    Ok(small_site(alloc).or(Err("site"))?)
+}
+
+/// The small site on a disk of 16 pages.
+fn on_a_disk(alloc: Global) -> Result<DiskSite<FlatKeeper<MemDisk>>, Fail> {
+    small_disk_site(alloc, 16)
+}
+
+/// A hub over a small site with one text document at `/about`.
+fn hub_with<S: SearchKeeper + Drop>(alloc: Global, site: S, body: &[u8]) -> Result<Hub<S>, Fail> {
+    let mut site = site;
     let change = put_text(alloc, b"/about", b"About us", body).or(Err("change"))?;
-    let mut site = small_site(alloc).or(Err("site"))?;
     site.change(change, Stamp::start()).or(Err("put"))?;
-    match Hub::new(alloc, site, 1) {
-        Ok(hub) => Ok(hub),
-        Err(_) => Err("hub".into()),
-    }
+    hub_on(alloc, site)
 }
 
 /// All that is left of a session's reply, drawn by so many bytes at a time.

@@ -1,11 +1,13 @@
 // One failed read in the midst of a reply, and a failed change.
 use super::failing_site::FailingSite;
-use super::{asked, drawn};
+use super::made::hub_on;
+use super::{asked, drawn, in_memory, on_a_disk};
 use crate::trial::{put_text, small_site};
 use host_types::{MemSite, SiteKeeper, Stamp};
 use session_core::{Drawn, Heard, Hub, HubFault};
 use std::alloc::Global;
 use std::test::Fail;
+use word_index::SearchKeeper;
 
 /// A site with one text document of 2,500 bytes: its card and three chunks are four reads.
 fn long_site(alloc: Global) -> Result<MemSite, Fail> {
@@ -78,31 +80,27 @@ fn a_change_fails(rt: HostRuntime) -> Result<(), Fail> {
     Ok(())
 }
 
+/// A draw of no room gives no bytes, and one behind the last byte is the end.
+fn draws_by_rooms<S: SearchKeeper>(hub: &mut Hub<S>) -> bool {
+    let mut out = [7; 3];
+    hub.join() == Ok(1)
+        && hub.bytes(1, b"\r\n", Stamp::start()) == Ok(Heard::Ready)
+        && hub.draw(1, &mut []) == Ok(Drawn::Bytes(0))
+        && hub.draw(1, &mut out) == Ok(Drawn::Bytes(3))
+        && hub.draw(1, &mut [0]) == Ok(Drawn::Finished)
+        && out == *b".\r\n"
+}
+
 #[test]
 fn draws_of_no_room(rt: HostRuntime) -> Result<(), Fail> {
-    let mut out = [7; 3];
-    let site = small_site(rt.alloc()).or(Err("site"))?;
-    let Ok(mut hub) = Hub::new(rt.alloc(), site, 1) else {
-        return Err("hub".into());
-    };
-    let id = hub.join();
-    let ready = hub.bytes(1, b"\r\n", Stamp::start());
-    let answers = [
-        hub.draw(1, &mut []),
-        hub.draw(1, &mut out),
-        hub.draw(1, &mut [0]),
-    ];
+    let alloc = rt.alloc();
+    let mut hub = hub_on(alloc, in_memory(alloc)?)?;
+    let right = draws_by_rooms(&mut hub);
     let _ = hub.close();
-    assert_eq!(rt; id, Ok(1));
-    assert_eq!(rt; ready, Ok(Heard::Ready));
-    assert_eq!(rt;
-        answers,
-        [
-            Ok(Drawn::Bytes(0)),
-            Ok(Drawn::Bytes(3)),
-            Ok(Drawn::Finished)
-        ]
-    );
-    assert_eq!(rt; out.as_slice(), b".\r\n".as_slice());
+    assert!(rt; right);
+    let mut hub = hub_on(alloc, on_a_disk(alloc)?)?;
+    let right = draws_by_rooms(&mut hub);
+    let _ = hub.close();
+    assert!(rt; right);
     Ok(())
 }

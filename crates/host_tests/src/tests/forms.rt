@@ -1,10 +1,9 @@
 // Forms, and the posts that their answers make.
-use super::drawn;
 use super::made::{
-    choices, evening, fill_board, first_other, form, hub_of, other_reply, put, questions, refusal,
-    row,
+    choices, disk_hub_of, evening, fill_board, first_other, form, hub_of, hub_on, other_reply, put,
+    questions, refusal, row, text,
 };
-use crate::trial::small_site;
+use super::{drawn, in_memory, on_a_disk};
 use host_types::{
     Body, Bytes, Change, Question, QuestionList, Refused, Selector, SiteKeeper, Title,
 };
@@ -96,14 +95,19 @@ fn posted_at_the_end<S: SearchKeeper>(
 
 #[test]
 fn data_to_the_end_of_input(rt: HostRuntime) -> Result<(), Fail> {
-    let mut hub = hub_of(rt.alloc(), &two_posts(rt.alloc())?)?;
-    let ended = posted_at_the_end(rt.alloc(), &mut hub);
+    let alloc = rt.alloc();
+    let want = b"+-1\r\n0Bob\tpost//book/3\tlocalhost\t7070\t+\r\n.\r\n".as_slice();
+    let mut hub = hub_of(alloc, &two_posts(alloc)?)?;
+    let ended = posted_at_the_end(alloc, &mut hub);
     let _ = hub.close();
     let (reply, other) = ended?;
-    assert_eq!(rt;
-        reply.as_slice(),
-        b"+-1\r\n0Bob\tpost//book/3\tlocalhost\t7070\t+\r\n.\r\n".as_slice()
-    );
+    assert_eq!(rt; reply.as_slice(), want);
+    assert_eq!(rt; other, None);
+    let mut hub = disk_hub_of(alloc, &two_posts(alloc)?)?;
+    let ended = posted_at_the_end(alloc, &mut hub);
+    let _ = hub.close();
+    let (reply, other) = ended?;
+    assert_eq!(rt; reply.as_slice(), want);
     assert_eq!(rt; other, None);
     Ok(())
 }
@@ -141,11 +145,6 @@ fn answers_that_do_not_fit(rt: HostRuntime) -> Result<(), Fail> {
 #[test]
 fn a_board_of_one_post(rt: HostRuntime) -> Result<(), Fail> {
     let alloc = rt.alloc();
-    let mut site = small_site(alloc).or(Err("site"))?;
-    fill_board(alloc, &mut site, 1)?;
-    let Ok(mut hub) = Hub::new(alloc, site, 1) else {
-        return Err("hub".into());
-    };
     let rows = [
         row(b"/sign\t+\t1\r\n+-1\r\nAnn\r\n0\r\n.\r\n", STORED),
         row(
@@ -162,6 +161,15 @@ fn a_board_of_one_post(rt: HostRuntime) -> Result<(), Fail> {
             b"+-1\r\n0Cy\tpost//book/3\tlocalhost\t7070\t+\r\n.\r\n",
         ),
     ];
+    let mut site = in_memory(alloc)?;
+    fill_board(alloc, &mut site, 1)?;
+    let mut hub = hub_on(alloc, site)?;
+    let other = first_other(alloc, &mut hub, &rows);
+    let _ = hub.close();
+    assert_eq!(rt; other?, None);
+    let mut site = on_a_disk(alloc)?;
+    fill_board(alloc, &mut site, 1)?;
+    let mut hub = hub_on(alloc, site)?;
     let other = first_other(alloc, &mut hub, &rows);
     let _ = hub.close();
     assert_eq!(rt; other?, None);
@@ -249,41 +257,53 @@ fn a_post_as_clients_send_it(rt: HostRuntime) -> Result<(), Fail> {
     Ok(())
 }
 
-#[test]
-fn refused_changes(rt: HostRuntime) -> Result<(), Fail> {
-    let alloc = rt.alloc();
+/// Changes that are refused on a site with a post, and why.
+fn refusals(alloc: Global) -> Result<Vec<(Change, Refused)>, Fail> {
+    let mut all = Vec::new(alloc);
+    let at_top = put(alloc, b"", b"Top", text(alloc, b"x")?)?;
+    all.push((at_top, Refused::Root))?;
+    let reserved = put(alloc, b"post/x", b"X", text(alloc, b"x")?)?;
+    all.push((reserved, Refused::Reserved))?;
+    all.push((Change::Remove(Selector::new(b"/none")?), Refused::Missing))?;
+    all.push((Change::Remove(Selector::new(b"/book")?), Refused::NotEmpty))?;
+    let same = Change::Move {
+        from: Selector::new(b"/about")?,
+        to: Selector::new(b"/about")?,
+    };
+    all.push((same, Refused::BadName))?;
+    let no_board = Change::Post {
+        board: Selector::new(b"/about")?,
+        title: Title::new(b"Ann")?,
+        text: Bytes::new(alloc),
+    };
+    all.push((no_board, Refused::NotABoard))?;
+    let spent = put(alloc, b"/b", b"B", Body::Board { cap: 0, next: 1 })?;
+    all.push((spent, Refused::BadName))?;
+    Ok(all)
+}
+
+/// The first of these changes that isn't refused so by the sample site with a post.
+fn other_refusal<S: SiteKeeper>(alloc: Global, site: &mut S) -> Result<Option<usize>, Fail> {
     let now = evening()?;
-    let mut site = small_site(alloc).or(Err("site"))?;
-    fill_board(alloc, &mut site, 100)?;
+    fill_board(alloc, site, 100)?;
     let post = Change::Post {
         board: Selector::new(b"/book")?,
         title: Title::new(b"Ann")?,
         text: Bytes::from_slice(alloc, b"Hi\n")?,
     };
     site.change(post, now)?;
-    let at_top = put(alloc, b"", b"Top", super::made::text(alloc, b"x")?)?;
-    assert_eq!(rt; refusal(&mut site, at_top, now)?, Some(Refused::Root));
-    let reserved = put(alloc, b"post/x", b"X", super::made::text(alloc, b"x")?)?;
-    assert_eq!(rt; refusal(&mut site, reserved, now)?, Some(Refused::Reserved));
-    let missing = Change::Remove(Selector::new(b"/none")?);
-    assert_eq!(rt; refusal(&mut site, missing, now)?, Some(Refused::Missing));
-    let full = Change::Remove(Selector::new(b"/book")?);
-    assert_eq!(rt; refusal(&mut site, full, now)?, Some(Refused::NotEmpty));
-    let same = Change::Move {
-        from: Selector::new(b"/about")?,
-        to: Selector::new(b"/about")?,
-    };
-    assert_eq!(rt; refusal(&mut site, same, now)?, Some(Refused::BadName));
-    let no_board = Change::Post {
-        board: Selector::new(b"/about")?,
-        title: Title::new(b"Ann")?,
-        text: Bytes::new(alloc),
-    };
-    assert_eq!(rt;
-        refusal(&mut site, no_board, now)?,
-        Some(Refused::NotABoard)
-    );
-    let spent = put(alloc, b"/b", b"B", Body::Board { cap: 0, next: 1 })?;
-    assert_eq!(rt; refusal(&mut site, spent, now)?, Some(Refused::BadName));
+    for (place, (change, refused)) in refusals(alloc)?.iter().enumerate() {
+        if refusal(site, change.clone()?, now)? != Some(*refused) {
+            return Ok(Some(place));
+        }
+    }
+    Ok(None)
+}
+
+#[test]
+fn refused_changes(rt: HostRuntime) -> Result<(), Fail> {
+    let alloc = rt.alloc();
+    assert_eq!(rt; other_refusal(alloc, &mut in_memory(alloc)?)?, None);
+    assert_eq!(rt; other_refusal(alloc, &mut on_a_disk(alloc)?)?, None);
     Ok(())
 }

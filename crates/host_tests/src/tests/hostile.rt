@@ -1,6 +1,6 @@
 // Requests of those who mean no good, and sessions by turns of one byte.
 use super::drawn;
-use super::made::{evening, first_other, hub_of, other_reply, row};
+use super::made::{disk_hub_of, evening, first_other, hub_of, other_reply, row};
 use session_core::{Heard, Hub};
 use std::alloc::Global;
 use std::test::Fail;
@@ -68,6 +68,12 @@ fn many_line_feeds(rt: HostRuntime) -> Result<(), Fail> {
     let (open, other) = ended?;
     assert_eq!(rt; open, Heard::More);
     assert_eq!(rt; other, None);
+    let mut hub = disk_hub_of(rt.alloc(), &[])?;
+    let ended = long_data(rt.alloc(), &mut hub);
+    let _ = hub.close();
+    let (open, other) = ended?;
+    assert_eq!(rt; open, Heard::More);
+    assert_eq!(rt; other, None);
     Ok(())
 }
 
@@ -121,13 +127,20 @@ fn turns_and_rows<S: SearchKeeper>(
 
 #[test]
 fn sessions_by_turns(rt: HostRuntime) -> Result<(), Fail> {
-    let mut hub = hub_of(rt.alloc(), &[])?;
-    let ended = turns_and_rows(rt.alloc(), &mut hub);
+    let alloc = rt.alloc();
+    let mut hub = hub_of(alloc, &[])?;
+    let ended = turns_and_rows(alloc, &mut hub);
     let _ = hub.close();
     let (sizes, other) = ended?;
     assert_eq!(rt; other, None);
     for (session, size) in sizes.iter().enumerate() {
         assert_eq!(rt; *size, [64, 23, 44, 28][session % 4], "session {session}");
     }
+    let mut hub = disk_hub_of(alloc, &[])?;
+    let ended = turns_and_rows(alloc, &mut hub);
+    let _ = hub.close();
+    let (on_disk, other) = ended?;
+    assert_eq!(rt; other, None);
+    assert_eq!(rt; on_disk.as_slice(), sizes.as_slice());
     Ok(())
 }

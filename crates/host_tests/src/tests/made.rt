@@ -1,10 +1,14 @@
 // What the tests put on a site, and how they ask for it.
+use super::disks::small_disk_site;
 use crate::trial::small_site;
 use host_types::{
     Body, Bytes, Change, ChoiceList, Entry, EntryList, Item, Kind, MemSite, Question, QuestionList,
     Refused, Selector, SiteFault, SiteKeeper, Stamp, Title, View, ViewList,
 };
+use page_store::FlatKeeper;
+use sector_device::MemDisk;
 use session_core::{Event, Hub, Outcome};
+use site_store::DiskSite;
 use std::alloc::Global;
 use std::test::Fail;
 use word_index::SearchKeeper;
@@ -125,18 +129,43 @@ pub fn fill_board<S: SiteKeeper>(alloc: Global, site: &mut S, cap: u16) -> Resul
     Ok(())
 }
 
-/// A hub over the sample site in memory, with some changes more.
-pub fn hub_of(alloc: Global, changes: &[Change]) -> Result<Hub<MemSite>, Fail> {
-    let mut site = small_site(alloc).or(Err("site"))?;
+/// A hub over a small site that is filled, with some changes more.
+pub fn hub_over<S: SearchKeeper + Drop>(
+    alloc: Global,
+    site: S,
+    changes: &[Change],
+) -> Result<Hub<S>, Fail> {
+    let mut site = site;
     fill_board(alloc, &mut site, 100)?;
     let now = evening()?;
     for change in changes {
         site.change(change.clone()?, now)?;
     }
+    hub_on(alloc, site)
+}
+
+/// A hub over a site as it is.
+pub fn hub_on<S: SearchKeeper + Drop>(alloc: Global, site: S) -> Result<Hub<S>, Fail> {
+    if !site.is_usable() {
+        return Err("usable".into());
+    }
     match Hub::new(alloc, site, 1) {
         Ok(hub) => Ok(hub),
         Err(_) => Err("hub".into()),
     }
+}
+
+/// A hub over the sample site in memory, with some changes more.
+pub fn hub_of(alloc: Global, changes: &[Change]) -> Result<Hub<MemSite>, Fail> {
+    hub_over(alloc, small_site(alloc).or(Err("site"))?, changes)
+}
+
+/// The same on a disk, with room for much.
+pub fn disk_hub_of(
+    alloc: Global,
+    changes: &[Change],
+) -> Result<Hub<DiskSite<FlatKeeper<MemDisk>>>, Fail> {
+    hub_over(alloc, small_disk_site(alloc, 256)?, changes)
 }
 
 /// The reply to a request, as a run of events gives it: the request at once, a draw, and the session leaves.
@@ -188,13 +217,19 @@ pub fn first_other<S: SearchKeeper>(
     Ok(None)
 }
 
-/// The same of the sample site with some changes more, kept in memory.
+/// The same of the sample site with some changes more, kept in memory and on a disk.
 pub fn other_reply(
     alloc: Global,
     changes: &[Change],
     rows: &[(&[u8], &[u8])],
 ) -> Result<Option<(usize, Vec<u8>)>, Fail> {
     let mut hub = hub_of(alloc, changes)?;
+    let other = first_other(alloc, &mut hub, rows);
+    let _ = hub.close();
+    if let Some(found) = other? {
+        return Ok(Some(found));
+    }
+    let mut hub = disk_hub_of(alloc, changes)?;
     let other = first_other(alloc, &mut hub, rows);
     let _ = hub.close();
     other

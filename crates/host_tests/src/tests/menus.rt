@@ -1,13 +1,13 @@
 // Menus, links, attributes, and items that have moved.
-use super::made::{EVENING, evening, info, local, other_reply, put, refusal, row, text};
-use crate::trial::small_site;
+use super::made::{EVENING, evening, hub_on, info, local, other_reply, put, refusal, row, text};
+use super::{in_memory, on_a_disk};
 use host_types::{
     Body, Bytes, Change, Entry, EntryList, Host, Item, LinkKind, Refused, Selector, SiteKeeper,
     Stamp, Title, Url,
 };
-use session_core::Hub;
 use std::alloc::Global;
 use std::test::Fail;
+use word_index::SearchKeeper;
 
 #[test]
 fn top_menu_and_attributes(rt: HostRuntime) -> Result<(), Fail> {
@@ -91,13 +91,11 @@ fn links_and_summaries(rt: HostRuntime) -> Result<(), Fail> {
 }
 
 /// The attributes of a document whose stamp is this.
-fn stamped(alloc: Global, seconds: u64) -> Result<Vec<u8>, Fail> {
-    let mut site = small_site(alloc).or(Err("site"))?;
+fn stamped<S: SearchKeeper + Drop>(alloc: Global, site: S, seconds: u64) -> Result<Vec<u8>, Fail> {
+    let mut site = site;
     let change = put(alloc, b"/d", b"D", text(alloc, b"x")?)?;
     site.change(change, Stamp::new(seconds)?)?;
-    let Ok(mut hub) = Hub::new(alloc, site, 1) else {
-        return Err("hub".into());
-    };
+    let mut hub = hub_on(alloc, site)?;
     let drawn = super::asked(alloc, &mut hub, b"/d\t!+ADMIN\r\n", 4096);
     let _ = hub.close();
     drawn
@@ -106,14 +104,26 @@ fn stamped(alloc: Global, seconds: u64) -> Result<Vec<u8>, Fail> {
 #[test]
 fn first_and_last_second(rt: HostRuntime) -> Result<(), Fail> {
     let alloc = rt.alloc();
-    assert_eq!(rt;
-        stamped(alloc, 0)?.as_slice(),
-        b"+-1\r\n+INFO: 0D\t/d\tlocalhost\t7070\t+\r\n+ADMIN:\r\n Admin: Ada <ada@localhost>\r\n Mod-Date: Thu Jan 01 00:00:00 1970 <19700101000000>\r\n.\r\n".as_slice()
-    );
-    assert_eq!(rt;
-        stamped(alloc, 253_402_300_799)?.as_slice(),
-        b"+-1\r\n+INFO: 0D\t/d\tlocalhost\t7070\t+\r\n+ADMIN:\r\n Admin: Ada <ada@localhost>\r\n Mod-Date: Fri Dec 31 23:59:59 9999 <99991231235959>\r\n.\r\n".as_slice()
-    );
+    let rows = [
+        (
+            0,
+            b"+-1\r\n+INFO: 0D\t/d\tlocalhost\t7070\t+\r\n+ADMIN:\r\n Admin: Ada <ada@localhost>\r\n Mod-Date: Thu Jan 01 00:00:00 1970 <19700101000000>\r\n.\r\n".as_slice(),
+        ),
+        (
+            253_402_300_799,
+            b"+-1\r\n+INFO: 0D\t/d\tlocalhost\t7070\t+\r\n+ADMIN:\r\n Admin: Ada <ada@localhost>\r\n Mod-Date: Fri Dec 31 23:59:59 9999 <99991231235959>\r\n.\r\n",
+        ),
+    ];
+    for (seconds, want) in rows {
+        assert_eq!(rt;
+            stamped(alloc, in_memory(alloc)?, seconds)?.as_slice(),
+            want
+        );
+        assert_eq!(rt;
+            stamped(alloc, on_a_disk(alloc)?, seconds)?.as_slice(),
+            want
+        );
+    }
     assert_eq!(rt; evening()?.seconds(), EVENING);
     Ok(())
 }
@@ -121,14 +131,16 @@ fn first_and_last_second(rt: HostRuntime) -> Result<(), Fail> {
 #[test]
 fn menus_of_too_many_entries(rt: HostRuntime) -> Result<(), Fail> {
     let alloc = rt.alloc();
-    let mut site = small_site(alloc).or(Err("site"))?;
+    let (mut site, mut disk) = (in_memory(alloc)?, on_a_disk(alloc)?);
     for (many, want) in [(100, None), (101, Some(Refused::TooLong))] {
         let mut entries = EntryList::new(alloc);
         for _ in 0..many {
             entries.push(info(b"x")?)?;
         }
         let change = put(alloc, b"/m", b"M", Body::Menu(entries))?;
+        let again = change.clone()?;
         assert_eq!(rt; refusal(&mut site, change, Stamp::start())?, want);
+        assert_eq!(rt; refusal(&mut disk, again, Stamp::start())?, want);
     }
     Ok(())
 }

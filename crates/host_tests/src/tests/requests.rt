@@ -1,11 +1,12 @@
 // Requests and their replies.
 ghost use Rattle.std.specs.Prelude.{◌<◌};
 
-use super::{asked, hub_with};
-use host_types::{MemSite, Stamp};
+use super::{asked, hub_with, in_memory, on_a_disk};
+use host_types::Stamp;
 use session_core::{Drawn, Heard, Hub, HubFault};
 use std::alloc::Global;
 use std::test::Fail;
+use word_index::SearchKeeper;
 
 const HELLO: &[u8] = b"Hello\n.dot\nlast";
 
@@ -25,14 +26,21 @@ fn with_many(alloc: Global, front: &[u8], count: usize, behind: &[u8]) -> Result
     Ok(bytes)
 }
 
-/// The reply of a site with this document, by pieces and draws of so many bytes.
+/// The reply of a site with this document, by pieces and draws of so many bytes. In memory and on a disk it is the same.
 fn reply(alloc: Global, body: &[u8], request: &[u8], size: usize) -> Result<Vec<u8>, Fail>
     requires { 0 < size }
 {
-    let mut hub = hub_with(alloc, body)?;
+    let mut hub = hub_with(alloc, in_memory(alloc)?, body)?;
     let reply = asked(alloc, &mut hub, request, size);
     let _ = hub.close();
-    reply
+    let reply = reply?;
+    let mut hub = hub_with(alloc, on_a_disk(alloc)?, body)?;
+    let other = asked(alloc, &mut hub, request, size);
+    let _ = hub.close();
+    if other?.as_slice() != reply.as_slice() {
+        return Err("the disk's reply is another one".into());
+    }
+    Ok(reply)
 }
 
 #[test]
@@ -106,7 +114,7 @@ fn request_lines_of_1024_bytes(rt: HostRuntime) -> Result<(), Fail> {
 }
 
 /// At byte 1,025 without LF, and no sooner.
-fn is_too_long_at_its_byte(hub: &mut Hub<MemSite>) -> bool {
+fn is_too_long_at_its_byte<S: SearchKeeper>(hub: &mut Hub<S>) -> bool {
     let Ok(id) = hub.join() else {
         return false;
     };
@@ -119,7 +127,7 @@ fn is_too_long_at_its_byte(hub: &mut Hub<MemSite>) -> bool {
 }
 
 /// An input that ends early has no reply, whatever comes then.
-fn ends_early(hub: &mut Hub<MemSite>) -> bool {
+fn ends_early<S: SearchKeeper>(hub: &mut Hub<S>) -> bool {
     let Ok(id) = hub.join() else {
         return false;
     };
@@ -133,15 +141,25 @@ fn ends_early(hub: &mut Hub<MemSite>) -> bool {
         && hub.draw(id, &mut [0; 8]) == Err(HubFault::Unknown)
 }
 
+/// What ends an input, and the top menu after it.
+fn ended<S: SearchKeeper>(alloc: Global, hub: &mut Hub<S>) -> Result<bool, Fail> {
+    Ok(
+        is_too_long_at_its_byte(hub)
+            && ends_early(hub)
+            && asked(alloc, hub, b"\r\n", 4096)?.as_slice() == b".\r\n".as_slice(),
+    )
+}
+
 #[test]
 fn ends_of_input(rt: HostRuntime) -> Result<(), Fail> {
-    let mut hub = hub_with(rt.alloc(), HELLO)?;
-    let at_its_byte = is_too_long_at_its_byte(&mut hub);
-    let early = ends_early(&mut hub);
-    let menu = asked(rt.alloc(), &mut hub, b"\r\n", 4096);
+    let alloc = rt.alloc();
+    let mut hub = hub_with(alloc, in_memory(alloc)?, HELLO)?;
+    let right = ended(alloc, &mut hub);
     let _ = hub.close();
-    assert!(rt; at_its_byte);
-    assert!(rt; early);
-    assert_eq!(rt; menu?.as_slice(), b".\r\n".as_slice());
+    assert!(rt; right?);
+    let mut hub = hub_with(alloc, on_a_disk(alloc)?, HELLO)?;
+    let right = ended(alloc, &mut hub);
+    let _ = hub.close();
+    assert!(rt; right?);
     Ok(())
 }

@@ -1,17 +1,19 @@
 // Sessions beside each other, and the administrator's changes in between.
-use super::{asked, drawn, hub_with};
-use crate::trial::{put_text, small_site};
-use host_types::{Bytes, MemSite, Refused, SiteKeeper, Stamp};
+use super::made::hub_on;
+use super::{asked, drawn, hub_with, in_memory, on_a_disk};
+use crate::trial::put_text;
+use host_types::{Bytes, Refused, SiteKeeper, Stamp};
 use session_core::{Drawn, Event, Heard, Hub, HubFault, Outcome};
 use std::alloc::Global;
 use std::test::Fail;
+use word_index::SearchKeeper;
 
 const HELLO: &[u8] = b"Hello\n.dot\nlast";
 
 const REPLY: &[u8] = b"Hello\r\n..dot\r\nlast\r\n.\r\n";
 
 /// Thirty-two sessions are the most, and a number that was given comes never again.
-fn fills_up(hub: &mut Hub<MemSite>) -> bool {
+fn fills_up<S: SearchKeeper>(hub: &mut Hub<S>) -> bool {
     for id in 1..33 {
         if hub.join() != Ok(id) {
             return false;
@@ -30,12 +32,16 @@ fn fills_up(hub: &mut Hub<MemSite>) -> bool {
 
 #[test]
 fn numbers_of_sessions(rt: HostRuntime) -> Result<(), Fail> {
-    let mut hub = hub_with(rt.alloc(), HELLO)?;
+    let alloc = rt.alloc();
+    let mut hub = hub_with(alloc, in_memory(alloc)?, HELLO)?;
     let full = fills_up(&mut hub);
     let _ = hub.close();
     assert!(rt; full);
-    let site = small_site(rt.alloc()).or(Err("site"))?;
-    let Ok(mut hub) = Hub::new(rt.alloc(), site, u64::MAX) else {
+    let mut hub = hub_with(alloc, on_a_disk(alloc)?, HELLO)?;
+    let full = fills_up(&mut hub);
+    let _ = hub.close();
+    assert!(rt; full);
+    let Ok(mut hub) = Hub::new(alloc, on_a_disk(alloc)?, u64::MAX) else {
         return Err("hub".into());
     };
     let spent = hub.join();
@@ -46,7 +52,10 @@ fn numbers_of_sessions(rt: HostRuntime) -> Result<(), Fail> {
 }
 
 /// A reply half drawn stays the reply of the site that its request found.
-fn half_drawn(alloc: Global, hub: &mut Hub<MemSite>) -> Result<(Vec<u8>, Vec<u8>), Fail> {
+fn half_drawn<S: SearchKeeper>(
+    alloc: Global,
+    hub: &mut Hub<S>,
+) -> Result<(Vec<u8>, Vec<u8>), Fail> {
     let now = Stamp::start();
     let (first, second) = (hub.join().or(Err("join"))?, hub.join().or(Err("join"))?);
     if hub.bytes(first, b"/about\r\n", now) != Ok(Heard::Ready) {
@@ -69,8 +78,15 @@ fn half_drawn(alloc: Global, hub: &mut Hub<MemSite>) -> Result<(Vec<u8>, Vec<u8>
 
 #[test]
 fn a_half_drawn_reply_stays(rt: HostRuntime) -> Result<(), Fail> {
-    let mut hub = hub_with(rt.alloc(), HELLO)?;
-    let ended = half_drawn(rt.alloc(), &mut hub);
+    let alloc = rt.alloc();
+    let mut hub = hub_with(alloc, in_memory(alloc)?, HELLO)?;
+    let ended = half_drawn(alloc, &mut hub);
+    let _ = hub.close();
+    let (old, new) = ended?;
+    assert_eq!(rt; old.as_slice(), REPLY);
+    assert_eq!(rt; new.as_slice(), b"new\r\n.\r\n".as_slice());
+    let mut hub = hub_with(alloc, on_a_disk(alloc)?, HELLO)?;
+    let ended = half_drawn(alloc, &mut hub);
     let _ = hub.close();
     let (old, new) = ended?;
     assert_eq!(rt; old.as_slice(), REPLY);
@@ -79,7 +95,7 @@ fn a_half_drawn_reply_stays(rt: HostRuntime) -> Result<(), Fail> {
 }
 
 /// All sessions of a hub by turns of one byte, and each reply is whole.
-fn by_turns(alloc: Global, hub: &mut Hub<MemSite>) -> Result<bool, Fail> {
+fn by_turns<S: SearchKeeper>(alloc: Global, hub: &mut Hub<S>) -> Result<bool, Fail> {
     for _ in 0..32 {
         hub.join().or(Err("join"))?;
     }
@@ -97,34 +113,45 @@ fn by_turns(alloc: Global, hub: &mut Hub<MemSite>) -> Result<bool, Fail> {
 
 #[test]
 fn sessions_by_turns(rt: HostRuntime) -> Result<(), Fail> {
-    let mut hub = hub_with(rt.alloc(), HELLO)?;
-    let ended = by_turns(rt.alloc(), &mut hub);
+    let alloc = rt.alloc();
+    let mut hub = hub_with(alloc, in_memory(alloc)?, HELLO)?;
+    let ended = by_turns(alloc, &mut hub);
+    let _ = hub.close();
+    assert!(rt; ended?);
+    let mut hub = hub_with(alloc, on_a_disk(alloc)?, HELLO)?;
+    let ended = by_turns(alloc, &mut hub);
     let _ = hub.close();
     assert!(rt; ended?);
     Ok(())
 }
 
+/// The refusals of changes of names that are kept for others; none is made.
+fn refuses<S: SearchKeeper>(alloc: Global, hub: &mut Hub<S>) -> Result<bool, Fail> {
+    let want = [
+        (b"".as_slice(), Refused::Root),
+        (b"post/x", Refused::Reserved),
+        (b"URL:x", Refused::Reserved),
+    ];
+    for (selector, refused) in want {
+        let change = put_text(alloc, selector, b"T", b"x").or(Err("change"))?;
+        if hub.admin(change, Stamp::start()) != Err(HubFault::Refused(refused)) {
+            return Ok(false);
+        }
+    }
+    Ok(asked(alloc, hub, b"/about\r\n", 7)?.as_slice() == REPLY)
+}
+
 #[test]
 fn refused_changes(rt: HostRuntime) -> Result<(), Fail> {
     let alloc = rt.alloc();
-    let mut hub = hub_with(alloc, HELLO)?;
-    let mut answers = Vec::new(alloc);
-    for selector in [b"".as_slice(), b"post/x", b"URL:x"] {
-        if let Ok(change) = put_text(alloc, selector, b"T", b"x") {
-            if answers.push(hub.admin(change, Stamp::start())).is_err() {
-                break;
-            }
-        }
-    }
-    let reply = asked(alloc, &mut hub, b"/about\r\n", 7);
+    let mut hub = hub_with(alloc, in_memory(alloc)?, HELLO)?;
+    let right = refuses(alloc, &mut hub);
     let _ = hub.close();
-    let want = [
-        Err(HubFault::Refused(Refused::Root)),
-        Err(HubFault::Refused(Refused::Reserved)),
-        Err(HubFault::Refused(Refused::Reserved)),
-    ];
-    assert_eq!(rt; answers.as_slice(), want.as_slice());
-    assert_eq!(rt; reply?.as_slice(), REPLY);
+    assert!(rt; right?);
+    let mut hub = hub_with(alloc, on_a_disk(alloc)?, HELLO)?;
+    let right = refuses(alloc, &mut hub);
+    let _ = hub.close();
+    assert!(rt; right?);
     Ok(())
 }
 
@@ -173,10 +200,11 @@ fn a_run(rt: HostRuntime) -> Result<(), Fail> {
         Outcome::Gone,
         Outcome::Fault(HubFault::Unknown),
     ];
-    let site = small_site(alloc).or(Err("site"))?;
-    let Ok(mut hub) = Hub::new(alloc, site, 1) else {
-        return Err("hub".into());
-    };
+    let mut hub = hub_on(alloc, in_memory(alloc)?)?;
+    let outcomes = hub.run(&events);
+    let _ = hub.close();
+    assert_eq!(rt; outcomes?.as_slice(), want.as_slice());
+    let mut hub = hub_on(alloc, on_a_disk(alloc)?)?;
     let outcomes = hub.run(&events);
     let _ = hub.close();
     assert_eq!(rt; outcomes?.as_slice(), want.as_slice());
