@@ -103,10 +103,10 @@ pub fn pairs_left(alloc: Global, sectors: Vec<[u8; 512]>) -> Result<Vec<Bytes>, 
 
 /// How many writes a disk took since its last sync.
 pub fn unsynced(disk: &MemDisk) -> usize {
-    let mut count = 0;
+    let mut count = 0usize;
     for call in disk.calls() {
         match call {
-            Call::Write(_, _) => count += 1,
+            Call::Write(_, _) => count = count.saturating_add(1),
             Call::Sync => count = 0,
         }
     }

@@ -77,11 +77,12 @@ fn a_document_that_does_not_fit(rt: HostRuntime) -> Result<(), Fail> {
 fn each_call_of_an_opening_fails_in_turn(rt: HostRuntime) -> Result<(), Fail> {
     let alloc = rt.alloc();
     let mut disk = sample_disk(alloc)?;
-    let mut calls = 0;
-    while calls < 1000 {
+    let mut taken = None;
+    for calls in 0..1000 {
         match FlatKeeper::open(alloc, FuseDisk::new(disk, calls)) {
             Ok(keeper) => {
                 disk = keeper.into_device().into_inner();
+                taken = Some(calls);
                 break;
             }
             Err((fault, fuse)) => {
@@ -89,10 +90,9 @@ fn each_call_of_an_opening_fails_in_turn(rt: HostRuntime) -> Result<(), Fail> {
                 disk = fuse.into_inner();
             }
         }
-        calls += 1;
     }
     // A sync, sixteen root sectors, and the eight sectors of one page.
-    assert_eq!(rt; calls, 25);
+    assert_eq!(rt; taken, Some(25));
     let mut hub = hub_on(alloc, opened(alloc, disk)?)?;
     let reply = asked(alloc, &mut hub, b"/about\r\n", 4096);
     let _ = hub.close();
@@ -152,7 +152,7 @@ fn next_post(alloc: Global, disk: MemDisk) -> Result<Vec<u8>, Fail> {
 #[test]
 fn each_write_and_sync_of_a_post_fails_in_turn(rt: HostRuntime) -> Result<(), Fail> {
     let alloc = rt.alloc();
-    let mut failures = 0;
+    let mut failures = 0u32;
     for calls in 25..1000 {
         let Some(site) = try_opened(alloc, FuseDisk::new(sample_disk(alloc)?, calls)) else {
             return Err("the image opens".into());
@@ -163,7 +163,7 @@ fn each_write_and_sync_of_a_post_fails_in_turn(rt: HostRuntime) -> Result<(), Fa
         if ended? {
             break;
         }
-        failures += 1;
+        failures = failures.saturating_add(1);
         // The disk itself goes on: what it took stands, and the post is there where the last sync alone was missing.
         let reply = next_post(alloc, disk)?;
         let line = if calls == 25 + 8 + 1 + 8 {

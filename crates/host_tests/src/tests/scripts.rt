@@ -161,7 +161,7 @@ fn ask(
     now: Stamp,
 ) -> Result<(), Fail> {
     let request = REQUESTS[dice.roll(32)];
-    let cut = dice.roll(request.len() + 1).min(request.len());
+    let cut = dice.roll(56).min(request.len());
     let (front, rest) = request.split_at(cut);
     let piece = Bytes::from_slice(alloc, front)?;
     events.push(Event::Bytes { id, piece, now })?;

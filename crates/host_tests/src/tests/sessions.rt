@@ -41,7 +41,11 @@ fn numbers_of_sessions(rt: HostRuntime) -> Result<(), Fail> {
     let full = fills_up(&mut hub);
     let _ = hub.close();
     assert!(rt; full);
-    let Ok(mut hub) = Hub::new(alloc, on_a_disk(alloc)?, u64::MAX) else {
+    let site = on_a_disk(alloc)?;
+    if !site.is_usable() {
+        return Err("usable".into());
+    }
+    let Ok(mut hub) = Hub::new(alloc, site, u64::MAX) else {
         return Err("hub".into());
     };
     let spent = hub.join();

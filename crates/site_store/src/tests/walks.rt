@@ -107,12 +107,20 @@ fn each_item_comes_once_and_in_order(rt: HostRuntime) -> Result<(), Fail> {
         last = Some(found);
     }
     assert!(rt; site.next_card(last.as_ref())?.is_none());
-    // A selector at which nothing stands has a next one too.
-    let between = Selector::new(b"/a/z")?;
-    let Some((found, _)) = site.next_card(Some(&between))? else {
+    Ok(())
+}
+
+#[test]
+fn a_selector_of_no_item_has_a_next_one(rt: HostRuntime) -> Result<(), Fail> {
+    let alloc = rt.alloc();
+    let mut site = on_disk(alloc)?;
+    some_items(alloc, &mut site)?;
+    let between = Some(Selector::new(b"/a/z")?);
+    let Some((found, card)) = site.next_card(between.as_ref())? else {
         return Err(Fail::from("more items are there"));
     };
     assert!(rt; found.as_bytes() == b"/b".as_slice());
+    assert!(rt; card.title.as_bytes() == b"Second".as_slice());
     Ok(())
 }
 
