@@ -90,9 +90,10 @@ fn survives(alloc: Global, image: &[[u8; 512]], seed: u64) -> Result<bool, Fail>
     let Some((answered, disk)) = stopped(alloc, image, &events, calls)? else {
         return Err("the image opens".into());
     };
-    let told = kept_after(alloc, image, &events[..answered])?;
-    let last = (answered + 1).min(events.len());
-    let untold = kept_after(alloc, image, &events[..last])?;
+    let all = events.as_slice();
+    let told = kept_after(alloc, image, all.get(..answered).unwrap_or(all))?;
+    let with_next = all.get(..answered.saturating_add(1)).unwrap_or(all);
+    let untold = kept_after(alloc, image, with_next)?;
     for left in images(alloc, &disk)? {
         let kept = pairs_left(alloc, left)?;
         if kept.as_slice() != told.as_slice() && kept.as_slice() != untold.as_slice() {

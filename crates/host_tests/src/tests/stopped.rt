@@ -168,7 +168,12 @@ fn each_call_of_a_deed_stopped_in_turn(rt: HostRuntime) -> Result<(), Fail> {
 }
 
 /// The image of a post that was stopped before its last sync, with four of the root sectors.
-fn half_switched(alloc: Global, image: &[[u8; 512]], from: usize) -> Result<Vec<[u8; 512]>, Fail> {
+fn half_switched(
+    alloc: Global,
+    image: &[[u8; 512]],
+    from: usize,
+    to: usize,
+) -> Result<Vec<[u8; 512]>, Fail> {
     let mut last = None;
     for calls in 0..1000 {
         match stopped(alloc, image, Deed::Post, calls)? {
@@ -179,7 +184,7 @@ fn half_switched(alloc: Global, image: &[[u8; 512]], from: usize) -> Result<Vec<
     }
     match last {
         Some(disk) if unsynced(&disk) == 8 => {
-            Ok(disk.after_stop(alloc, &places(alloc, from, from + 4)?)?)
+            Ok(disk.after_stop(alloc, &places(alloc, from, to)?)?)
         }
         _ => Err("not stopped before the last sync".into()),
     }
@@ -190,8 +195,8 @@ fn a_post_stopped_twice_before_its_last_sync(rt: HostRuntime) -> Result<(), Fail
     let alloc = rt.alloc();
     let mut image = first_image(alloc)?;
     let before = kept_and_used(alloc, image.to_vec(alloc)?)?;
-    for from in [0, 4] {
-        image = half_switched(alloc, &image, from)?;
+    for (from, to) in [(0, 4), (4, 8)] {
+        image = half_switched(alloc, &image, from, to)?;
         let kept = kept_and_used(alloc, image.to_vec(alloc)?)?;
         assert!(rt; kept.as_slice() == before.as_slice(), "sectors from {from}");
     }
