@@ -14,6 +14,3 @@ pub use ask_fault::AskFault;
 pub use laws::{reads_answers, worked_examples};
 pub use post::{Post, post_of};
 pub use read::read_answers;
-
-#[cfg(test)]
-mod tests;

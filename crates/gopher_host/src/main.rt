@@ -1,24 +1,10 @@
 //! A host of a Gopher site, as a program.
 #![tactic(auto)]
 
-mod ask;
-mod fault;
-pub mod laws;
-pub mod on_disk;
-pub mod open_fault;
-pub mod opening;
-mod printed;
-mod replay;
-mod script;
-mod site;
-#[cfg(test)]
-mod tests;
 mod words;
 
-use fault::Fault;
-use replay::replay;
+use host_script::{Fault, replay, small_site};
 use session_core::Hub;
-use site::small_site;
 use std::io;
 use std::io::{BufWriter, Write};
 use std::process::ExitCode;

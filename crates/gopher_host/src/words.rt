@@ -4,9 +4,9 @@ ghost use Rattle.clap.specs.Values.{kind_of};
 ghost use Rattle.clap.specs.declared.error.kind.ErrorKind.TheVariants.{OutOfMemory};
 ghost use Rattle.gopher_host.specs.declared.words.Misread.TheVariants.{Memory};
 
-use crate::fault::Fault;
 use clap::error::ErrorKind;
 use clap::{Command, Error};
+use host_script::Fault;
 use std::alloc::{AllocError, Global};
 use std::io;
 use std::process::ExitCode;

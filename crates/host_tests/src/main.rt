@@ -1,27 +1,54 @@
-//! Tests that cross crates. The program asks for one text document in two ways, and makes each call again that found no
-//! memory: with each allocation refused in turn it draws the same bytes.
+//! Calls of what the protocol is made of, one for each line of standard input: `WORD FIELD FIELD ..`. Each line prints one: `ok` and what the
+//! call gave, or `fault` and why it gave nothing. Lines that begin with `#` are printed as they are.
 #![tactic(auto)]
 
-#[cfg(test)]
-mod tests;
-mod trial;
+mod bench;
+mod failing_site;
+mod forms;
+mod items;
+mod line;
+mod links;
+mod names;
+mod replays;
+mod replies;
+mod requests;
+mod sites;
+mod trouble;
 
+use bench::Bench;
+use line::{Line, fields_of};
+use std::alloc::{AllocError, Global};
 use std::io;
-use std::process::ExitCode;
-use trial::{Trial, drawn};
+use trouble::Trouble;
 
-fn main(rt: HostRuntime) -> io::Result<ExitCode> {
-    let mut trial = Trial::new();
-    let ended = trial.run(rt.alloc());
-    println!(rt; "refused {}", trial.refused)?;
-    for bytes in [&trial.by_calls, &trial.by_run] {
-        match std::str::from_utf8(drawn(bytes)) {
-            Ok(text) => println!(rt; "{text:?}")?,
-            Err(_) => println!(rt; "no text")?,
-        }
+/// Makes the call of a line.
+fn call(bench: &mut Bench, line: &mut Line, text: &str) -> Result<(), Trouble> {
+    let Some((word, rest)) = text.split_once(' ') else {
+        return bench.call(line, text, &[]);
+    };
+    let fields = fields_of(bench.alloc, rest)?;
+    bench.call(line, word, &fields)
+}
+
+/// What is printed for a line.
+fn answer(bench: &mut Bench, text: &str) -> Result<String, AllocError> {
+    let alloc = bench.alloc;
+    if text.starts_with('#') {
+        return String::from_str(alloc, text);
     }
-    Ok(match ended {
-        Ok(()) => ExitCode::SUCCESS,
-        Err(_) => ExitCode::FAILURE,
-    })
+    let mut line = Line::new(alloc)?;
+    match call(bench, &mut line, text) {
+        Ok(()) => String::from_str(alloc, line.as_str()),
+        Err(trouble) => format!(in alloc; "fault {trouble}"),
+    }
+}
+
+fn main(rt: HostRuntime) -> io::Result<()> {
+    let alloc = rt.alloc();
+    let mut bench = Bench::new(alloc)?;
+    for text in rt.lines(alloc) {
+        let printed = answer(&mut bench, &text?)?;
+        println!(rt; "{printed}")?;
+    }
+    Ok(())
 }

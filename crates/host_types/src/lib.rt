@@ -18,8 +18,6 @@ mod post_name;
 mod refused;
 mod site_fault;
 mod site_keeper;
-#[cfg(test)]
-mod tests;
 mod typed;
 mod view;
 

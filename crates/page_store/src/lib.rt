@@ -19,8 +19,6 @@ mod reading;
 mod roots;
 mod slot;
 mod spelling;
-#[cfg(test)]
-mod tests;
 
 pub use banner::Banner;
 pub use commit::{NewPage, commit_pages, write_pages};

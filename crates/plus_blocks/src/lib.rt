@@ -5,8 +5,6 @@ mod blocks;
 mod date;
 mod item;
 mod laws;
-#[cfg(test)]
-mod tests;
 
 pub use blocks::{abstract_block, admin, ask_block, head, info, views};
 pub use item::{attributes, entry_attributes, item_blocks};

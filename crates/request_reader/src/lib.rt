@@ -22,6 +22,3 @@ pub use names::Names;
 pub use reader::Reader;
 pub use request::{Answer, Plus, Request, Wanted};
 pub use stream::answer_to;
-
-#[cfg(test)]
-mod tests;

@@ -154,29 +154,3 @@ impl<D: Device> Device for FuseDisk<D> {
         self.inner.sync()
     }
 }
-
-#[cfg(test)]
-mod tests {
-    use super::*;
-    use crate::MemDisk;
-    use std::alloc::AllocError;
-
-    /// A count at its end stays there.
-    #[test]
-    fn counts_at_their_end(rt: HostRuntime) -> Result<(), AllocError> {
-        let mut fuse = FuseDisk {
-            inner: MemDisk::new(rt.alloc(), 1)?,
-            calls_left: 0,
-            failed_reads: u64::MAX,
-            failed_writes: u64::MAX - 1,
-        };
-        assert!(rt; fuse.sync().is_err());
-        assert_eq!(rt; fuse.refused_writes(), u64::MAX);
-        assert!(rt; fuse.sync().is_err());
-        assert_eq!(rt; fuse.refused_writes(), u64::MAX);
-        let mut buffer = [0; 512];
-        assert!(rt; fuse.read(0, &mut buffer).is_err());
-        assert_eq!(rt; fuse.refused_reads(), u64::MAX);
-        Ok(())
-    }
-}

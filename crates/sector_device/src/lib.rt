@@ -6,8 +6,6 @@ mod device;
 mod fuse_disk;
 mod laws;
 mod mem_disk;
-#[cfg(test)]
-mod tests;
 
 pub use call::Call;
 pub use device::{Device, DeviceFault};

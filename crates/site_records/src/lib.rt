@@ -12,8 +12,6 @@ mod question_reading;
 mod record;
 mod record_reading;
 mod record_writing;
-#[cfg(test)]
-mod tests;
 mod view_reading;
 
 pub use entry_reading::read_entries;

@@ -23,8 +23,6 @@ mod searching;
 mod site_calls;
 mod site_walk;
 mod stroke;
-#[cfg(test)]
-mod tests;
 mod told;
 mod walking;
 mod whole_layout;

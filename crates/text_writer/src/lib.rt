@@ -5,8 +5,6 @@ mod error;
 mod laws;
 mod menus;
 mod place;
-#[cfg(test)]
-mod tests;
 mod whole;
 
 pub use error::{ErrorText, error_reply};

@@ -5,8 +5,6 @@ mod fault;
 mod laws;
 mod names;
 mod page;
-#[cfg(test)]
-mod tests;
 
 pub use fault::UrlFault;
 pub use laws::{reads_back, worked_examples};

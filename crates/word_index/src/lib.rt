@@ -6,8 +6,6 @@ mod laws;
 mod mem_search;
 mod search_keeper;
 mod selector_list;
-#[cfg(test)]
-mod tests;
 mod word;
 mod word_list;
 

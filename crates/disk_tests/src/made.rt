@@ -1,0 +1,68 @@
+// Images in memory, and changes of their pairs, for the program and the tests.
+use host_types::{Admin, Bytes, Host, Stamp, Title};
+use page_store::{Banner, Edit, FlatKeeper, Keeper, KeeperFault, format};
+use sector_device::{Device, MemDisk};
+use site_store::first_pairs;
+use std::alloc::Global;
+
+/// 28 July 1993, 17:02:01.
+pub const EVENING: u64 = 743_878_921;
+
+/// A banner of flat pages.
+pub fn banner(host: &[u8], port: u16, admin: &[u8]) -> Option<Banner> {
+    Some(Banner {
+        version: 0,
+        host: Host::new(host).ok()?,
+        port,
+        admin: Admin::new(admin).ok()?,
+    })
+}
+
+/// Makes an image of so many pages whose site has a top menu without entries.
+pub fn make_site(alloc: Global, disk: &mut MemDisk, pages: u32) -> Result<(), KeeperFault> {
+    let (Ok(title), Ok(stamp)) = (Title::new(b"The top of it"), Stamp::new(EVENING)) else {
+        return Err(KeeperFault::Version);
+    };
+    let Some(banner) = banner(b"localhost", 7070, b"Ada <ada@localhost>") else {
+        return Err(KeeperFault::Version);
+    };
+    if banner.version != 0 || banner.port == 0 {
+        return Err(KeeperFault::Version);
+    }
+    let pairs = first_pairs(alloc, &title, stamp)?;
+    format(alloc, disk, pages, banner, &pairs)
+}
+
+/// Puts a value at a key, or takes it away, whatever site is kept. A key or a value of no lawful length is `Version`, so that callers need not prove one.
+#[tactic(auto, unfolding(page_store::specs::Batch::is_value))]
+pub fn change<D: Device>(
+    alloc: Global,
+    keeper: &mut FlatKeeper<D>,
+    key: &[u8],
+    value: Option<&[u8]>,
+) -> Result<(), KeeperFault> {
+    let banner = keeper.banner().clone()?;
+    if key.is_empty() || key.len() > 300 || banner.version != 0 || banner.port == 0 {
+        return Err(KeeperFault::Version);
+    }
+    let key = Bytes::from_slice(alloc, key)?;
+    let value = match value {
+        Some(bytes) => {
+            if bytes.len() > 1024 {
+                return Err(KeeperFault::Version);
+            }
+            Some(Bytes::from_slice(alloc, bytes)?)
+        }
+        None => None,
+    };
+    keeper.commit(&[Edit { key, value }], banner)
+}
+
+/// What stands at the key `k`: none, or its first byte.
+pub fn found<K: Keeper>(keeper: &mut K) -> Result<Option<u8>, KeeperFault> {
+    let mut buffer = [0; 1024];
+    match keeper.get(b"k", &mut buffer)? {
+        Some(_) => Ok(Some(buffer[0])),
+        None => Ok(None),
+    }
+}

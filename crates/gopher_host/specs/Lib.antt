@@ -1,8 +1,0 @@
-pub mod Number
-pub mod Script
-pub mod Asked
-pub mod Printed
-pub mod Lines
-pub mod ImageSites
-pub mod OpenFaults
-pub mod Headline

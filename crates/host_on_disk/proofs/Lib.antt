@@ -1,0 +1,4 @@
+pub mod Images
+pub mod Openings
+pub mod Found
+pub mod Runs

@@ -1,0 +1,3 @@
+pub mod ImageSites
+pub mod OpenFaults
+pub mod Headline

@@ -1,0 +1,65 @@
+// Runs of events over a site on a disk, and what survives a stop.
+ghost use Rattle.std.specs.Prelude.{◌≡◌, true, IfOk, IfErr, IsTrue};
+ghost use Rattle.host_types.specs.Stops.{IsQuiet};
+ghost use Rattle.page_store.specs.Steps.{stops_of};
+ghost use Rattle.session_core.specs.World.{World, started};
+ghost use Rattle.session_core.specs.Run.{Run};
+ghost use Rattle.session_core.specs.Stopped.{IsStopped};
+ghost use Rattle.host_on_disk.specs.Headline.{Survives};
+ghost use Rattle.host_on_disk.specs.OpenFaults.{IsOpeningFault};
+ghost use Rattle.host_on_disk.specs.declared.open_fault.OpenFault.TheVariants.{Memory};
+
+use crate::open_fault::OpenFault;
+use crate::opening::open_site;
+use sector_device::Device;
+use session_core::{Event, Hub, OutcomeList};
+use std::alloc::Global;
+use word_index::SearchKeeper;
+
+/// Runs events over a site in one hub, whose first session has this number, and hands the site back. `Memory` comes before the first event.
+pub fn run_over<S: SearchKeeper>(
+    alloc: Global,
+    site: S,
+    first: u64,
+    events: &[Event],
+) -> Result<(OutcomeList, S), (OpenFault, S)>
+    requires { (S.keeping site).usable ≡ true }
+    ensures run { IsTrue (S.keeping site).honest → IfOk result (λ r. (last : World) × Run (started (S.keeping site).site first) events.now r.0 last × IsStopped S.stands_for (started (S.keeping site).site first) last (S.stops site) (S.stops r.1) events.now r.0) }
+    ensures honest { IfOk result (λ r. (S.keeping r.1).honest ≡ (S.keeping site).honest) }
+    ensures err { IfErr result (λ e. (e.0 ≡ Memory) × (e.1 ≡ site)) }
+{
+    let mut hub = match Hub::new(alloc, site, first) {
+        Ok(hub) => hub,
+        Err((_, site)) => return Err((OpenFault::Memory, site)),
+    };
+    match hub.run(events) {
+        Ok(outcomes) => Ok((outcomes, hub.close())),
+        Err(_) => Err((OpenFault::Memory, hub.close())),
+    }
+}
+
+/// Opens the image on a device, runs events over its site in one hub, and hands the device back.
+///
+/// What a stop at any moment leaves on the device stands for the site after some of the events, with each change that was acknowledged by
+/// then, or for the one with the change that nobody was told of. A device that shows it, where it opens, gives that site.
+pub fn run_on<D: Device>(
+    alloc: Global,
+    device: D,
+    first: u64,
+    events: &[Event],
+) -> Result<(OutcomeList, D), (OpenFault, D)>
+    ensures survives { IsTrue (D.state device).honest → IfOk result (λ r. Survives D.state (stops_of D.moment D.left_since) device r.1 first events.now r.0) }
+    ensures honest { IfOk result (λ r. (D.state r.1).honest ≡ (D.state device).honest) }
+    ensures fault { IfErr result (λ e. IsOpeningFault (D.state device) (D.state e.1) e.0) }
+    ensures stop_at_fault { IsTrue (D.state device).honest → IfErr result (λ e. IsQuiet (stops_of D.moment D.left_since device) (stops_of D.moment D.left_since e.1)) }
+    ensures handed_back { IfErr result (λ e. (D.state e.1).honest ≡ (D.state device).honest) }
+{
+    let site = match open_site(alloc, device) {
+        Ok(site) => site,
+        Err(refused) => return Err(refused),
+    };
+    match run_over(alloc, site, first, events) {
+        Ok((outcomes, site)) => Ok((outcomes, site.into_keeper().into_device())),
+        Err((fault, site)) => Err((fault, site.into_keeper().into_device())),
+    }
+}

@@ -1,0 +1,179 @@
+// Runs a script over a hub.
+ghost use Rattle.std.specs.Prelude.{◌≡◌, ℕ, false, List, [], ◌∷◌, ◌++◌, None, Err, IfOk, IfSome, OnOk, IsTrue, IsUtf8};
+ghost use Rattle.std.specs.List.{list_any};
+ghost use Rattle.std.specs.Io.KnownBytes.{Appends};
+ghost use Rattle.std.specs.String.{string_bytes};
+ghost use Rattle.session_core.specs.Hub.{keeper_of, world_of};
+ghost use Rattle.host_script.specs.Script.{line_command};
+ghost use Rattle.host_script.specs.declared.fault.Fault.TheVariants.{Script};
+ghost use Rattle.host_script.specs.Lines.{IsAnswer, RunsLine, IsRunTo, IsRunInPart, IsLastRun, IsReplayed, is_lf};
+
+use crate::asking::{Asked, ask};
+use crate::fault::Fault;
+use crate::printed::{fault_line, line_of};
+use crate::script::{LineFault, parse};
+use host_types::Stamp;
+use session_core::{Event, Hub};
+use std::alloc::{AllocError, Global};
+use std::io::{Read, Write};
+use word_index::SearchKeeper;
+
+/// How many reads a script may take.
+pub const MOST_READS: u64 = 1_000_000;
+
+/// What is printed of an event.
+fn answer<S: SearchKeeper>(
+    alloc: Global,
+    hub: &mut Hub<S>,
+    event: Event,
+) -> Result<String, AllocError>
+    ensures answer { IsTrue (S.keeping (keeper_of hub.old)).honest → IfOk result (λ printed. IsAnswer (world_of S.keeping hub.old) (world_of S.keeping hub.new) event (string_bytes printed)) }
+    ensures honest { (S.keeping (keeper_of hub.new)).honest ≡ (S.keeping (keeper_of hub.old)).honest }
+{
+    let Ok(outcomes) = hub.run(&[event]) else {
+        return String::from_str(alloc, "fault Memory");
+    };
+    match outcomes.as_slice() {
+        [outcome] => line_of(alloc, outcome),
+        _ => unreachable!(),
+    }
+}
+
+/// The moment after a line of a script, and what is printed of it.
+fn answer_line<S: SearchKeeper>(
+    alloc: Global,
+    hub: &mut Hub<S>,
+    line: &[u8],
+    now: Stamp,
+) -> Result<(Stamp, String), LineFault>
+    ensures line { IsTrue (S.keeping (keeper_of hub.old)).honest → IfOk result (λ (after, printed). RunsLine (world_of S.keeping hub.old) (world_of S.keeping hub.new) now after line.now (string_bytes printed)) }
+    ensures form { result ≡ Err LineFault.Form → (hub.new ≡ hub.old) × (IsUtf8 line.now → line_command line.now ≡ None) }
+    ensures honest { (S.keeping (keeper_of hub.new)).honest ≡ (S.keeping (keeper_of hub.old)).honest }
+{
+    match ask(alloc, parse(alloc, line)?, now)? {
+        Asked::Moment(moment) => Ok((moment, String::from_str(alloc, "ok")?)),
+        Asked::Event(event) => Ok((now, answer(alloc, hub, event)?)),
+        Asked::Refused(refused) => Ok((now, fault_line(alloc, &refused)?)),
+    }
+}
+
+/// Runs one line of a script, and answers the moment after it.
+fn run_line<S: SearchKeeper, W: Write>(
+    alloc: Global,
+    hub: &mut Hub<S>,
+    writer: &mut W,
+    now: Stamp,
+    number: u64,
+    line: &[u8],
+) -> Result<Stamp, Fault>
+    ensures line { IsTrue (S.keeping (keeper_of hub.old)).honest → IfOk result (λ after. (printed : List ℕ) × RunsLine (world_of S.keeping hub.old) (world_of S.keeping hub.new) now after line.now printed × Appends (W.contents writer.old) (W.contents writer.new) (printed ++ 10 ∷ [])) }
+    ensures script { (n : ℕ) → result ≡ Err (Script n) → (n ≡ number) × (hub.new ≡ hub.old) × (writer.new ≡ writer.old) × (IsUtf8 line.now → line_command line.now ≡ None) }
+    ensures honest { (S.keeping (keeper_of hub.new)).honest ≡ (S.keeping (keeper_of hub.old)).honest }
+{
+    let (moment, printed) = match answer_line(alloc, hub, line, now) {
+        Ok(answered) => answered,
+        Err(LineFault::Form) => return Err(Fault::Script(number)),
+        Err(LineFault::Memory) => return Err(Fault::Memory),
+    };
+    match writeln!(writer, "{printed}") {
+        Ok(()) => Ok(moment),
+        Err(_) => Err(Fault::Output),
+    }
+}
+
+/// Where a script stands: the line so far, its number, and the moment.
+#[derive(Drop)]
+struct Place {
+    line: Vec<u8>,
+    number: u64,
+    moment: Stamp,
+}
+
+/// Takes one byte of a script, and runs the line that it ends.
+fn run_byte<S: SearchKeeper, W: Write>(
+    alloc: Global,
+    hub: &mut Hub<S>,
+    writer: &mut W,
+    place: &mut Place,
+    byte: u8,
+) -> Result<(), Fault>
+    ensures run { IsTrue (S.keeping (keeper_of hub.old)).honest → list_any is_lf place.old.line.items ≡ false → OnOk result (IsRunTo (world_of S.keeping hub.old) (world_of S.keeping hub.new) place.old.moment place.new.moment (W.contents writer.old) (W.contents writer.new) (place.old.line.items ++ byte ∷ []) place.new.line.items) }
+    ensures script { (n : ℕ) → result ≡ Err (Script n) → (n ≡ place.old.number) × (hub.new ≡ hub.old) × (writer.new ≡ writer.old) × (byte ≡ 10) × (IsUtf8 place.old.line.items → line_command place.old.line.items ≡ None) }
+    ensures honest { (S.keeping (keeper_of hub.new)).honest ≡ (S.keeping (keeper_of hub.old)).honest }
+{
+    if byte != b'\n' {
+        return match place.line.push(byte) {
+            Ok(()) => Ok(()),
+            Err(_) => Err(Fault::Memory),
+        };
+    }
+    place.moment = run_line(alloc, hub, writer, place.moment, place.number, &place.line)?;
+    place.line.clear();
+    place.number = place.number.saturating_add(1);
+    Ok(())
+}
+
+/// Takes the next piece of a script, and runs the lines that it ends.
+fn run_piece<S: SearchKeeper, W: Write>(
+    alloc: Global,
+    hub: &mut Hub<S>,
+    writer: &mut W,
+    place: &mut Place,
+    piece: &[u8],
+) -> Result<(), Fault>
+    ensures run { IsTrue (S.keeping (keeper_of hub.old)).honest → list_any is_lf place.old.line.items ≡ false → OnOk result (IsRunTo (world_of S.keeping hub.old) (world_of S.keeping hub.new) place.old.moment place.new.moment (W.contents writer.old) (W.contents writer.new) (place.old.line.items ++ piece.now) place.new.line.items) }
+    ensures script { IsTrue (S.keeping (keeper_of hub.old)).honest → list_any is_lf place.old.line.items ≡ false → (n : ℕ) → result ≡ Err (Script n) → IsRunInPart (world_of S.keeping hub.old) (world_of S.keeping hub.new) place.old.moment (W.contents writer.old) (W.contents writer.new) place.old.line.items piece.now }
+    ensures honest { (S.keeping (keeper_of hub.new)).honest ≡ (S.keeping (keeper_of hub.old)).honest }
+{
+    for byte in piece {
+        run_byte(alloc, hub, writer, place, *byte)?;
+    }
+    Ok(())
+}
+
+/// Runs what stands behind the last LF, where it has bytes.
+fn run_last<S: SearchKeeper, W: Write>(
+    alloc: Global,
+    hub: &mut Hub<S>,
+    writer: &mut W,
+    place: &Place,
+) -> Result<(), Fault>
+    ensures run { IsTrue (S.keeping (keeper_of hub.old)).honest → OnOk result (IsLastRun (world_of S.keeping hub.old) (world_of S.keeping hub.new) place.now.moment (W.contents writer.old) (W.contents writer.new) place.now.line.items) }
+    ensures script { (n : ℕ) → result ≡ Err (Script n) → (hub.new ≡ hub.old) × (writer.new ≡ writer.old) }
+{
+    let line = place.line.as_slice();
+    if line.is_empty() {
+        return Ok(());
+    }
+    let _ = run_line(alloc, hub, writer, place.moment, place.number, line)?;
+    Ok(())
+}
+
+/// Reads a script to its end, a line at a time, and prints one line for each. Lines count from 1, and the last may lack
+/// its LF. A line of another form, a read that fails, and the end of the reads that it may take end it as `Fault::Script`.
+pub fn replay<R: Read, W: Write, S: SearchKeeper>(
+    alloc: Global,
+    reader: &mut R,
+    writer: &mut W,
+    hub: &mut Hub<S>,
+) -> Result<(), Fault>
+    ensures run { IsTrue (S.keeping (keeper_of hub.old)).honest → OnOk result (IfSome (R.remaining reader.old) (IsReplayed (world_of S.keeping hub.old) (world_of S.keeping hub.new) (W.contents writer.old) (W.contents writer.new))) }
+    ensures script { IsTrue (S.keeping (keeper_of hub.old)).honest → (n : ℕ) → result ≡ Err (Script n) → IfSome (R.remaining reader.old) (IsRunInPart (world_of S.keeping hub.old) (world_of S.keeping hub.new) 0 (W.contents writer.old) (W.contents writer.new) []) }
+{
+    let mut buffer = [0; 4096];
+    let mut place = Place {
+        line: Vec::new(alloc),
+        number: 1,
+        moment: Stamp::start(),
+    };
+    for _ in 0..MOST_READS {
+        let Ok(count) = reader.read(&mut buffer) else {
+            return Err(Fault::Script(place.number));
+        };
+        if count == 0 {
+            return run_last(alloc, hub, writer, &place);
+        }
+        run_piece(alloc, hub, writer, &mut place, &buffer[..count])?;
+    }
+    Err(Fault::Script(place.number))
+}

@@ -1,0 +1,110 @@
+// A site in memory whose reads and changes can be made to fail. It promises nothing of its contents.
+ghost use Rattle.std.specs.Prelude.{◌≡◌, ℕ, true, false};
+ghost use Rattle.host_types.specs.Stops.{nothing, no_stop};
+
+use host_types::{Card, Change, Front, MemSite, Selector, SiteFault, SiteKeeper, Stamp};
+use word_index::{SearchKeeper, SelectorList};
+
+/// A site of which one read fails, or a change.
+#[derive(Drop)]
+pub struct FailingSite {
+    site: MemSite,
+    reads: u64,
+    changes: u64,
+    usable: bool,
+}
+
+impl FailingSite {
+    /// The read after so many others fails, and the change after so many others.
+    pub fn new(site: MemSite, reads: u64, changes: u64) -> Self
+        ensures { result.usable ≡ true }
+    {
+        FailingSite {
+            site,
+            reads,
+            changes,
+            usable: true,
+        }
+    }
+
+    /// Whether this read fails.
+    fn read_fails(&mut self) -> bool
+        ensures { self.new.usable ≡ self.old.usable }
+    {
+        let fails = self.reads == 0;
+        self.reads = self.reads.wrapping_sub(1);
+        fails
+    }
+}
+
+impl SiteKeeper for FailingSite {
+    ghost keeping = { λ m. record { site = m.site; honest = false; usable = m.usable; free = 0; failed_reads = 0; failed_writes = 0 } };
+
+    ghost lacks = { λ m change now fault. ⊥ };
+
+    ghost Left = { ℕ };
+
+    ghost stands_for = { λ c s. ⊥ };
+
+    ghost stops = { λ m. nothing };
+
+    ghost settled = { λ m c honest usable left. no_stop left };
+
+    fn front(&self) -> Front<'_> {
+        self.site.front()
+    }
+
+    fn is_usable(&self) -> bool {
+        self.usable
+    }
+
+    fn card(&mut self, selector: &Selector) -> Result<Option<Card>, SiteFault> {
+        if !self.usable {
+            return Err(SiteFault::Failed);
+        }
+        if self.read_fails() {
+            return Err(SiteFault::Read);
+        }
+        self.site.card(selector)
+    }
+
+    fn chunk(
+        &mut self,
+        selector: &Selector,
+        view: usize,
+        k: usize,
+        buffer: &mut [u8; 1000],
+    ) -> Result<usize, SiteFault> {
+        if !self.usable {
+            return Err(SiteFault::Failed);
+        }
+        if self.read_fails() {
+            return Err(SiteFault::Read);
+        }
+        self.site.chunk(selector, view, k, buffer)
+    }
+
+    fn change(&mut self, change: Change, now: Stamp) -> Result<(), SiteFault> {
+        if !self.usable {
+            return Err(SiteFault::Failed);
+        }
+        if self.changes == 0 {
+            self.usable = false;
+            return Err(SiteFault::Failed);
+        }
+        self.changes -= 1;
+        self.site.change(change, now)
+    }
+}
+
+impl SearchKeeper for FailingSite {
+    fn search(&mut self, scope: &Selector, query: &[u8]) -> Result<SelectorList, SiteFault> {
+        if !self.usable {
+            return Err(SiteFault::Failed);
+        }
+        if self.read_fails() {
+            return Err(SiteFault::Read);
+        }
+        self.site.search(scope, query)
+    }
+}

@@ -1,0 +1,220 @@
+// A site in memory: its changes, and what is seen of it.
+use crate::bench::Bench;
+use crate::items::item;
+use crate::line::{Line, number, small_number};
+use crate::trouble::Trouble;
+use host_types::{
+    Admin, Bytes, Card, CardBody, Change, Host, Kind, MemSite, Selector, SiteKeeper, Stamp, Title,
+};
+use word_index::{SearchKeeper, card_words, words};
+
+/// `site HOST PORT KEEPER TITLE STAMP`: a fresh site.
+fn fresh(bench: &mut Bench, fields: &[Vec<u8>]) -> Result<(), Trouble> {
+    let [host, port, admin, title, stamp] = fields else {
+        return Err(Trouble::Line);
+    };
+    let port = small_number(port)?;
+    if port == 0 {
+        return Err(Trouble::Line);
+    }
+    bench.site = MemSite::new(
+        bench.alloc,
+        Host::new(host)?,
+        port,
+        Admin::new(admin)?,
+        Title::new(title)?,
+        Stamp::new(number(stamp)?)?,
+    )?;
+    Ok(())
+}
+
+/// Makes a change, of which each name is lawful, at the moment that was told.
+fn change(bench: &mut Bench, change: Change) -> Result<(), Trouble> {
+    change.lawful_names();
+    Ok(bench.site.change(change.clone()?, bench.now)?)
+}
+
+/// `put SELECTOR ITEM`, an item as its fields say.
+fn put(bench: &mut Bench, fields: &[Vec<u8>]) -> Result<(), Trouble> {
+    let [selector, rest @ ..] = fields else {
+        return Err(Trouble::Line);
+    };
+    let put = Change::Put(Selector::new(selector)?, item(bench.alloc, rest)?);
+    change(bench, put)
+}
+
+/// `insert SELECTOR ITEM`: the item stands there, whatever the rules say.
+fn insert(bench: &mut Bench, fields: &[Vec<u8>]) -> Result<(), Trouble> {
+    let [selector, rest @ ..] = fields else {
+        return Err(Trouble::Line);
+    };
+    let selector = Selector::new(selector)?;
+    let item = item(bench.alloc, rest)?;
+    if item.is_long(&selector) {
+        return Err(Trouble::Line);
+    }
+    Ok(bench.site.insert(selector, item)?)
+}
+
+/// `post BOARD TITLE TEXT`
+fn post(bench: &mut Bench, fields: &[Vec<u8>]) -> Result<(), Trouble> {
+    let [board, title, text] = fields else {
+        return Err(Trouble::Line);
+    };
+    let post = Change::Post {
+        board: Selector::new(board)?,
+        title: Title::new(title)?,
+        text: Bytes::from_slice(bench.alloc, text)?,
+    };
+    change(bench, post)
+}
+
+/// The changes with one field or two: `remove SELECTOR`, `set_keeper KEEPER`, `move SELECTOR SELECTOR`, `set_host HOST PORT`.
+fn short_change(word: &str, fields: &[Vec<u8>]) -> Result<Change, Trouble> {
+    match (word, fields) {
+        ("remove", [selector]) => Ok(Change::Remove(Selector::new(selector)?)),
+        ("set_keeper", [keeper]) => Ok(Change::SetAdmin(Admin::new(keeper)?)),
+        ("move", [from, to]) => Ok(Change::Move {
+            from: Selector::new(from)?,
+            to: Selector::new(to)?,
+        }),
+        ("set_host", [host, port]) => Ok(Change::SetHost {
+            host: Host::new(host)?,
+            port: small_number(port)?,
+        }),
+        _ => Err(Trouble::Line),
+    }
+}
+
+/// What sort of item it is, and two numbers: how many or how long, or how many posts and the number of the next.
+fn show_body(line: &mut Line, body: &CardBody) -> Result<(), Trouble> {
+    let (word, first, second) = match body {
+        CardBody::Views(Kind::Text, views) => match views.as_slice() {
+            [view] => ("text", u64::from(view.length), 0),
+            _ => ("views", 0, 0),
+        },
+        CardBody::Views(_, _) => ("document", 0, 0),
+        CardBody::Menu(entries) => ("menu", entries.as_slice().len() as u64, 0),
+        CardBody::Board { cap, next } => ("board", u64::from(*cap), *next),
+        CardBody::Form { .. } => ("form", 0, 0),
+        CardBody::Search { .. } => ("search", 0, 0),
+        CardBody::Moved { target } => ("moved", target.as_bytes().len() as u64, 0),
+    };
+    line.word(word)?;
+    line.number(first)?;
+    Ok(line.number(second)?)
+}
+
+/// The item at a selector.
+pub fn card_at(bench: &mut Bench, selector: &[u8]) -> Result<Option<Card>, Trouble> {
+    Ok(bench.site.card(&Selector::new(selector)?)?)
+}
+
+/// `card SELECTOR`: what stands there, when it changed, and how long its summary is.
+fn show_card(bench: &mut Bench, line: &mut Line, selector: &[u8]) -> Result<(), Trouble> {
+    let Some(card) = card_at(bench, selector)? else {
+        return Ok(line.word("none")?);
+    };
+    show_body(line, &card.body)?;
+    line.number(card.stamp.seconds())?;
+    Ok(line.number(card.summary.len() as u64)?)
+}
+
+/// `front`: host, port and who keeps the site.
+fn show_front(bench: &Bench, line: &mut Line) -> Result<(), Trouble> {
+    if !bench.site.is_usable() {
+        return Err(Trouble::Differs);
+    }
+    let front = bench.site.front();
+    line.bytes(front.host.as_bytes())?;
+    line.number(u64::from(front.port))?;
+    Ok(line.bytes(front.admin.as_bytes())?)
+}
+
+/// `chunk SELECTOR VIEW PLACE`
+fn show_chunk(bench: &mut Bench, line: &mut Line, fields: &[Vec<u8>]) -> Result<(), Trouble> {
+    let [selector, view, place] = fields else {
+        return Err(Trouble::Line);
+    };
+    let selector = Selector::new(selector)?;
+    let view = number(view)? as usize;
+    let place = number(place)? as usize;
+    let mut buffer = [0; 1000];
+    let length = bench.site.chunk(&selector, view, place, &mut buffer)?;
+    Ok(line.bytes(&buffer[..length])?)
+}
+
+/// `search SCOPE WORDS`: the selectors that are found.
+fn search(bench: &mut Bench, line: &mut Line, fields: &[Vec<u8>]) -> Result<(), Trouble> {
+    let [scope, words] = fields else {
+        return Err(Trouble::Line);
+    };
+    let found = bench.site.search(&Selector::new(scope)?, words)?;
+    for selector in found.as_slice() {
+        line.bytes(selector.as_bytes())?;
+    }
+    Ok(())
+}
+
+/// `card_words SELECTOR BYTES`: the words of the item there, whose first view has these bytes.
+fn show_words(bench: &mut Bench, line: &mut Line, fields: &[Vec<u8>]) -> Result<(), Trouble> {
+    let [selector, bytes] = fields else {
+        return Err(Trouble::Line);
+    };
+    let Some(card) = card_at(bench, selector)? else {
+        return Err(Trouble::Line);
+    };
+    Ok(line.list(&card_words(bench.alloc, &card, bytes)?)?)
+}
+
+/// The words that change something.
+fn of_changes(bench: &mut Bench, word: &str, fields: &[Vec<u8>]) -> Result<bool, Trouble> {
+    match word {
+        "site" => fresh(bench, fields)?,
+        "put" => put(bench, fields)?,
+        "insert" => insert(bench, fields)?,
+        "post" => post(bench, fields)?,
+        "remove" | "set_keeper" | "move" | "set_host" => {
+            let short = short_change(word, fields)?;
+            change(bench, short)?;
+        }
+        _ => return Ok(false),
+    }
+    Ok(true)
+}
+
+/// The words that look at the site.
+fn looks(
+    bench: &mut Bench,
+    line: &mut Line,
+    word: &str,
+    fields: &[Vec<u8>],
+) -> Result<bool, Trouble> {
+    match word {
+        "front" => show_front(bench, line)?,
+        "lawful" => {
+            let is_lawful = bench.site.is_lawful(bench.alloc)?;
+            line.word(if is_lawful { "lawful" } else { "unlawful" })?;
+        }
+        "chunk" => show_chunk(bench, line, fields)?,
+        "search" => search(bench, line, fields)?,
+        "card_words" => show_words(bench, line, fields)?,
+        _ => return Ok(false),
+    }
+    Ok(true)
+}
+
+pub fn call(
+    bench: &mut Bench,
+    line: &mut Line,
+    word: &str,
+    fields: &[Vec<u8>],
+) -> Result<bool, Trouble> {
+    match (word, fields) {
+        ("now", [moment]) => bench.now = Stamp::new(number(moment)?)?,
+        ("card", [selector]) => show_card(bench, line, selector)?,
+        ("words", fields) => line.list(&words(bench.alloc, &item(bench.alloc, fields)?)?)?,
+        _ => return Ok(looks(bench, line, word, fields)? || of_changes(bench, word, fields)?),
+    }
+    Ok(true)
+}

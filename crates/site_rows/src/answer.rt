@@ -1,0 +1,101 @@
+// What one hub answers to a line.
+use crate::asking::{Cut, by_calls, by_run};
+use crate::changes::change;
+use crate::fault::Fault;
+use crate::fields::{bytes, number};
+use crate::turns::by_turns;
+use host_script::{Asked, LineFault, ask, fault_line, line_of, parse};
+use host_types::Stamp;
+use session_core::{Event, Hub};
+use std::alloc::Global;
+use word_index::SearchKeeper;
+
+/// The size of the one piece of a whole request.
+const WHOLE: usize = 1_000_000;
+
+/// The event of a line that the script has too.
+fn scripted(alloc: Global, line: &str, now: Stamp) -> Result<Event, Fault> {
+    let command = match parse(alloc, line.as_bytes()) {
+        Ok(command) => command,
+        Err(LineFault::Form) => return Err(Fault::Line),
+        Err(LineFault::Memory) => return Err(Fault::Memory),
+    };
+    match ask(alloc, command, now)? {
+        Asked::Event(event) => Ok(event),
+        Asked::Refused(refused) => Err(Fault::from(refused)),
+        Asked::Moment(_) => Err(Fault::Line),
+    }
+}
+
+/// What a hub answers to one event: a change, or a line that the script has too.
+fn of_event<S: SearchKeeper>(
+    alloc: Global,
+    hub: &mut Hub<S>,
+    fields: &[&str],
+    line: &str,
+    now: Stamp,
+) -> Result<String, Fault> {
+    let event = match change(alloc, fields)? {
+        Some(change) => Event::Admin { change, now },
+        None => scripted(alloc, line, now)?,
+    };
+    let outcomes = hub.run(&[event])?;
+    match outcomes.as_slice() {
+        [outcome] => Ok(line_of(alloc, outcome)?),
+        _ => Err(Fault::Line),
+    }
+}
+
+fn of_line<S: SearchKeeper>(
+    alloc: Global,
+    hub: &mut Hub<S>,
+    fields: &[&str],
+    line: &str,
+    now: Stamp,
+) -> Result<String, Fault> {
+    match fields {
+        ["ask", all @ ..] => by_run(alloc, hub, bytes(alloc, all)?.as_slice(), WHOLE, now),
+        ["runs", piece, all @ ..] => {
+            by_run(
+                alloc,
+                hub,
+                bytes(alloc, all)?.as_slice(),
+                number(piece)?,
+                now,
+            )
+        }
+        ["pieces", piece, all @ ..] => {
+            let size = number(piece)?;
+            let cut = Cut {
+                piece: size,
+                room: size,
+                ends: false,
+            };
+            by_calls(alloc, hub, bytes(alloc, all)?.as_slice(), cut, now)
+        }
+        ["asked", all @ ..] => {
+            let cut = Cut {
+                piece: WHOLE,
+                room: 7,
+                ends: true,
+            };
+            by_calls(alloc, hub, bytes(alloc, all)?.as_slice(), cut, now)
+        }
+        ["turns", count, all @ ..] => by_turns(alloc, hub, number(count)?, all, now),
+        _ => of_event(alloc, hub, fields, line, now),
+    }
+}
+
+/// What a hub answers to a line: its fault is an answer too.
+pub fn answer<S: SearchKeeper>(
+    alloc: Global,
+    hub: &mut Hub<S>,
+    fields: &[&str],
+    line: &str,
+    now: Stamp,
+) -> Result<String, Fault> {
+    match of_line(alloc, hub, fields, line, now) {
+        Err(Fault::Hub(fault)) => Ok(fault_line(alloc, &fault)?),
+        other => other,
+    }
+}

@@ -1,0 +1,124 @@
+// Sessions that ask, and what they are told.
+use crate::fault::Fault;
+use host_script::{escaped, line_of};
+use host_types::{Bytes, Stamp};
+use session_core::{Drawn, Event, Heard, Hub, Outcome};
+use std::alloc::Global;
+use word_index::SearchKeeper;
+
+/// The room of each draw of a run.
+const ROOM: usize = 16_384;
+
+/// How often a run draws, which is enough for the longest document.
+const DRAWS: usize = 8;
+
+/// How often a reply is drawn by calls at most.
+const MOST_DRAWS: u32 = 100_000;
+
+/// How a request comes, and how its reply is drawn by calls.
+#[derive(Clone, Copy)]
+pub struct Cut {
+    /// How many bytes a piece of the request has.
+    pub piece: usize,
+    /// The room of a draw.
+    pub room: usize,
+    /// Whether the end of input follows.
+    pub ends: bool,
+}
+
+/// A whole reply, as its line tells it.
+pub fn told(alloc: Global, reply: &[u8]) -> Result<String, Fault> {
+    let mut line = String::from_str(alloc, "drawn ")?;
+    line.push_str(&escaped(alloc, reply)?)?;
+    Ok(line)
+}
+
+/// What some draws gave together.
+fn told_of_draws(alloc: Global, draws: &[Outcome]) -> Result<String, Fault> {
+    let mut reply = Vec::new(alloc);
+    for outcome in draws {
+        match outcome {
+            Outcome::Drawn(bytes) => reply.extend_from_slice(bytes.as_slice())?,
+            Outcome::Finished => {}
+            other => return Ok(line_of(alloc, other)?),
+        }
+    }
+    told(alloc, &reply)
+}
+
+/// What the last piece of a run, its draws and the leave come to.
+fn told_of_run(alloc: Global, outcomes: &[Outcome]) -> Result<String, Fault> {
+    match outcomes {
+        [Outcome::Ready, draws @ .., Outcome::Finished, Outcome::Gone] => told_of_draws(
+            alloc, draws,
+        ),
+        [heard, ..] => Ok(line_of(alloc, heard)?),
+        [] => Err(Fault::Line),
+    }
+}
+
+/// The pieces of a request with the draws of its reply and the leave, as one run of events.
+pub fn by_run<S: SearchKeeper>(
+    alloc: Global,
+    hub: &mut Hub<S>,
+    request: &[u8],
+    size: usize,
+    now: Stamp,
+) -> Result<String, Fault> {
+    let id = hub.join()?;
+    let mut events = Vec::new(alloc);
+    for piece in request.chunks(size.max(1)) {
+        let piece = Bytes::from_slice(alloc, piece)?;
+        events.push(Event::Bytes { id, piece, now })?;
+    }
+    let last = events.len().saturating_sub(1);
+    for _ in 0..DRAWS {
+        events.push(Event::Draw { id, room: ROOM })?;
+    }
+    events.push(Event::Leave { id })?;
+    let outcomes = hub.run(&events)?;
+    told_of_run(alloc, outcomes.as_slice().get(last..).unwrap_or(&[]))
+}
+
+/// All that is left of a session's reply.
+fn draw_all<S: SearchKeeper>(
+    alloc: Global,
+    hub: &mut Hub<S>,
+    id: u64,
+    room: usize,
+) -> Result<String, Fault> {
+    let mut out = vec![in alloc; 0u8; room]?;
+    let mut reply = Vec::new(alloc);
+    for _ in 0..MOST_DRAWS {
+        match hub.draw(id, &mut out)? {
+            Drawn::Bytes(count) => reply.extend_from_slice(out.get(..count).unwrap_or(&[]))?,
+            Drawn::Finished => return told(alloc, &reply),
+        }
+    }
+    Err(Fault::Line)
+}
+
+/// A request by calls, with the draws of its reply and the leave.
+pub fn by_calls<S: SearchKeeper>(
+    alloc: Global,
+    hub: &mut Hub<S>,
+    request: &[u8],
+    cut: Cut,
+    now: Stamp,
+) -> Result<String, Fault> {
+    let id = hub.join()?;
+    let mut heard = Heard::More;
+    for piece in request.chunks(cut.piece.max(1)) {
+        heard = hub.bytes(id, piece, now)?;
+    }
+    if cut.ends {
+        heard = hub.end(id, now)?;
+    }
+    let line = match heard {
+        Heard::More => String::from_str(alloc, "more")?,
+        Heard::Ready => draw_all(alloc, hub, id, cut.room)?,
+        Heard::Finished => String::from_str(alloc, "finished")?,
+    };
+    hub.leave(id)?;
+    Ok(line)
+}

@@ -1,0 +1,40 @@
+// Why a line of the rows has no other answer.
+use host_types::Refused;
+use session_core::HubFault;
+use std::alloc::{AllocError, AllocFailed};
+
+/// Why a line has no other answer. All but a fault of the hub end the program.
+#[derive(Drop)]
+pub enum Fault {
+    /// The line is none of the language.
+    Line,
+    /// The hub doesn't do what it is asked, or a name is none: this is the line's answer.
+    Hub(HubFault),
+    Memory,
+    /// Standard output takes no more.
+    Output,
+}
+
+impl From<HubFault> for Fault {
+    fn from(fault: HubFault) -> Self {
+        Fault::Hub(fault)
+    }
+}
+
+impl From<Refused> for Fault {
+    fn from(refused: Refused) -> Self {
+        Fault::Hub(HubFault::Refused(refused))
+    }
+}
+
+impl From<AllocError> for Fault {
+    fn from(_: AllocError) -> Self {
+        Fault::Memory
+    }
+}
+
+impl<T: Drop> From<AllocFailed<T>> for Fault {
+    fn from(_: AllocFailed<T>) -> Self {
+        Fault::Memory
+    }
+}

@@ -1,0 +1,85 @@
+// Fields of a line, and what they stand for.
+use crate::fault::Fault;
+use bstr::ByteVec;
+use host_types::{Bytes, Kind, LinkKind, Selector, Title};
+use std::alloc::Global;
+use std::str::FromStr;
+
+/// A number in decimal digits.
+pub fn number<N: FromStr>(field: &str) -> Result<N, Fault>
+where
+    N::Err: Drop,
+{
+    match field.parse::<N>() {
+        Ok(number) => Ok(number),
+        Err(_) => Err(Fault::Line),
+    }
+}
+
+/// How often a field's text stands: `*N*TEXT` is N times TEXT, and all else stands once.
+fn repeated(field: &str) -> Result<(usize, &str), Fault> {
+    let Some(rest) = field.strip_prefix('*') else {
+        return Ok((1, field));
+    };
+    let Some((count, text)) = rest.split_once('*') else {
+        return Err(Fault::Line);
+    };
+    Ok((number(count)?, text))
+}
+
+/// The bytes of some fields, one behind the other, with their escapes undone.
+pub fn bytes(alloc: Global, fields: &[&str]) -> Result<Bytes, Fault> {
+    let mut all = Vec::new(alloc);
+    for field in fields {
+        let (count, text) = repeated(field)?;
+        let piece = Vec::unescape_bytes(alloc, text)?;
+        for _ in 0..count {
+            all.extend_from_slice(&piece)?;
+        }
+    }
+    Ok(Bytes::from(all))
+}
+
+pub fn selector(alloc: Global, field: &str) -> Result<Selector, Fault> {
+    Ok(Selector::new(bytes(alloc, &[field])?.as_slice())?)
+}
+
+pub fn title(alloc: Global, field: &str) -> Result<Title, Fault> {
+    Ok(Title::new(bytes(alloc, &[field])?.as_slice())?)
+}
+
+/// The kind of document that a menu's letter tells.
+pub fn kind(letter: &str) -> Result<Kind, Fault> {
+    Ok(match letter.as_bytes() {
+        b"0" => Kind::Text,
+        b"4" => Kind::BinHex,
+        b"5" => Kind::DosArchive,
+        b"6" => Kind::Uuencoded,
+        b"9" => Kind::Binary,
+        b"g" => Kind::Gif,
+        b"I" => Kind::Image,
+        b"h" => Kind::Html,
+        _ => return Err(Fault::Line),
+    })
+}
+
+/// The kind of link that a menu's letter tells.
+pub fn link_kind(letter: &str) -> Result<LinkKind, Fault> {
+    Ok(match letter.as_bytes() {
+        b"0" => LinkKind::Text,
+        b"1" => LinkKind::Menu,
+        b"2" => LinkKind::PhoneBook,
+        b"4" => LinkKind::BinHex,
+        b"5" => LinkKind::DosArchive,
+        b"6" => LinkKind::Uuencoded,
+        b"7" => LinkKind::Search,
+        b"8" => LinkKind::Telnet,
+        b"9" => LinkKind::Binary,
+        b"+" => LinkKind::Mirror,
+        b"T" => LinkKind::Tn3270,
+        b"g" => LinkKind::Gif,
+        b"I" => LinkKind::Image,
+        b"h" => LinkKind::Html,
+        _ => return Err(Fault::Line),
+    })
+}

@@ -1,4 +1,0 @@
-// Runs over a site on a disk in memory.
-mod made;
-mod openings;
-mod walks;
