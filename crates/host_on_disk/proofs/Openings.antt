@@ -1,50 +1,98 @@
 -- Why a device isn't opened.
-use Rattle.std.proofs.Common.{◌≤◌, ◌≡◌, true, length, inl, sym, ◌∙◌, arith}
-use Rattle.std.specs.Prelude.{IsTrue}
-use Rattle.std.proofs.lemmas.Bool.{true≢false}
-use Rattle.sector_device.specs.Device.{State}
+use Rattle.std.proofs.Common.{◌≡◌, ◌≤◌, ◌<◌, true, length, inl, refl, sym, ap, ◌∙◌, arith}
+use Rattle.std.specs.Prelude.{IsTrue, List}
+use Rattle.std.proofs.lemmas.Bool.{true≢false, eqb-true}
+use Rattle.host_types.specs.Site.{Site}
+use Rattle.sector_device.specs.Device.{State, counted, NothingCounted}
+use Rattle.page_store.specs.Sectors.{Image}
+use Rattle.page_store.specs.Pages.{Pair}
 use Rattle.page_store.specs.Holding.{Holding}
 use Rattle.page_store.specs.Content.{HasContent}
-use Rattle.page_store.specs.FlatKeeping.{IsOpenFault}
+use Rattle.page_store.specs.Counting.{CountsRefusal}
+use Rattle.page_store.specs.FlatKeeping.{IsFlat, IsOpenFault}
+use Rattle.page_store.specs.Settled.{opens_zero}
+use Rattle.page_store.specs.declared.banner.Banner.{Banner}
+use Rattle.page_store.specs.declared.slot.Slot.{Slot}
 use Rattle.page_store.specs.declared.fault.KeeperFault.{KeeperFault}
 use Rattle.page_store.specs.declared.fault.KeeperFault.TheVariants as kinds
-use Rattle.site_store.specs.Looking.{IsLookFault}
-use Rattle.site_store.proofs.Looks.{rose_later}
+use Rattle.site_store.specs.Opening as sites
 use Rattle.site_store.specs.declared.fault.SiteOpenFault.{SiteOpenFault}
 use Rattle.site_store.specs.declared.fault.SiteOpenFault.TheVariants as reading
+use Rattle.host_on_disk.specs.ImageSites.{ImageStandsFor}
 use Rattle.host_on_disk.specs.OpenFaults.{IsOpeningFault, of_keeper, of_site}
-use Rattle.host_on_disk.proofs.Images.{shown, no_content, no_slot, other_version, too_small}
+use Rattle.host_on_disk.specs.declared.open_fault.OpenFault.TheVariants.{Keeper, Memory}
+use Rattle.host_on_disk.proofs.Images.{shown, no_content, no_slot, other_version, too_small, slot_there}
 
 -- a refusal of the keeper of the pairs
-pub keeper_refused : (old new : State) → (IsTrue old.honest → length old.disk.view ≡ old.size) → (fault : KeeperFault) → IsOpenFault old new fault → IsOpeningFault old new (of_keeper fault)
-keeper_refused old new size kinds.Device is = is.1
-keeper_refused old new size kinds.NoImage is = λ honest. no_slot old.disk.view (is.1 honest)
-keeper_refused old new size kinds.Version is = λ honest. let found = is.1 honest in other_version old.disk.view found.0 found.1 found.2
-keeper_refused old new size (kinds.Damaged page) is = λ honest. no_content old.disk.view (is.1 honest).2
-keeper_refused old new size kinds.Small is = (is, λ honest. too_small old.disk.view (omega (arith, size honest, is)))
-keeper_refused old new size kinds.Memory is = tt
-keeper_refused old new size kinds.Spent is = absurd is
-keeper_refused old new size (kinds.Full need free) is = absurd is
-keeper_refused old new size kinds.Failed is = absurd is
+pub keeper_refused : (old new : State) → (IsTrue old.honest → length old.disk.view ≡ old.size) → (fault : KeeperFault) → IsOpenFault old new fault → CountsRefusal fault old new → IsOpeningFault old new (of_keeper fault)
+keeper_refused old new size kinds.Device is counts = is
+keeper_refused old new size kinds.NoImage is counts = (is, counts, λ honest. no_slot old.disk.view (is.1 honest))
+keeper_refused old new size kinds.Version is counts = (is, counts, λ honest. let found = is.1 honest in other_version old.disk.view found.0 found.1 found.2)
+keeper_refused old new size (kinds.Damaged page) is counts = (is, counts, λ honest. no_content old.disk.view (is.1 honest).2)
+keeper_refused old new size kinds.Small is counts = (is, counts, λ honest. too_small old.disk.view (omega (arith, size honest, is)))
+keeper_refused old new size kinds.Memory is counts = (is, counts)
+keeper_refused old new size kinds.Spent is counts = absurd is
+keeper_refused old new size (kinds.Full need free) is counts = absurd is
+keeper_refused old new size kinds.Failed is counts = absurd is
+
+-- it is `Small` of a small device, which comes back
+pub small_refused : {D : Type 0} → (state : D → State) (device back : D) (fault : KeeperFault) → IsOpenFault (state device) (state back) fault → (fault ≡ kinds.Small → back ≡ device) → (state device).size < 128 → (of_keeper fault ≡ Keeper kinds.Small) × (back ≡ device)
+small_refused state device back kinds.Small is same small = (refl, same refl)
+small_refused state device back kinds.Device is same small = let large = is.0 in absurd (omega (arith, large, small))
+small_refused state device back kinds.NoImage is same small = let large = is.0 in absurd (omega (arith, large, small))
+small_refused state device back kinds.Version is same small = let large = is.0 in absurd (omega (arith, large, small))
+small_refused state device back (kinds.Damaged page) is same small = let large = is.0 in absurd (omega (arith, large, small))
+small_refused state device back kinds.Memory is same small = let large = is.0 in absurd (omega (arith, large, small))
+small_refused state device back kinds.Spent is same small = absurd is
+small_refused state device back (kinds.Full need free) is same small = absurd is
+small_refused state device back kinds.Failed is same small = absurd is
+
+-- content of version 0 stands under a current slot of flat pages
+pub flat_slot : (image : Image) (pairs : List Pair) (banner : Banner) → HasContent image pairs banner → banner.version ≡ 0 → (slot : Slot) × IsFlat image slot
+flat_slot image pairs banner has version = let there = slot_there image pairs banner has in (there.0, (there.1, ap (λ (b : Banner). b.version) (sym there.2) ∙ version))
+
+-- The pairs of a device were opened: what they are, and that nothing was counted.
+pub record ArePairs (old : State) (before : Holding) : Type 0 where
+  pub large : 128 ≤ old.size
+  pub honest : IsTrue old.honest → IsTrue before.honest
+  pub usable : before.usable ≡ true
+  pub reads : before.failed_reads ≡ old.failed_reads
+  pub writes : before.failed_writes ≡ old.failed_writes
+  pub content : IsTrue old.honest → HasContent old.disk.view before.pairs before.banner
+  pub version : before.banner.version ≡ 0
 
 -- a refusal of the site, once its pairs are opened
-pub site_refused : (old new : State) (before after : Holding) →
-    (IsTrue old.honest → IsTrue before.honest) →
-    before.usable ≡ true →
-    old.failed_reads ≤ before.failed_reads →
-    before.failed_reads ≤ after.failed_reads →
-    after.failed_reads ≡ new.failed_reads →
-    (IsTrue old.honest → HasContent old.disk.view before.pairs before.banner) →
-    (fault : SiteOpenFault) → IsLookFault before after fault → IsOpeningFault old new (of_site fault)
-site_refused old new before after honest usable first more last content reading.BadRecord is =
-    λ keeps s stands. is (honest keeps) (s, shown old.disk.view before.pairs before.banner s (content keeps) stands)
-site_refused old new before after honest usable first more last content (reading.Keeper kinds.Device) is = inl (rw (← last) (rose_later old.failed_reads before.failed_reads after.failed_reads first more is))
-site_refused old new before after honest usable first more last content (reading.Keeper kinds.NoImage) is = absurd is
-site_refused old new before after honest usable first more last content (reading.Keeper kinds.Version) is = absurd is
-site_refused old new before after honest usable first more last content (reading.Keeper (kinds.Damaged page)) is = λ keeps. absurd (true≢false (sym (honest keeps) ∙ is))
-site_refused old new before after honest usable first more last content (reading.Keeper kinds.Small) is = absurd is
-site_refused old new before after honest usable first more last content (reading.Keeper kinds.Spent) is = absurd is
-site_refused old new before after honest usable first more last content (reading.Keeper (kinds.Full need free)) is = absurd is
-site_refused old new before after honest usable first more last content (reading.Keeper kinds.Failed) is = absurd (true≢false (sym usable ∙ is))
-site_refused old new before after honest usable first more last content (reading.Keeper kinds.Memory) is = absurd is
-site_refused old new before after honest usable first more last content reading.Memory is = tt
+pub site_refused : (old new : State) (before after : Holding) → ArePairs old before → new.failed_reads ≡ after.failed_reads → new.failed_writes ≡ before.failed_writes → (fault : SiteOpenFault) → sites.IsOpenFault before after fault → IsOpeningFault old new (of_site fault)
+site_refused old new before after opened reads writes fault is = by fault is
+  where
+    nothing : after.failed_reads ≡ before.failed_reads → NothingCounted old new
+    nothing none = record { reads = reads ∙ none ∙ opened.reads; writes = writes ∙ opened.writes }
+
+    by : (fault : SiteOpenFault) → sites.IsOpenFault before after fault → IsOpeningFault old new (of_site fault)
+    by reading.BadRecord is = (
+      opened.large,
+      nothing is.1,
+      λ honest. (before.pairs, before.banner, (opened.content honest, opens_zero before.banner.version opened.version)),
+      λ honest s stands. is.2 (opened.honest honest) s (shown old.disk.view before.pairs before.banner s (opened.content honest) stands),
+    )
+    by (reading.Keeper kinds.Device) is = (opened.large, inl (reads ∙ is.1 ∙ ap counted opened.reads, writes ∙ opened.writes))
+    by (reading.Keeper (kinds.Damaged page)) is = (
+      (opened.large, λ honest. absurd (true≢false (sym (opened.honest honest) ∙ is.2))),
+      nothing is.1,
+      λ honest. absurd (true≢false (sym (opened.honest honest) ∙ is.2)),
+    )
+    by (reading.Keeper kinds.Failed) is = absurd (true≢false (sym opened.usable ∙ is.0))
+    by (reading.Keeper kinds.NoImage) is = absurd is
+    by (reading.Keeper kinds.Version) is = absurd is
+    by (reading.Keeper kinds.Small) is = absurd is
+    by (reading.Keeper kinds.Spent) is = absurd is
+    by (reading.Keeper (kinds.Full need free)) is = absurd is
+    by (reading.Keeper kinds.Memory) is = absurd is
+    by reading.Memory is = ((opened.large, λ honest. flat_slot old.disk.view before.pairs before.banner (opened.content honest) opened.version), nothing is.1)
+
+-- want of memory once a site was opened
+pub no_memory : (old new : State) (s : Site) → 128 ≤ old.size → NothingCounted old new → (IsTrue old.honest → ImageStandsFor old.disk.view s) → IsOpeningFault old new Memory
+no_memory old new s large counts stands = ((large, λ honest. by (stands honest)), counts)
+  where
+    by : ImageStandsFor old.disk.view s → (slot : Slot) × IsFlat old.disk.view slot
+    by (pairs, banner, (has, opened), shows) = flat_slot old.disk.view pairs banner has (eqb-true banner.version 0 opened)

@@ -1,7 +1,10 @@
 -- Why a device isn't opened as a site.
-use Rattle.std.specs.Prelude.{◌⊎◌, ◌<◌, IsTrue}
-use Rattle.host_types.specs.Keeping.{Rose}
-use Rattle.sector_device.specs.Device.{State}
+use Rattle.std.specs.Prelude.{◌≤◌, List, IsTrue}
+use Rattle.sector_device.specs.Device.{State, NothingCounted}
+use Rattle.page_store.specs.Pages.{Pair}
+use Rattle.page_store.specs.Content.{Holds}
+use Rattle.page_store.specs.FlatKeeping.{IsOpenFault}
+use Rattle.page_store.specs.declared.banner.Banner.{Banner}
 use Rattle.page_store.specs.declared.fault.KeeperFault.{KeeperFault}
 use Rattle.page_store.specs.declared.fault.KeeperFault.TheVariants as kinds
 use Rattle.site_store.specs.declared.fault.SiteOpenFault.{SiteOpenFault}
@@ -28,24 +31,24 @@ of_site reading.BadRecord = BadRecord
 of_site (reading.Keeper fault) = of_keeper fault
 of_site reading.Memory = Memory
 
--- A count of faults rose.
-abbrev pub HasFaulted : State → State → Type 0
-HasFaulted old new = Rose old.failed_reads new.failed_reads ⊎ Rose old.failed_writes new.failed_writes
-
 -- A device that is honest shows no site.
 abbrev pub ShowsNone : State → Type 0
 ShowsNone old = IsTrue old.honest → StandsForNone old.disk.view
 
--- A count of faults rose, or memory is wanting, or what reads gave stands for no site.
+-- A device that is honest shows some content, in the version that is opened.
+abbrev pub ShowsContent : State → Type 0
+ShowsContent old = IsTrue old.honest → (pairs : List Pair) × (banner : Banner) × Holds old.disk.view pairs banner
+
+-- Why an opening is refused, and what it counted. A fault of the keeper of the pairs has the cause that opening the keeper gives it, `BadRecord` comes where there is content but it stands for no site, and `Memory` where a slot to be opened is current. But for a device that fails and for want of memory, no two of these hold of one image.
 abbrev pub IsOpeningFault : State → State → OpenFault → Type 0
-IsOpeningFault old new (Keeper kinds.Device) = HasFaulted old new
-IsOpeningFault old new (Keeper kinds.NoImage) = ShowsNone old
-IsOpeningFault old new (Keeper kinds.Version) = ShowsNone old
-IsOpeningFault old new (Keeper (kinds.Damaged page)) = ShowsNone old
-IsOpeningFault old new (Keeper kinds.Small) = (old.size < 128) × ShowsNone old
+IsOpeningFault old new (Keeper kinds.Device) = IsOpenFault old new kinds.Device
+IsOpeningFault old new (Keeper kinds.NoImage) = IsOpenFault old new kinds.NoImage × NothingCounted old new × ShowsNone old
+IsOpeningFault old new (Keeper kinds.Version) = IsOpenFault old new kinds.Version × NothingCounted old new × ShowsNone old
+IsOpeningFault old new (Keeper (kinds.Damaged page)) = IsOpenFault old new (kinds.Damaged page) × NothingCounted old new × ShowsNone old
+IsOpeningFault old new (Keeper kinds.Small) = IsOpenFault old new kinds.Small × NothingCounted old new × ShowsNone old
 IsOpeningFault old new (Keeper kinds.Spent) = ⊥
 IsOpeningFault old new (Keeper (kinds.Full need free)) = ⊥
 IsOpeningFault old new (Keeper kinds.Failed) = ⊥
 IsOpeningFault old new (Keeper kinds.Memory) = ⊥
-IsOpeningFault old new BadRecord = ShowsNone old
-IsOpeningFault old new Memory = Unit {0}
+IsOpeningFault old new BadRecord = (128 ≤ old.size) × NothingCounted old new × ShowsContent old × ShowsNone old
+IsOpeningFault old new Memory = IsOpenFault old new kinds.Memory × NothingCounted old new

@@ -2,17 +2,22 @@
 ghost use Rattle.std.specs.Prelude.{◌≡◌, true, IfOk, IfErr, IsTrue};
 ghost use Rattle.host_types.specs.Stops.{IsQuiet};
 ghost use Rattle.page_store.specs.Steps.{stops_of};
+ghost use Rattle.page_store.specs.FlatSeen.{device_of};
+ghost use Rattle.site_store.specs.Seen.{keeper_of};
 ghost use Rattle.session_core.specs.World.{World, started};
 ghost use Rattle.session_core.specs.Run.{Run};
 ghost use Rattle.session_core.specs.Stopped.{IsStopped};
-ghost use Rattle.host_on_disk.specs.Headline.{Survives};
+ghost use Rattle.host_on_disk.specs.Headline.{Survives, RunsOver, RunsOn};
 ghost use Rattle.host_on_disk.specs.OpenFaults.{IsOpeningFault};
 ghost use Rattle.host_on_disk.specs.declared.open_fault.OpenFault.TheVariants.{Memory};
 
 use crate::open_fault::OpenFault;
 use crate::opening::open_site;
+use host_types::SiteKeeper;
+use page_store::FlatKeeper;
 use sector_device::Device;
 use session_core::{Event, Hub, OutcomeList};
+use site_store::DiskSite;
 use std::alloc::Global;
 use word_index::SearchKeeper;
 
@@ -24,6 +29,7 @@ pub fn run_over<S: SearchKeeper>(
     events: &[Event],
 ) -> Result<(OutcomeList, S), (OpenFault, S)>
     requires { (S.keeping site).usable ≡ true }
+    ensures calls { IfOk result (λ r. RunsOver S.keeping S.lacks S.stops S.stands_for site r.1 first events.now r.0) }
     ensures run { IsTrue (S.keeping site).honest → IfOk result (λ r. (last : World) × Run (started (S.keeping site).site first) events.now r.0 last × IsStopped S.stands_for (started (S.keeping site).site first) last (S.stops site) (S.stops r.1) events.now r.0) }
     ensures honest { IfOk result (λ r. (S.keeping r.1).honest ≡ (S.keeping site).honest) }
     ensures err { IfErr result (λ e. (e.0 ≡ Memory) × (e.1 ≡ site)) }
@@ -48,6 +54,7 @@ pub fn run_on<D: Device>(
     first: u64,
     events: &[Event],
 ) -> Result<(OutcomeList, D), (OpenFault, D)>
+    ensures calls { IfOk result (λ r. RunsOn (λ d. device_of (keeper_of d)) ⟦<DiskSite<FlatKeeper<D>> as SiteKeeper>⟧.keeping ⟦<DiskSite<FlatKeeper<D>> as SiteKeeper>⟧.lacks ⟦<DiskSite<FlatKeeper<D>> as SiteKeeper>⟧.stops ⟦<DiskSite<FlatKeeper<D>> as SiteKeeper>⟧.stands_for r.1 first events.now r.0) }
     ensures survives { IsTrue (D.state device).honest → IfOk result (λ r. Survives D.state (stops_of D.moment D.left_since) device r.1 first events.now r.0) }
     ensures honest { IfOk result (λ r. (D.state r.1).honest ≡ (D.state device).honest) }
     ensures fault { IfErr result (λ e. IsOpeningFault (D.state device) (D.state e.1) e.0) }

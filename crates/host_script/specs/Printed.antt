@@ -1,24 +1,65 @@
--- Outcomes as a script's answers are printed.
-use Rattle.std.specs.Prelude.{◌≡◌, ℕ, List, ◌++◌, codes, decimal, encode_utf8_all}
+-- Outcomes as a script's answers are printed, and faults by their names.
+use Rattle.std.specs.Prelude.{ℕ, List, ◌++◌, codes, decimal, encode_utf8_all}
 use Rattle.bstr.specs.Escape.{escaped}
+use Rattle.host_types.specs.declared.refused.Refused.{Refused as Refusal}
+use Rattle.host_types.specs.declared.refused.Refused.TheVariants as refusals
 use Rattle.session_core.specs.declared.event.Outcome.{Outcome}
 use Rattle.session_core.specs.declared.event.Outcome.TheVariants.{Joined, More, Ready, Finished, Drawn, Gone, Done, Fault}
+use Rattle.session_core.specs.declared.fault.HubFault.{HubFault}
+use Rattle.session_core.specs.declared.fault.HubFault.TheVariants as hub
+use Rattle.host_script.specs.declared.fault.Fault.{Fault as RunFault}
+use Rattle.host_script.specs.declared.fault.Fault.TheVariants.{Script, Memory, Output}
 
 -- bytes with escapes for all but printable ASCII and whole characters of more bytes; a space is `\x20`
 abbrev pub shown : List ℕ → List ℕ
 shown bytes = encode_utf8_all (escaped bytes)
 
--- The line of a fault, without its LF: `fault`, a space, and a name. (Which name is shown by tests.)
-abbrev pub IsFaultLine : List ℕ → Type 0
-IsFaultLine line = (name : List ℕ) × (line ≡ codes "fault " ++ name)
+-- ---- names
 
--- The line of an outcome, without its LF.
-abbrev pub IsLineOf : Outcome → List ℕ → Type 0
-IsLineOf (Joined id) line = line ≡ codes "id " ++ decimal id
-IsLineOf More line = line ≡ codes "more"
-IsLineOf Ready line = line ≡ codes "ready"
-IsLineOf Finished line = line ≡ codes "finished"
-IsLineOf (Drawn bytes) line = line ≡ codes "drawn " ++ shown bytes
-IsLineOf Gone line = line ≡ codes "ok"
-IsLineOf Done line = line ≡ codes "ok"
-IsLineOf (Fault fault) line = IsFaultLine line
+abbrev pub refused_name : Refusal → List ℕ
+refused_name refusals.BadName = codes "BadName"
+refused_name refusals.TooLong = codes "TooLong"
+refused_name refusals.Reserved = codes "Reserved"
+refused_name refusals.Missing = codes "Missing"
+refused_name refusals.NotEmpty = codes "NotEmpty"
+refused_name refusals.Root = codes "Root"
+refused_name refusals.NotABoard = codes "NotABoard"
+refused_name refusals.WrongAnswers = codes "WrongAnswers"
+refused_name refusals.WrongWord = codes "WrongWord"
+refused_name refusals.Spent = codes "Spent"
+
+-- a refusal goes by its own name
+abbrev pub fault_name : HubFault → List ℕ
+fault_name hub.Unknown = codes "Unknown"
+fault_name hub.Crowded = codes "Crowded"
+fault_name hub.Spent = codes "Spent"
+fault_name (hub.Refused refused) = refused_name refused
+fault_name (hub.Full need free) = codes "Full " ++ decimal need ++ codes " " ++ decimal free
+fault_name hub.Broken = codes "Broken"
+fault_name hub.Failed = codes "Failed"
+fault_name hub.Memory = codes "Memory"
+fault_name hub.NotReady = codes "NotReady"
+
+-- ---- lines, without their LF
+
+abbrev pub refused_line : Refusal → List ℕ
+refused_line refused = codes "fault " ++ refused_name refused
+
+abbrev pub fault_line : HubFault → List ℕ
+fault_line fault = codes "fault " ++ fault_name fault
+
+abbrev pub line_of : Outcome → List ℕ
+line_of (Joined id) = codes "id " ++ decimal id
+line_of More = codes "more"
+line_of Ready = codes "ready"
+line_of Finished = codes "finished"
+line_of (Drawn bytes) = codes "drawn " ++ shown bytes
+line_of Gone = codes "ok"
+line_of Done = codes "ok"
+line_of (Fault fault) = fault_line fault
+
+-- what standard error is told of a run that ends with status 1
+abbrev pub told : RunFault → List ℕ
+told (Script n) = codes "script: line " ++ decimal n
+told Memory = codes "memory"
+told Output = codes "output"

@@ -10,7 +10,7 @@ mod site;
 
 pub use asking::{Asked, ask};
 pub use fault::Fault;
-pub use printed::{escaped, fault_line, line_of};
+pub use printed::{escaped, fault_line, line_of, refused_line, told};
 pub use replaying::{MOST_READS, replay};
 pub use script::{Command, LineFault, MOST_ROOM, parse};
 pub use site::small_site;

@@ -1,12 +1,15 @@
 // Answers as the program prints them.
 ghost use Rattle.std.specs.Prelude.{◌≡◌, IfOk};
 ghost use Rattle.std.specs.String.{string_bytes};
-ghost use Rattle.host_script.specs.Printed.{shown, IsFaultLine, IsLineOf};
+ghost use Rattle.host_script.specs.Printed as spec;
+ghost use Rattle.host_script.specs.Printed.{shown};
+ghost use Rattle.session_core.specs.declared.fault.HubFault.TheVariants.{Full};
 
+use crate::fault::Fault;
 use bstr::ByteSlice;
-use session_core::Outcome;
+use host_types::Refused;
+use session_core::{HubFault, Outcome};
 use std::alloc::{AllocError, Global};
-use std::fmt::Display;
 
 /// The bytes with escapes for all but printable ASCII and whole characters of more bytes. A space is `\x20`.
 pub fn escaped(alloc: Global, bytes: &[u8]) -> Result<String, AllocError>
@@ -15,18 +18,65 @@ pub fn escaped(alloc: Global, bytes: &[u8]) -> Result<String, AllocError>
     bytes.escape_bytes().to_string(alloc)
 }
 
-/// The line of a fault, without its LF: `fault`, a space, and its name.
-pub fn fault_line<F: Display>(alloc: Global, fault: &F) -> Result<String, AllocError>
-    ensures { IfOk result (λ t. IsFaultLine (string_bytes t)) }
+/// The line of a refusal, without its LF: `fault`, a space, and its name.
+pub fn refused_line(alloc: Global, refused: Refused) -> Result<String, AllocError>
+    ensures { IfOk result (λ t. string_bytes t ≡ spec.refused_line refused) }
 {
-    let mut line = String::from_str(alloc, "fault ")?;
-    line.push_str(&fault.to_string(alloc)?)?;
+    let line = match refused {
+        Refused::BadName => "fault BadName",
+        Refused::TooLong => "fault TooLong",
+        Refused::Reserved => "fault Reserved",
+        Refused::Missing => "fault Missing",
+        Refused::NotEmpty => "fault NotEmpty",
+        Refused::Root => "fault Root",
+        Refused::NotABoard => "fault NotABoard",
+        Refused::WrongAnswers => "fault WrongAnswers",
+        Refused::WrongWord => "fault WrongWord",
+        Refused::Spent => "fault Spent",
+    };
+    String::from_str(alloc, line)
+}
+
+fn full_line(alloc: Global, need: u64, free: u64) -> Result<String, AllocError>
+    ensures { IfOk result (λ t. string_bytes t ≡ spec.fault_line (Full need free)) }
+{
+    let mut line = format!(in alloc; "fault Full {need}")?;
+    line.push_str(&format!(in alloc; " {free}")?)?;
     Ok(line)
+}
+
+/// The line of a fault, without its LF: `fault`, a space, and its name.
+pub fn fault_line(alloc: Global, fault: HubFault) -> Result<String, AllocError>
+    ensures { IfOk result (λ t. string_bytes t ≡ spec.fault_line fault) }
+{
+    let line = match fault {
+        HubFault::Refused(refused) => return refused_line(alloc, refused),
+        HubFault::Full { need, free } => return full_line(alloc, need, free),
+        HubFault::Unknown => "fault Unknown",
+        HubFault::Crowded => "fault Crowded",
+        HubFault::Spent => "fault Spent",
+        HubFault::Broken => "fault Broken",
+        HubFault::Failed => "fault Failed",
+        HubFault::Memory => "fault Memory",
+        HubFault::NotReady => "fault NotReady",
+    };
+    String::from_str(alloc, line)
+}
+
+/// What standard error is told of a run that ends with status 1, without its LF.
+pub fn told(alloc: Global, fault: &Fault) -> Result<String, AllocError>
+    ensures { IfOk result (λ t. string_bytes t ≡ spec.told fault.now) }
+{
+    match fault {
+        Fault::Script(number) => format!(in alloc; "script: line {number}"),
+        Fault::Memory => String::from_str(alloc, "memory"),
+        Fault::Output => String::from_str(alloc, "output"),
+    }
 }
 
 /// The line of an outcome, without its LF.
 pub fn line_of(alloc: Global, outcome: &Outcome) -> Result<String, AllocError>
-    ensures { IfOk result (λ t. IsLineOf outcome.now (string_bytes t)) }
+    ensures { IfOk result (λ t. string_bytes t ≡ spec.line_of outcome.now) }
 {
     match outcome {
         Outcome::Joined(id) => format!(in alloc; "id {id}"),
@@ -39,6 +89,6 @@ pub fn line_of(alloc: Global, outcome: &Outcome) -> Result<String, AllocError>
             Ok(line)
         }
         Outcome::Gone | Outcome::Done => String::from_str(alloc, "ok"),
-        Outcome::Fault(fault) => fault_line(alloc, fault),
+        Outcome::Fault(fault) => fault_line(alloc, *fault),
     }
 }

@@ -1,7 +1,7 @@
 // What the calls of a run share, and which call a word names.
 use crate::line::Line;
 use crate::trouble::Trouble;
-use crate::{forms, links, names, replays, replies, requests, sites};
+use crate::{forms, links, names, replays, replies, requests, sites, told};
 use host_script::small_site;
 use host_types::{MemSite, Stamp};
 use request_reader::Reader;
@@ -26,7 +26,7 @@ impl Bench {
         })
     }
 
-    /// The words that need no site.
+    /// The words that need no site, or take it away.
     fn call_alone(
         &mut self,
         line: &mut Line,
@@ -37,6 +37,7 @@ impl Bench {
             names::call(self.alloc, line, word, fields)?
                 || links::call(self.alloc, line, word, fields)?
                 || replays::call(self.alloc, line, word, fields)?
+                || told::call(self, line, word, fields)?
                 || requests::call(self, line, word, fields)?,
         )
     }

@@ -1,8 +1,8 @@
-// A site in memory whose reads and changes can be made to fail. It promises nothing of its contents.
+// A site in memory whose reads and changes can be made to fail, or be refused. It promises nothing of its contents.
 ghost use Rattle.std.specs.Prelude.{◌≡◌, ℕ, true, false};
 ghost use Rattle.host_types.specs.Stops.{nothing, no_stop};
 
-use host_types::{Card, Change, Front, MemSite, Selector, SiteFault, SiteKeeper, Stamp};
+use host_types::{Card, Change, Front, MemSite, Refused, Selector, SiteFault, SiteKeeper, Stamp};
 use word_index::{SearchKeeper, SelectorList};
 
 /// A site of which one read fails, or a change.
@@ -11,6 +11,7 @@ pub struct FailingSite {
     site: MemSite,
     reads: u64,
     changes: u64,
+    refuses: bool,
     usable: bool,
 }
 
@@ -23,6 +24,20 @@ impl FailingSite {
             site,
             reads,
             changes,
+            refuses: false,
+            usable: true,
+        }
+    }
+
+    /// A site that refuses each change, which its own reads may allow.
+    pub fn refusing(site: MemSite) -> Self
+        ensures { result.usable ≡ true }
+    {
+        FailingSite {
+            site,
+            reads: u64::MAX,
+            changes: u64::MAX,
+            refuses: true,
             usable: true,
         }
     }
@@ -93,6 +108,9 @@ impl SiteKeeper for FailingSite {
             return Err(SiteFault::Failed);
         }
         self.changes -= 1;
+        if self.refuses {
+            return Err(SiteFault::Refused(Refused::NotABoard));
+        }
         self.site.change(change, now)
     }
 }

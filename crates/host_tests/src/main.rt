@@ -13,6 +13,7 @@ mod replays;
 mod replies;
 mod requests;
 mod sites;
+mod told;
 mod trouble;
 
 use bench::Bench;

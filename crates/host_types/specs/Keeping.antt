@@ -1,6 +1,7 @@
 -- What a keeper of a site is, but for what a stop may leave of it, and what its calls have in common.
-use Rattle.std.specs.Prelude.{◌≡◌, ◌⊎◌, ◌<◌, ◌≤◌, ◌-◌, ◌^◌, ℕ, Bool, true, false, Result, Err, IsOk, IsTrue}
+use Rattle.std.specs.Prelude.{◌≡◌, ◌⊎◌, ◌<◌, ◌≤◌, ◌-◌, ◌^◌, ℕ, Bool, true, false, List, drop, Result, Err, IsOk, IsTrue}
 use Rattle.host_types.specs.Site.{Site}
+use Rattle.host_types.specs.declared.change.Change.{Change}
 use Rattle.host_types.specs.declared.refused.Refused.{Refused}
 use Rattle.host_types.specs.declared.site_fault.SiteFault.{SiteFault}
 use Rattle.host_types.specs.declared.site_fault.SiteFault.TheVariants as faults
@@ -35,6 +36,15 @@ IsReadFault wants_memory old new (faults.Full need free) = ⊥
 IsReadFault wants_memory old new faults.Spent = ⊥
 IsReadFault wants_memory old new faults.Failed = old.usable ≡ false
 IsReadFault wants_memory old new faults.Memory = IsTrue wants_memory
+
+-- A change at a moment may be refused for want of the same before and now.
+pub record LacksTheSame (old new : Change → ℕ → SiteFault → Type 0) : Type 0 where
+  pub still : (change : Change) (now : ℕ) (fault : SiteFault) → old change now fault → new change now fault
+  pub before : (change : Change) (now : ℕ) (fault : SiteFault) → new change now fault → old change now fault
+
+-- The first n places of a buffer are filled, and what stands behind them stays.
+abbrev pub IsBehindKept : ℕ → List ℕ → List ℕ → Type 0
+IsBehindKept n old new = drop n new ≡ drop n old
 
 -- What a change that was not made leaves: nothing of the site changed, and its flags stay unless a write failed.
 pub record HasNotChanged (old new : Keeping) : Type 0 where

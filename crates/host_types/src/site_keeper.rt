@@ -4,7 +4,7 @@ ghost use Rattle.host_types.specs.Site.{Site};
 ghost use Rattle.host_types.specs.Change.{apply};
 ghost use Rattle.host_types.specs.Card.{card_at, viewed_at, chunk_of};
 ghost use Rattle.host_types.specs.Stops.{Stops, LeavesOnly, IsQuiet, may_leave};
-ghost use Rattle.host_types.specs.Keeping.{Keeping, HasRead, HasTried, HasNotChanged, IsReadFault, IsChangeFault};
+ghost use Rattle.host_types.specs.Keeping.{Keeping, HasRead, LacksTheSame, IsBehindKept, HasTried, HasNotChanged, IsReadFault, IsChangeFault};
 ghost use Rattle.host_types.specs.Front.{address, lent};
 ghost use Rattle.host_types.specs.declared.change.Change.{Change as ChangeValue};
 ghost use Rattle.host_types.specs.declared.site_fault.SiteFault.{SiteFault as SiteFaultValue};
@@ -56,9 +56,10 @@ pub trait SiteKeeper {
         ensures kept { HasRead (keeping self.old) (keeping self.new) }
         ensures fault { IfErr result (IsReadFault true (keeping self.old) (keeping self.new)) }
         ensures closed { (keeping self.old).usable ≡ false → IsErrOf result Failed }
+        ensures lacking { LacksTheSame (lacks self.old) (lacks self.new) }
         ensures stop { IsTrue (keeping self.old).honest → IsQuiet (stops self.old) (stops self.new) };
 
-    /// Puts chunk k of a view into the front of the buffer, and answers its length: no bytes where there is no such view or chunk. It takes no memory.
+    /// Puts chunk k of a view into the front of the buffer, and answers its length: no bytes where there is no such view or chunk. What stands behind stays, and after a fault the whole buffer does. It takes no memory.
     fn chunk(
         &mut self,
         selector: &Selector,
@@ -68,9 +69,12 @@ pub trait SiteKeeper {
     ) -> Result<usize, SiteFault>
         ensures within { IfOk result (λ n. n ≤ length buffer.new) }
         ensures chunk { IsTrue (keeping self.old).honest → IfOk result (λ n. take n buffer.new ≡ chunk_of (viewed_at (keeping self.old).site selector.now view) k) }
+        ensures behind { IfOk result (λ n. IsBehindKept n buffer.old buffer.new) }
+        ensures untouched { IfErr result (λ e. buffer.new ≡ buffer.old) }
         ensures kept { HasRead (keeping self.old) (keeping self.new) }
         ensures fault { IfErr result (IsReadFault false (keeping self.old) (keeping self.new)) }
         ensures closed { (keeping self.old).usable ≡ false → IsErrOf result Failed }
+        ensures lacking { LacksTheSame (lacks self.old) (lacks self.new) }
         ensures stop { IsTrue (keeping self.old).honest → IsQuiet (stops self.old) (stops self.new) };
 
     /// Makes a change, or answers its first refusal.

@@ -1,13 +1,12 @@
 -- The steps of a commit of a keeper of flat pages.
-use Rattle.std.proofs.Common.{◌≡◌, ◌⊎◌, inl, inr, ⊎_elim, ℕ, zero, suc, ◌+◌, ◌-◌, ◌*◌, ◌^◌, ◌<◌, ◌≤◌, true, List, [], ◌∷◌, length, map, get_or, Some, refl, sym, ap, subst, ◌∙◌, arith, IsTrue}
+use Rattle.std.proofs.Common.{◌≡◌, ℕ, zero, suc, ◌+◌, ◌-◌, ◌*◌, ◌^◌, ◌<◌, ◌≤◌, true, List, [], ◌∷◌, length, map, get_or, Some, refl, sym, ap, subst, ◌∙◌, arith, IsTrue}
 use Rattle.std.specs.List.{list_all}
-use Rattle.host_types.specs.Stops.{Stops, LeavesOnly, may_leave}
+use Rattle.host_types.specs.Stops.{Stops, may_leave}
 use Rattle.page_store.specs.Sectors.{Image}
 use Rattle.page_store.specs.Keys.{rises}
 use Rattle.page_store.specs.Pages.{Pair, key_of}
 use Rattle.page_store.specs.Batch.{is_map, is_batch, is_edit, is_pair, edit_key, updated}
-use Rattle.page_store.specs.Content.{content, pairs_and_banner, is_opened, Holds}
-use Rattle.page_store.specs.Commit.{IsBetween}
+use Rattle.page_store.specs.Content.{content}
 use Rattle.page_store.specs.Spelling.{flat_pages}
 use Rattle.page_store.specs.FlatKeeping.{flat_commit, found_in_half}
 use Rattle.page_store.specs.declared.banner.Banner.{Banner}
@@ -21,18 +20,16 @@ use Rattle.page_store.specs.Roots.{greatest_seal}
 use Rattle.page_store.specs.Flat.{half_size}
 use Rattle.page_store.specs.Commit.{IsReady, IsDone}
 use Rattle.page_store.specs.Spelling.{by_pages, pages_needed}
-use Rattle.page_store.specs.FlatKeeping.{IsFitted, IsSettled, IsFlatBetween, other_half, new_slot}
+use Rattle.page_store.specs.FlatKeeping.{IsFitted, IsSettled, other_half, new_slot}
 use Rattle.page_store.specs.declared.slot.Root.{Root}
 use Rattle.page_store.proofs.Ready.{ready, seals_after, other_bounds, other_is_half}
-use Rattle.page_store.proofs.Images.{weaker}
 use Rattle.page_store.proofs.Stands.{both_true}
 use Rattle.page_store.proofs.Maps.{updated_map}
-use Rattle.page_store.specs.Settled.{opens_zero}
 
-pub now_map : (old seen now : List Pair) (batch : List Edit) → now ≡ updated seen batch → seen ≡ old → is_map old ≡ true → IsTrue (is_batch batch) → is_map now ≡ true
-now_map old seen now batch is same h b =
+pub now_map : (old now : List Pair) (batch : List Edit) → now ≡ updated old batch → is_map old ≡ true → IsTrue (is_batch batch) → is_map now ≡ true
+now_map old now batch is h b =
     let edits = both_true (rises (map edit_key batch)) (list_all is_edit batch) b in
-    ap is_map (is ∙ ap (λ (l : List Pair). updated l batch) same) ∙ updated_map old batch h edits.1
+    ap is_map is ∙ updated_map old batch h edits.1
 
 pub now_pairs : (now seen : List Pair) → seen ≡ now → is_map now ≡ true → IsTrue (list_all is_pair seen)
 now_pairs now seen same h = subst (λ (l : List Pair). IsTrue (list_all is_pair l)) (sym same) (both_true (rises (map key_of now)) (list_all is_pair now) h).1
@@ -42,26 +39,13 @@ page_number seal first [] k d lt = absurd (omega arith)
 page_number seal first (group ∷ groups) zero d lt = (omega arith, omega arith)
 page_number seal first (group ∷ groups) (suc k) d lt = let rest = page_number seal (suc first) groups k d (omega arith) in (omega (arith, rest.0), omega (arith, rest.1))
 
-pub between_content : (slot : Slot) (pairs now : List Pair) (seal : ℕ) (banner : Banner) (pages : List NewPage) (a : Image) (old new : Stops Image) → slot.root.banner.version ≡ 0 → IsTrue (is_opened banner.version)
-    → LeavesOnly old new (IsBetween (flat_commit slot pairs seal now banner) pages a) → LeavesOnly old new (λ c. Holds c pairs slot.root.banner ⊎ Holds c now banner)
-between_content slot pairs now seal banner pages a old new before after leaves =
-    weaker old new (IsBetween (flat_commit slot pairs seal now banner) pages a) (λ c. Holds c pairs slot.root.banner ⊎ Holds c now banner) leaves
-    (λ c is. ⊎_elim (λ old. inl (ap pairs_and_banner old.content_is, opens_zero slot.root.banner.version before)) (λ new. inr (ap pairs_and_banner new.content_is, after)) is.shows)
-
-pub between_flat : (slot : Slot) (pairs now : List Pair) (top : ℕ) (batch : List Edit) (banner : Banner) (seen : List NewPage) (a : Image) (old new : Stops Image) → now ≡ updated pairs batch → seen ≡ flat_pages (top + 1) (other_half slot.root) (by_pages now)
-    → LeavesOnly old new (IsBetween (flat_commit slot pairs (top + 1) now banner) seen a) → LeavesOnly old new (λ c. may_leave old c ⊎ IsFlatBetween slot pairs top a batch banner c)
-between_flat slot pairs now top batch banner seen a old new is pages leaves =
-    weaker old new (IsBetween (flat_commit slot pairs (top + 1) now banner) seen a) (λ c. may_leave old c ⊎ IsFlatBetween slot pairs top a batch banner c) leaves
-    (λ c b. inr (subst (λ (l : List Pair). IsBetween (flat_commit slot pairs (top + 1) l banner) (flat_pages (top + 1) (other_half slot.root) (by_pages l)) a c) is
-    (subst (λ (p : List NewPage). IsBetween (flat_commit slot pairs (top + 1) now banner) p a c) pages b)))
-
 -- the slot as the program makes it
-pub slot_made : (slot : Slot) (seal tree keys : ℕ) (now seen : List Pair) (banner : Banner) → tree ≡ other_half slot.root → keys ≡ length seen → seen ≡ now
-    → record { number = 1 - slot.number; seal = seal; root = record { pages = slot.root.pages; tree = tree; height = 0; keys = keys; banner = banner } } ≡ new_slot slot seal now banner
-slot_made slot seal tree keys now seen banner a b same = rw (a, b, same) refl
+pub slot_made : (slot : Slot) (seal tree : ℕ) (now seen : List Pair) (banner : Banner) → tree ≡ other_half slot.root → seen ≡ now
+    → record { number = 1 - slot.number; seal = seal; root = record { pages = slot.root.pages; tree = tree; height = 0; keys = length seen; banner = banner } } ≡ new_slot slot seal now banner
+slot_made slot seal tree now seen banner a same = rw (a, same) refl
 
-pub pages_made : (seal tree : ℕ) (root : Root) (pages seen : List NewPage) (now pairs : List Pair) → seen ≡ pages → pages ≡ flat_pages seal tree (by_pages pairs) → tree ≡ other_half root → pairs ≡ now → seen ≡ flat_pages seal (other_half root) (by_pages now)
-pages_made seal tree root pages seen now pairs a b e same = a ∙ b ∙ ap (λ (t : ℕ). flat_pages seal t (by_pages pairs)) e ∙ ap (λ (l : List Pair). flat_pages seal (other_half root) (by_pages l)) same
+pub pages_made : (seal tree : ℕ) (root : Root) (pages : List NewPage) (now pairs : List Pair) → pages ≡ flat_pages seal tree (by_pages pairs) → tree ≡ other_half root → pairs ≡ now → pages ≡ flat_pages seal (other_half root) (by_pages now)
+pages_made seal tree root pages now pairs b e same = b ∙ ap (λ (t : ℕ). flat_pages seal t (by_pages pairs)) e ∙ ap (λ (l : List Pair). flat_pages seal (other_half root) (by_pages l)) same
 
 pub pages_fit : (seal size : ℕ) (slot : Slot) (pairs now : List Pair) (seen : List NewPage) (k : ℕ) (d : NewPage) → IsFitted size slot pairs → seen ≡ flat_pages seal (other_half slot.root) (by_pages now) → pages_needed now ≤ half_size slot.root.pages → k < length seen
     → 8 * (get_or seen k d).number + 8 ≤ size

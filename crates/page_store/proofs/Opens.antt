@@ -1,5 +1,5 @@
 -- What an opening finds.
-use Rattle.std.proofs.Common.{◌≡◌, ℕ, zero, suc, ◌<◌, ◌≤◌, Bool, true, false, List, [], ◌∷◌, length, map, drop, get_or, Option, Some, None, refl, sym, ap, subst, ◌∙◌, arith, IsTrue, inl, inr}
+use Rattle.std.proofs.Common.{◌≡◌, ℕ, zero, suc, ◌<◌, ◌≤◌, Bool, true, false, List, [], ◌∷◌, length, map, drop, get_or, Option, Some, None, refl, sym, ap, subst, ◌∙◌, arith, IsTrue, inl}
 use Rattle.std.specs.Prelude.{◌&&◌}
 use Rattle.page_store.specs.Reading.{◌>>=◌, where_true}
 use Rattle.page_store.specs.Sectors.{Image, page_of}
@@ -11,9 +11,8 @@ use Rattle.page_store.specs.Flat.{flat_walk, half_size, is_half}
 use Rattle.page_store.specs.Content.{Found, content, content_under, found_as, flat_found}
 use Rattle.page_store.specs.FlatKeeping.{found_in_half}
 use Rattle.page_store.specs.declared.slot.Slot.{Slot}
-use Rattle.std.proofs.lemmas.Bool.{cases_lt}
-use Rattle.sector_device.specs.Device.{State}
-use Rattle.host_types.specs.Keeping.{Rose}
+use Rattle.sector_device.specs.Device.{State, counted, NothingCounted}
+use Rattle.page_store.specs.Counting.{reads_after, CountsRefusal}
 use Rattle.page_store.specs.ReadFaults.{IsHalfFault}
 use Rattle.page_store.specs.FlatKeeping.{IsOpenFault}
 use Rattle.page_store.specs.declared.fault.KeeperFault.{KeeperFault}
@@ -76,14 +75,22 @@ is_content a slot pairs now version walk half good = under_is a slot (Some (foun
 
 -- ---- faults
 
-rose_later : (a b d : ℕ) → a ≤ b → b ≤ d → Rose b d → Rose a d
-rose_later a b d ab bd (inl lt) = inl (omega (arith, ab, lt))
-rose_later a b d ab bd (inr end) = elim (cases_lt a d) [ inl less ↦ inl less | inr ge ↦ inr (omega (arith, ab, bd, end, ge)) ]
+-- what a read of the pages counts, after calls that counted nothing
+pub half_counts : (old mid new : State) (e : KeeperFault) → NothingCounted old mid → new.failed_reads ≡ reads_after e mid.failed_reads → new.failed_writes ≡ mid.failed_writes → CountsRefusal e old new
+half_counts old mid new faults.Device before reads writes = inl (reads ∙ ap counted before.reads, writes ∙ before.writes)
+half_counts old mid new faults.NoImage before reads writes = record { reads = reads ∙ before.reads; writes = writes ∙ before.writes }
+half_counts old mid new faults.Version before reads writes = record { reads = reads ∙ before.reads; writes = writes ∙ before.writes }
+half_counts old mid new (faults.Damaged page) before reads writes = record { reads = reads ∙ before.reads; writes = writes ∙ before.writes }
+half_counts old mid new faults.Small before reads writes = record { reads = reads ∙ before.reads; writes = writes ∙ before.writes }
+half_counts old mid new faults.Spent before reads writes = record { reads = reads ∙ before.reads; writes = writes ∙ before.writes }
+half_counts old mid new (faults.Full need free) before reads writes = record { reads = reads ∙ before.reads; writes = writes ∙ before.writes }
+half_counts old mid new faults.Failed before reads writes = record { reads = reads ∙ before.reads; writes = writes ∙ before.writes }
+half_counts old mid new faults.Memory before reads writes = record { reads = reads ∙ before.reads; writes = writes ∙ before.writes }
 
 pub half_fault : (old mid new : State) (slot : Slot) (e : KeeperFault) → 128 ≤ old.size → (IsTrue old.honest → IsTrue mid.honest) → (IsTrue old.honest → mid.disk.view ≡ old.disk.view) → (IsTrue old.honest → current old.disk.view ≡ Some slot) → slot.root.banner.version ≡ 0
-    → old.failed_reads ≤ mid.failed_reads → mid.failed_reads ≤ new.failed_reads
+    → NothingCounted old mid → new.failed_writes ≡ mid.failed_writes
     → IsHalfFault slot mid.honest mid.failed_reads new.failed_reads (flat_walk (page_of mid.disk.view) slot.seal (half_size slot.root.pages) slot.root.tree 0 slot.root.keys) e → IsOpenFault old new e
-half_fault old mid new slot faults.Device large keeps view now version a b h = (large, inl (rose_later old.failed_reads mid.failed_reads new.failed_reads a b h))
+half_fault old mid new slot faults.Device large keeps view now version a b h = (large, inl (h ∙ ap counted a.reads, b ∙ a.writes))
 half_fault old mid new slot faults.NoImage large keeps view now version a b h = absurd h
 half_fault old mid new slot faults.Version large keeps view now version a b h = absurd h
 half_fault old mid new slot (faults.Damaged page) large keeps view now version a b h =

@@ -1,7 +1,7 @@
 -- What is known once a call succeeded.
-use Rattle.std.proofs.Common.{◌≡◌, ℕ, Bool, false, Result, Ok, Err, OnOk}
+use Rattle.std.proofs.Common.{◌≡◌, ℕ, Bool, true, false, Result, Ok, Err, OnOk}
 use Rattle.std.specs.Result.{is_err}
-use Rattle.sector_device.specs.Device.{Counts}
+use Rattle.sector_device.specs.Device.{counted, Counts}
 
 pub on_ok : {T E : Type 0} (r : Result T E) (b : Bool) (P : Type 0) → b ≡ is_err r → b ≡ false → OnOk r P → P
 on_ok (Ok _) b P is off h = h
@@ -10,3 +10,7 @@ on_ok (Err _) b P is off h = absurd (cc (is, off))
 pub counts_ok : {T E : Type 0} (r : Result T E) (b : Bool) (before now : ℕ) → b ≡ is_err r → b ≡ false → Counts r before now → now ≡ before
 counts_ok (Ok _) b before now is off h = h
 counts_ok (Err _) b before now is off h = absurd (cc (is, off))
+
+pub counts_err : {T E : Type 0} (r : Result T E) (b : Bool) (before now : ℕ) → b ≡ is_err r → b ≡ true → Counts r before now → now ≡ counted before
+counts_err (Ok _) b before now is on h = absurd (cc (is, on))
+counts_err (Err _) b before now is on h = h

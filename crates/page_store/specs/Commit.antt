@@ -55,6 +55,10 @@ pub record IsReady (commit : Commit) (pages : List NewPage) (a : Image) : Type 0
   pub above : IsAbove commit.new.seal commit.new.number a
   pub under : content_under commit.new (patched pages (page_of a)) ≡ Some commit.new_found
 
+-- these pages and this slot over them are a commit that may be done on an image
+abbrev pub MayBeCommitted : Slot → List NewPage → Image → Type 0
+MayBeCommitted slot pages a = (commit : Commit) × (commit.new ≡ slot) × IsReady commit pages a
+
 -- A slot is current, this stands under it, and the pages where it stands have these bytes.
 pub record Shows (slot : Slot) (found : Found) (bytes : ℕ → List ℕ) (c : Image) : Type 0 where
   pub current_is : current c ≡ Some slot

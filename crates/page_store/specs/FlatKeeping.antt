@@ -1,5 +1,5 @@
 -- What a keeper of flat pages is.
-use Rattle.std.specs.Prelude.{◌⊎◌, None, ◌-◌, ◌==◌, if◌then◌else◌, Bool, ◌≡◌, ◌≤◌, ◌<◌, ◌*◌, ◌+◌, ℕ, List, Some, true, IsTrue, length}
+use Rattle.std.specs.Prelude.{None, ◌-◌, ◌==◌, if◌then◌else◌, Bool, ◌≡◌, ◌≤◌, ◌<◌, ◌*◌, ◌+◌, ℕ, List, Some, true, IsTrue, length}
 use Rattle.sector_device.specs.Disk.{Disk, IsImage}
 use Rattle.page_store.specs.Pages.{Pair}
 use Rattle.page_store.specs.Roots.{current, greatest_seal}
@@ -8,9 +8,8 @@ use Rattle.page_store.specs.Content.{Found, content}
 use Rattle.page_store.specs.Batch.{is_map, updated}
 use Rattle.page_store.specs.Spelling.{by_pages, pages_needed, flat_pages}
 use Rattle.page_store.specs.declared.edit.Edit.{Edit}
-use Rattle.sector_device.specs.Device.{State}
+use Rattle.sector_device.specs.Device.{State, OneCounted}
 use Rattle.host_types.specs.Stops.{Stops}
-use Rattle.host_types.specs.Keeping.{Rose}
 use Rattle.page_store.specs.Sectors.{Image}
 use Rattle.page_store.specs.Steps.{AllAre}
 use Rattle.page_store.specs.declared.fault.KeeperFault.{KeeperFault}
@@ -99,10 +98,17 @@ pub record HasOpened (old new : State) (stops : Stops Image) (slot : Slot) (pair
 abbrev pub IsFlat : Image → Slot → Type 0
 IsFlat image slot = (current image ≡ Some slot) × (slot.root.banner.version ≡ 0)
 
+-- Why no current slot of flat pages was found, by the image that was read.
+abbrev pub IsSlotFault : State → KeeperFault → Type 0
+IsSlotFault old faults.Device = Unit {0}
+IsSlotFault old faults.NoImage = IsTrue old.honest → current old.disk.view ≡ None
+IsSlotFault old faults.Version = IsTrue old.honest → (slot : Slot) × (current old.disk.view ≡ Some slot) × (0 < slot.root.banner.version)
+IsSlotFault old other = ⊥
+
 -- Why an opening was refused, by the image as it was read before it. No two of these hold of one image, but for a device that fails and for want of memory.
 abbrev pub IsOpenFault : State → State → KeeperFault → Type 0
 IsOpenFault old new faults.Small = old.size < 128
-IsOpenFault old new faults.Device = (128 ≤ old.size) × (Rose old.failed_reads new.failed_reads ⊎ Rose old.failed_writes new.failed_writes)
+IsOpenFault old new faults.Device = (128 ≤ old.size) × OneCounted old new
 IsOpenFault old new faults.NoImage = (128 ≤ old.size) × (IsTrue old.honest → current old.disk.view ≡ None)
 IsOpenFault old new faults.Version = (128 ≤ old.size) × (IsTrue old.honest → (slot : Slot) × (current old.disk.view ≡ Some slot) × (0 < slot.root.banner.version))
 IsOpenFault old new (faults.Damaged page) = (128 ≤ old.size) × (IsTrue old.honest → (slot : Slot) × IsFlat old.disk.view slot × (content old.disk.view ≡ None) × MayBeNamed slot page)

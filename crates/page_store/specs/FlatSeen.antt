@@ -1,6 +1,10 @@
 -- A keeper of flat pages as its callers see it.
 use Rattle.std.specs.Prelude.{ℕ, List, Bool}
+use Rattle.sector_device.specs.Device.{State}
 use Rattle.page_store.specs.Pages.{Pair}
+use Rattle.page_store.specs.Holding.{Holding}
+use Rattle.page_store.specs.FlatKeeping.{flat_holding}
+use Rattle.page_store.specs.declared.slot.Slot.{Slot}
 use Rattle.page_store.specs.declared.banner.Banner.{Banner}
 use Rattle.page_store.specs.declared.flat_keeper.FlatKeeper.{FlatKeeper}
 
@@ -19,3 +23,10 @@ top_of k = k.top
 
 abbrev pub is_open : {D : Type 0} {dict : _} → FlatKeeper D dict → Bool
 is_open k = k.usable
+
+abbrev pub slot_of : {D : Type 0} {dict : _} → FlatKeeper D dict → Slot
+slot_of k = k.slot
+
+-- what its trait tells
+abbrev pub held : {D : Type 0} {dict : _} → (D → State) → FlatKeeper D dict → Holding
+held state k = flat_holding (state k.device) k.slot k.pairs.items k.top k.usable

@@ -1,7 +1,6 @@
 -- What is made, and when it is not.
 use Rattle.std.specs.Prelude.{◌≡◌, ◌⊎◌, ◌<◌, ◌*◌, ℕ, Some}
-use Rattle.sector_device.specs.Device.{State}
-use Rattle.host_types.specs.Keeping.{Rose}
+use Rattle.sector_device.specs.Device.{State, counted}
 use Rattle.page_store.specs.Sectors.{Image}
 use Rattle.page_store.specs.Roots.{current, greatest_seal}
 use Rattle.page_store.specs.declared.slot.Slot.{Slot}
@@ -17,6 +16,7 @@ pub record IsFirst (pages : ℕ) (image : Image) : Type 0 where
   pub greatest : greatest_seal image 16 ≡ 1
   pub size : slot.root.pages ≡ pages
 
+-- When a fault may come of making an image.
 abbrev pub IsFormatFault : ℕ → State → State → KeeperFault → Type 0
 IsFormatFault pages old new faults.Device = ⊥
 IsFormatFault pages old new faults.NoImage = ⊥
@@ -25,5 +25,5 @@ IsFormatFault pages old new (faults.Damaged page) = ⊥
 IsFormatFault pages old new faults.Small = (pages < 16) ⊎ ((65536 < pages) ⊎ (old.size < 8 * pages))
 IsFormatFault pages old new faults.Spent = ⊥
 IsFormatFault pages old new (faults.Full need free) = ⊥
-IsFormatFault pages old new faults.Failed = Rose old.failed_writes new.failed_writes
+IsFormatFault pages old new faults.Failed = (new.failed_reads ≡ old.failed_reads) × (new.failed_writes ≡ counted old.failed_writes)
 IsFormatFault pages old new faults.Memory = new ≡ old

@@ -1,9 +1,9 @@
 -- What a keeper of pairs holds, and what its calls have in common.
-use Rattle.std.specs.Prelude.{◌≡◌, ◌<◌, ◌≤◌, ◌-◌, ◌^◌, ℕ, Bool, false, IsTrue}
-use Rattle.host_types.specs.Keeping.{Rose}
-use Rattle.std.specs.Prelude.{List}
+use Rattle.std.specs.Prelude.{◌≡◌, ◌⊎◌, ◌<◌, ◌≤◌, ◌+◌, ◌-◌, ◌^◌, ℕ, Bool, false, List, drop, Option, Some, None, Result, Ok, Err, IsTrue}
+use Rattle.sector_device.specs.Device.{counted}
 use Rattle.page_store.specs.Pages.{Pair}
 use Rattle.page_store.specs.declared.banner.Banner.{Banner}
+use Rattle.page_store.specs.declared.edit.Edit.{Edit}
 use Rattle.page_store.specs.declared.fault.KeeperFault.{KeeperFault}
 use Rattle.page_store.specs.declared.fault.KeeperFault.TheVariants as faults
 
@@ -37,9 +37,20 @@ pub record HasRead (old new : Holding) : Type 0 where
   pub reads : old.failed_reads ≤ new.failed_reads
   pub writes : new.failed_writes ≡ old.failed_writes
 
+-- A batch may need as much after a call as before it.
+pub record NeedsTheSame (old new : List Edit → ℕ → Type 0) : Type 0 where
+  pub still : (batch : List Edit) (need : ℕ) → old batch need → new batch need
+  pub before : (batch : List Edit) (need : ℕ) → new batch need → old batch need
+
+-- A buffer that an answer fills from the front: behind the answer it stays, and whole where nothing is found or a fault comes.
+abbrev pub IsFilled : {A E : Type 0} → (A → ℕ) → Result (Option A) E → List ℕ → List ℕ → Type 0
+IsFilled size (Ok (Some found)) old new = drop (size found) new ≡ drop (size found) old
+IsFilled size (Ok None) old new = new ≡ old
+IsFilled size (Err fault) old new = new ≡ old
+
 -- When a fault may come of a call that only reads.
 abbrev pub IsReadFault : Holding → Holding → KeeperFault → Type 0
-IsReadFault old new faults.Device = Rose old.failed_reads new.failed_reads
+IsReadFault old new faults.Device = new.failed_reads ≡ counted old.failed_reads
 IsReadFault old new faults.NoImage = ⊥
 IsReadFault old new faults.Version = ⊥
 IsReadFault old new (faults.Damaged page) = old.honest ≡ false
@@ -54,11 +65,12 @@ pub record HasFailed (old new : Holding) : Type 0 where
   pub pairs : IsTrue old.honest → new.pairs ≡ old.pairs
   pub banner : new.banner ≡ old.banner
   pub shut : new.usable ≡ false
-  pub cause : IsTrue old.usable → Rose old.failed_writes new.failed_writes
+  pub cause : IsTrue old.usable → new.failed_writes ≡ counted old.failed_writes
+  pub top : (new.top ≡ old.top) ⊎ (new.top ≡ old.top + 1)
 
 -- When a fault may come of a commit, and what stands then; `may_need` says how much the batch may need.
 abbrev pub IsCommitFault : Holding → Holding → (ℕ → Type 0) → KeeperFault → Type 0
-IsCommitFault old new may_need faults.Device = HasStayed old new × Rose old.failed_reads new.failed_reads
+IsCommitFault old new may_need faults.Device = HasStayed old new × (new.failed_reads ≡ counted old.failed_reads)
 IsCommitFault old new may_need faults.NoImage = ⊥
 IsCommitFault old new may_need faults.Version = ⊥
 IsCommitFault old new may_need (faults.Damaged page) = HasStayed old new × (old.honest ≡ false)

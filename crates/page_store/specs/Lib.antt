@@ -12,9 +12,11 @@ pub mod Switch
 pub mod Commit
 pub mod Spelling
 pub mod Batch
+pub mod Counting
 pub mod Holding
 pub mod ReadFaults
 pub mod FlatKeeping
+pub mod FlatPlan
 pub mod FlatSeen
 pub mod Settled
 pub mod Formatting

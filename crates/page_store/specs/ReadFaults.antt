@@ -1,6 +1,6 @@
 -- When a walk over flat pages fails.
 use Rattle.std.specs.Prelude.{Bool, IsTrue, ◌≡◌, ◌⊎◌, ◌≤◌, ◌<◌, ◌+◌, None, Option, List, ℕ}
-use Rattle.host_types.specs.Keeping.{Rose}
+use Rattle.sector_device.specs.Device.{counted}
 use Rattle.page_store.specs.Pages.{Pair}
 use Rattle.page_store.specs.Flat.{half_size}
 use Rattle.page_store.specs.declared.slot.Slot.{Slot}
@@ -13,7 +13,7 @@ MayBeNamed slot page = (page ≡ slot.number) ⊎ ((slot.root.tree ≤ page) × 
 
 -- A read failed, a page was found wrong, or memory was wanting; `read` is what the pages hold.
 abbrev pub IsHalfFault : Slot → Bool → ℕ → ℕ → Option (List Pair) → KeeperFault → Type 0
-IsHalfFault slot honest before now read faults.Device = Rose before now
+IsHalfFault slot honest before now read faults.Device = now ≡ counted before
 IsHalfFault slot honest before now read faults.NoImage = ⊥
 IsHalfFault slot honest before now read faults.Version = ⊥
 IsHalfFault slot honest before now read (faults.Damaged page) = (IsTrue honest → read ≡ None) × MayBeNamed slot page

@@ -3,12 +3,11 @@ ghost use Rattle.std.specs.Prelude.{◌≡◌, ◌≤◌, ◌+◌, ◌*◌, ℕ,
 ghost use Rattle.sector_device.specs.declared.device.DeviceFault.TheVariants.{Device as Failing};
 ghost use Rattle.sector_device.specs.Device.{Counts};
 ghost use Rattle.host_types.specs.Stops.{LeavesOnly};
-ghost use Rattle.page_store.specs.declared.slot.Slot.{Slot};
-ghost use Rattle.page_store.specs.Content.{content};
 ghost use Rattle.page_store.specs.Switch.{IsSlotPage};
 ghost use Rattle.page_store.specs.Steps.{stops_of, Makes, AllAre};
-ghost use Rattle.page_store.specs.Commit.{numbers, IsSameOutside, ArePatched, Commit, IsReady, IsBetween, IsDone};
+ghost use Rattle.page_store.specs.Commit.{numbers, IsSameOutside, ArePatched, Commit, IsReady, MayBeCommitted, IsBetween, IsDone};
 
+use crate::Slot;
 use crate::pages::{switch_root, sync_all, write_page};
 use sector_device::{Device, DeviceFault};
 
@@ -36,22 +35,23 @@ pub fn write_pages<D: Device>(device: &mut D, pages: &[NewPage]) -> Result<(), D
     Ok(())
 }
 
-/// Writes pages to free places, makes sure of them, and then writes a root over them and makes sure of it.
+/// Writes pages to free places, makes sure of them, and then writes a root over them and makes sure of it. All else has to be sure before.
 pub fn commit_pages<D: Device>(
     device: &mut D,
     pages: &[NewPage],
-    number: u32,
+    slot: &Slot,
     root: &[u8; 4096],
 ) -> Result<(), DeviceFault>
     requires fits { All (λ page. 8 * page.number + 8 ≤ (D.state device.old).size) pages.now }
-    requires slot { 8 * number + 8 ≤ (D.state device.old).size }
+    requires slot { 8 * slot.now.number + 8 ≤ (D.state device.old).size }
+    requires page { IsTrue (D.state device.old).honest → IsSlotPage (D.state device.old).size slot.now root.now }
+    requires sure { IsTrue (D.state device.old).honest → AllAre (stops_of D.moment D.left_since device.old) (D.state device.old).disk.view }
+    requires ready { IsTrue (D.state device.old).honest → MayBeCommitted slot.now pages.now (D.state device.old).disk.view }
     // Every stop leaves the content from before or the new one, and no page changed that wasn't free.
-    ensures stop { IsTrue (D.state device.old).honest → (commit : Commit) → commit.new.number ≡ number → IsSlotPage (D.state device.old).size commit.new root.now →
-        AllAre (stops_of D.moment D.left_since device.old) (D.state device.old).disk.view → IsReady commit pages.now (D.state device.old).disk.view →
+    ensures stop { IsTrue (D.state device.old).honest → (commit : Commit) → commit.new ≡ slot.now → IsReady commit pages.now (D.state device.old).disk.view →
         LeavesOnly (stops_of D.moment D.left_since device.old) (stops_of D.moment D.left_since device.new) (IsBetween commit pages.now (D.state device.old).disk.view) }
     // Once it is done, every image is the view, and that has the new content.
-    ensures done { IsTrue (D.state device.old).honest → (commit : Commit) → commit.new.number ≡ number → IsSlotPage (D.state device.old).size commit.new root.now →
-        AllAre (stops_of D.moment D.left_since device.old) (D.state device.old).disk.view → IsReady commit pages.now (D.state device.old).disk.view →
+    ensures done { IsTrue (D.state device.old).honest → (commit : Commit) → commit.new ≡ slot.now → IsReady commit pages.now (D.state device.old).disk.view →
         OnOk result (IsDone commit pages.now (stops_of D.moment D.left_since device.new) (D.state device.old).disk.view (D.state device.new).disk.view) }
     ensures size { (D.state device.new).size ≡ (D.state device.old).size }
     ensures honest { (D.state device.new).honest ≡ (D.state device.old).honest }
@@ -61,5 +61,5 @@ pub fn commit_pages<D: Device>(
 {
     write_pages(device, pages)?;
     sync_all(device)?;
-    switch_root(device, number, root)
+    switch_root(device, slot, root)
 }

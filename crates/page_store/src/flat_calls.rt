@@ -1,34 +1,67 @@
 // The calls of a keeper of flat pages.
-ghost use Rattle.std.specs.Prelude.{◌≡◌, ◌≤◌, ◌<◌, ◌==◌, ℕ, true};
+ghost use Rattle.std.specs.Prelude.{◌≡◌, ◌⊎◌, ◌≤◌, ◌<◌, ◌+◌, ◌==◌, ℕ, true, false, IsTrue, OnOk, OnErr, IfErr, IsErrOf};
+ghost use Rattle.host_types.specs.Stops.{LeavesOnly, IsQuiet, may_leave};
+ghost use Rattle.page_store.specs.Batch.{is_batch, is_map, updated};
+ghost use Rattle.sector_device.specs.Device.{Counts};
+ghost use Rattle.page_store.specs.Commit.{IsBetween};
+ghost use Rattle.page_store.specs.FlatPlan.{IsPlan};
+ghost use Rattle.page_store.specs.Counting.{CountsReads, CountsWrites};
+ghost use Rattle.page_store.specs.Holding.{HasTried, IsCommitFault, last_generation};
+ghost use Rattle.page_store.specs.FlatSeen.{held, device_of, slot_of, pairs_of, top_of, is_open};
+ghost use Rattle.page_store.specs.declared.fault.KeeperFault.TheVariants.{Failed, Spent};
 ghost use Rattle.page_store.specs.Content.{is_opened, Holds};
 ghost use Rattle.page_store.specs.Sectors.{Image};
 ghost use Rattle.page_store.specs.Steps.{stops_of};
-ghost use Rattle.page_store.specs.FlatKeeping.{NeedsPages, IsFlatBetween, flat_holding, other_half};
+ghost use Rattle.page_store.specs.FlatKeeping.{NeedsPages, IsFlatBetween, flat_commit};
 ghost use Rattle.page_store.specs.Settled.{settled_content, opens_zero};
 
-use crate::batch::{next_pair, updated_pairs, value_of};
+use crate::batch::{next_pair, value_of};
 use crate::commit::commit_pages;
-use crate::spelling::{flat_pages, pages_needed, slot_page};
-use crate::{Banner, Edit, FlatKeeper, Keeper, KeeperFault, Root, Slot};
-use sector_device::Device;
+use crate::flat_plan::{Plan, planned};
+use crate::{Banner, Edit, FlatKeeper, Keeper, KeeperFault};
+use sector_device::{Device, DeviceFault};
 
-/// The first page of the other half.
-fn other_half(root: &Root) -> u32
-    requires some { 2 ≤ root.now.pages }
-    requires small { root.now.pages ≤ 65536 }
-    ensures { result ≡ other_half root.now }
-{
-    if root.tree == 2 {
-        2 + (root.pages - 2) / 2
-    } else {
-        2
+impl<D: Device> FlatKeeper<D> {
+    /// Writes a commit to the other half that was planned. Where a write or a sync fails, nothing is held anew, and no further commit is taken.
+    fn write_plan(&mut self, plan: Plan) -> Result<(), DeviceFault>
+        requires open { is_open self.old ≡ true }
+        requires left { top_of self.old < last_generation }
+        requires plan { IsPlan (slot_of self.old) (top_of self.old + 1) plan.pairs.items plan.slot.root.banner plan }
+        requires map { is_map plan.pairs.items ≡ true }
+        requires version { IsTrue (is_opened plan.slot.root.banner.version) }
+        ensures stop { IsTrue (D.state (device_of self.old)).honest → LeavesOnly (stops_of D.moment D.left_since (device_of self.old)) (stops_of D.moment D.left_since (device_of self.new))
+            (IsBetween (flat_commit (slot_of self.old) (pairs_of self.old) (top_of self.old + 1) plan.pairs.items plan.slot.root.banner) plan.pages.items (D.state (device_of self.old)).disk.view) }
+        ensures pairs { OnOk result (pairs_of self.new ≡ plan.pairs.items) }
+        ensures slot { OnOk result (slot_of self.new ≡ plan.slot) }
+        ensures open { OnOk result (is_open self.new ≡ true) }
+        ensures same_pairs { OnErr result (pairs_of self.new ≡ pairs_of self.old) }
+        ensures same_slot { OnErr result (slot_of self.new ≡ slot_of self.old) }
+        ensures shut { OnErr result (is_open self.new ≡ false) }
+        ensures top { top_of self.new ≡ top_of self.old + 1 }
+        ensures honest { (D.state (device_of self.new)).honest ≡ (D.state (device_of self.old)).honest }
+        ensures reads { (D.state (device_of self.new)).failed_reads ≡ (D.state (device_of self.old)).failed_reads }
+        ensures writes { Counts result (D.state (device_of self.old)).failed_writes (D.state (device_of self.new)).failed_writes }
+    {
+        let Plan {
+            pairs,
+            pages,
+            slot,
+            root,
+        } = plan;
+        self.top += 1;
+        self.usable = false;
+        commit_pages(&mut self.device, &pages, &slot, &root)?;
+        self.usable = true;
+        self.slot = slot;
+        self.pairs = pairs;
+        Ok(())
     }
 }
 
 impl<D: Device> Keeper for FlatKeeper<D> {
-    ghost holding = { λ k. flat_holding (D.state k.device) k.slot k.pairs.items k.top k.usable };
+    ghost holding = { λ k. held D.state k };
 
-    ghost may_need = { λ k batch need. NeedsPages k.pairs.items batch need };
+    ghost may_need = { λ k batch need. NeedsPages (pairs_of k) batch need };
 
     ghost holds_version = { is_opened };
 
@@ -36,9 +69,7 @@ impl<D: Device> Keeper for FlatKeeper<D> {
 
     ghost has_content = { Holds };
 
-    ghost stops = { λ k. stops_of D.moment D.left_since k.device };
-
-    ghost is_between = { λ k batch banner. IsFlatBetween k.slot k.pairs.items k.top (D.state k.device).disk.view batch banner };
+    ghost stops = { λ k. stops_of D.moment D.left_since (device_of k) };
 
     ghost held = { λ k. opens_zero k.slot.root.banner.version k.fitted.version };
 
@@ -82,7 +113,37 @@ impl<D: Device> Keeper for FlatKeeper<D> {
         Ok(Some((pair.key().len(), pair.value().len())))
     }
 
-    fn commit(&mut self, batch: &[Edit], banner: Banner) -> Result<(), KeeperFault> {
+    fn commit(&mut self, batch: &[Edit], banner: Banner) -> Result<(), KeeperFault>
+        requires batch { IsTrue (is_batch batch.now) }
+        requires port { 0 < banner.port }
+        requires version { IsTrue (is_opened banner.version) }
+        ensures done { IsTrue (held D.state self.old).honest → OnOk result ((held D.state self.new).pairs ≡ updated (held D.state self.old).pairs batch.now) }
+        ensures banner { OnOk result ((held D.state self.new).banner ≡ banner) }
+        ensures still_usable { OnOk result ((held D.state self.new).usable ≡ true) }
+        ensures rises { OnOk result ((held D.state self.new).top ≡ (held D.state self.old).top + 1) }
+        ensures fits { IsTrue (held D.state self.old).honest → OnOk result ((n : ℕ) × NeedsPages (pairs_of self.old) batch.now n × (n ≤ (held D.state self.old).free)) }
+        ensures fault { IfErr result (IsCommitFault (held D.state self.old) (held D.state self.new) (NeedsPages (pairs_of self.old) batch.now)) }
+        ensures closed { (held D.state self.old).usable ≡ false → IsErrOf result Failed }
+        ensures spent { (held D.state self.old).usable ≡ true → (held D.state self.old).top ≡ last_generation → IsErrOf result Spent }
+        ensures still { (held D.state self.old).usable ≡ false → held D.state self.new ≡ held D.state self.old }
+        ensures tried { HasTried (held D.state self.old) (held D.state self.new) }
+        ensures reads { CountsReads result (held D.state self.old).failed_reads (held D.state self.new).failed_reads }
+        ensures writes { CountsWrites (held D.state self.old).usable result (held D.state self.old).failed_writes (held D.state self.new).failed_writes }
+        ensures stop { IsTrue (held D.state self.old).honest → (held D.state self.old).usable ≡ true →
+            LeavesOnly (stops_of D.moment D.left_since (device_of self.old)) (stops_of D.moment D.left_since (device_of self.new))
+            (λ c. Holds c (held D.state self.old).pairs (held D.state self.old).banner ⊎ Holds c (updated (held D.state self.old).pairs batch.now) banner) }
+        ensures tight { IsTrue (held D.state self.old).honest → (held D.state self.old).usable ≡ true → (held D.state self.new).usable ≡ false → (n : ℕ) × NeedsPages (pairs_of self.old) batch.now n × (n ≤ (held D.state self.old).free) }
+        ensures quiet { IsTrue (held D.state self.old).honest → IfErr result (λ e. (held D.state self.new).usable ≡ true → IsQuiet (stops_of D.moment D.left_since (device_of self.old)) (stops_of D.moment D.left_since (device_of self.new))) }
+        ensures quiet_when_closed { IsTrue (held D.state self.old).honest → (held D.state self.old).usable ≡ false → IsQuiet (stops_of D.moment D.left_since (device_of self.old)) (stops_of D.moment D.left_since (device_of self.new)) }
+
+        // How it writes: a stop leaves what one before the call might have left, or an image on the way to the other half and the other slot.
+        ensures between { IsTrue (held D.state self.old).honest → (held D.state self.old).usable ≡ true →
+            LeavesOnly (stops_of D.moment D.left_since (device_of self.old)) (stops_of D.moment D.left_since (device_of self.new))
+            (λ c. may_leave (stops_of D.moment D.left_since (device_of self.old)) c ⊎ IsFlatBetween (slot_of self.old) (pairs_of self.old) (top_of self.old) (D.state (device_of self.old)).disk.view batch.now banner c) }
+
+        // A fault before the first write leaves the device as it is.
+        ensures unwritten { IfErr result (λ e. is_open self.new ≡ is_open self.old → device_of self.new ≡ device_of self.old) }
+    {
         if !self.usable {
             return Err(KeeperFault::Failed);
         }
@@ -90,37 +151,10 @@ impl<D: Device> Keeper for FlatKeeper<D> {
             return Err(KeeperFault::Spent);
         }
         let seal = self.top + 1;
-        let pairs = updated_pairs(self.alloc, &self.pairs, batch)?;
-        let need = pages_needed(&pairs);
-        let half = (self.slot.root.pages - 2) / 2;
-        if need > half as usize {
-            return Err(KeeperFault::Full {
-                need: need as u64,
-                free: u64::from(half),
-            });
+        let plan = planned(self.alloc, &self.slot, &self.pairs, seal, batch, banner)?;
+        match self.write_plan(plan) {
+            Ok(()) => Ok(()),
+            Err(_) => Err(KeeperFault::Failed),
         }
-        let tree = other_half(&self.slot.root);
-        let pages = flat_pages(self.alloc, seal, tree, &pairs)?;
-        let slot = Slot {
-            number: 1 - self.slot.number,
-            seal,
-            root: Root {
-                pages: self.slot.root.pages,
-                tree,
-                height: 0,
-                keys: pairs.as_slice().len() as u64,
-                banner,
-            },
-        };
-        let root = slot_page(self.alloc, &slot)?;
-        self.top = seal;
-        self.usable = false;
-        if commit_pages(&mut self.device, &pages, slot.number, &root).is_err() {
-            return Err(KeeperFault::Failed);
-        }
-        self.usable = true;
-        self.slot = slot;
-        self.pairs = pairs;
-        Ok(())
     }
 }

@@ -1,16 +1,18 @@
 // Opening an image of flat pages.
 ghost use Rattle.std.specs.Prelude.{◌≡◌, ◌⊎◌, ◌≤◌, ◌<◌, ◌*◌, ◌+◌, ◌==◌, ◌^◌, ℕ, List, Bool, true, false, Some, IfOk, OnOk, IfErr, IsTrue, length, map};
 ghost use Rattle.std.specs.List.{list_all};
-ghost use Rattle.sector_device.specs.Device.{State};
+ghost use Rattle.sector_device.specs.Device.{State, NothingCounted};
+ghost use Rattle.page_store.specs.Counting.{CountsReads, CountsRefusal};
+ghost use Rattle.page_store.specs.declared.fault.KeeperFault.TheVariants.{Small};
 ghost use Rattle.page_store.specs.Keys.{rises};
 ghost use Rattle.page_store.specs.Pages.{key_of};
 ghost use Rattle.page_store.specs.Batch.{is_map, is_pair, is_key, is_value};
 ghost use Rattle.page_store.specs.Flat.{half_size, is_half};
 ghost use Rattle.page_store.specs.Content.{HasContent};
 ghost use Rattle.page_store.specs.Steps.{stops_of, AllAre};
-ghost use Rattle.page_store.specs.FlatKeeping.{IsFitted, IsSettled, IsOpened, IsOpenFault, HasOpened, found_in_half};
+ghost use Rattle.page_store.specs.FlatKeeping.{IsFitted, IsSettled, IsOpened, IsSlotFault, IsOpenFault, HasOpened, found_in_half};
 ghost use Rattle.page_store.specs.FlatSeen.{pairs_of, banner_of, device_of, top_of, is_open};
-ghost use Rattle.page_store.specs.Roots.{FitsDevice, greatest_seal};
+ghost use Rattle.page_store.specs.Roots.{FitsDevice, current, greatest_seal};
 ghost use Rattle.host_types.specs.Stops.{IsQuiet};
 
 use crate::flat_reading::read_half;
@@ -43,25 +45,21 @@ fn keys_rise(pairs: &[Pair]) -> bool
     true
 }
 
-/// Makes sure of what is there, and finds the current slot of a flat image and the greatest seal.
-fn open_slot<D: Device>(device: &mut D) -> Result<(Slot, u64), KeeperFault>
-    ensures opened { IfOk result (λ found. IsOpened (D.state device.old) (D.state device.new) (stops_of D.moment D.left_since device.new) found.0 found.1) }
+/// Finds the current slot of a flat image, and the greatest seal.
+fn flat_slot<D: Device>(device: &mut D) -> Result<(Slot, u64), KeeperFault>
+    requires { 128 ≤ (D.state device.old).size }
+    ensures slot { IsTrue (D.state device.old).honest → IfOk result (λ found. current (D.state device.old).disk.view ≡ Some found.0) }
+    ensures top { IsTrue (D.state device.old).honest → IfOk result (λ found. greatest_seal (D.state device.old).disk.view 16 ≡ found.1) }
     ensures fits { IfOk result (λ found. (found.0.number < 2) × FitsDevice (D.state device.old).size found.0.root) }
     ensures version { IfOk result (λ found. found.0.root.banner.version ≡ 0) }
-    ensures large { IfOk result (λ found. 128 ≤ (D.state device.old).size) }
-    ensures fault { IfErr result (IsOpenFault (D.state device.old) (D.state device.new)) }
+    ensures fault { IfErr result (IsSlotFault (D.state device.old)) }
+    ensures disk { IsTrue (D.state device.old).honest → (D.state device.new).disk ≡ (D.state device.old).disk }
     ensures stop { IsTrue (D.state device.old).honest → IsQuiet (stops_of D.moment D.left_since device.old) (stops_of D.moment D.left_since device.new) }
     ensures size { (D.state device.new).size ≡ (D.state device.old).size }
     ensures honest { (D.state device.new).honest ≡ (D.state device.old).honest }
-    ensures reads { (D.state device.old).failed_reads ≤ (D.state device.new).failed_reads }
-    ensures writes { (D.state device.old).failed_writes ≤ (D.state device.new).failed_writes }
+    ensures reads { CountsReads result (D.state device.old).failed_reads (D.state device.new).failed_reads }
+    ensures writes { (D.state device.new).failed_writes ≡ (D.state device.old).failed_writes }
 {
-    if device.sectors() < 128 {
-        return Err(KeeperFault::Small);
-    }
-    if sync_all(device).is_err() {
-        return Err(KeeperFault::Device);
-    }
     let Ok(roots) = open_roots(device) else {
         return Err(KeeperFault::Device);
     };
@@ -73,6 +71,30 @@ fn open_slot<D: Device>(device: &mut D) -> Result<(Slot, u64), KeeperFault>
         return Err(KeeperFault::Version);
     }
     Ok((slot, greatest))
+}
+
+/// Makes sure of what is there, and finds the current slot of a flat image and the greatest seal.
+fn open_slot<D: Device>(device: &mut D) -> Result<(Slot, u64), KeeperFault>
+    ensures opened { IfOk result (λ found. IsOpened (D.state device.old) (D.state device.new) (stops_of D.moment D.left_since device.new) found.0 found.1) }
+    ensures fits { IfOk result (λ found. (found.0.number < 2) × FitsDevice (D.state device.old).size found.0.root) }
+    ensures version { IfOk result (λ found. found.0.root.banner.version ≡ 0) }
+    ensures large { IfOk result (λ found. 128 ≤ (D.state device.old).size) }
+    ensures fault { IfErr result (IsOpenFault (D.state device.old) (D.state device.new)) }
+    ensures stop { IsTrue (D.state device.old).honest → IsQuiet (stops_of D.moment D.left_since device.old) (stops_of D.moment D.left_since device.new) }
+    ensures size { (D.state device.new).size ≡ (D.state device.old).size }
+    ensures honest { (D.state device.new).honest ≡ (D.state device.old).honest }
+    ensures counts { OnOk result (NothingCounted (D.state device.old) (D.state device.new)) }
+    ensures counts_fault { IfErr result (λ e. CountsRefusal e (D.state device.old) (D.state device.new)) }
+    ensures small { IfErr result (λ e. e ≡ Small → device.new ≡ device.old) }
+{
+    if device.sectors() < 128 {
+        return Err(KeeperFault::Small);
+    }
+    if sync_all(device).is_err() {
+        return Err(KeeperFault::Device);
+    }
+    let found = flat_slot(device)?;
+    Ok(found)
 }
 
 /// Whether the key has 1 to 300 bytes, and the value at most 1,024.
@@ -109,8 +131,9 @@ fn open_parts<D: Device>(
     ensures stop { IsTrue (D.state device.old).honest → IsQuiet (stops_of D.moment D.left_since device.old) (stops_of D.moment D.left_since device.new) }
     ensures size { (D.state device.new).size ≡ (D.state device.old).size }
     ensures honest { (D.state device.new).honest ≡ (D.state device.old).honest }
-    ensures reads { (D.state device.old).failed_reads ≤ (D.state device.new).failed_reads }
-    ensures writes { (D.state device.old).failed_writes ≤ (D.state device.new).failed_writes }
+    ensures counts { OnOk result (NothingCounted (D.state device.old) (D.state device.new)) }
+    ensures counts_fault { IfErr result (λ e. CountsRefusal e (D.state device.old) (D.state device.new)) }
+    ensures small { IfErr result (λ e. e ≡ Small → device.new ≡ device.old) }
 {
     let (slot, top) = open_slot(device)?;
     if !is_half(&slot.root) {
@@ -129,7 +152,7 @@ fn open_parts<D: Device>(
 }
 
 impl<D: Device> FlatKeeper<D> {
-    /// Opens the image on a device. A refusal hands the device back.
+    /// Opens the image on a device. A refusal hands the device back, `Small` before anything was asked of it.
     ///
     /// Refusals in order: `Small` under 128 sectors; `Device` where a read or the sync failed; `NoImage` where no root slot is valid; `Version` where the current one isn't of flat pages; `Damaged` where what it names has no content. `Memory` may stand in place of `Damaged` and of success.
     pub fn open(alloc: Global, device: D) -> Result<FlatKeeper<D>, (KeeperFault, D)>
@@ -138,8 +161,10 @@ impl<D: Device> FlatKeeper<D> {
         ensures usable { IfOk result (λ k. is_open k ≡ true) }
         ensures honest { IfOk result (λ k. (D.state (device_of k)).honest ≡ (D.state device).honest) }
         ensures large { IfOk result (λ k. 128 ≤ (D.state device).size) }
-        ensures counts { IfOk result (λ k. ((D.state device).failed_reads ≤ (D.state (device_of k)).failed_reads) × ((D.state device).failed_writes ≤ (D.state (device_of k)).failed_writes)) }
+        ensures counts { IfOk result (λ k. NothingCounted (D.state device) (D.state (device_of k))) }
         ensures fault { IfErr result (λ e. IsOpenFault (D.state device) (D.state e.1) e.0) }
+        ensures counts_fault { IfErr result (λ e. CountsRefusal e.0 (D.state device) (D.state e.1)) }
+        ensures small { IfErr result (λ e. e.0 ≡ Small → e.1 ≡ device) }
         // Nothing is written: a stop within the call leaves what one before it might have left.
         ensures stop { IsTrue (D.state device).honest → IfOk result (λ k. IsQuiet (stops_of D.moment D.left_since device) (stops_of D.moment D.left_since (device_of k))) }
         ensures stop_at_fault { IsTrue (D.state device).honest → IfErr result (λ e. IsQuiet (stops_of D.moment D.left_since device) (stops_of D.moment D.left_since e.1)) }

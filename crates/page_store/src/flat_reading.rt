@@ -1,11 +1,11 @@
 // The pairs of flat pages.
 ghost use Rattle.std.specs.Prelude.{◌≡◌, ◌⊎◌, ◌+◌, ◌*◌, ◌<◌, ◌≤◌, ◌^◌, None, Some, IsTrue, IfOk, IfErr, IfSome, option_map, length, false};
 ghost use Rattle.host_types.specs.Stops.{IsQuiet};
-ghost use Rattle.host_types.specs.Keeping.{Rose};
 ghost use Rattle.page_store.specs.Pages.{pair_at, entries_at};
 ghost use Rattle.page_store.specs.Flat.{flat_page, flat_next, flat_walk, is_over, half_size, with_front, with_pairs, is_flat_head, HasNext};
 ghost use Rattle.page_store.specs.Sectors.{page_of};
 ghost use Rattle.page_store.specs.Steps.{stops_of};
+ghost use Rattle.page_store.specs.Counting.{CountsReads};
 ghost use Rattle.page_store.specs.ReadFaults.{IsHalfFault};
 
 use crate::pages::read_page;
@@ -116,7 +116,7 @@ pub(crate) fn read_half<D: Device>(
     ensures stop { IsTrue (D.state device.old).honest → IsQuiet (stops_of D.moment D.left_since device.old) (stops_of D.moment D.left_since device.new) }
     ensures size { (D.state device.new).size ≡ (D.state device.old).size }
     ensures honest { (D.state device.new).honest ≡ (D.state device.old).honest }
-    ensures reads { (D.state device.old).failed_reads ≤ (D.state device.new).failed_reads }
+    ensures reads { CountsReads result (D.state device.old).failed_reads (D.state device.new).failed_reads }
     ensures writes { (D.state device.new).failed_writes ≡ (D.state device.old).failed_writes }
 {
     let mut pairs = Vec::new(alloc);

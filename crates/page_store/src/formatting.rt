@@ -1,13 +1,15 @@
 // Making an image.
-ghost use Rattle.std.specs.Prelude.{◌≡◌, ◌⊎◌, ◌≤◌, ◌<◌, ◌*◌, IsTrue, OnOk, IfErr, true, length};
+ghost use Rattle.std.specs.Prelude.{◌≡◌, ◌≢◌, ◌⊎◌, ◌≤◌, ◌<◌, ◌*◌, IsTrue, OnOk, IfErr, true, length};
+ghost use Rattle.sector_device.specs.Device.{NothingCounted};
 ghost use Rattle.page_store.specs.Batch.{is_map};
 ghost use Rattle.page_store.specs.Spelling.{pages_needed};
 ghost use Rattle.page_store.specs.Steps.{stops_of, AllAre};
 ghost use Rattle.page_store.specs.Content.{HasContent};
+ghost use Rattle.page_store.specs.declared.fault.KeeperFault.TheVariants.{Failed};
 ghost use Rattle.page_store.specs.Formatting.{IsFirst, IsFormatFault};
 
 use crate::commit::write_pages;
-use crate::pages::{switch_root, write_page};
+use crate::pages::{sync_all, write_page};
 use crate::spelling::{flat_pages, slot_page};
 use crate::{Banner, KeeperFault, Pair, Root, Slot};
 use sector_device::Device;
@@ -15,7 +17,7 @@ use std::alloc::Global;
 
 /// Makes an image of flat pages, with pairs that fit one page: it clears the second slot and writes generation 1 to the first. What was there is gone.
 ///
-/// `Small` where the count of pages isn't 16 to 65,536 or the device hasn't eight sectors for each; `Memory` before the first write; `Failed` where a write or a sync failed. A stop within the call may leave anything.
+/// `Small` where the count of pages isn't 16 to 65,536 or the device hasn't eight sectors for each, and `Memory`, come before the first write and leave the device as it is; `Failed` where a write or a sync failed. A stop within the call may leave anything.
 pub fn format_flat<D: Device>(
     alloc: Global,
     device: &mut D,
@@ -32,6 +34,8 @@ pub fn format_flat<D: Device>(
     ensures sure { IsTrue (D.state device.old).honest → OnOk result (AllAre (stops_of D.moment D.left_since device.new) (D.state device.new).disk.view) }
     ensures fits { OnOk result ((16 ≤ pages) × (pages ≤ 65536) × (8 * pages ≤ (D.state device.old).size)) }
     ensures fault { IfErr result (IsFormatFault pages (D.state device.old) (D.state device.new)) }
+    ensures counts { OnOk result (NothingCounted (D.state device.old) (D.state device.new)) }
+    ensures unwritten { IfErr result (λ e. e ≢ Failed → device.new ≡ device.old) }
     ensures size { (D.state device.new).size ≡ (D.state device.old).size }
     ensures honest { (D.state device.new).honest ≡ (D.state device.old).honest }
 {
@@ -58,7 +62,10 @@ pub fn format_flat<D: Device>(
     if write_pages(device, &tree).is_err() {
         return Err(KeeperFault::Failed);
     }
-    if switch_root(device, 0, &root).is_err() {
+    if write_page(device, 0, &root).is_err() {
+        return Err(KeeperFault::Failed);
+    }
+    if sync_all(device).is_err() {
         return Err(KeeperFault::Failed);
     }
     Ok(())
@@ -81,6 +88,8 @@ pub fn format<D: Device>(
     ensures sure { IsTrue (D.state device.old).honest → OnOk result (AllAre (stops_of D.moment D.left_since device.new) (D.state device.new).disk.view) }
     ensures fits { OnOk result ((16 ≤ pages) × (pages ≤ 65536) × (8 * pages ≤ (D.state device.old).size)) }
     ensures fault { IfErr result (IsFormatFault pages (D.state device.old) (D.state device.new)) }
+    ensures counts { OnOk result (NothingCounted (D.state device.old) (D.state device.new)) }
+    ensures unwritten { IfErr result (λ e. e ≢ Failed → device.new ≡ device.old) }
     ensures size { (D.state device.new).size ≡ (D.state device.old).size }
     ensures honest { (D.state device.new).honest ≡ (D.state device.old).honest }
 {

@@ -1,9 +1,10 @@
 // A map of byte keys that is kept on a device.
-ghost use Rattle.std.specs.Prelude.{◌≡◌, ◌⊎◌, ◌≤◌, ◌<◌, ℕ, Bool, List, true, false, IfOk, OnOk, IfErr, IsErrOf, IfSome, IsTrue, length, take, option_map};
+ghost use Rattle.std.specs.Prelude.{◌≡◌, ◌⊎◌, ◌≤◌, ◌<◌, ◌+◌, ℕ, Bool, List, true, false, IfOk, OnOk, IfErr, IsErrOf, IfSome, IsTrue, length, take, option_map};
 ghost use Rattle.host_types.specs.Stops.{Stops, LeavesOnly, IsQuiet, may_leave};
 ghost use Rattle.page_store.specs.Pages.{Pair};
 ghost use Rattle.page_store.specs.Batch.{value_at, pair_after, updated, is_batch, is_map};
-ghost use Rattle.page_store.specs.Holding.{Holding, HasRead, HasTried, IsReadFault, IsCommitFault, last_generation};
+ghost use Rattle.page_store.specs.Counting.{CountsReads, CountsWrites};
+ghost use Rattle.page_store.specs.Holding.{Holding, HasRead, HasTried, NeedsTheSame, IsFilled, IsReadFault, IsCommitFault, last_generation};
 ghost use Rattle.page_store.specs.declared.banner.Banner.{Banner as BannerValue};
 ghost use Rattle.page_store.specs.declared.edit.Edit.{Edit as EditValue};
 ghost use Rattle.page_store.specs.declared.fault.KeeperFault.TheVariants.{Failed, Spent};
@@ -32,9 +33,6 @@ pub trait Keeper {
     /// What a stop may leave.
     ghost stops: { Self → Stops Left };
 
-    /// How the keeper writes: what a stop within a commit of a batch and a banner may leave once it writes.
-    ghost is_between: { Self → List EditValue → BannerValue → Left → Type 0 };
-
     /// Version, host, port and administrator. It takes no memory.
     fn banner(&self) -> &Banner
         ensures { result.now ≡ (holding self.now).banner };
@@ -43,16 +41,20 @@ pub trait Keeper {
     fn is_usable(&self) -> bool
         ensures { result ≡ (holding self.now).usable };
 
-    /// Puts the value at a key into the front of the buffer, and answers its length, or none where nothing stands there. It takes no memory.
+    /// Puts the value at a key into the front of the buffer, and answers its length, or none where nothing stands there. What stands behind the value stays. It takes no memory.
     fn get(&mut self, key: &[u8], buffer: &mut [u8; 1024]) -> Result<Option<usize>, KeeperFault>
         ensures within { IfOk result (λ found. IfSome found (λ n. n ≤ length buffer.new)) }
         ensures value { IsTrue (holding self.old).honest → IfOk result (λ found. option_map (λ n. take n buffer.new) found ≡ value_at (holding self.old).pairs key.now) }
+        ensures buffer { IsFilled (λ n. n) result buffer.old buffer.new }
         ensures kept { HasRead (holding self.old) (holding self.new) }
+        ensures need { NeedsTheSame (may_need self.old) (may_need self.new) }
+        ensures reads { CountsReads result (holding self.old).failed_reads (holding self.new).failed_reads }
         ensures fault { IfErr result (IsReadFault (holding self.old) (holding self.new)) }
         ensures closed { (holding self.old).usable ≡ false → IsErrOf result Failed }
+        ensures still { (holding self.old).usable ≡ false → holding self.new ≡ holding self.old }
         ensures stop { IsTrue (holding self.old).honest → IsQuiet (stops self.old) (stops self.new) };
 
-    /// Puts the pair with the least key above this one into the fronts of the buffers, and answers its lengths, or none where no key is above. The empty key is below all. It takes no memory.
+    /// Puts the pair with the least key above this one into the fronts of the buffers, and answers its lengths, or none where no key is above. The empty key is below all. What stands behind key and value stays. It takes no memory.
     fn next(
         &mut self,
         after: &[u8],
@@ -61,9 +63,14 @@ pub trait Keeper {
     ) -> Result<Option<(usize, usize)>, KeeperFault>
         ensures within { IfOk result (λ found. IfSome found (λ n. (n.0 ≤ length key.new) × (n.1 ≤ length value.new))) }
         ensures pair { IsTrue (holding self.old).honest → IfOk result (λ found. option_map (λ n. (take n.0 key.new, take n.1 value.new)) found ≡ pair_after (holding self.old).pairs after.now) }
+        ensures key { IsFilled (λ n. n.0) result key.old key.new }
+        ensures value { IsFilled (λ n. n.1) result value.old value.new }
         ensures kept { HasRead (holding self.old) (holding self.new) }
+        ensures need { NeedsTheSame (may_need self.old) (may_need self.new) }
+        ensures reads { CountsReads result (holding self.old).failed_reads (holding self.new).failed_reads }
         ensures fault { IfErr result (IsReadFault (holding self.old) (holding self.new)) }
         ensures closed { (holding self.old).usable ≡ false → IsErrOf result Failed }
+        ensures still { (holding self.old).usable ≡ false → holding self.new ≡ holding self.old }
         ensures stop { IsTrue (holding self.old).honest → IsQuiet (stops self.old) (stops self.new) };
 
     /// Makes all edits of a batch, whose keys rise, and sets the banner, in one step.
@@ -76,20 +83,19 @@ pub trait Keeper {
         ensures done { IsTrue (holding self.old).honest → OnOk result ((holding self.new).pairs ≡ updated (holding self.old).pairs batch.now) }
         ensures banner { OnOk result ((holding self.new).banner ≡ banner) }
         ensures still_usable { OnOk result ((holding self.new).usable ≡ true) }
-        ensures rises { OnOk result ((holding self.old).top < (holding self.new).top) }
+        ensures rises { OnOk result ((holding self.new).top ≡ (holding self.old).top + 1) }
         ensures fits { IsTrue (holding self.old).honest → OnOk result ((n : ℕ) × may_need self.old batch.now n × (n ≤ (holding self.old).free)) }
         ensures fault { IfErr result (IsCommitFault (holding self.old) (holding self.new) (may_need self.old batch.now)) }
         ensures closed { (holding self.old).usable ≡ false → IsErrOf result Failed }
         ensures spent { (holding self.old).usable ≡ true → (holding self.old).top ≡ last_generation → IsErrOf result Spent }
+        ensures still { (holding self.old).usable ≡ false → holding self.new ≡ holding self.old }
         ensures tried { HasTried (holding self.old) (holding self.new) }
+        ensures reads { CountsReads result (holding self.old).failed_reads (holding self.new).failed_reads }
+        ensures writes { CountsWrites (holding self.old).usable result (holding self.old).failed_writes (holding self.new).failed_writes }
 
         // A stop within the call leaves the pairs and the banner from before it, or the new ones.
         ensures stop { IsTrue (holding self.old).honest → (holding self.old).usable ≡ true →
             LeavesOnly (stops self.old) (stops self.new) (λ c. has_content c (holding self.old).pairs (holding self.old).banner ⊎ has_content c (updated (holding self.old).pairs batch.now) banner) }
-
-        // It leaves what one before the call might have left, or what the keeper's way to write makes.
-        ensures between { IsTrue (holding self.old).honest → (holding self.old).usable ≡ true →
-            LeavesOnly (stops self.old) (stops self.new) (λ c. may_leave (stops self.old) c ⊎ is_between self.old batch.now banner c) }
 
         // Where a write or a sync failed, the batch had room.
         ensures tight { IsTrue (holding self.old).honest → (holding self.old).usable ≡ true → (holding self.new).usable ≡ false → (n : ℕ) × may_need self.old batch.now n × (n ≤ (holding self.old).free) }

@@ -9,6 +9,7 @@ mod fault;
 mod flat_calls;
 mod flat_keeper;
 mod flat_opening;
+mod flat_plan;
 mod flat_reading;
 mod formatting;
 mod keeper;

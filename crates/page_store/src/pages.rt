@@ -4,10 +4,10 @@ ghost use Rattle.sector_device.specs.declared.device.DeviceFault.TheVariants.{De
 ghost use Rattle.sector_device.specs.Device.{Counts};
 ghost use Rattle.host_types.specs.Stops.{IsQuiet, LeavesOnly};
 ghost use Rattle.page_store.specs.Sectors.{sector, page_of};
-ghost use Rattle.page_store.specs.declared.slot.Slot.{Slot};
 ghost use Rattle.page_store.specs.Switch.{IsSlotPage, IsAbove, IsSwitching, IsSwitched};
 ghost use Rattle.page_store.specs.Steps.{stops_of, Makes, AllAre, IsWritten, MayBeWritten, AreWritten, MayBeAllWritten, chunk};
 
+use crate::Slot;
 use sector_device::{Device, DeviceFault};
 
 /// Bytes 512 * k and on.
@@ -20,7 +20,7 @@ fn chunk_of(bytes: &[u8; 4096], k: usize) -> [u8; 512]
     sector
 }
 
-/// Reads one sector. It takes no memory.
+/// Reads one sector. A fault leaves the buffer. It takes no memory.
 pub fn read_sector<D: Device>(
     device: &mut D,
     n: u64,
@@ -28,6 +28,7 @@ pub fn read_sector<D: Device>(
 ) -> Result<(), DeviceFault>
     requires { n < (D.state device.old).size }
     ensures shows { IsTrue (D.state device.old).honest → OnOk result (sector (D.state device.old).disk.view n ≡ buffer.new) }
+    ensures untouched { IfErr result (λ e. buffer.new ≡ buffer.old) }
     ensures disk { IsTrue (D.state device.old).honest → (D.state device.new).disk ≡ (D.state device.old).disk }
     ensures stop { IsTrue (D.state device.old).honest → IsQuiet (stops_of D.moment D.left_since device.old) (stops_of D.moment D.left_since device.new) }
     ensures size { (D.state device.new).size ≡ (D.state device.old).size }
@@ -39,7 +40,7 @@ pub fn read_sector<D: Device>(
     device.read(n, buffer)
 }
 
-/// Reads the eight sectors of a page. It takes no memory.
+/// Reads the eight sectors of a page. A fault leaves the buffer. It takes no memory.
 pub fn read_page<D: Device>(
     device: &mut D,
     page: u32,
@@ -47,6 +48,7 @@ pub fn read_page<D: Device>(
 ) -> Result<(), DeviceFault>
     requires { 8 * page + 8 ≤ (D.state device.old).size }
     ensures shows { IsTrue (D.state device.old).honest → OnOk result (page_of (D.state device.old).disk.view page ≡ bytes.new) }
+    ensures untouched { IfErr result (λ e. bytes.new ≡ bytes.old) }
     ensures disk { IsTrue (D.state device.old).honest → (D.state device.new).disk ≡ (D.state device.old).disk }
     ensures stop { IsTrue (D.state device.old).honest → IsQuiet (stops_of D.moment D.left_since device.old) (stops_of D.moment D.left_since device.new) }
     ensures size { (D.state device.new).size ≡ (D.state device.old).size }
@@ -57,10 +59,12 @@ pub fn read_page<D: Device>(
 {
     let first = 8 * page as u64;
     let mut sector = [0; 512];
+    let mut read = [0; 4096];
     for part in 0..8 {
         read_sector(device, first + part as u64, &mut sector)?;
-        bytes[512 * part..512 * part + 512].copy_from_slice(&sector);
+        read[512 * part..512 * part + 512].copy_from_slice(&sector);
     }
+    *bytes = read;
     Ok(())
 }
 
@@ -116,24 +120,24 @@ pub fn write_page<D: Device>(
     Ok(())
 }
 
-/// Writes a slot's page, and makes sure of it.
+/// Writes a slot's page over one of lesser generations, and makes sure of it. All else has to be sure before.
 pub fn switch_root<D: Device>(
     device: &mut D,
-    number: u32,
+    slot: &Slot,
     bytes: &[u8; 4096],
 ) -> Result<(), DeviceFault>
-    requires { 8 * number + 8 ≤ (D.state device.old).size }
-    ensures done { IsTrue (D.state device.old).honest → (slot : Slot) → slot.number ≡ number → IsSlotPage (D.state device.old).size slot bytes.now →
-        OnOk result (IsSwitched slot (D.state device.old).disk.view (D.state device.new).disk.view × AllAre (stops_of D.moment D.left_since device.new) (D.state device.new).disk.view) }
-    ensures stop { IsTrue (D.state device.old).honest → (slot : Slot) → slot.number ≡ number → IsSlotPage (D.state device.old).size slot bytes.now →
-        AllAre (stops_of D.moment D.left_since device.old) (D.state device.old).disk.view → IsAbove slot.seal number (D.state device.old).disk.view →
-        LeavesOnly (stops_of D.moment D.left_since device.old) (stops_of D.moment D.left_since device.new) (IsSwitching slot (D.state device.old).disk.view) }
+    requires fits { 8 * slot.now.number + 8 ≤ (D.state device.old).size }
+    requires page { IsTrue (D.state device.old).honest → IsSlotPage (D.state device.old).size slot.now bytes.now }
+    requires above { IsTrue (D.state device.old).honest → IsAbove slot.now.seal slot.now.number (D.state device.old).disk.view }
+    requires sure { IsTrue (D.state device.old).honest → AllAre (stops_of D.moment D.left_since device.old) (D.state device.old).disk.view }
+    ensures done { IsTrue (D.state device.old).honest → OnOk result (IsSwitched slot.now (D.state device.old).disk.view (D.state device.new).disk.view × AllAre (stops_of D.moment D.left_since device.new) (D.state device.new).disk.view) }
+    ensures stop { IsTrue (D.state device.old).honest → LeavesOnly (stops_of D.moment D.left_since device.old) (stops_of D.moment D.left_since device.new) (IsSwitching slot.now (D.state device.old).disk.view) }
     ensures size { (D.state device.new).size ≡ (D.state device.old).size }
     ensures honest { (D.state device.new).honest ≡ (D.state device.old).honest }
     ensures reads { (D.state device.new).failed_reads ≡ (D.state device.old).failed_reads }
     ensures writes { Counts result (D.state device.old).failed_writes (D.state device.new).failed_writes }
     ensures fault { IfErr result (λ e. e ≡ Failing) }
 {
-    write_page(device, number, bytes)?;
+    write_page(device, slot.number, bytes)?;
     sync_all(device)
 }

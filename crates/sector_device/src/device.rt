@@ -1,9 +1,9 @@
 // A disk of sectors, as the layers above see it.
-ghost use Rattle.std.specs.Prelude.{◌≡◌, ◌≤◌, ◌<◌, ◌+◌, ◌-◌, ◌^◌, min, List, ℕ, IfOk, OnOk, OnErr, IfErr, IsTrue, length, slice_get, Some};
+ghost use Rattle.std.specs.Prelude.{◌≡◌, ◌<◌, List, ℕ, IfOk, OnOk, OnErr, IfErr, IsTrue, length, slice_get, Some};
 ghost use Rattle.sector_device.specs.declared.device.DeviceFault.{DeviceFault as Fault};
 ghost use Rattle.sector_device.specs.declared.device.DeviceFault.TheVariants.{Device as Failing};
 ghost use Rattle.sector_device.specs.Disk.{Sectors, Disk, IsImage, written, synced, WriteFailed, SyncFailed};
-ghost use Rattle.sector_device.specs.Device.{State, Rose, Counts, Elapses};
+ghost use Rattle.sector_device.specs.Device.{State, counted, Counts, Elapses};
 
 use thiserror::Error;
 
@@ -22,9 +22,9 @@ pub enum DeviceFault {
 }
 
 /// Counts a call that fails, and gives its fault.
+#[tactic(auto, unfolding(crate::specs::Device::counted))]
 pub(crate) fn counted(failed: &mut u64) -> DeviceFault
-    ensures rose { Rose failed.old failed.new }
-    ensures next { failed.new ≡ min (failed.old + 1) (2 ^ 64 - 1) }
+    ensures next { failed.new ≡ counted failed.old }
     ensures fault { result ≡ Failing }
 {
     *failed = failed.saturating_add(1);
@@ -49,10 +49,11 @@ pub trait Device {
     fn sectors(&self) -> u64
         ensures { result ≡ (state self.now).size };
 
-    /// Reads sector n. A read that fails changes nothing but its count. It takes no memory.
+    /// Reads sector n. A read that fails changes nothing but its count, and leaves the buffer. It takes no memory.
     fn read(&mut self, n: u64, buffer: &mut [u8; 512]) -> Result<(), DeviceFault>
         requires { n < (state self.old).size }
         ensures read { IsTrue (state self.old).honest → OnOk result (slice_get (state self.old).disk.view n ≡ Some buffer.new) }
+        ensures untouched { IfErr result (λ e. buffer.new ≡ buffer.old) }
         ensures disk { IsTrue (state self.old).honest → (state self.new).disk ≡ (state self.old).disk }
         ensures size { (state self.new).size ≡ (state self.old).size }
         ensures honest { (state self.new).honest ≡ (state self.old).honest }

@@ -2,7 +2,7 @@
 ghost use Rattle.std.specs.Prelude.{◌≡◌, ◌≤◌, ◌<◌, ◌-◌, ◌+◌, ◌^◌, ◌↔◌, ℕ, IfOk, OnOk, OnErr, IfErr, IsErr, IsTrue, length, slice_get, Some};
 ghost use Rattle.sector_device.specs.declared.device.DeviceFault.TheVariants.{Device as Failing};
 ghost use Rattle.sector_device.specs.Disk.{Sectors, Disk, IsImage, written, synced, WriteFailed, SyncFailed};
-ghost use Rattle.sector_device.specs.Device.{State, Counts, Elapses};
+ghost use Rattle.sector_device.specs.Device.{State, counted, Counts, Elapses};
 
 use crate::device::counted;
 use crate::{Device, DeviceFault};
@@ -75,7 +75,7 @@ impl<D: Device> FuseDisk<D> {
 }
 
 impl<D: Device> Device for FuseDisk<D> {
-    ghost use Rattle.sector_device.specs.FuseState.{inside, calls_left, fuse_state};
+    ghost use Rattle.sector_device.specs.FuseState.{inside, calls_left, refused_reads, refused_writes, fuse_state};
 
     ghost state = { λ d. fuse_state D.state d };
 
@@ -98,6 +98,7 @@ impl<D: Device> Device for FuseDisk<D> {
     fn read(&mut self, n: u64, buffer: &mut [u8; 512]) -> Result<(), DeviceFault>
         requires { n < (fuse_state D.state self.old).size }
         ensures read { IsTrue (fuse_state D.state self.old).honest → OnOk result (slice_get (fuse_state D.state self.old).disk.view n ≡ Some buffer.new) }
+        ensures untouched { IfErr result (λ e. buffer.new ≡ buffer.old) }
         ensures disk { IsTrue (fuse_state D.state self.old).honest → (fuse_state D.state self.new).disk ≡ (fuse_state D.state self.old).disk }
         ensures size { (fuse_state D.state self.new).size ≡ (fuse_state D.state self.old).size }
         ensures honest { (fuse_state D.state self.new).honest ≡ (fuse_state D.state self.old).honest }
@@ -107,6 +108,9 @@ impl<D: Device> Device for FuseDisk<D> {
         ensures time { IsTrue (fuse_state D.state self.old).honest → Elapses (D.moment (inside self.old)) (D.moment (inside self.new)) (D.left_since (inside self.old)) (D.left_since (inside self.new)) }
         ensures burns { calls_left self.new ≡ calls_left self.old - 1 }
         ensures blown { calls_left self.old ≡ 0 → IsErr result × (inside self.new ≡ inside self.old) }
+        ensures refuses { calls_left self.old ≡ 0 → refused_reads self.new ≡ counted (refused_reads self.old) }
+        ensures refuses_no_other { refused_writes self.new ≡ refused_writes self.old }
+        ensures refuses_none { 0 < calls_left self.old → refused_reads self.new ≡ refused_reads self.old }
         ensures passes { 0 < calls_left self.old → Counts result (D.state (inside self.old)).failed_reads (D.state (inside self.new)).failed_reads }
     {
         if !burns(&mut self.calls_left) {
@@ -127,6 +131,9 @@ impl<D: Device> Device for FuseDisk<D> {
         ensures time { IsTrue (fuse_state D.state self.old).honest → Elapses (D.moment (inside self.old)) (D.moment (inside self.new)) (D.left_since (inside self.old)) (D.left_since (inside self.new)) }
         ensures burns { calls_left self.new ≡ calls_left self.old - 1 }
         ensures blown { calls_left self.old ≡ 0 → IsErr result × (inside self.new ≡ inside self.old) }
+        ensures refuses { calls_left self.old ≡ 0 → refused_writes self.new ≡ counted (refused_writes self.old) }
+        ensures refuses_no_other { refused_reads self.new ≡ refused_reads self.old }
+        ensures refuses_none { 0 < calls_left self.old → refused_writes self.new ≡ refused_writes self.old }
         ensures passes { 0 < calls_left self.old → Counts result (D.state (inside self.old)).failed_writes (D.state (inside self.new)).failed_writes }
     {
         if !burns(&mut self.calls_left) {
@@ -146,6 +153,9 @@ impl<D: Device> Device for FuseDisk<D> {
         ensures time { IsTrue (fuse_state D.state self.old).honest → Elapses (D.moment (inside self.old)) (D.moment (inside self.new)) (D.left_since (inside self.old)) (D.left_since (inside self.new)) }
         ensures burns { calls_left self.new ≡ calls_left self.old - 1 }
         ensures blown { calls_left self.old ≡ 0 → IsErr result × (inside self.new ≡ inside self.old) }
+        ensures refuses { calls_left self.old ≡ 0 → refused_writes self.new ≡ counted (refused_writes self.old) }
+        ensures refuses_no_other { refused_reads self.new ≡ refused_reads self.old }
+        ensures refuses_none { 0 < calls_left self.old → refused_writes self.new ≡ refused_writes self.old }
         ensures passes { 0 < calls_left self.old → Counts result (D.state (inside self.old)).failed_writes (D.state (inside self.new)).failed_writes }
     {
         if !burns(&mut self.calls_left) {

@@ -1,6 +1,8 @@
 // What holds of the definitions, and a caller over any device.
-ghost use Rattle.std.specs.Prelude.{◌≡◌, ◌<◌, ℕ, List, Some, IfOk, IsTrue, slice_get};
+ghost use Rattle.std.specs.Prelude.{◌≡◌, ◌<◌, ℕ, List, Some, IfOk, IfErr, IsTrue, slice_get};
 ghost use Rattle.sector_device.specs.Disk.{Sectors, Disk, IsImage};
+ghost use Rattle.sector_device.specs.Device.{CountsFirst};
+ghost use Rattle.sector_device.specs.declared.device.DeviceFault.TheVariants.{Device as Failing};
 ghost use Rattle.sector_device.specs.AfterStop.{after_stop};
 ghost use Rattle.sector_device.specs.Examples.{Examples};
 
@@ -21,12 +23,14 @@ pub fn each_image_is_picked()
     ensures { (disk : Disk) (image : Sectors) → IsImage disk image → (picks : List ℕ) × (after_stop picks disk ≡ image) }
 {}
 
-/// Writes a sector, makes sure of it, and reads it again.
+/// Writes a sector, makes sure of it, and reads it again, up to the first call that fails.
 pub fn store<D: Device>(device: &mut D, n: u64, bytes: &[u8; 512]) -> Result<[u8; 512], DeviceFault>
     requires { n < (D.state device.old).size }
     ensures size { (D.state device.new).size ≡ (D.state device.old).size }
     ensures honest { (D.state device.new).honest ≡ (D.state device.old).honest }
     ensures read { IsTrue (D.state device.old).honest → IfOk result (λ read. read ≡ bytes.now) }
+    ensures counts { CountsFirst result (D.state device.old) (D.state device.new) }
+    ensures fault { IfErr result (λ e. e ≡ Failing) }
     ensures stays { IsTrue (D.state device.old).honest → IfOk result (λ _. (image : Sectors) → D.left_since device.new (D.moment device.new) image → slice_get image n ≡ Some bytes.now) }
 {
     device.write(n, bytes)?;

@@ -3,8 +3,9 @@ use Rattle.std.proofs.Common.{◌≡◌, ◌≤◌, ℕ, Bool, ◌∙◌, ap, sy
 use Rattle.std.specs.Prelude.{IsTrue}
 use Rattle.std.proofs.lemmas.Bool.{cases_lt}
 use Rattle.host_types.specs.Front.{Address, address}
-use Rattle.host_types.specs.Keeping.{Keeping, HasRead, IsReadFault, Rose}
+use Rattle.host_types.specs.Keeping.{Keeping, HasRead, LacksTheSame, IsReadFault, Rose}
 use Rattle.host_types.specs.Stops.{Stops, IsQuiet, quiet, quiet_again}
+use Rattle.host_types.specs.declared.change.Change.{Change}
 use Rattle.host_types.specs.declared.site_fault.SiteFault.{SiteFault}
 use Rattle.host_types.specs.declared.site_fault.SiteFault.TheVariants as faults
 
@@ -20,6 +21,16 @@ nothing_read k = record { site = λ honest. refl; honest = refl; usable = refl; 
 
 pub nothing_left : {L : Type 0} (s : Stops L) → IsQuiet s s
 nothing_left s = quiet s
+
+-- a change may lack the same after one read and then another
+pub lacking_on : (a b c : Change → ℕ → SiteFault → Type 0) → LacksTheSame a b → LacksTheSame b c → LacksTheSame a c
+lacking_on a b c first second = record {
+  still = λ change now fault lacks. second.still change now fault (first.still change now fault lacks);
+  before = λ change now fault lacks. first.before change now fault (second.before change now fault lacks);
+}
+
+pub same_lacking : (a : Change → ℕ → SiteFault → Type 0) → LacksTheSame a a
+same_lacking a = record { still = λ change now fault lacks. lacks; before = λ change now fault lacks. lacks }
 
 pub reads_on : (a b c : Keeping) → HasRead a b → HasRead b c → HasRead a c
 reads_on a b c first second = record {

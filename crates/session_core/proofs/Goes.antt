@@ -39,7 +39,7 @@ other_phase (s ∷ ss) n id p other =
       | inr o ↦ rw o (elim (cases_Bool (s.0 == id)) [ inl i ↦ rw i refl | inr i ↦ rw i (other_phase ss n id p other) ])
     ]
 
-own_phase : (ss : List (ℕ × Phase)) (id : ℕ) (p q : Phase) → phase_in ss id ≡ Some q → phase_in (moved_in ss id p) id ≡ Some p
+pub own_phase : (ss : List (ℕ × Phase)) (id : ℕ) (p q : Phase) → phase_in ss id ≡ Some q → phase_in (moved_in ss id p) id ≡ Some p
 own_phase [] id p q h = absurd (cc h)
 own_phase (s ∷ ss) id p q h =
     elim (cases_Bool (s.0 == id)) [
@@ -214,7 +214,7 @@ and_second : (a b : Bool) → (a && b) ≡ true → b ≡ true
 and_second true b h = h
 and_second false b h = absurd (cc h)
 
-goes : (old new : World) (events : List Event) (os : List Outcome) (id : ℕ) (reply : List ℕ) → Has old id reply → stays_in id events ≡ true → Run old events os new
+pub goes : (old new : World) (events : List Event) (os : List Outcome) (id : ℕ) (reply : List ℕ) → Has old id reply → stays_in id events ≡ true → Run old events os new
     → (rest : List ℕ) × (phase_of new id ≡ Some (Reply rest)) × (reply ≡ drawn_by id events os ++ rest)
 goes old new [] [] id reply has stays run = (reply, ap (λ (w : World). phase_of w id) run ∙ has, refl)
 goes old new [] (o ∷ os) id reply has stays run = absurd run

@@ -9,7 +9,10 @@ pub mod SeatPlaces
 pub mod Steps
 pub mod FaultsKeep
 pub mod Goes
+pub mod Found
 pub mod After
 pub mod MoreEvents
 pub mod Hearings
 pub mod Runs
+pub mod CallsMade
+pub mod CallLaws

@@ -76,6 +76,8 @@ module _ {L : Type 0} (stands : L → Site → Type 0) (w0 : World) where
     is_now = refl;
     rises = λ j k le within. omega arith;
     each = λ k c le left. inl (0, le, omega arith, settled c left);
+    keeps = λ t c le left. left;
+    since = λ t c le left. inl left;
   }
 
   lift : (es : List Event) (os : List Outcome) (e : Event) (o : Outcome) (k m : ℕ) (c : L) → length os ≡ length es → k ≤ m → StandsFrom stands w0 es os m c → StandsFrom stands w0 (es ++ e ∷ []) (os ++ o ∷ []) k c
@@ -89,24 +91,13 @@ module _ {L : Type 0} (stands : L → Site → Type 0) (w0 : World) where
       )
   lift es os e o k m c n le (inr h) = inr (h.0, unacknowledged-kept w0 es os e o h.0 n h.1, h.2)
 
-  -- a run of one event more
-  pub goes_on_by : (w w' : World) (first mid last : Stops L) (es : List Event) (os : List Outcome) (e : Event) (o : Outcome)
-      → IsStopped stands w0 w first mid es os → Step w e o w'
+  -- a run of one event more, with the same moments so far
+  pub goes_on_with : (w w' : World) (first mid last : Stops L) (es : List Event) (os : List Outcome) (e : Event) (o : Outcome)
+      → (r : IsStopped stands w0 w first mid es os) → Step w e o w'
       → LeavesOnly mid last (λ c. may_leave mid c ⊎ StandsBy stands w e o w' c)
       → (w'.failed ≡ false → (c : L) → may_leave last c → stands c w'.site)
-      → IsStopped stands w0 w' first last (es ++ e ∷ []) (os ++ o ∷ [])
-  goes_on_by w w' first mid last es os e o r step lv settled = record {
-    world = world_is;
-    count = longer;
-    at = at;
-    begins = choose_le n 0 (r.at 0) last.moment (cases_lt n 0) (omega arith) ∙ r.begins;
-    is_now = choose_gt n (length (es ++ e ∷ [])) (r.at (length (es ++ e ∷ []))) last.moment (cases_lt n (length (es ++ e ∷ []))) (omega (arith, length-append es (e ∷ [])));
-    rises = λ j k le within.
-        ⊎_elim (λ lt. ⊎_elim (λ lt2. omega (arith, at_gt k lt, at_gt j lt2)) (λ small. omega (arith, at_gt k lt, at_le j small, past j small, lv.later)) (cases_lt n j))
-        (λ small. omega (arith, at_le k small, at_le j (omega (arith, le, small)), r.rises j k le small)) (cases_lt n k);
-    each = λ k c le left. ⊎_elim (λ lt. last_one k c le (subst (λ (t : ℕ). last.left_since t c) (at_gt k lt) left))
-        (λ small. ⊎_elim (λ old. lift es os e o k k c r.count (omega arith) (r.each k c small old)) (λ p. from_p k c small p) (lv.nothing_else (r.at k) c (past k small) (subst (λ (t : ℕ). last.left_since t c) (at_le k small) left))) (cases_lt n k);
-  }
+      → (further : IsStopped stands w0 w' first last (es ++ e ∷ []) (os ++ o ∷ [])) × ((k : ℕ) → k ≤ length es → further.at k ≡ r.at k)
+  goes_on_with w w' first mid last es os e o r step lv settled = (further, at_le)
     where
       n : ℕ
       n = length es
@@ -188,6 +179,31 @@ module _ {L : Type 0} (stands : L → Site → Type 0) (w0 : World) where
 
       last_one : (k : ℕ) (c : L) → k ≤ length (es ++ e ∷ []) → may_leave last c → StandsFrom stands w0 (es ++ e ∷ []) (os ++ o ∷ []) k c
       last_one k c le left = ⊎_elim (λ f. failed_one k c le f (lv.now c left)) (λ up. at_end k c le (settled up c left)) (cases_Bool w'.failed)
+
+      before : first.moment ≤ mid.moment
+      before = omega (arith, r.rises 0 n (omega arith) (omega arith), r.begins, r.is_now)
+
+      -- what was left before the run, seen from its end
+      since : (t : ℕ) (c : L) → t ≤ first.moment → last.left_since t c → first.left_since t c ⊎ StandsFrom stands w0 (es ++ e ∷ []) (os ++ o ∷ []) 0 c
+      since t c le left =
+          ⊎_elim (λ old. ⊎_elim (λ past. inl past) (λ from. inr (lift es os e o 0 0 c r.count (omega arith) from)) (r.since t c le old)) (λ p. inr (from_p 0 c (omega arith) p))
+          (lv.nothing_else t c (omega (arith, le, before)) left)
+
+      further : IsStopped stands w0 w' first last (es ++ e ∷ []) (os ++ o ∷ [])
+      further = record {
+        keeps = λ t c le left. lv.keeps t c (omega (arith, le, before)) (r.keeps t c le left);
+        since = since;
+        world = world_is;
+        count = longer;
+        at = at;
+        begins = choose_le n 0 (r.at 0) last.moment (cases_lt n 0) (omega arith) ∙ r.begins;
+        is_now = choose_gt n (length (es ++ e ∷ [])) (r.at (length (es ++ e ∷ []))) last.moment (cases_lt n (length (es ++ e ∷ []))) (omega (arith, length-append es (e ∷ [])));
+        rises = λ j k le within.
+            ⊎_elim (λ lt. ⊎_elim (λ lt2. omega (arith, at_gt k lt, at_gt j lt2)) (λ small. omega (arith, at_gt k lt, at_le j small, past j small, lv.later)) (cases_lt n j))
+            (λ small. omega (arith, at_le k small, at_le j (omega (arith, le, small)), r.rises j k le small)) (cases_lt n k);
+        each = λ k c le left. ⊎_elim (λ lt. last_one k c le (subst (λ (t : ℕ). last.left_since t c) (at_gt k lt) left))
+            (λ small. ⊎_elim (λ old. lift es os e o k k c r.count (omega arith) (r.each k c small old)) (λ p. from_p k c small p) (lv.nothing_else (r.at k) c (past k small) (subst (λ (t : ℕ). last.left_since t c) (at_le k small) left))) (cases_lt n k);
+      }
 
 pub unnot : (b : Bool) → not b ≡ false → b ≡ true
 unnot true e = refl

@@ -13,7 +13,7 @@ use Rattle.session_core.specs.World as world
 use Rattle.session_core.specs.World.{World, phase_in}
 use Rattle.session_core.specs.Step.{Said, Next, then_is, at_session, at_hearing, with_change, draws, joined, left, answer, failed_answer, step}
 use Rattle.session_core.specs.Run.{Step, StepBy, IsAnswer, IsFaulty, is_hearing, may_work, change_in, post_in}
-use Rattle.session_core.specs.Causes.{IsLackingSince}
+use Rattle.session_core.specs.Causes.{IsLacking}
 use Rattle.session_core.specs.Understood.{IsPostFault, IsHearFault}
 use Rattle.session_core.specs.Outcomes.{heard_outcome, bytes_outcome, draw_outcome}
 use Rattle.session_core.specs.Sessions.{phase_of, session_of, sessions_of}
@@ -105,9 +105,9 @@ post_fault a b lacking next old new now e post (hub.Refused r) only honest usabl
 post_fault a b lacking next old new now e post hub.NotReady only honest usable works change seats cause = absurd cause
 
 -- what a keeper lacks, it lacks of a change
-pub only_changes : {S : Type 0} (keeping : S → Keeping) (lacks : S → Change → ℕ → SiteFault → Type 0) (old : Keeping) (now : ℕ) (post : Option Change) (what : SiteFault) → IsLackingSince keeping lacks old post now what → is_some post ≡ true
-only_changes keeping lacks old now None what is = absurd is.2
-only_changes keeping lacks old now (Some change) what is = refl
+pub only_changes : (lacks : Change → ℕ → SiteFault → Type 0) (now : ℕ) (post : Option Change) (what : SiteFault) → IsLacking lacks post now what → is_some post ≡ true
+only_changes lacks now None what is = absurd is
+only_changes lacks now (Some change) what is = refl
 
 -- ---- sessions
 

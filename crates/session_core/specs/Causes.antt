@@ -1,6 +1,6 @@
 -- When a fault of a hub may come, by what its keeper was and is.
 use Rattle.std.specs.Prelude.{◌≡◌, ◌⊎◌, ◌<◌, ℕ, true, false, Option, Some, None, IsTrue}
-use Rattle.host_types.specs.Keeping.{Keeping, HasRead, Rose}
+use Rattle.host_types.specs.Keeping.{Keeping, Rose}
 use Rattle.host_types.specs.declared.change.Change.{Change}
 use Rattle.host_types.specs.declared.site_fault.SiteFault.{SiteFault}
 use Rattle.host_types.specs.declared.site_fault.SiteFault.TheVariants as faults
@@ -8,14 +8,10 @@ use Rattle.session_core.specs.World.{World}
 use Rattle.session_core.specs.declared.fault.HubFault.{HubFault}
 use Rattle.session_core.specs.declared.fault.HubFault.TheVariants as hub
 
--- there is a change, and a keeper may refuse it so, for want of room, or because it takes no further change
+-- There is a change, and the keeper may refuse it so, for want of room, or because it takes no further change.
 abbrev pub IsLacking : (Change → ℕ → SiteFault → Type 0) → Option Change → ℕ → SiteFault → Type 0
 IsLacking lacks None now fault = ⊥
 IsLacking lacks (Some change) now fault = lacks change now fault
-
--- the same of a keeper that was only read since
-abbrev pub IsLackingSince : {S : Type 0} → (S → Keeping) → (S → Change → ℕ → SiteFault → Type 0) → Keeping → Option Change → ℕ → SiteFault → Type 0
-IsLackingSince keeping lacks old change now fault = (k : _) × HasRead old (keeping k) × IsLacking (lacks k) change now fault
 
 -- `Broken` only where the count of failed reads rose; `Full` and `Spent` only of a change that may get them; `Failed` only where a write or a sync had failed before, or where the count of failed writes and syncs rose; `Memory` and `Unknown` as the world says; and no other.
 abbrev pub IsHeardCause : (Option Change → ℕ → SiteFault → Type 0) → Option Change → ℕ → Keeping → Keeping → HubFault → Type 0

@@ -29,6 +29,11 @@ abbrev pub drawn_outcome : Drawn → List ℕ → Outcome
 drawn_outcome (drawn.Bytes n) buffer = outcomes.Drawn (take n buffer)
 drawn_outcome drawn.Finished buffer = outcomes.Finished
 
+-- how many bytes of the buffer were drawn
+abbrev pub drawn_length : Drawn → ℕ
+drawn_length (drawn.Bytes n) = n
+drawn_length drawn.Finished = 0
+
 abbrev pub draw_outcome : Result Drawn HubFault → List ℕ → Outcome
 draw_outcome (Ok d) buffer = drawn_outcome d buffer
 draw_outcome (Err fault) buffer = outcomes.Fault fault

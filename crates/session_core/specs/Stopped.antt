@@ -47,7 +47,7 @@ StandsFrom stands w events outcomes k c =
     ((j : ℕ) × (k ≤ j) × (j ≤ length events) × stands c (after_all w (take j events) (take j outcomes)).site)
     ⊎ ((s : Site) × (unacknowledged w events outcomes ≡ Some s) × stands c s)
 
--- A run from one moment to another, and what a stop in between leaves: k events were answered at the moment `at k`.
+-- A run from one moment to another, and what a stop in between leaves: k events were answered at the moment `at k`. What a stop left since some moment before the run is what it might have left then, or what a stop within the run leaves.
 pub record IsStopped {L : Type 0} (stands : L → Site → Type 0) (old new : World) (first last : Stops L) (events : List Event) (outcomes : List Outcome) : Type 0 where
   pub world : new ≡ after_all old events outcomes
   pub count : length outcomes ≡ length events
@@ -56,3 +56,5 @@ pub record IsStopped {L : Type 0} (stands : L → Site → Type 0) (old new : Wo
   pub is_now : at (length events) ≡ last.moment
   pub rises : (j k : ℕ) → j ≤ k → k ≤ length events → at j ≤ at k
   pub each : (k : ℕ) (c : L) → k ≤ length events → last.left_since (at k) c → StandsFrom stands old events outcomes k c
+  pub keeps : (t : ℕ) (c : L) → t ≤ first.moment → first.left_since t c → last.left_since t c
+  pub since : (t : ℕ) (c : L) → t ≤ first.moment → last.left_since t c → first.left_since t c ⊎ StandsFrom stands old events outcomes 0 c

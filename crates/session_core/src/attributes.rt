@@ -1,7 +1,7 @@
 // Attributes of what stands in a site.
 ghost use Rattle.std.specs.Prelude.{◌≡◌, true, filter_map, IfOk, IfErr, IsTrue};
 ghost use Rattle.host_types.specs.Card.{card_at};
-ghost use Rattle.host_types.specs.Keeping.{HasRead, IsReadFault};
+ghost use Rattle.host_types.specs.Keeping.{HasRead, LacksTheSame, IsReadFault};
 ghost use Rattle.host_types.specs.Stops.{IsQuiet};
 ghost use Rattle.session_core.specs.Reply as spec;
 ghost use Rattle.session_core.specs.Reply.{found_blocks, entry_block, attributes_of};
@@ -23,6 +23,7 @@ fn blocks_at<S: SearchKeeper>(
 ) -> Result<Option<Bytes>, SiteFault>
     ensures blocks { IsTrue (S.keeping site.old).honest → IfOk result (λ blocks. blocks ≡ found_blocks (S.keeping site.old).site names.now selector.now (card_at (S.keeping site.old).site selector.now)) }
     ensures kept { HasRead (S.keeping site.old) (S.keeping site.new) }
+    ensures lacking { LacksTheSame (S.lacks site.old) (S.lacks site.new) }
     ensures quiet { IsTrue (S.keeping site.old).honest → IsQuiet (S.stops site.old) (S.stops site.new) }
     ensures fault { IfErr result (IsReadFault true (S.keeping site.old) (S.keeping site.new)) }
 {
@@ -54,6 +55,7 @@ fn blocks_of<S: SearchKeeper>(
 ) -> Result<Option<Bytes>, SiteFault>
     ensures blocks { IsTrue (S.keeping site.old).honest → IfOk result (λ blocks. blocks ≡ entry_block (S.keeping site.old).site names.now entry.now) }
     ensures kept { HasRead (S.keeping site.old) (S.keeping site.new) }
+    ensures lacking { LacksTheSame (S.lacks site.old) (S.lacks site.new) }
     ensures quiet { IsTrue (S.keeping site.old).honest → IsQuiet (S.stops site.old) (S.stops site.new) }
     ensures fault { IfErr result (IsReadFault true (S.keeping site.old) (S.keeping site.new)) }
 {
@@ -65,7 +67,7 @@ fn blocks_of<S: SearchKeeper>(
 }
 
 /// The blocks of the entries that have some.
-#[tactic(auto, using(crate::proofs::Picks::filter_map_push))]
+#[tactic(auto, using(crate::proofs::AfterReads::lacking_on, crate::proofs::Picks::filter_map_push))]
 fn all_blocks<S: SearchKeeper>(
     alloc: Global,
     site: &mut S,
@@ -74,6 +76,7 @@ fn all_blocks<S: SearchKeeper>(
 ) -> Result<LineList, SiteFault>
     ensures blocks { IsTrue (S.keeping site.old).honest → IfOk result (λ blocks. blocks ≡ filter_map (entry_block (S.keeping site.old).site names.now) entries.now) }
     ensures kept { HasRead (S.keeping site.old) (S.keeping site.new) }
+    ensures lacking { LacksTheSame (S.lacks site.old) (S.lacks site.new) }
     ensures quiet { IsTrue (S.keeping site.old).honest → IsQuiet (S.stops site.old) (S.stops site.new) }
     ensures fault { IfErr result (IsReadFault true (S.keeping site.old) (S.keeping site.new)) }
 {
@@ -94,6 +97,7 @@ pub fn attributes_of<S: SearchKeeper>(
 ) -> Result<Bytes, SiteFault>
     ensures reply { IsTrue (S.keeping site.old).honest → IfOk result (λ reply. reply ≡ attributes_of (S.keeping site.old).site names.now entries.now) }
     ensures kept { HasRead (S.keeping site.old) (S.keeping site.new) }
+    ensures lacking { LacksTheSame (S.lacks site.old) (S.lacks site.new) }
     ensures quiet { IsTrue (S.keeping site.old).honest → IsQuiet (S.stops site.old) (S.stops site.new) }
     ensures fault { IfErr result (IsReadFault true (S.keeping site.old) (S.keeping site.new)) }
 {

@@ -3,7 +3,7 @@ ghost use Rattle.std.specs.Prelude.{◌≡◌, ◌+◌, ◌*◌, true, length, t
 ghost use Rattle.std.specs.List.{position};
 ghost use Rattle.std.specs.Option.{option_map};
 ghost use Rattle.host_types.specs.Card.{viewed_at};
-ghost use Rattle.host_types.specs.Keeping.{HasRead, IsReadFault};
+ghost use Rattle.host_types.specs.Keeping.{HasRead, LacksTheSame, IsReadFault};
 ghost use Rattle.host_types.specs.Stops.{IsQuiet};
 ghost use Rattle.request_reader.specs.Seen.{wanted_of};
 ghost use Rattle.session_core.specs.Reply as spec;
@@ -90,6 +90,7 @@ fn add_chunk<S: SiteKeeper>(
     bytes: &mut Vec<u8>,
 ) -> Result<(), SiteFault>
     ensures kept { HasRead (S.keeping site.old) (S.keeping site.new) }
+    ensures lacking { LacksTheSame (S.lacks site.old) (S.lacks site.new) }
     ensures quiet { IsTrue (S.keeping site.old).honest → IsQuiet (S.stops site.old) (S.stops site.new) }
     ensures fault { IfErr result (IsReadFault true (S.keeping site.old) (S.keeping site.new)) }
     ensures more { IsTrue (S.keeping site.old).honest → bytes.old.items ≡ take (1000 * k) (viewed_at (S.keeping site.old).site selector.now view) →
@@ -102,6 +103,7 @@ fn add_chunk<S: SiteKeeper>(
 }
 
 /// The bytes of a view, which has so many.
+#[tactic(auto, using(crate::proofs::AfterReads::lacking_on))]
 pub fn view_bytes<S: SiteKeeper>(
     alloc: Global,
     site: &mut S,
@@ -112,6 +114,7 @@ pub fn view_bytes<S: SiteKeeper>(
     ensures bytes { IsTrue (S.keeping site.old).honest → length (viewed_at (S.keeping site.old).site selector.now view) ≡ size →
         IfOk result (λ v. v.items ≡ viewed_at (S.keeping site.old).site selector.now view) }
     ensures kept { HasRead (S.keeping site.old) (S.keeping site.new) }
+    ensures lacking { LacksTheSame (S.lacks site.old) (S.lacks site.new) }
     ensures quiet { IsTrue (S.keeping site.old).honest → IsQuiet (S.stops site.old) (S.stops site.new) }
     ensures fault { IfErr result (IsReadFault true (S.keeping site.old) (S.keeping site.new)) }
 {

@@ -2,7 +2,7 @@
 ghost use Rattle.std.specs.Prelude.{◌≡◌, true, IfOk, IfErr, IsTrue, option_copied};
 ghost use Rattle.std.specs.Option.{option_map};
 ghost use Rattle.host_types.specs.Card.{viewed_at};
-ghost use Rattle.host_types.specs.Keeping.{HasRead, IsReadFault};
+ghost use Rattle.host_types.specs.Keeping.{HasRead, LacksTheSame, IsReadFault};
 ghost use Rattle.host_types.specs.Stops.{IsQuiet};
 ghost use Rattle.request_reader.specs.Seen.{request_of, plus_of, wanted_of, lines_in};
 ghost use Rattle.word_index.specs.Search.{search_of};
@@ -29,6 +29,7 @@ fn menu_reply<S: SearchKeeper>(
 ) -> Result<Bytes, SiteFault>
     ensures reply { IsTrue (S.keeping site.old).honest → IfOk result (λ reply. reply ≡ spec.as_text is_plus (spec.menu_of (S.keeping site.old).site entries.now)) }
     ensures kept { HasRead (S.keeping site.old) (S.keeping site.new) }
+    ensures lacking { LacksTheSame (S.lacks site.old) (S.lacks site.new) }
     ensures quiet { IsTrue (S.keeping site.old).honest → IsQuiet (S.stops site.old) (S.stops site.new) }
     ensures fault { IfErr result (IsReadFault true (S.keeping site.old) (S.keeping site.new)) }
 {
@@ -57,6 +58,7 @@ fn search_reply<S: SearchKeeper>(
     ensures reply { IsTrue (S.keeping site.old).honest →
         IfOk result (λ reply. reply ≡ spec.as_text is_plus (spec.menu_of (S.keeping site.old).site (spec.locals (search_of (S.keeping site.old).site scope.now words.now)))) }
     ensures kept { HasRead (S.keeping site.old) (S.keeping site.new) }
+    ensures lacking { LacksTheSame (S.lacks site.old) (S.lacks site.new) }
     ensures quiet { IsTrue (S.keeping site.old).honest → IsQuiet (S.stops site.old) (S.stops site.new) }
     ensures fault { IfErr result (IsReadFault true (S.keeping site.old) (S.keeping site.new)) }
 {
@@ -87,6 +89,7 @@ pub fn fetched<S: SearchKeeper>(
     ensures reply { IsTrue (S.keeping site.old).honest → selector.now ≡ (request_of request.entry).selector → HasLengths body.now (viewed_at (S.keeping site.old).site selector.now) →
         IfOk result (λ answered. answered ≡ spec.fetched (S.keeping site.old).site (request_of request.entry) now body.now) }
     ensures kept { HasRead (S.keeping site.old) (S.keeping site.new) }
+    ensures lacking { LacksTheSame (S.lacks site.old) (S.lacks site.new) }
     ensures quiet { IsTrue (S.keeping site.old).honest → IsQuiet (S.stops site.old) (S.stops site.new) }
     ensures fault { IfErr result (IsReadFault true (S.keeping site.old) (S.keeping site.new)) }
 {

@@ -1,5 +1,5 @@
 // The hub: all sessions over one site.
-ghost use Rattle.std.specs.Prelude.{ℕ, List, Some, IsOk, ◌≡◌, ◌≤◌, ◌<◌, ◌==◌, true, length, OnErr, IfOk, IfErr, IfSome, IsTrue, vec_len, vec_capacity};
+ghost use Rattle.std.specs.Prelude.{ℕ, List, Some, IsOk, ◌≡◌, ◌≤◌, ◌<◌, ◌==◌, true, length, OnErr, OnOk, IfOk, IfErr, IfSome, IsTrue, vec_len, vec_capacity};
 ghost use Rattle.std.specs.List.{position};
 
 use crate::phase::{draw, hear, hear_end, new_phase};
@@ -35,13 +35,15 @@ fn place_in(sessions: &[Session], id: u64) -> Option<usize>
 impl<S: SearchKeeper> Hub<S> {
     ghost use Rattle.session_core.specs.World.{Reply, started, phase_of};
     ghost use Rattle.std.specs.Prelude.{◌⊎◌, false};
+    ghost use Rattle.host_types.specs.Keeping.{IsBehindKept};
     ghost use Rattle.host_types.specs.Stops.{LeavesOnly, may_leave};
     ghost use Rattle.session_core.specs.Run.{Step, change_in};
     ghost use Rattle.session_core.specs.Stopped.{StandsBy};
-    ghost use Rattle.session_core.specs.Outcomes.{join_outcome, bytes_outcome, draw_outcome, leave_outcome, admin_outcome};
+    ghost use Rattle.session_core.specs.Outcomes.{join_outcome, bytes_outcome, draw_outcome, drawn_length, leave_outcome, admin_outcome};
     ghost use Rattle.session_core.specs.Hub.{keeper_of, seats_of, world_of};
+    ghost use Rattle.session_core.specs.Calls.{HubCall};
     ghost use Rattle.session_core.specs.declared.event.Event.TheVariants.{Join, Bytes, End, Draw, Leave, Admin};
-    ghost use Rattle.session_core.specs.Causes.{IsLackingSince, IsHeardCause, IsAdminCause, IsAsBefore};
+    ghost use Rattle.session_core.specs.Causes.{IsLacking, IsHeardCause, IsAdminCause, IsAsBefore};
     ghost use Rattle.session_core.specs.declared.fault.HubFault.TheVariants.{Memory};
 
     /// A hub without sessions, whose first has this number. It makes room for all sessions, or hands the site back with `Memory`.
@@ -67,6 +69,7 @@ impl<S: SearchKeeper> Hub<S> {
         ensures step { Step (world_of S.keeping self.old) Join (join_outcome result) (world_of S.keeping self.new) }
         ensures as_before { IfErr result (λ e. IsAsBefore e (world_of S.keeping self.old) (world_of S.keeping self.new)) }
         ensures keeper { keeper_of self.new ≡ keeper_of self.old }
+        ensures call { HubCall S.keeping S.lacks S.stops S.stands_for self.old Join (join_outcome result) self.new }
     {
         if !self.site.is_usable() {
             return Err(HubFault::Failed);
@@ -88,7 +91,7 @@ impl<S: SearchKeeper> Hub<S> {
     pub fn bytes(&mut self, id: u64, piece: &[u8], now: Stamp) -> Result<Heard, HubFault>
         ensures step { IsTrue (S.keeping (keeper_of self.old)).honest → Step (world_of S.keeping self.old) (Bytes id piece.now now) (bytes_outcome result) (world_of S.keeping self.new) }
         ensures as_before { IsTrue (S.keeping (keeper_of self.old)).honest → IfErr result (λ e. IsAsBefore e (world_of S.keeping self.old) (world_of S.keeping self.new)) }
-        ensures cause { IfErr result (IsHeardCause (IsLackingSince S.keeping S.lacks (S.keeping (keeper_of self.old))) (change_in (world_of S.keeping self.old) (Bytes id piece.now now)) now (S.keeping (keeper_of self.old)) (S.keeping (keeper_of self.new))) }
+        ensures cause { IfErr result (IsHeardCause (IsLacking (S.lacks (keeper_of self.old))) (change_in (world_of S.keeping self.old) (Bytes id piece.now now)) now (S.keeping (keeper_of self.old)) (S.keeping (keeper_of self.new))) }
         ensures kept { OnErr result (seats_of self.new ≡ seats_of self.old) }
         ensures honest { (S.keeping (keeper_of self.new)).honest ≡ (S.keeping (keeper_of self.old)).honest }
 
@@ -96,6 +99,8 @@ impl<S: SearchKeeper> Hub<S> {
         ensures stop { IsTrue (S.keeping (keeper_of self.old)).honest → LeavesOnly (S.stops (keeper_of self.old)) (S.stops (keeper_of self.new))
             (λ c. may_leave (S.stops (keeper_of self.old)) c ⊎ StandsBy S.stands_for (world_of S.keeping self.old) (Bytes id piece.now now) (bytes_outcome result) (world_of S.keeping self.new) c) }
         ensures closed { (S.keeping (keeper_of self.old)).usable ≡ false → keeper_of self.new ≡ keeper_of self.old }
+        ensures call { HubCall S.keeping S.lacks S.stops S.stands_for self.old (Bytes id piece.now now) (bytes_outcome result) self.new }
+        ensures told { IsTrue (S.keeping (keeper_of self.old)).honest → OnOk result ((c : S.Left) → may_leave (S.stops (keeper_of self.new)) c → S.stands_for c (world_of S.keeping self.new).site) }
     {
         if !self.site.is_usable() {
             return Err(HubFault::Failed);
@@ -111,7 +116,7 @@ impl<S: SearchKeeper> Hub<S> {
     pub fn end(&mut self, id: u64, now: Stamp) -> Result<Heard, HubFault>
         ensures step { IsTrue (S.keeping (keeper_of self.old)).honest → Step (world_of S.keeping self.old) (End id now) (bytes_outcome result) (world_of S.keeping self.new) }
         ensures as_before { IsTrue (S.keeping (keeper_of self.old)).honest → IfErr result (λ e. IsAsBefore e (world_of S.keeping self.old) (world_of S.keeping self.new)) }
-        ensures cause { IfErr result (IsHeardCause (IsLackingSince S.keeping S.lacks (S.keeping (keeper_of self.old))) (change_in (world_of S.keeping self.old) (End id now)) now (S.keeping (keeper_of self.old)) (S.keeping (keeper_of self.new))) }
+        ensures cause { IfErr result (IsHeardCause (IsLacking (S.lacks (keeper_of self.old))) (change_in (world_of S.keeping self.old) (End id now)) now (S.keeping (keeper_of self.old)) (S.keeping (keeper_of self.new))) }
         ensures kept { OnErr result (seats_of self.new ≡ seats_of self.old) }
         ensures honest { (S.keeping (keeper_of self.new)).honest ≡ (S.keeping (keeper_of self.old)).honest }
 
@@ -119,6 +124,8 @@ impl<S: SearchKeeper> Hub<S> {
         ensures stop { IsTrue (S.keeping (keeper_of self.old)).honest → LeavesOnly (S.stops (keeper_of self.old)) (S.stops (keeper_of self.new))
             (λ c. may_leave (S.stops (keeper_of self.old)) c ⊎ StandsBy S.stands_for (world_of S.keeping self.old) (End id now) (bytes_outcome result) (world_of S.keeping self.new) c) }
         ensures closed { (S.keeping (keeper_of self.old)).usable ≡ false → keeper_of self.new ≡ keeper_of self.old }
+        ensures call { HubCall S.keeping S.lacks S.stops S.stands_for self.old (End id now) (bytes_outcome result) self.new }
+        ensures told { IsTrue (S.keeping (keeper_of self.old)).honest → OnOk result ((c : S.Left) → may_leave (S.stops (keeper_of self.new)) c → S.stands_for c (world_of S.keeping self.new).site) }
     {
         if !self.site.is_usable() {
             return Err(HubFault::Failed);
@@ -130,12 +137,15 @@ impl<S: SearchKeeper> Hub<S> {
         hear_end(self.alloc, &mut self.site, &mut session.phase, now)
     }
 
-    /// The next bytes of a session's reply, as many as there are and fit. It takes no memory.
+    /// Puts the next bytes of a session's reply into the front of the buffer, as many as there are and fit. What stands behind them stays, and after a fault the whole buffer does. It takes no memory.
     pub fn draw(&mut self, id: u64, out: &mut [u8]) -> Result<Drawn, HubFault>
         ensures step { Step (world_of S.keeping self.old) (Draw id (length out.old)) (draw_outcome result out.new) (world_of S.keeping self.new) }
         ensures reply { (rest : List ℕ) → phase_of (world_of S.keeping self.old) id ≡ Some (Reply rest) → (S.keeping (keeper_of self.old)).usable ≡ true → IsOk result }
         ensures as_before { IfErr result (λ e. IsAsBefore e (world_of S.keeping self.old) (world_of S.keeping self.new)) }
         ensures keeper { keeper_of self.new ≡ keeper_of self.old }
+        ensures behind { IfOk result (λ drawn. IsBehindKept (drawn_length drawn) out.old out.new) }
+        ensures untouched { IfErr result (λ e. out.new ≡ out.old) }
+        ensures call { HubCall S.keeping S.lacks S.stops S.stands_for self.old (Draw id (length out.old)) (draw_outcome result out.new) self.new }
     {
         if !self.site.is_usable() {
             return Err(HubFault::Failed);
@@ -152,6 +162,7 @@ impl<S: SearchKeeper> Hub<S> {
         ensures step { Step (world_of S.keeping self.old) (Leave id) (leave_outcome result) (world_of S.keeping self.new) }
         ensures as_before { IfErr result (λ e. IsAsBefore e (world_of S.keeping self.old) (world_of S.keeping self.new)) }
         ensures keeper { keeper_of self.new ≡ keeper_of self.old }
+        ensures call { HubCall S.keeping S.lacks S.stops S.stands_for self.old (Leave id) (leave_outcome result) self.new }
     {
         let Some(at) = place_in(&self.sessions, id) else {
             return Err(HubFault::Unknown);
@@ -164,7 +175,7 @@ impl<S: SearchKeeper> Hub<S> {
     pub fn admin(&mut self, change: Change, now: Stamp) -> Result<(), HubFault>
         ensures step { IsTrue (S.keeping (keeper_of self.old)).honest → Step (world_of S.keeping self.old) (Admin change now) (admin_outcome result) (world_of S.keeping self.new) }
         ensures as_before { IsTrue (S.keeping (keeper_of self.old)).honest → IfErr result (λ e. IsAsBefore e (world_of S.keeping self.old) (world_of S.keeping self.new)) }
-        ensures cause { IfErr result (IsAdminCause (IsLackingSince S.keeping S.lacks (S.keeping (keeper_of self.old))) (change_in (world_of S.keeping self.old) (Admin change now)) now (S.keeping (keeper_of self.old)) (S.keeping (keeper_of self.new))) }
+        ensures cause { IfErr result (IsAdminCause (IsLacking (S.lacks (keeper_of self.old))) (change_in (world_of S.keeping self.old) (Admin change now)) now (S.keeping (keeper_of self.old)) (S.keeping (keeper_of self.new))) }
         ensures kept { seats_of self.new ≡ seats_of self.old }
         ensures honest { (S.keeping (keeper_of self.new)).honest ≡ (S.keeping (keeper_of self.old)).honest }
 
@@ -172,6 +183,8 @@ impl<S: SearchKeeper> Hub<S> {
         ensures stop { IsTrue (S.keeping (keeper_of self.old)).honest → LeavesOnly (S.stops (keeper_of self.old)) (S.stops (keeper_of self.new))
             (λ c. may_leave (S.stops (keeper_of self.old)) c ⊎ StandsBy S.stands_for (world_of S.keeping self.old) (Admin change now) (admin_outcome result) (world_of S.keeping self.new) c) }
         ensures closed { (S.keeping (keeper_of self.old)).usable ≡ false → keeper_of self.new ≡ keeper_of self.old }
+        ensures call { HubCall S.keeping S.lacks S.stops S.stands_for self.old (Admin change now) (admin_outcome result) self.new }
+        ensures told { IsTrue (S.keeping (keeper_of self.old)).honest → OnOk result ((c : S.Left) → may_leave (S.stops (keeper_of self.new)) c → S.stands_for c (world_of S.keeping self.new).site) }
     {
         if !self.site.is_usable() {
             return Err(HubFault::Failed);

@@ -3,7 +3,7 @@ ghost use Rattle.std.specs.Prelude.{◌≡◌, ◌++◌, true, filter_map, OnOk,
 ghost use Rattle.std.specs.Option.{option_to_list};
 ghost use Rattle.host_types.specs.Card.{card_at};
 ghost use Rattle.host_types.specs.Front.{address};
-ghost use Rattle.host_types.specs.Keeping.{HasRead, IsReadFault};
+ghost use Rattle.host_types.specs.Keeping.{HasRead, LacksTheSame, IsReadFault};
 ghost use Rattle.host_types.specs.Stops.{IsQuiet};
 ghost use Rattle.text_writer.specs.Menu.{found_line, entry_line};
 ghost use Rattle.session_core.specs.Reply.{menu_of};
@@ -22,6 +22,7 @@ fn line_at<S: SearchKeeper>(
 ) -> Result<Option<Bytes>, SiteFault>
     ensures line { IsTrue (S.keeping site.old).honest → IfOk result (λ line. line ≡ found_line (address (S.keeping site.old).site) selector.now (card_at (S.keeping site.old).site selector.now)) }
     ensures kept { HasRead (S.keeping site.old) (S.keeping site.new) }
+    ensures lacking { LacksTheSame (S.lacks site.old) (S.lacks site.new) }
     ensures quiet { IsTrue (S.keeping site.old).honest → IsQuiet (S.stops site.old) (S.stops site.new) }
     ensures fault { IfErr result (IsReadFault true (S.keeping site.old) (S.keeping site.new)) }
 {
@@ -39,6 +40,7 @@ fn line_of<S: SearchKeeper>(
 ) -> Result<Option<Bytes>, SiteFault>
     ensures line { IsTrue (S.keeping site.old).honest → IfOk result (λ line. line ≡ entry_line (S.keeping site.old).site entry.now) }
     ensures kept { HasRead (S.keeping site.old) (S.keeping site.new) }
+    ensures lacking { LacksTheSame (S.lacks site.old) (S.lacks site.new) }
     ensures quiet { IsTrue (S.keeping site.old).honest → IsQuiet (S.stops site.old) (S.stops site.new) }
     ensures fault { IfErr result (IsReadFault true (S.keeping site.old) (S.keeping site.new)) }
 {
@@ -59,7 +61,7 @@ pub fn add_any(lines: &mut LineList, line: Option<Bytes>) -> Result<(), AllocErr
 }
 
 /// The lines of the entries that have one.
-#[tactic(auto, using(crate::proofs::Picks::filter_map_push))]
+#[tactic(auto, using(crate::proofs::AfterReads::lacking_on, crate::proofs::Picks::filter_map_push))]
 fn lines_of<S: SearchKeeper>(
     alloc: Global,
     site: &mut S,
@@ -67,6 +69,7 @@ fn lines_of<S: SearchKeeper>(
 ) -> Result<LineList, SiteFault>
     ensures lines { IsTrue (S.keeping site.old).honest → IfOk result (λ lines. lines ≡ filter_map (entry_line (S.keeping site.old).site) entries.now) }
     ensures kept { HasRead (S.keeping site.old) (S.keeping site.new) }
+    ensures lacking { LacksTheSame (S.lacks site.old) (S.lacks site.new) }
     ensures quiet { IsTrue (S.keeping site.old).honest → IsQuiet (S.stops site.old) (S.stops site.new) }
     ensures fault { IfErr result (IsReadFault true (S.keeping site.old) (S.keeping site.new)) }
 {
@@ -86,6 +89,7 @@ pub fn menu_of<S: SearchKeeper>(
 ) -> Result<Bytes, SiteFault>
     ensures menu { IsTrue (S.keeping site.old).honest → IfOk result (λ menu. menu ≡ menu_of (S.keeping site.old).site entries.now) }
     ensures kept { HasRead (S.keeping site.old) (S.keeping site.new) }
+    ensures lacking { LacksTheSame (S.lacks site.old) (S.lacks site.new) }
     ensures quiet { IsTrue (S.keeping site.old).honest → IsQuiet (S.stops site.old) (S.stops site.new) }
     ensures fault { IfErr result (IsReadFault true (S.keeping site.old) (S.keeping site.new)) }
 {

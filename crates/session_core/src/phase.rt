@@ -1,13 +1,13 @@
 // What moves one session.
 ghost use Rattle.std.specs.Prelude.{◌≡◌, ◌⊎◌, true, [], length, OnErr, OnOk, IfOk, IfErr, IsTrue, option_map};
-ghost use Rattle.host_types.specs.Keeping.{HasRead, HasTried, IsReadFault};
+ghost use Rattle.host_types.specs.Keeping.{HasRead, LacksTheSame, IsBehindKept, HasTried, IsReadFault};
 ghost use Rattle.host_types.specs.Stops.{IsQuiet, LeavesOnly};
 ghost use Rattle.session_core.specs.World as world;
 ghost use Rattle.session_core.specs.Step.{listens, ends, draws, with_change};
 ghost use Rattle.session_core.specs.Run.{is_hearing};
-ghost use Rattle.session_core.specs.Causes.{IsLacking, IsLackingSince};
+ghost use Rattle.session_core.specs.Causes.{IsLacking};
 ghost use Rattle.session_core.specs.Understood.{reply_by, answered, post_of, IsRight, IsPostFault, IsHearFault};
-ghost use Rattle.session_core.specs.Outcomes.{heard_outcome, draw_outcome};
+ghost use Rattle.session_core.specs.Outcomes.{heard_outcome, draw_outcome, drawn_length};
 ghost use Rattle.session_core.specs.Sessions.{phase_of};
 ghost use Rattle.session_core.specs.declared.fault.HubFault.TheVariants.{Memory as Wanting};
 ghost use Rattle.request_reader.specs.Seen.{seen};
@@ -39,6 +39,7 @@ fn reply_to<S: SearchKeeper>(
 ) -> Result<Option<Answered>, SiteFault>
     ensures reply { IsTrue (S.keeping site.old).honest → IfOk result (λ made. made ≡ reply_by (S.keeping site.old).site now (seen answer.entry)) }
     ensures kept { HasRead (S.keeping site.old) (S.keeping site.new) }
+    ensures lacking { LacksTheSame (S.lacks site.old) (S.lacks site.new) }
     ensures quiet { IsTrue (S.keeping site.old).honest → IsQuiet (S.stops site.old) (S.stops site.new) }
     ensures fault { IfErr result (IsReadFault true (S.keeping site.old) (S.keeping site.new)) }
 {
@@ -109,7 +110,7 @@ fn conclude<S: SearchKeeper>(
     ensures phase { IsTrue (S.keeping site.old).honest → IfOk result (λ r. phase_of r.1 ≡ (answered (reply_by (S.keeping site.old).site now (seen answer.entry))).phase) }
     ensures done { IsTrue (S.keeping site.old).honest → OnOk result ((S.keeping site.new).site ≡ with_change (S.keeping site.old).site now (answered (reply_by (S.keeping site.old).site now (seen answer.entry))).post) }
     ensures still_usable { OnOk result ((S.keeping site.new).usable ≡ true) }
-    ensures fault { IfErr result (IsPostFault (IsLackingSince S.keeping S.lacks (S.keeping site.old)) (answered (reply_by (S.keeping site.old).site now (seen answer.entry))).post now (S.keeping site.old) (S.keeping site.new)) }
+    ensures fault { IfErr result (IsPostFault (IsLacking (S.lacks site.old)) (answered (reply_by (S.keeping site.old).site now (seen answer.entry))).post now (S.keeping site.old) (S.keeping site.new)) }
     ensures tried { HasTried (S.keeping site.old) (S.keeping site.new) }
     ensures still { IsTrue (S.keeping site.old).honest → IfErr result (λ e. (S.keeping site.new).usable ≡ true → IsQuiet (S.stops site.old) (S.stops site.new)) }
     ensures stop { IsTrue (S.keeping site.old).honest → LeavesOnly (S.stops site.old) (S.stops site.new)
@@ -135,7 +136,7 @@ pub fn hear<S: SearchKeeper>(
     ensures err { OnErr result (phase_of phase.new ≡ phase_of phase.old) }
     ensures done { IsTrue (S.keeping site.old).honest → OnOk result ((S.keeping site.new).site ≡ with_change (S.keeping site.old).site now (listens (S.keeping site.old).site now piece.now (phase_of phase.old)).post) }
     ensures still_usable { OnOk result ((S.keeping site.new).usable ≡ true) }
-    ensures fault { IfErr result (IsHearFault (IsLackingSince S.keeping S.lacks (S.keeping site.old)) (phase_of phase.old) (listens (S.keeping site.old).site now piece.now (phase_of phase.old)).post now (S.keeping site.old) (S.keeping site.new)) }
+    ensures fault { IfErr result (IsHearFault (IsLacking (S.lacks site.old)) (phase_of phase.old) (listens (S.keeping site.old).site now piece.now (phase_of phase.old)).post now (S.keeping site.old) (S.keeping site.new)) }
     ensures tried { HasTried (S.keeping site.old) (S.keeping site.new) }
     ensures still { IsTrue (S.keeping site.old).honest → IfErr result (λ e. (S.keeping site.new).usable ≡ true → IsQuiet (S.stops site.old) (S.stops site.new)) }
     ensures stop { IsTrue (S.keeping site.old).honest → LeavesOnly (S.stops site.old) (S.stops site.new)
@@ -172,7 +173,7 @@ pub fn hear_end<S: SearchKeeper>(
     ensures err { OnErr result (phase_of phase.new ≡ phase_of phase.old) }
     ensures done { IsTrue (S.keeping site.old).honest → OnOk result ((S.keeping site.new).site ≡ with_change (S.keeping site.old).site now (ends (S.keeping site.old).site now (phase_of phase.old)).post) }
     ensures still_usable { OnOk result ((S.keeping site.new).usable ≡ true) }
-    ensures fault { IfErr result (IsHearFault (IsLackingSince S.keeping S.lacks (S.keeping site.old)) (phase_of phase.old) (ends (S.keeping site.old).site now (phase_of phase.old)).post now (S.keeping site.old) (S.keeping site.new)) }
+    ensures fault { IfErr result (IsHearFault (IsLacking (S.lacks site.old)) (phase_of phase.old) (ends (S.keeping site.old).site now (phase_of phase.old)).post now (S.keeping site.old) (S.keeping site.new)) }
     ensures tried { HasTried (S.keeping site.old) (S.keeping site.new) }
     ensures still { IsTrue (S.keeping site.old).honest → IfErr result (λ e. (S.keeping site.new).usable ≡ true → IsQuiet (S.stops site.old) (S.stops site.new)) }
     ensures stop { IsTrue (S.keeping site.old).honest → LeavesOnly (S.stops site.old) (S.stops site.new)
@@ -199,6 +200,8 @@ pub fn hear_end<S: SearchKeeper>(
 pub fn draw(phase: &mut Phase, out: &mut [u8]) -> Result<Drawn, HubFault>
     ensures said { draw_outcome result out.new ≡ (draws (length out.old) (phase_of phase.old)).outcome }
     ensures phase { phase_of phase.new ≡ (draws (length out.old) (phase_of phase.old)).phase }
+    ensures behind { IfOk result (λ drawn. IsBehindKept (drawn_length drawn) out.old out.new) }
+    ensures untouched { IfErr result (λ e. out.new ≡ out.old) }
 {
     let replying = match phase {
         Phase::Replying(replying) => replying,

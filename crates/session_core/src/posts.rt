@@ -2,7 +2,7 @@
 ghost use Rattle.std.specs.Prelude.{◌≡◌, ◌≤◌, true, length, IfOk, IfErr, IfSome, IsTrue};
 ghost use Rattle.host_types.specs.Card.{card_of};
 ghost use Rattle.host_types.specs.Front.{lent};
-ghost use Rattle.host_types.specs.Keeping.{HasRead, IsReadFault};
+ghost use Rattle.host_types.specs.Keeping.{HasRead, LacksTheSame, IsReadFault};
 ghost use Rattle.host_types.specs.Stops.{IsQuiet};
 ghost use Rattle.host_types.specs.Site.{text_item};
 ghost use Rattle.host_types.specs.declared.site_fault.SiteFault.TheVariants.{Memory as Wanting};
@@ -116,6 +116,7 @@ pub fn post_reply<S: SearchKeeper>(
 ) -> Result<Answered, SiteFault>
     ensures reply { IsTrue (S.keeping site.old).honest → IfOk result (λ answered. answered ≡ spec.post_reply (S.keeping site.old).site now board.now post.title post.text) }
     ensures kept { HasRead (S.keeping site.old) (S.keeping site.new) }
+    ensures lacking { LacksTheSame (S.lacks site.old) (S.lacks site.new) }
     ensures quiet { IsTrue (S.keeping site.old).honest → IsQuiet (S.stops site.old) (S.stops site.new) }
     ensures fault { IfErr result (IsReadFault true (S.keeping site.old) (S.keeping site.new)) }
 {
@@ -138,6 +139,7 @@ pub fn form_reply<S: SearchKeeper>(
 ) -> Result<Answered, SiteFault>
     ensures reply { IsTrue (S.keeping site.old).honest → IfOk result (λ answered. answered ≡ spec.form_reply (S.keeping site.old).site is_plus now board.now questions.now (option_map lines_in given.entry)) }
     ensures kept { HasRead (S.keeping site.old) (S.keeping site.new) }
+    ensures lacking { LacksTheSame (S.lacks site.old) (S.lacks site.new) }
     ensures quiet { IsTrue (S.keeping site.old).honest → IsQuiet (S.stops site.old) (S.stops site.new) }
     ensures fault { IfErr result (IsReadFault true (S.keeping site.old) (S.keeping site.new)) }
 {

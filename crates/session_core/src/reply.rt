@@ -2,7 +2,7 @@
 ghost use Rattle.std.specs.Prelude.{◌≡◌, true, Some, IfOk, IfErr, IsTrue};
 ghost use Rattle.std.specs.Option.{option_map};
 ghost use Rattle.host_types.specs.Card.{card_at, viewed_at};
-ghost use Rattle.host_types.specs.Keeping.{HasRead, IsReadFault};
+ghost use Rattle.host_types.specs.Keeping.{HasRead, LacksTheSame, IsReadFault};
 ghost use Rattle.host_types.specs.Stops.{IsQuiet};
 ghost use Rattle.request_reader.specs.Seen.{request_of, plus_of};
 ghost use Rattle.url_page.specs.Page.{redirect};
@@ -70,6 +70,7 @@ fn entries_reply<S: SearchKeeper>(
 ) -> Result<Bytes, SiteFault>
     ensures reply { IsTrue (S.keeping site.old).honest → IfOk result (λ reply. reply ≡ spec.entries_reply (S.keeping site.old).site names.now selector.now body.now) }
     ensures kept { HasRead (S.keeping site.old) (S.keeping site.new) }
+    ensures lacking { LacksTheSame (S.lacks site.old) (S.lacks site.new) }
     ensures quiet { IsTrue (S.keeping site.old).honest → IsQuiet (S.stops site.old) (S.stops site.new) }
     ensures fault { IfErr result (IsReadFault true (S.keeping site.old) (S.keeping site.new)) }
 {
@@ -95,6 +96,7 @@ fn kept_reply<S: SearchKeeper>(
     ensures reply { IsTrue (S.keeping site.old).honest → selector.now ≡ (request_of request.entry).selector → HasLengths card.now.body (viewed_at (S.keeping site.old).site selector.now) →
         IfOk result (λ answered. answered ≡ spec.kept_reply (S.keeping site.old).site (request_of request.entry) now card.now (request_of request.entry).plus) }
     ensures kept { HasRead (S.keeping site.old) (S.keeping site.new) }
+    ensures lacking { LacksTheSame (S.lacks site.old) (S.lacks site.new) }
     ensures quiet { IsTrue (S.keeping site.old).honest → IsQuiet (S.stops site.old) (S.stops site.new) }
     ensures fault { IfErr result (IsReadFault true (S.keeping site.old) (S.keeping site.new)) }
 {
@@ -123,6 +125,7 @@ fn item_reply<S: SearchKeeper>(
     ensures reply { IsTrue (S.keeping site.old).honest → selector.now ≡ (request_of request.entry).selector → HasLengths card.now.body (viewed_at (S.keeping site.old).site selector.now) →
         IfOk result (λ answered. answered ≡ spec.item_reply (S.keeping site.old).site (request_of request.entry) now card.now) }
     ensures kept { HasRead (S.keeping site.old) (S.keeping site.new) }
+    ensures lacking { LacksTheSame (S.lacks site.old) (S.lacks site.new) }
     ensures quiet { IsTrue (S.keeping site.old).honest → IsQuiet (S.stops site.old) (S.stops site.new) }
     ensures fault { IfErr result (IsReadFault true (S.keeping site.old) (S.keeping site.new)) }
 {
@@ -143,6 +146,7 @@ fn found_reply<S: SearchKeeper>(
     ensures reply { IsTrue (S.keeping site.old).honest → selector.now ≡ (request_of request.entry).selector →
         IfOk result (λ answered. answered ≡ spec.found_reply (S.keeping site.old).site (request_of request.entry) now (card_at (S.keeping site.old).site selector.now)) }
     ensures kept { HasRead (S.keeping site.old) (S.keeping site.new) }
+    ensures lacking { LacksTheSame (S.lacks site.old) (S.lacks site.new) }
     ensures quiet { IsTrue (S.keeping site.old).honest → IsQuiet (S.stops site.old) (S.stops site.new) }
     ensures fault { IfErr result (IsReadFault true (S.keeping site.old) (S.keeping site.new)) }
 {
@@ -163,6 +167,7 @@ pub fn reply<S: SearchKeeper>(
 ) -> Result<Answered, SiteFault>
     ensures reply { IsTrue (S.keeping site.old).honest → IfOk result (λ answered. answered ≡ spec.reply (S.keeping site.old).site (request_of request.entry) now) }
     ensures kept { HasRead (S.keeping site.old) (S.keeping site.new) }
+    ensures lacking { LacksTheSame (S.lacks site.old) (S.lacks site.new) }
     ensures quiet { IsTrue (S.keeping site.old).honest → IsQuiet (S.stops site.old) (S.stops site.new) }
     ensures fault { IfErr result (IsReadFault true (S.keeping site.old) (S.keeping site.new)) }
 {

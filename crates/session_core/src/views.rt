@@ -3,7 +3,7 @@ ghost use Rattle.std.specs.Prelude.{◌≡◌, true, length, IfOk, IfErr, IsTrue
 ghost use Rattle.std.specs.List.{position};
 ghost use Rattle.std.specs.Option.{option_map};
 ghost use Rattle.host_types.specs.Card.{card_at, viewed_at};
-ghost use Rattle.host_types.specs.Keeping.{HasRead, IsReadFault};
+ghost use Rattle.host_types.specs.Keeping.{HasRead, LacksTheSame, IsReadFault};
 ghost use Rattle.host_types.specs.Stops.{IsQuiet};
 ghost use Rattle.request_reader.specs.Seen.{wanted_of};
 ghost use Rattle.session_core.specs.Lengths.{AreLengths};
@@ -27,6 +27,7 @@ pub fn moved_reply<S: SearchKeeper>(
 ) -> Result<Bytes, SiteFault>
     ensures reply { IsTrue (S.keeping site.old).honest → IfOk result (λ reply. reply ≡ spec.moved_reply (S.keeping site.old).site is_plus target.now (card_at (S.keeping site.old).site target.now)) }
     ensures kept { HasRead (S.keeping site.old) (S.keeping site.new) }
+    ensures lacking { LacksTheSame (S.lacks site.old) (S.lacks site.new) }
     ensures quiet { IsTrue (S.keeping site.old).honest → IsQuiet (S.stops site.old) (S.stops site.new) }
     ensures fault { IfErr result (IsReadFault true (S.keeping site.old) (S.keeping site.new)) }
 {
@@ -53,6 +54,7 @@ fn view_at<S: SearchKeeper>(
     ensures reply { IsTrue (S.keeping site.old).honest → length (viewed_at (S.keeping site.old).site selector.now place) ≡ size →
         IfOk result (λ reply. reply ≡ spec.sent is_plus kind (viewed_at (S.keeping site.old).site selector.now place)) }
     ensures kept { HasRead (S.keeping site.old) (S.keeping site.new) }
+    ensures lacking { LacksTheSame (S.lacks site.old) (S.lacks site.new) }
     ensures quiet { IsTrue (S.keeping site.old).honest → IsQuiet (S.stops site.old) (S.stops site.new) }
     ensures fault { IfErr result (IsReadFault true (S.keeping site.old) (S.keeping site.new)) }
 {
@@ -73,6 +75,7 @@ pub fn view_reply<S: SearchKeeper>(
     ensures reply { IsTrue (S.keeping site.old).honest → AreLengths views.now (viewed_at (S.keeping site.old).site selector.now) →
         IfOk result (λ reply. reply ≡ spec.view_reply (S.keeping site.old).site is_plus selector.now kind (position (spec.is_wanted (option_map wanted_of wanted.entry)) views.now)) }
     ensures kept { HasRead (S.keeping site.old) (S.keeping site.new) }
+    ensures lacking { LacksTheSame (S.lacks site.old) (S.lacks site.new) }
     ensures quiet { IsTrue (S.keeping site.old).honest → IsQuiet (S.stops site.old) (S.stops site.new) }
     ensures fault { IfErr result (IsReadFault true (S.keeping site.old) (S.keeping site.new)) }
 {

@@ -50,11 +50,11 @@ sample_pairs =
     ∷ (codes "W" ++ 5 ∷ codes "hello/about", [])
     ∷ []
 
--- the keys of the item at `/about`
+-- the keys of the item at `/about`, in byte order
 abbrev pub about_keys : List (List ℕ)
 about_keys =
-    codes "I/about" ∷ (codes "C" ++ 6 ∷ codes "/about" ++ 0 ∷ 0 ∷ 0 ∷ []) ∷ (codes "W" ++ 5 ∷ codes "about/about") ∷ (codes "W" ++ 2 ∷ codes "us/about")
-    ∷ (codes "W" ++ 5 ∷ codes "hello/about") ∷ (codes "W" ++ 3 ∷ codes "dot/about") ∷ (codes "W" ++ 4 ∷ codes "last/about") ∷ []
+    (codes "C" ++ 6 ∷ codes "/about" ++ 0 ∷ 0 ∷ 0 ∷ []) ∷ codes "I/about" ∷ (codes "W" ++ 2 ∷ codes "us/about") ∷ (codes "W" ++ 3 ∷ codes "dot/about")
+    ∷ (codes "W" ++ 4 ∷ codes "last/about") ∷ (codes "W" ++ 5 ∷ codes "about/about") ∷ (codes "W" ++ 5 ∷ codes "hello/about") ∷ []
 
 pub record Examples : Type 0 where
   pub top_menu : item_bytes top ≡ top_record

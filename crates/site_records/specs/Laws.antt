@@ -1,16 +1,20 @@
 -- What holds of keys, records and the layout, as statements.
-use Rattle.std.specs.Prelude.{◌≡◌, ℕ, ◌<◌, ◌^◌, None, List, [], Some, if◌then◌else◌, IsTrue, IsSome}
+use Rattle.std.specs.Prelude.{◌≡◌, ℕ, ◌<◌, ◌^◌, ◌||◌, None, List, [], Some, if◌then◌else◌, IsTrue, IsSome}
 use Rattle.std.specs.Option.{option_map}
 use Rattle.std.specs.List.{AllByRecursion}
+use Rattle.std.specs.List.Sorted.{IsStrictlySortedBy}
 use Rattle.std.specs.FinMap.{is_sorted}
 use Rattle.std.specs.BTreeMap.{is_at}
 use Rattle.host_types.specs.Items.{is_lawful_item}
 use Rattle.host_types.specs.Site.{Site, IsSite, byte_cmp, item_at, with_item, without_item}
+use Rattle.host_types.specs.Change.{apply}
+use Rattle.host_types.specs.Words.{is_among}
 use Rattle.host_types.specs.declared.item.Item.{Item}
+use Rattle.host_types.specs.declared.change.Change.{Change}
 use Rattle.site_records.specs.Keys.{item_key, chunk_key, word_key, owner}
 use Rattle.site_records.specs.Records.{recorded, record_bytes, item_bytes}
 use Rattle.site_records.specs.Limits.{is_record}
-use Rattle.site_records.specs.Layout.{Pairs, item_pairs, layout, value_at, kept_chunk, has_word}
+use Rattle.site_records.specs.Layout.{Pairs, item_pairs, layout, value_at, kept_chunk, has_word, touched, keys_in, keys_after, keys_of}
 use Rattle.site_records.specs.declared.record.Record.{Record}
 
 -- a site's items stand in byte order of their selectors
@@ -44,6 +48,14 @@ LayoutsHold = (s : Site) → IsSite s → LayoutHolds s
 
 abbrev pub LayoutsChange : Type 0
 LayoutsChange = (s : Site) → InOrder s → LayoutChanges s
+
+-- The keys of a change: they rise in byte order, and are those of the items that it changes, before and after.
+pub record HasKeys (s : Site) (change : Change) (now : ℕ) : Type 0 where
+  pub rise : IsStrictlySortedBy byte_cmp (keys_of s change now)
+  pub all : (key : List ℕ) → is_among (keys_of s change now) key ≡ (is_among (keys_in s (touched s change)) key || is_among (keys_after (apply s change now) (touched s change)) key)
+
+abbrev pub ChangesHaveKeys : Type 0
+ChangesHaveKeys = (s : Site) (change : Change) (now : ℕ) → HasKeys s change now
 
 -- pairs in byte order of which each key has what it has in a layout are that layout
 abbrev pub ValuesTell : Type 0

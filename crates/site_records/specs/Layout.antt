@@ -2,6 +2,7 @@
 use Rattle.std.specs.Prelude.{ℕ, zero, suc, ◌+◌, ◌*◌, ◌/◌, Bool, false, List, [], ◌∷◌, ◌++◌, length, map, flat_map, nat_lt, slice_get, if◌then◌else◌, Option, Some, None, Result, Ok, Err, option_to_list}
 use Rattle.std.specs.Map.{lookup}
 use Rattle.std.specs.BTreeMap.{insert_entry, is_at}
+use Rattle.std.specs.BTreeSet.{insert_key}
 use Rattle.host_types.specs.Site.{Site, byte_cmp, item_at, board_at, post_selector}
 use Rattle.host_types.specs.Change.{apply, oldest_post}
 use Rattle.host_types.specs.declared.refused.Refused.{Refused}
@@ -107,6 +108,11 @@ abbrev pub keys_after : Result Site Refused → List (List ℕ) → List (List �
 keys_after (Ok t) selectors = keys_in t selectors
 keys_after (Err e) selectors = []
 
--- all keys of the layouts of the items that a change changes, before and after; a key may stand twice
+-- some keys in byte order, each once
+abbrev pub each_once : List (List ℕ) → List (List ℕ)
+each_once [] = []
+each_once (key ∷ keys) = insert_key byte_cmp (each_once keys) key
+
+-- all keys of the layouts of the items that a change changes, before and after: each once, in byte order
 unfoldable pub keys_of : Site → Change → ℕ → List (List ℕ)
-keys_of s change now = keys_in s (touched s change) ++ keys_after (apply s change now) (touched s change)
+keys_of s change now = each_once (keys_in s (touched s change) ++ keys_after (apply s change now) (touched s change))

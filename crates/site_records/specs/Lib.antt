@@ -5,5 +5,6 @@ pub mod Limits
 pub mod Reading
 pub mod Layout
 pub mod LayoutLaws
+pub mod KeyLaws
 pub mod Laws
 pub mod Examples

@@ -19,7 +19,7 @@ use Rattle.site_records.specs.Layout.{Pairs, value_at}
 use Rattle.site_records.specs.LayoutLaws.{record_in-layout}
 use Rattle.site_records.specs.Laws.{ItemsHaveRecords}
 use Rattle.site_store.specs.Kept.{IsKept}
-use Rattle.site_store.specs.Looking.{IsFaultUnless}
+use Rattle.site_store.specs.Looking.{NoneFailed, IsFaultUnless}
 use Rattle.site_store.specs.declared.fault.SiteOpenFault.{SiteOpenFault}
 use Rattle.site_store.specs.declared.fault.SiteOpenFault.TheVariants.{BadRecord, Keeper, Memory}
 
@@ -56,11 +56,11 @@ one_record have h s selector key bytes kept is some =
     ] refl
 
 -- a fault of reading some bytes that are what is known is want of memory
-pub not_bad : {Known : Type 0} → (old new : Holding) (fault : SiteOpenFault) → (fault ≡ BadRecord) ⊎ (fault ≡ Memory) → (IsTrue old.honest → Known → fault ≡ Memory) → IsFaultUnless Known old new fault
-not_bad old new BadRecord cases h = λ honest known. let clash : BadRecord ≡ Memory = h honest known in absurd (cc clash)
-not_bad old new (Keeper f) (inl e) h = absurd (cc e)
-not_bad old new (Keeper f) (inr e) h = absurd (cc e)
-not_bad old new Memory cases h = tt
+pub not_bad : {Known : Type 0} → (old new : Holding) (fault : SiteOpenFault) → NoneFailed old new → (fault ≡ BadRecord) ⊎ (fault ≡ Memory) → (IsTrue old.honest → Known → fault ≡ Memory) → IsFaultUnless Known old new fault
+not_bad old new BadRecord none cases h = (none, λ honest known. let clash : BadRecord ≡ Memory = h honest known in absurd (cc clash))
+not_bad old new (Keeper f) none (inl e) h = absurd (cc e)
+not_bad old new (Keeper f) none (inr e) h = absurd (cc e)
+not_bad old new Memory none cases h = none
 
 -- whether something stands somewhere
 pub there_is : {A : Type 0} (f : A → List ℕ) (found : Option A) (h : Holding) (s : Site) (selector key : List ℕ) → IsKept h s → key ≡ item_key selector → option_map f found ≡ value_at h.pairs key → is_some found ≡ is_some (item_at s selector)

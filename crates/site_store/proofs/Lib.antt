@@ -1,6 +1,7 @@
 pub mod ItemPairs
 pub mod ShortWords
 pub mod Makes
+pub mod ChangedKeys
 pub mod Found
 pub mod Looks
 pub mod PartChunks

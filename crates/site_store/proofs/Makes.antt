@@ -70,7 +70,7 @@ pub sorted_without : (edits : Edits) (ps : Pairs) → IsTrue (is_sorted byte_cmp
 sorted_without edits [] h = h
 sorted_without edits (p ∷ ps) h = is_sorted-insert_entry (without_all edits ps) p.0 None (sorted_without edits ps h)
 
-sorted_strokes : (strokes : List Stroke) (edits : Edits) → IsTrue (is_sorted byte_cmp edits) → IsTrue (is_sorted byte_cmp (fold with_stroke edits strokes))
+pub sorted_strokes : (strokes : List Stroke) (edits : Edits) → IsTrue (is_sorted byte_cmp edits) → IsTrue (is_sorted byte_cmp (fold with_stroke edits strokes))
 sorted_strokes [] edits h = h
 sorted_strokes (stroke ∷ strokes) edits h =
     sorted_strokes strokes (with_stroke edits stroke) (sorted_with (without_all edits (pairs_at stroke.selector stroke.old)) (pairs_at stroke.selector stroke.new) (sorted_without edits (pairs_at stroke.selector stroke.old) h))
@@ -90,7 +90,7 @@ stroke_at-value : (t : Site) (selector : List ℕ) (item : Option Item) (q : Lis
 stroke_at-value t selector None q h = value_at-without_item t selector q h
 stroke_at-value t selector (Some item) q h = value_at-with_item t selector item q h
 
-sorted_stroke : (t : Site) (selector : List ℕ) (item : Option Item) → IsTrue (is_sorted byte_cmp t.items) → IsTrue (is_sorted byte_cmp (stroke_at t selector item).items)
+pub sorted_stroke : (t : Site) (selector : List ℕ) (item : Option Item) → IsTrue (is_sorted byte_cmp t.items) → IsTrue (is_sorted byte_cmp (stroke_at t selector item).items)
 sorted_stroke t selector None h = is_sorted-remove_entry t.items selector h
 sorted_stroke t selector (Some item) h = is_sorted-insert_entry t.items selector item h
 

@@ -1,11 +1,15 @@
 -- What a site that was read whole says of what is kept.
-use Rattle.std.proofs.Common.{◌≡◌, ◌<◌, ap, sym, ◌∙◌, arith}
-use Rattle.std.specs.Prelude.{IsTrue, List}
+use Rattle.std.proofs.Common.{◌≡◌, ◌<◌, Bool, true, false, Result, Err, refl, ap, sym, ◌∙◌, arith}
+use Rattle.std.specs.Prelude.{IsTrue, IsErrOf, List}
 use Rattle.host_types.specs.Site.{Site}
 use Rattle.page_store.specs.Pages.{Pair}
 use Rattle.page_store.specs.Holding.{Holding, HasRead}
 use Rattle.site_store.specs.Kept.{IsKept, KeepsSite, site_of, site_kept}
-use Rattle.site_store.specs.Opening.{site_under, with_all_named, HasAddress, IsLayoutOf}
+use Rattle.page_store.specs.declared.fault.KeeperFault.TheVariants as kinds
+use Rattle.site_store.specs.Looking.{IsLookFault}
+use Rattle.site_store.specs.declared.fault.SiteOpenFault.{SiteOpenFault}
+use Rattle.site_store.specs.declared.fault.SiteOpenFault.TheVariants.{BadRecord, Keeper, Memory}
+use Rattle.site_store.specs.Opening.{IsOpenFault, site_under, with_all_named, HasAddress, IsLayoutOf}
 use Rattle.site_store.proofs.Named.{not_kept}
 use Rattle.site_store.proofs.Viewing.{kept_after}
 
@@ -48,3 +52,29 @@ kept_before a b s read honest kept = record {
 
 pub site_before : (a b : Holding) (keeps : KeepsSite b) → HasRead a b → IsTrue a.honest → IsKept a (site_of b keeps)
 site_before a b keeps read honest = kept_before a b (site_of b keeps) read honest (site_kept b keeps (read.honest ∙ honest))
+
+-- ---- why it isn't opened
+
+either : (b : Bool) → (b ≡ false → ⊥) → b ≡ true
+either true h = refl
+either false h = absurd (h refl)
+
+-- a keeper that isn't usable tells nothing else
+pub told_apart : {T : Type 0} → (r : Result T SiteOpenFault) (old new : Holding) (fault : SiteOpenFault) → r ≡ Err fault → (old.usable ≡ false → IsErrOf r (Keeper kinds.Failed)) → IsLookFault old new fault → IsOpenFault old new fault
+told_apart {T} r old new fault is closed h = by fault (λ shut. same r fault is (closed shut)) h
+  where
+    same : (r : Result T SiteOpenFault) (fault : SiteOpenFault) → r ≡ Err fault → IsErrOf r (Keeper kinds.Failed) → fault ≡ Keeper kinds.Failed
+    same r fault is h = cc (is, h)
+
+    by : (fault : SiteOpenFault) → (old.usable ≡ false → fault ≡ Keeper kinds.Failed) → IsLookFault old new fault → IsOpenFault old new fault
+    by (Keeper kinds.Failed) shut h = (h.0, h.1)
+    by (Keeper kinds.Device) shut h = (either old.usable (λ s. let e = shut s in absurd (cc e)), h.0)
+    by (Keeper (kinds.Damaged page)) shut h = (either old.usable (λ s. let e = shut s in absurd (cc e)), h.1, h.0)
+    by (Keeper kinds.NoImage) shut h = absurd h.0
+    by (Keeper kinds.Version) shut h = absurd h.0
+    by (Keeper kinds.Small) shut h = absurd h.0
+    by (Keeper kinds.Spent) shut h = absurd h.0
+    by (Keeper (kinds.Full need free)) shut h = absurd h.0
+    by (Keeper kinds.Memory) shut h = absurd h.0
+    by BadRecord shut h = (either old.usable (λ s. let e = shut s in absurd (cc e)), h.0, λ honest s kept. h.1 honest (s, kept))
+    by Memory shut h = (either old.usable (λ s. let e = shut s in absurd (cc e)), h)

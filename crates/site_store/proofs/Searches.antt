@@ -1,5 +1,5 @@
 -- A search that looks at one item after another finds what is to be found.
-use Rattle.std.proofs.Common.{◌≡◌, ℕ, ◌≤◌, Bool, true, false, List, [], ◌∷◌, ◌++◌, length, Option, Some, None, refl, ap, sym, subst, ◌∙◌, arith}
+use Rattle.std.proofs.Common.{◌≡◌, ℕ, ◌≤◌, Bool, true, false, List, [], ◌∷◌, ◌++◌, length, Option, Some, None, refl, ap, sym, subst, ◌∙◌}
 use Rattle.std.specs.Prelude.{◌&&◌, nat_lt, nat_eq, fold, if◌then◌else◌}
 use Rattle.std.specs.List.{starts_with}
 use Rattle.std.specs.Option.{option_map}
@@ -7,9 +7,6 @@ use Rattle.std.proofs.lemmas.Bool.{le-ltb}
 use Rattle.host_types.specs.Site.{Site, IsSite, item_after}
 use Rattle.host_types.specs.Words.{words_in}
 use Rattle.host_types.specs.declared.item.Item.{Item}
-use Rattle.host_types.specs.Stops.{Stops, quiet}
-use Rattle.page_store.specs.Holding.{Holding}
-use Rattle.site_store.specs.Looking.{HasLooked}
 use Rattle.word_index.specs.Gathered.{looked_at}
 use Rattle.word_index.specs.Search.{search_of}
 use Rattle.word_index.proofs.Found.{found_all}
@@ -79,18 +76,6 @@ first_left s scope asked found top site nothing is =
       stands = t.1;
       rest = ap (λ (l : List (List ℕ)). fold (looked_at scope asked) l (([], t.0) ∷ rest_of s.items [])) nothing ∙ ap (fold (looked_at scope asked) []) (sym (first_entry s.items t.0 (kept_sorted s site) t.1));
     })
-
--- before the first look
-pub not_yet : {L : Type 0} → (h : Holding) (s : Stops L) → HasLooked h h s s
-not_yet h s = record {
-  read = record {
-    same = record { pairs = λ honest. refl; banner = refl; usable = refl; top = refl; free = λ honest. refl };
-    honest = refl;
-    reads = omega arith;
-    writes = refl;
-  };
-  quiet = λ honest. quiet s;
-}
 
 pub all_searched : (s : Site) (scope query : List ℕ) → all_found s scope (words_in query) ≡ search_of s scope query
 unfolding search_of

@@ -1,5 +1,5 @@
 -- A keeper of pairs as a keeper of its site: what calls leave.
-use Rattle.std.proofs.Common.{◌≡◌, ◌⊎◌, ℕ, zero, suc, ◌<◌, ◌≤◌, Bool, true, false, List, Result, Ok, Err, refl, inl, inr, ⊎_elim, sym, ap, subst, ◌∙◌, arith}
+use Rattle.std.proofs.Common.{◌≡◌, ◌⊎◌, ℕ, zero, suc, ◌<◌, ◌≤◌, Bool, true, false, List, map, Result, Ok, Err, refl, inl, inr, ⊎_elim, sym, ap, subst, ◌∙◌, arith}
 use Rattle.std.specs.Prelude.{IsTrue, IfErr, OnOk, IsOk, ◌==◌}
 use mathlib.Core.Logic.{∥∥₁_elim, ∥∥₁_prop}
 use Rattle.host_types.specs.Site.{Site}
@@ -15,16 +15,16 @@ use Rattle.host_types.specs.declared.refused.Refused.TheVariants.{BadName}
 use Rattle.host_types.specs.declared.site_fault.SiteFault.{SiteFault}
 use Rattle.host_types.specs.declared.site_fault.SiteFault.TheVariants as faults
 use Rattle.page_store.specs.Pages.{Pair}
-use Rattle.page_store.specs.Batch.{updated}
-use Rattle.page_store.specs.Holding.{Holding, HasRead, HasStayed, HasFailed, HasTried, IsReadFault, IsCommitFault}
+use Rattle.page_store.specs.Batch.{updated, edit_key}
+use Rattle.page_store.specs.Holding.{Holding, HasRead, NeedsTheSame, HasStayed, HasFailed, HasTried, IsReadFault, IsCommitFault}
 use Rattle.page_store.specs.declared.banner.Banner.{Banner}
 use Rattle.page_store.specs.declared.edit.Edit.{Edit}
 use Rattle.page_store.specs.declared.fault.KeeperFault.{KeeperFault}
 use Rattle.page_store.specs.declared.fault.KeeperFault.TheVariants as kinds
-use Rattle.site_records.specs.Layout.{layout}
-use Rattle.site_store.specs.Kept.{Shows, StandsFor, IsKept, KeepsSite, site_of, keeping_of, site_kept, site_is}
-use Rattle.site_store.specs.Lacking.{IsLacking}
-use Rattle.site_store.specs.Looking.{IsLookFault, IsQuickFault}
+use Rattle.site_records.specs.Layout.{layout, touched, keys_of}
+use Rattle.site_store.specs.Kept.{Shows, StandsFor, IsKept, KeepsSite, no_site, where_passed, site_of, keeping_of, site_kept, site_is}
+use Rattle.site_store.specs.Lacking.{MayNeed, IsLacking}
+use Rattle.site_store.specs.Looking.{HasLooked, IsLookFault, IsQuickFault}
 use Rattle.site_store.specs.Edits.{batch_of, edits_of}
 use Rattle.site_store.specs.Strokes.{made_of}
 use Rattle.site_store.specs.Plan.{told_of, told_of_keeper, IsPlanFault, IsPlanned, named, banner_after, is_without_port}
@@ -34,7 +34,8 @@ use Rattle.site_store.specs.declared.fault.SiteOpenFault.TheVariants.{BadRecord,
 use Rattle.site_store.proofs.Found.{kept_sorted}
 use Rattle.site_store.proofs.Viewing.{kept_after}
 use Rattle.site_store.proofs.Makes.{strokes_make}
-use Rattle.site_store.proofs.Looks.{rose_later}
+use Rattle.site_store.proofs.ChangedKeys.{changed_keys}
+use Rattle.site_store.proofs.Looks.{rose_later, rose_counted}
 
 -- ---- calls that read
 
@@ -57,7 +58,7 @@ no_truth : (b : Bool) → IsTrue b → b ≡ false → ⊥
 no_truth b t f = let clash : true ≡ false = sym t ∙ f in cc clash
 
 told_read : (wants : Bool) (a b : Holding) (ka : KeepsSite a) (kb : KeepsSite b) (fault : KeeperFault) → IsReadFault a b fault → sites.IsReadFault wants (keeping_of a ka) (keeping_of b kb) (told_of_keeper fault)
-told_read wants a b ka kb kinds.Device h = λ honest. h
+told_read wants a b ka kb kinds.Device h = λ honest. rose_counted a.failed_reads b.failed_reads h
 told_read wants a b ka kb kinds.NoImage h = absurd h
 told_read wants a b ka kb kinds.Version h = absurd h
 told_read wants a b ka kb (kinds.Damaged page) h = λ honest. absurd (no_truth a.honest honest h)
@@ -71,17 +72,50 @@ pub look_told : (a b : Holding) (ka : KeepsSite a) (kb : KeepsSite b) (fault : S
 look_told a b ka kb fault told is h = subst (sites.IsReadFault true (keeping_of a ka) (keeping_of b kb)) (sym is) (by fault h)
   where
     by : (fault : SiteOpenFault) → IsLookFault a b fault → sites.IsReadFault true (keeping_of a ka) (keeping_of b kb) (told_of fault)
-    by BadRecord h = λ honest. absurd (h honest (site_of a ka, site_kept a ka honest))
-    by (Keeper fault) h = told_read true a b ka kb fault h
+    by BadRecord h = λ honest. absurd (h.1 honest (site_of a ka, site_kept a ka honest))
+    by (Keeper fault) h = told_read true a b ka kb fault h.0
     by Memory h = refl
 
 pub quick_told : (a b : Holding) (ka : KeepsSite a) (kb : KeepsSite b) (fault : SiteOpenFault) (told : SiteFault) → told ≡ told_of fault → IsQuickFault a b fault → sites.IsReadFault false (keeping_of a ka) (keeping_of b kb) told
 quick_told a b ka kb fault told is h = subst (sites.IsReadFault false (keeping_of a ka) (keeping_of b kb)) (sym is) (by fault h)
   where
     by : (fault : SiteOpenFault) → IsQuickFault a b fault → sites.IsReadFault false (keeping_of a ka) (keeping_of b kb) (told_of fault)
-    by BadRecord h = λ honest. absurd (h honest (site_of a ka) (site_kept a ka honest))
-    by (Keeper fault) h = told_read false a b ka kb fault h
+    by BadRecord h = λ honest. absurd (h.1 honest (site_of a ka) (site_kept a ka honest))
+    by (Keeper fault) h = told_read false a b ka kb fault h.0
     by Memory h = absurd h
+
+-- ---- what a change may lack
+
+not_passed : (test : Bool) (site : IsTrue test → Site) → test ≡ false → where_passed test site ≡ no_site
+not_passed true site h = absurd (cc h)
+not_passed false site h = refl
+
+site_still : (a b : Holding) (ka : KeepsSite a) (kb : KeepsSite b) → HasRead a b → site_of b kb ≡ site_of a ka
+site_still a b ka kb read = by a.honest refl
+  where
+    by : (test : Bool) → a.honest ≡ test → site_of b kb ≡ site_of a ka
+    by true honest = (has_read a b ka kb read).site honest
+    by false honest = not_passed b.honest (λ t. (kb t).0) (read.honest ∙ honest) ∙ sym (not_passed a.honest (λ t. (ka t).0) honest)
+
+lacks_later : {K : Type 0} → (holding : K → Holding) (may_need : K → List Edit → ℕ → Type 0) (k0 k1 : K) (s : Site) (change : Change) (now : ℕ) (fault : SiteFault) → ((batch : List Edit) (need : ℕ) → may_need k0 batch need → may_need k1 batch need) → (holding k1).top ≡ (holding k0).top
+    → IsLacking holding may_need k0 s change now fault → IsLacking holding may_need k1 s change now fault
+lacks_later holding may_need k0 k1 s change now (faults.Refused r) need top h = h
+lacks_later holding may_need k0 k1 s change now faults.Read need top h = h
+lacks_later holding may_need k0 k1 s change now (faults.Full wanted free) need top (batch, t, applied, keys, makes, (is, needs)) = (batch, t, applied, keys, makes, (is, need batch wanted needs))
+lacks_later holding may_need k0 k1 s change now faults.Spent need top h = top ∙ h
+lacks_later holding may_need k0 k1 s change now faults.Failed need top h = h
+lacks_later holding may_need k0 k1 s change now faults.Memory need top h = h
+
+-- a call that reads leaves it
+pub lacks_same : {K L : Type 0} → (holding : K → Holding) (may_need : K → List Edit → ℕ → Type 0) (stops : K → Stops L) (k0 k1 : K) (ka : KeepsSite (holding k0)) (kb : KeepsSite (holding k1)) → HasLooked holding may_need stops k0 k1
+    → sites.LacksTheSame (IsLacking holding may_need k0 (site_of (holding k0) ka)) (IsLacking holding may_need k1 (site_of (holding k1) kb))
+lacks_same holding may_need stops k0 k1 ka kb looked =
+    let still = site_still (holding k0) (holding k1) ka kb looked.read in
+    let top = looked.read.same.top in
+    record {
+      still = λ change now fault h. lacks_later holding may_need k0 k1 (site_of (holding k1) kb) change now fault looked.need.still top (subst (λ (s : Site). IsLacking holding may_need k0 s change now fault) (sym still) h);
+      before = λ change now fault h. lacks_later holding may_need k1 k0 (site_of (holding k0) ka) change now fault looked.need.before (sym top) (subst (λ (s : Site). IsLacking holding may_need k1 s change now fault) still h);
+    }
 
 -- ---- stops
 
@@ -130,7 +164,7 @@ same_after a b c ka kc read same honest_is = record {
 pub plan_told : (lacks : SiteFault → Type 0) (a b : Holding) (ka : KeepsSite a) (kb : KeepsSite b) (change : Change) (now : ℕ) (fault : SiteFault) → HasRead a b → a.usable ≡ true → IsPlanFault a b (λ s. apply s change now) fault
     → sites.IsChangeFault lacks (keeping_of a ka) (keeping_of b kb) (apply (site_of a ka) change now) fault
 plan_told lacks a b ka kb change now (faults.Refused r) read up h = (not_changed a b ka kb read, λ honest. h honest (site_of a ka) (site_kept a ka honest))
-plan_told lacks a b ka kb change now faults.Read read up h = (not_changed a b ka kb read, λ honest. h honest (site_of a ka) (site_kept a ka honest))
+plan_told lacks a b ka kb change now faults.Read read up h = (not_changed a b ka kb read, λ honest. rose_counted a.failed_reads b.failed_reads (h honest (site_of a ka) (site_kept a ka honest)))
 plan_told lacks a b ka kb change now (faults.Full need free) read up h = absurd h
 plan_told lacks a b ka kb change now faults.Spent read up h = absurd h
 plan_told lacks a b ka kb change now faults.Failed read up h = absurd (no_truth a.usable up h)
@@ -140,6 +174,7 @@ plan_told lacks a b ka kb change now faults.Memory read up h = not_changed a b k
 pub record Makes (a b : Holding) (ka : KeepsSite a) (change : Change) (now : ℕ) (strokes : List Stroke) (banner : Banner) : Type 0 where
   pub site : Site
   pub applied : apply (site_of a ka) change now ≡ Ok site
+  pub keys : map edit_key (batch_of (edits_of strokes)) ≡ keys_of (site_of a ka) change now
   pub shows : Shows (updated b.pairs (batch_of (edits_of strokes))) banner site
   pub before : IsKept b (site_of a ka)
 
@@ -148,7 +183,7 @@ unfolding layout
 same_layout s banner = refl
 
 pub makes : ChangesKeepSites → (a b : Holding) (ka : KeepsSite a) (change : Change) (now : ℕ) (strokes : List Stroke) (banner : Banner) → IsTrue a.honest → HasRead a b → IsTrue (is_typed_change change) → now ≤ 253402300799
-    → IsPlanned (site_of a ka) (apply (site_of a ka) change now) strokes banner → Makes a b ka change now strokes banner
+    → IsPlanned (site_of a ka) (apply (site_of a ka) change now) (touched (site_of a ka) change) strokes banner → Makes a b ka change now strokes banner
 makes laws a b ka change now strokes banner honest read typed early planned =
     let s = site_of a ka in
     let kept = site_kept a ka honest in
@@ -157,9 +192,10 @@ makes laws a b ka change now strokes banner honest read typed early planned =
     record {
       site = t;
       applied = planned.0;
+      keys = changed_keys s change now strokes banner (kept_sorted s before.lawful) planned.1 planned.0;
       shows = record {
         lawful = ∥∥₁_elim kept.lawful ∥∥₁_prop (λ site. ∣ laws s t change now site typed early planned.0 ∣₁);
-        all = strokes_make b.pairs s strokes (kept_sorted s before.lawful) before.all planned.1 ∙ same_layout (made_of s strokes) banner;
+        all = strokes_make b.pairs s strokes (kept_sorted s before.lawful) before.all planned.1.know ∙ same_layout (made_of s strokes) banner;
         host = refl;
         port = refl;
         admin = refl;
@@ -186,19 +222,19 @@ is_ok (Err x) t e = absurd (cc e)
 
 -- a change that was not written
 pub commit_told : {K : Type 0} → (holding : K → Holding) (may_need : K → List Edit → ℕ → Type 0) (k0 k1 k2 : K) (ka : KeepsSite (holding k0)) (kc : KeepsSite (holding k2)) (change : Change) (now : ℕ) (strokes : List Stroke) (banner : Banner) (fault : KeeperFault)
-    → HasRead (holding k0) (holding k1) → HasTried (holding k1) (holding k2) → (holding k1).usable ≡ true → (IsTrue (holding k0).honest → Makes (holding k0) (holding k1) ka change now strokes banner)
-    → IsCommitFault (holding k1) (holding k2) (may_need k1 (batch_of (edits_of strokes))) fault
+    → HasRead (holding k0) (holding k1) → NeedsTheSame (may_need k0) (may_need k1) → HasTried (holding k1) (holding k2) → (holding k1).usable ≡ true → (IsTrue (holding k0).honest → Makes (holding k0) (holding k1) ka change now strokes banner)
+    → IsCommitFault (holding k1) (holding k2) (MayNeed may_need k1 (batch_of (edits_of strokes))) fault
     → sites.IsChangeFault (IsLacking holding may_need k0 (site_of (holding k0) ka) change now) (keeping_of (holding k0) ka) (keeping_of (holding k2) kc) (apply (site_of (holding k0) ka) change now) (told_of_keeper fault)
-commit_told holding may_need k0 k1 k2 ka kc change now strokes banner kinds.Device read tried up m h =
-    (same_after (holding k0) (holding k1) (holding k2) ka kc read h.0 tried.honest, λ honest. rose_later (holding k0).failed_reads (holding k1).failed_reads (holding k2).failed_reads read.reads tried.reads h.1)
-commit_told holding may_need k0 k1 k2 ka kc change now strokes banner kinds.NoImage read tried up m h = absurd h
-commit_told holding may_need k0 k1 k2 ka kc change now strokes banner kinds.Version read tried up m h = absurd h
-commit_told holding may_need k0 k1 k2 ka kc change now strokes banner (kinds.Damaged page) read tried up m h =
+commit_told holding may_need k0 k1 k2 ka kc change now strokes banner kinds.Device read need tried up m h =
+    (same_after (holding k0) (holding k1) (holding k2) ka kc read h.0 tried.honest, λ honest. rose_later (holding k0).failed_reads (holding k1).failed_reads (holding k2).failed_reads read.reads tried.reads (rose_counted (holding k1).failed_reads (holding k2).failed_reads h.1))
+commit_told holding may_need k0 k1 k2 ka kc change now strokes banner kinds.NoImage read need tried up m h = absurd h
+commit_told holding may_need k0 k1 k2 ka kc change now strokes banner kinds.Version read need tried up m h = absurd h
+commit_told holding may_need k0 k1 k2 ka kc change now strokes banner (kinds.Damaged page) read need tried up m h =
     (same_after (holding k0) (holding k1) (holding k2) ka kc read h.0 tried.honest, λ honest. absurd (no_truth (holding k1).honest (read.honest ∙ honest) h.1))
-commit_told holding may_need k0 k1 k2 ka kc change now strokes banner kinds.Small read tried up m h = absurd h
-commit_told holding may_need k0 k1 k2 ka kc change now strokes banner kinds.Spent read tried up m h =
+commit_told holding may_need k0 k1 k2 ka kc change now strokes banner kinds.Small read need tried up m h = absurd h
+commit_told holding may_need k0 k1 k2 ka kc change now strokes banner kinds.Spent read need tried up m h =
     (same_after (holding k0) (holding k1) (holding k2) ka kc read h.0 tried.honest, λ honest. (is_ok (apply (site_of (holding k0) ka) change now) (m honest).site (m honest).applied, sym read.same.top ∙ h.1))
-commit_told holding may_need k0 k1 k2 ka kc change now strokes banner (kinds.Full need free) read tried up m h = (
+commit_told holding may_need k0 k1 k2 ka kc change now strokes banner (kinds.Full wanted free) read need tried up m h = (
   same_after (holding k0) (holding k1) (holding k2) ka kc read h.0 tried.honest,
   h.1,
   λ honest.
@@ -206,17 +242,24 @@ commit_told holding may_need k0 k1 k2 ka kc change now strokes banner (kinds.Ful
       let room = h.2 (read.honest ∙ honest) in (
         room.0 ∙ read.same.free honest,
         is_ok (apply (site_of (holding k0) ka) change now) made.site made.applied,
-        (k1, read, batch_of (edits_of strokes), made.site, made.applied, ap (λ (ps : List Pair). updated ps (batch_of (edits_of strokes))) (sym (read.same.pairs honest)) ∙ made.shows.all, room.1),
+        (
+          batch_of (edits_of strokes),
+          made.site,
+          made.applied,
+          made.keys,
+          ap (λ (ps : List Pair). updated ps (batch_of (edits_of strokes))) (sym made.before.all) ∙ made.shows.all,
+          (room.1.0, need.before (batch_of (edits_of strokes)) wanted room.1.1),
+        ),
       ),
 )
-commit_told holding may_need k0 k1 k2 ka kc change now strokes banner kinds.Failed read tried up m h =
+commit_told holding may_need k0 k1 k2 ka kc change now strokes banner kinds.Failed read need tried up m h =
     record {
       site = λ honest. site_is (holding k2) kc (tried.honest ∙ read.honest ∙ honest) (site_of (holding k0) ka) (failed (holding k1) (holding k2) (site_of (holding k0) ka) h (read.honest ∙ honest) (kept_after (holding k0) (holding k1) (site_of (holding k0) ka) read honest (site_kept (holding k0) ka honest)));
       shut = h.shut;
-      cause = λ honest usable. subst (λ (n : ℕ). Rose n (holding k2).failed_writes) read.writes (h.cause up);
+      cause = λ honest usable. subst (λ (n : ℕ). Rose n (holding k2).failed_writes) read.writes (rose_counted (holding k1).failed_writes (holding k2).failed_writes (h.cause up));
       right = λ honest usable. is_ok (apply (site_of (holding k0) ka) change now) (m honest).site (m honest).applied;
     }
-commit_told holding may_need k0 k1 k2 ka kc change now strokes banner kinds.Memory read tried up m h = same_after (holding k0) (holding k1) (holding k2) ka kc read h tried.honest
+commit_told holding may_need k0 k1 k2 ka kc change now strokes banner kinds.Memory read need tried up m h = same_after (holding k0) (holding k1) (holding k2) ka kc read h tried.honest
 
 -- ---- banners
 

@@ -1,5 +1,5 @@
 -- The items of a site that is kept, one after another.
-use Rattle.std.proofs.Common.{◌≡◌, ◌≤◌, ℕ, Bool, true, false, List, [], ◌∷◌, cond, Option, Some, None, Result, Ok, Err, refl, ap, sym, subst, ◌∙◌}
+use Rattle.std.proofs.Common.{◌≡◌, ℕ, Bool, true, false, List, [], ◌∷◌, cond, Option, Some, None, Result, Ok, Err, refl, ap, sym, subst, ◌∙◌}
 use Rattle.std.specs.Prelude.{IsTrue, ◌==◌, nat_lt, nat_le, length, IfOk, IfErr}
 use Rattle.std.specs.Option.{option_map}
 use Rattle.std.specs.Ordering.{is_lt, ordering_then}
@@ -21,7 +21,7 @@ use Rattle.site_records.specs.Records.{item_bytes}
 use Rattle.site_records.specs.Layout.{Pair, Pairs, layout}
 use Rattle.site_records.specs.LayoutLaws.{record_in-layout, is_sorted-layout}
 use Rattle.site_store.specs.Kept.{IsKept}
-use Rattle.site_store.specs.Looking.{IsFaultUnless, IsLookFault, IsQuickFault}
+use Rattle.site_store.specs.Looking.{NoneFailed, IsFaultUnless, IsLookFault, IsQuickFault}
 use Rattle.site_store.specs.Walking.{Entry, first_of, recorded_by, IsUnlawful, selector_after, card_after}
 use Rattle.site_store.specs.declared.fault.SiteOpenFault.{SiteOpenFault}
 use Rattle.site_store.specs.declared.fault.SiteOpenFault.TheVariants.{BadRecord, Keeper, Memory}
@@ -142,21 +142,21 @@ pub ok_same : {X E : Type 0} → (r : Result X E) (y z : X) → IfOk r (λ x. x 
 ok_same (Ok x) y z h e = h ∙ e
 ok_same (Err x) y z h e = tt
 
-pub bad_faults : {X : Type 0} {P : Type 0} → (r : Result X SiteOpenFault) (a b : Holding) → IfErr r (λ e. (e ≡ BadRecord) × P) → (IsTrue a.honest → (s : Site) → IsKept a s → P → ⊥) → IfErr r (IsQuickFault a b)
-bad_faults (Ok x) a b h never = tt
-bad_faults (Err e) a b h never = subst (IsQuickFault a b) (sym h.0) (λ honest s kept. never honest s kept h.1)
+pub bad_faults : {X : Type 0} {P : Type 0} → (r : Result X SiteOpenFault) (a b : Holding) → NoneFailed a b → IfErr r (λ e. (e ≡ BadRecord) × P) → (IsTrue a.honest → (s : Site) → IsKept a s → P → ⊥) → IfErr r (IsQuickFault a b)
+bad_faults (Ok x) a b none h never = tt
+bad_faults (Err e) a b none h never = subst (IsQuickFault a b) (sym h.0) (none, λ honest s kept. never honest s kept h.1)
 
 pub faults_unless : {X P Q : Type 0} → (r : Result X SiteOpenFault) (a b : Holding) → (IsTrue a.honest → P → Q) → IfErr r (IsFaultUnless Q a b) → IfErr r (IsFaultUnless P a b)
 faults_unless (Ok x) a b known h = tt
 faults_unless (Err e) a b known h = fault_unless a b e known h
 
-pub faults_later : {X P Q : Type 0} → (r : Result X SiteOpenFault) (a b c : Holding) → HasRead a b → b.failed_reads ≤ c.failed_reads → (IsTrue a.honest → P → Q) → IfErr r (IsFaultUnless Q b c) → IfErr r (IsFaultUnless P a c)
-faults_later (Ok x) a b c read more known h = tt
-faults_later (Err e) a b c read more known h = fault_later a b c e read more known h
+pub faults_later : {X P Q : Type 0} → (r : Result X SiteOpenFault) (a b c : Holding) → HasRead a b → NoneFailed a b → (IsTrue a.honest → P → Q) → IfErr r (IsFaultUnless Q b c) → IfErr r (IsFaultUnless P a c)
+faults_later (Ok x) a b c read none known h = tt
+faults_later (Err e) a b c read none known h = fault_later a b c e read none known h
 
 -- where no memory is taken
 pub quick_look : (a b : Holding) (fault : SiteOpenFault) → IsQuickFault a b fault → IsLookFault a b fault
-quick_look a b BadRecord h = λ honest known. h honest known.0 known.1
+quick_look a b BadRecord h = (h.0, λ honest known. h.1 honest known.0 known.1)
 quick_look a b (Keeper fault) h = h
 quick_look a b Memory h = absurd h
 

@@ -12,7 +12,9 @@ use Rattle.host_types.specs.declared.item.Body.{Body}
 use Rattle.host_types.specs.declared.item.Body.TheVariants.{Views, Menu, Board, Form, Search, Moved}
 use Rattle.page_store.specs.Pages.{Pair}
 use Rattle.page_store.specs.Batch.{value_at}
-use Rattle.page_store.specs.Holding.{Holding, HasRead, IsReadFault}
+use Rattle.page_store.specs.Holding.{Holding, HasRead, NeedsTheSame, IsReadFault}
+use Rattle.page_store.specs.Counting.{reads_after}
+use Rattle.page_store.specs.declared.edit.Edit.{Edit}
 use Rattle.page_store.specs.declared.fault.KeeperFault.{KeeperFault}
 use Rattle.site_records.specs.Keys.{chunk_key}
 use Rattle.site_records.specs.Layout.{chunk_in}
@@ -23,16 +25,25 @@ use Rattle.site_store.specs.Kept.{IsKept}
 use Rattle.site_store.specs.declared.fault.SiteOpenFault.{SiteOpenFault}
 use Rattle.site_store.specs.declared.fault.SiteOpenFault.TheVariants.{BadRecord, Keeper, Memory}
 
--- What a call that reads leaves: what is held stays, and nothing was written.
-pub record HasLooked {L : Type 0} (old new : Holding) (before after : Stops L) : Type 0 where
-  pub read : HasRead old new
-  pub quiet : IsTrue old.honest → IsQuiet before after
+-- What a call that reads leaves: what is held stays, a batch may need as much as before, and nothing was written.
+pub record HasLooked {K L : Type 0} (holding : K → Holding) (may_need : K → List Edit → ℕ → Type 0) (stops : K → Stops L) (old new : K) : Type 0 where
+  pub read : HasRead (holding old) (holding new)
+  pub need : NeedsTheSame (may_need old) (may_need new)
+  pub quiet : IsTrue (holding old).honest → IsQuiet (stops old) (stops new)
+
+-- no read failed
+abbrev pub NoneFailed : Holding → Holding → Type 0
+NoneFailed old new = new.failed_reads ≡ old.failed_reads
+
+-- When the keeper of pairs may tell a fault, and what it counts.
+abbrev pub IsCountedFault : Holding → Holding → KeeperFault → Type 0
+IsCountedFault old new fault = IsReadFault old new fault × (new.failed_reads ≡ reads_after fault old.failed_reads)
 
 -- When a fault may come of a call that reads what is there where something is known.
 abbrev pub IsFaultUnless : Type 0 → Holding → Holding → SiteOpenFault → Type 0
-IsFaultUnless Known old new BadRecord = IsTrue old.honest → Known → ⊥
-IsFaultUnless Known old new (Keeper fault) = IsReadFault old new fault
-IsFaultUnless Known old new Memory = Unit {0}
+IsFaultUnless Known old new BadRecord = NoneFailed old new × (IsTrue old.honest → Known → ⊥)
+IsFaultUnless Known old new (Keeper fault) = IsCountedFault old new fault
+IsFaultUnless Known old new Memory = NoneFailed old new
 
 -- a fault that the keeper of pairs told
 abbrev pub IsKeeperFault : (KeeperFault → Type 0) → SiteOpenFault → Type 0
@@ -87,8 +98,8 @@ chunk_size size k = if nat_lt (size - 1000 * k) 1000 then size - 1000 * k else 1
 
 -- When a fault may come of a call that reads what is kept of a site and takes no memory.
 abbrev pub IsQuickFault : Holding → Holding → SiteOpenFault → Type 0
-IsQuickFault old new BadRecord = IsTrue old.honest → (s : Site) → IsKept old s → ⊥
-IsQuickFault old new (Keeper fault) = IsReadFault old new fault
+IsQuickFault old new BadRecord = NoneFailed old new × (IsTrue old.honest → (s : Site) → IsKept old s → ⊥)
+IsQuickFault old new (Keeper fault) = IsCountedFault old new fault
 IsQuickFault old new Memory = ⊥
 
 abbrev pub is_views : Body → Bool
@@ -107,5 +118,5 @@ is_document (Some item) = is_views item.body
 -- When a fault may come of a call that reads pairs into memory.
 abbrev pub IsReadOrMemory : Holding → Holding → SiteOpenFault → Type 0
 IsReadOrMemory old new BadRecord = ⊥
-IsReadOrMemory old new (Keeper fault) = IsReadFault old new fault
-IsReadOrMemory old new Memory = Unit {0}
+IsReadOrMemory old new (Keeper fault) = IsCountedFault old new fault
+IsReadOrMemory old new Memory = NoneFailed old new

@@ -1,7 +1,7 @@
 -- What a change is to make at single selectors, and why it isn't made.
-use Rattle.std.specs.Prelude.{◌≡◌, ◌==◌, Bool, false, List, Result, Ok, Err, IsTrue}
+use Rattle.std.specs.Prelude.{◌≡◌, ℕ, ◌==◌, Bool, false, List, Result, Ok, Err, IsTrue}
 use Rattle.host_types.specs.Site.{Site}
-use Rattle.host_types.specs.Keeping.{Rose}
+use Rattle.sector_device.specs.Device.{counted}
 use Rattle.host_types.specs.declared.refused.Refused.{Refused}
 use Rattle.host_types.specs.declared.site_fault.SiteFault.{SiteFault}
 use Rattle.host_types.specs.declared.site_fault.SiteFault.TheVariants as faults
@@ -12,7 +12,7 @@ use Rattle.page_store.specs.Holding.{Holding}
 use Rattle.page_store.specs.declared.fault.KeeperFault.{KeeperFault}
 use Rattle.page_store.specs.declared.fault.KeeperFault.TheVariants as kinds
 use Rattle.site_store.specs.Kept.{IsKept}
-use Rattle.site_store.specs.Strokes.{made_of, AreStrokes}
+use Rattle.site_store.specs.Strokes.{made_of, AreStrokesAt}
 use Rattle.site_store.specs.declared.stroke.Stroke.{Stroke}
 use Rattle.site_store.specs.declared.fault.SiteOpenFault.{SiteOpenFault}
 use Rattle.site_store.specs.declared.fault.SiteOpenFault.TheVariants.{BadRecord, Keeper, Memory}
@@ -35,14 +35,14 @@ told_of BadRecord = faults.Read
 told_of (Keeper fault) = told_of_keeper fault
 told_of Memory = faults.Memory
 
--- These strokes make the site that a change makes of the one that is kept.
-abbrev pub IsPlan : Holding → (Site → Result Site Refused) → List Stroke → Type 0
-IsPlan h applied strokes = IsTrue h.honest → (s : Site) → IsKept h s → (applied s ≡ Ok (made_of s strokes)) × AreStrokes s strokes
+-- These strokes, at the selectors that a change touches, make the site that it makes of the one that is kept.
+abbrev pub IsPlan : Holding → (Site → Result Site Refused) → (Site → List (List ℕ)) → List Stroke → Type 0
+IsPlan h applied touched strokes = IsTrue h.honest → (s : Site) → IsKept h s → (applied s ≡ Ok (made_of s strokes)) × AreStrokesAt s (touched s) strokes
 
 -- Why no strokes are found: the change is refused, or what is kept couldn't be read.
 abbrev pub IsPlanFault : Holding → Holding → (Site → Result Site Refused) → SiteFault → Type 0
 IsPlanFault old new applied (faults.Refused r) = IsTrue old.honest → (s : Site) → IsKept old s → applied s ≡ Err r
-IsPlanFault old new applied faults.Read = IsTrue old.honest → (s : Site) → IsKept old s → Rose old.failed_reads new.failed_reads
+IsPlanFault old new applied faults.Read = IsTrue old.honest → (s : Site) → IsKept old s → new.failed_reads ≡ counted old.failed_reads
 IsPlanFault old new applied (faults.Full need free) = ⊥
 IsPlanFault old new applied faults.Spent = ⊥
 IsPlanFault old new applied faults.Failed = old.usable ≡ false
@@ -68,6 +68,6 @@ is_without_port (Remove selector) = false
 is_without_port (Move from to) = false
 is_without_port (Post board title text) = false
 
--- Strokes and a banner that make a changed site.
-abbrev pub IsPlanned : Site → Result Site Refused → List Stroke → Banner → Type 0
-IsPlanned s applied strokes banner = (applied ≡ Ok (named (made_of s strokes) banner)) × AreStrokes s strokes
+-- Strokes at the selectors that are touched, and a banner, that make a changed site.
+abbrev pub IsPlanned : Site → Result Site Refused → List (List ℕ) → List Stroke → Banner → Type 0
+IsPlanned s applied touched strokes banner = (applied ≡ Ok (named (made_of s strokes) banner)) × AreStrokesAt s touched strokes

@@ -1,8 +1,9 @@
 // Cards, and chunks of views.
-ghost use Rattle.std.specs.Prelude.{◌≡◌, ◌≤◌, false, Option, IfOk, IfErr, IsErrOf, IsTrue, take};
+ghost use Rattle.std.specs.Prelude.{◌≡◌, ◌≤◌, false, Option, IfOk, OnOk, IfErr, IsErrOf, IsTrue, take};
 ghost use Rattle.std.specs.Prelude as list;
 ghost use Rattle.host_types.specs.Site.{Site, item_at};
 ghost use Rattle.host_types.specs.Card.{card_at, card_body, viewed_at, chunk_of};
+ghost use Rattle.host_types.specs.Keeping.{IsBehindKept};
 ghost use Rattle.host_types.specs.declared.item.Body.{Body as BodyValue};
 ghost use Rattle.page_store.specs.declared.fault.KeeperFault.TheVariants.{Failed};
 ghost use Rattle.site_records.specs.Limits.{is_body};
@@ -29,7 +30,8 @@ fn card_body<K: Keeper>(
 ) -> Result<CardBody, SiteOpenFault>
     requires { IsTrue (is_body kept) }
     ensures body { IsTrue (K.holding keeper.old).honest → (b : BodyValue) → KeepsBody (K.holding keeper.old) selector.now kept b → IfOk result (λ x. x ≡ card_body b) }
-    ensures looked { HasLooked (K.holding keeper.old) (K.holding keeper.new) (K.stops keeper.old) (K.stops keeper.new) }
+    ensures looked { HasLooked K.holding K.may_need K.stops keeper.old keeper.new }
+    ensures reads { OnOk result ((K.holding keeper.new).failed_reads ≡ (K.holding keeper.old).failed_reads) }
     ensures fault { IfErr result (IsFaultUnless ((b : BodyValue) × KeepsBody (K.holding keeper.old) selector.now kept b) (K.holding keeper.old) (K.holding keeper.new)) }
 {
     match kept {
@@ -55,7 +57,8 @@ pub fn card_in<K: Keeper>(
     selector: &Selector,
 ) -> Result<Option<Card>, SiteOpenFault>
     ensures card { IsTrue (K.holding keeper.old).honest → (s : Site) → IsKept (K.holding keeper.old) s → IfOk result (λ o. o ≡ card_at s selector.now) }
-    ensures looked { HasLooked (K.holding keeper.old) (K.holding keeper.new) (K.stops keeper.old) (K.stops keeper.new) }
+    ensures looked { HasLooked K.holding K.may_need K.stops keeper.old keeper.new }
+    ensures reads { OnOk result ((K.holding keeper.new).failed_reads ≡ (K.holding keeper.old).failed_reads) }
     ensures fault { IfErr result (IsLookFault (K.holding keeper.old) (K.holding keeper.new)) }
     ensures closed { (K.holding keeper.old).usable ≡ false → IsErrOf result (Told Failed) }
 {
@@ -84,7 +87,8 @@ pub fn card_in<K: Keeper>(
 /// Whether a document stands at a selector.
 fn has_document<K: Keeper>(keeper: &mut K, selector: &Selector) -> Result<bool, SiteOpenFault>
     ensures document { IsTrue (K.holding keeper.old).honest → (s : Site) → IsKept (K.holding keeper.old) s → IfOk result (λ document. document ≡ is_document (item_at s selector.now)) }
-    ensures looked { HasLooked (K.holding keeper.old) (K.holding keeper.new) (K.stops keeper.old) (K.stops keeper.new) }
+    ensures looked { HasLooked K.holding K.may_need K.stops keeper.old keeper.new }
+    ensures reads { OnOk result ((K.holding keeper.new).failed_reads ≡ (K.holding keeper.old).failed_reads) }
     ensures fault { IfErr result (IsQuickFault (K.holding keeper.old) (K.holding keeper.new)) }
     ensures closed { (K.holding keeper.old).usable ≡ false → IsErrOf result (Told Failed) }
 {
@@ -96,16 +100,17 @@ fn has_document<K: Keeper>(keeper: &mut K, selector: &Selector) -> Result<bool, 
     }
 }
 
-/// Puts some bytes into the front of the buffer.
+/// Puts some bytes into the front of the buffer; what stands behind them stays.
 fn copy_front(bytes: &[u8], buffer: &mut [u8; 1000])
     requires { list.length bytes.now ≤ 1000 }
     ensures front { take (list.length bytes.now) buffer.new ≡ bytes.now }
+    ensures behind { IsBehindKept (list.length bytes.now) buffer.old buffer.new }
     ensures length { list.length buffer.new ≡ 1000 }
 {
     buffer[..bytes.len()].copy_from_slice(bytes);
 }
 
-/// Puts chunk k of a view into the front of the buffer, and answers its length.
+/// Puts chunk k of a view into the front of the buffer, and answers its length. What stands behind it stays, and after a fault the whole buffer does.
 pub fn chunk_in<K: Keeper>(
     keeper: &mut K,
     selector: &Selector,
@@ -115,7 +120,10 @@ pub fn chunk_in<K: Keeper>(
 ) -> Result<usize, SiteOpenFault>
     ensures within { IfOk result (λ n. n ≤ list.length buffer.new) }
     ensures chunk { IsTrue (K.holding keeper.old).honest → (s : Site) → IsKept (K.holding keeper.old) s → IfOk result (λ n. take n buffer.new ≡ chunk_of (viewed_at s selector.now view) k) }
-    ensures looked { HasLooked (K.holding keeper.old) (K.holding keeper.new) (K.stops keeper.old) (K.stops keeper.new) }
+    ensures behind { IfOk result (λ n. IsBehindKept n buffer.old buffer.new) }
+    ensures untouched { IfErr result (λ e. buffer.new ≡ buffer.old) }
+    ensures looked { HasLooked K.holding K.may_need K.stops keeper.old keeper.new }
+    ensures reads { OnOk result ((K.holding keeper.new).failed_reads ≡ (K.holding keeper.old).failed_reads) }
     ensures fault { IfErr result (IsQuickFault (K.holding keeper.old) (K.holding keeper.new)) }
     ensures closed { (K.holding keeper.old).usable ≡ false → IsErrOf result (Told Failed) }
 {

@@ -2,6 +2,7 @@
 ghost use Rattle.std.specs.Prelude.{◌≡◌, false, IfOk, IfErr, IsTrue};
 ghost use Rattle.host_types.specs.Site.{Site};
 ghost use Rattle.host_types.specs.Change.{apply};
+ghost use Rattle.site_records.specs.Layout.{touched};
 ghost use Rattle.site_store.specs.Kept.{IsKept};
 ghost use Rattle.site_store.specs.Looking.{HasLooked};
 ghost use Rattle.site_store.specs.Plan.{IsPlanFault, IsPlanned, banner_after, is_without_port};
@@ -66,9 +67,9 @@ pub fn plan_change<K: Keeper>(
     now: Stamp,
 ) -> Result<Vec<Stroke>, SiteFault>
     requires { is_without_port change ≡ false }
-    ensures plan { IsTrue (K.holding keeper.old).honest → (s : Site) → IsKept (K.holding keeper.old) s → IfOk result (λ l. IsPlanned s (apply s change now) l.items (banner_after (K.holding keeper.old).banner change)) }
+    ensures plan { IsTrue (K.holding keeper.old).honest → (s : Site) → IsKept (K.holding keeper.old) s → IfOk result (λ l. IsPlanned s (apply s change now) (touched s change) l.items (banner_after (K.holding keeper.old).banner change)) }
     ensures short { IfOk result (λ l. AreShort l.items) }
-    ensures looked { HasLooked (K.holding keeper.old) (K.holding keeper.new) (K.stops keeper.old) (K.stops keeper.new) }
+    ensures looked { HasLooked K.holding K.may_need K.stops keeper.old keeper.new }
     ensures fault { IfErr result (IsPlanFault (K.holding keeper.old) (K.holding keeper.new) (λ s. apply s change now)) }
 {
     match change {

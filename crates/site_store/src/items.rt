@@ -1,5 +1,5 @@
 // Reading items.
-ghost use Rattle.std.specs.Prelude.{◌≡◌, ◌≤◌, false, List, IfOk, IfErr, IfSome, IsErrOf, IsTrue, All, map};
+ghost use Rattle.std.specs.Prelude.{◌≡◌, ◌≤◌, false, List, IfOk, OnOk, IfErr, IfSome, IsErrOf, IsTrue, All, map};
 ghost use Rattle.std.specs.Prelude as list;
 ghost use Rattle.std.specs.List.{list_any};
 ghost use Rattle.host_types.specs.Items.{is_long_question};
@@ -35,7 +35,8 @@ fn read_views<K: Keeper>(
     requires short { All (λ v. v.length ≤ 65536) cards.now }
     ensures views { IsTrue (K.holding keeper.old).honest → (vs : List ViewValue) → HasViews (K.holding keeper.old).pairs selector.now cards.now vs → IfOk result (λ l. l ≡ vs) }
     ensures cards { IfOk result (λ l. map card_view l ≡ cards.now) }
-    ensures looked { HasLooked (K.holding keeper.old) (K.holding keeper.new) (K.stops keeper.old) (K.stops keeper.new) }
+    ensures looked { HasLooked K.holding K.may_need K.stops keeper.old keeper.new }
+    ensures reads { OnOk result ((K.holding keeper.new).failed_reads ≡ (K.holding keeper.old).failed_reads) }
     ensures fault { IfErr result (IsFaultUnless ((vs : List ViewValue) × HasViews (K.holding keeper.old).pairs selector.now cards.now vs) (K.holding keeper.old) (K.holding keeper.new)) }
 {
     let mut views = ViewList::new(alloc);
@@ -58,7 +59,8 @@ pub fn read_menu<K: Keeper>(
     requires { size ≤ 65536 }
     ensures entries { IsTrue (K.holding keeper.old).honest → (es : List EntryValue) → HasEntries (K.holding keeper.old).pairs selector.now size es → IfOk result (λ l. l ≡ es) }
     ensures lawful { IfOk result (λ l. IsTrue (are_entries l)) }
-    ensures looked { HasLooked (K.holding keeper.old) (K.holding keeper.new) (K.stops keeper.old) (K.stops keeper.new) }
+    ensures looked { HasLooked K.holding K.may_need K.stops keeper.old keeper.new }
+    ensures reads { OnOk result ((K.holding keeper.new).failed_reads ≡ (K.holding keeper.old).failed_reads) }
     ensures fault { IfErr result (IsFaultUnless ((es : List EntryValue) × HasEntries (K.holding keeper.old).pairs selector.now size es) (K.holding keeper.old) (K.holding keeper.new)) }
 {
     let bytes = match read_part(alloc, keeper, selector, 0, size as usize) {
@@ -83,7 +85,8 @@ pub fn read_form<K: Keeper>(
     ensures questions { IsTrue (K.holding keeper.old).honest → (qs : List QuestionValue) → HasQuestions (K.holding keeper.old).pairs selector.now size qs → IfOk result (λ l. l ≡ qs) }
     ensures lawful { IfOk result (λ l. IsTrue (are_questions l)) }
     ensures short { IfOk result (λ l. list_any is_long_question l ≡ false) }
-    ensures looked { HasLooked (K.holding keeper.old) (K.holding keeper.new) (K.stops keeper.old) (K.stops keeper.new) }
+    ensures looked { HasLooked K.holding K.may_need K.stops keeper.old keeper.new }
+    ensures reads { OnOk result ((K.holding keeper.new).failed_reads ≡ (K.holding keeper.old).failed_reads) }
     ensures fault { IfErr result (IsFaultUnless ((qs : List QuestionValue) × HasQuestions (K.holding keeper.old).pairs selector.now size qs) (K.holding keeper.old) (K.holding keeper.new)) }
 {
     let bytes = match read_part(alloc, keeper, selector, 0, size as usize) {
@@ -108,7 +111,8 @@ fn read_body<K: Keeper>(
     requires { IsTrue (is_body kept) }
     ensures body { IsTrue (K.holding keeper.old).honest → (b : BodyValue) → KeepsBody (K.holding keeper.old) selector.now kept b → IfOk result (λ x. x ≡ b) }
     ensures short { IfOk result (λ x. IsTrue (is_short_body x)) }
-    ensures looked { HasLooked (K.holding keeper.old) (K.holding keeper.new) (K.stops keeper.old) (K.stops keeper.new) }
+    ensures looked { HasLooked K.holding K.may_need K.stops keeper.old keeper.new }
+    ensures reads { OnOk result ((K.holding keeper.new).failed_reads ≡ (K.holding keeper.old).failed_reads) }
     ensures fault { IfErr result (IsFaultUnless ((b : BodyValue) × KeepsBody (K.holding keeper.old) selector.now kept b) (K.holding keeper.old) (K.holding keeper.new)) }
 {
     match kept {
@@ -143,7 +147,8 @@ pub fn item_in<K: Keeper>(
 ) -> Result<Option<Item>, SiteOpenFault>
     ensures item { IsTrue (K.holding keeper.old).honest → (s : Site) → IsKept (K.holding keeper.old) s → IfOk result (λ o. o ≡ item_at s selector.now) }
     ensures short { IfOk result (λ o. IfSome o (λ item. IsTrue (is_short item))) }
-    ensures looked { HasLooked (K.holding keeper.old) (K.holding keeper.new) (K.stops keeper.old) (K.stops keeper.new) }
+    ensures looked { HasLooked K.holding K.may_need K.stops keeper.old keeper.new }
+    ensures reads { OnOk result ((K.holding keeper.new).failed_reads ≡ (K.holding keeper.old).failed_reads) }
     ensures fault { IfErr result (IsLookFault (K.holding keeper.old) (K.holding keeper.new)) }
     ensures closed { (K.holding keeper.old).usable ≡ false → IsErrOf result (Told Failed) }
 {

@@ -5,8 +5,8 @@ ghost use Rattle.page_store.specs.Batch.{pair_after};
 ghost use Rattle.page_store.specs.declared.fault.KeeperFault.TheVariants.{Failed};
 ghost use Rattle.site_records.specs.Layout.{layout};
 ghost use Rattle.site_store.specs.Kept.{IsKept, KeepsSite};
-ghost use Rattle.site_store.specs.Looking.{HasLooked, IsKeeperFault, IsLookFault, IsReadOrMemory};
-ghost use Rattle.site_store.specs.Opening.{last_key, site_under, with_named, with_all_named, HasAddress, IsLayoutOf};
+ghost use Rattle.site_store.specs.Looking.{HasLooked, NoneFailed, IsLookFault, IsReadOrMemory};
+ghost use Rattle.site_store.specs.Opening.{IsOpenFault, last_key, site_under, with_named, with_all_named, HasAddress, IsLayoutOf};
 ghost use Rattle.site_store.specs.Seen.{keeper_of, seen_site};
 ghost use Rattle.site_store.specs.declared.fault.SiteOpenFault.TheVariants.{Keeper as Told};
 
@@ -26,7 +26,8 @@ fn pair_behind<K: Keeper>(
     pairs: &[Pair],
 ) -> Result<Option<Pair>, SiteOpenFault>
     ensures pair { IsTrue (K.holding keeper.old).honest → IfOk result (λ found. found ≡ pair_after (K.holding keeper.old).pairs (last_key pairs.now)) }
-    ensures looked { HasLooked (K.holding keeper.old) (K.holding keeper.new) (K.stops keeper.old) (K.stops keeper.new) }
+    ensures looked { HasLooked K.holding K.may_need K.stops keeper.old keeper.new }
+    ensures reads { OnOk result ((K.holding keeper.new).failed_reads ≡ (K.holding keeper.old).failed_reads) }
     ensures fault { IfErr result (IsReadOrMemory (K.holding keeper.old) (K.holding keeper.new)) }
     ensures closed { (K.holding keeper.old).usable ≡ false → IsErrOf result (Told Failed) }
 {
@@ -48,7 +49,8 @@ fn pair_behind<K: Keeper>(
 /// All pairs of a keeper.
 fn pairs_of<K: Keeper>(alloc: Global, keeper: &mut K) -> Result<Vec<Pair>, SiteOpenFault>
     ensures pairs { IsTrue (K.holding keeper.old).honest → IfOk result (λ all. all.items ≡ (K.holding keeper.old).pairs) }
-    ensures looked { HasLooked (K.holding keeper.old) (K.holding keeper.new) (K.stops keeper.old) (K.stops keeper.new) }
+    ensures looked { HasLooked K.holding K.may_need K.stops keeper.old keeper.new }
+    ensures reads { OnOk result ((K.holding keeper.new).failed_reads ≡ (K.holding keeper.old).failed_reads) }
     ensures fault { IfErr result (IsReadOrMemory (K.holding keeper.old) (K.holding keeper.new)) }
     ensures closed { (K.holding keeper.old).usable ≡ false → IsErrOf result (Told Failed) }
 {
@@ -74,7 +76,8 @@ fn put_named<K: Keeper>(
     ensures host { OnOk result (site.new.host ≡ site.old.host) }
     ensures port { OnOk result (site.new.port ≡ site.old.port) }
     ensures admin { OnOk result (site.new.admin ≡ site.old.admin) }
-    ensures looked { HasLooked (K.holding keeper.old) (K.holding keeper.new) (K.stops keeper.old) (K.stops keeper.new) }
+    ensures looked { HasLooked K.holding K.may_need K.stops keeper.old keeper.new }
+    ensures reads { OnOk result ((K.holding keeper.new).failed_reads ≡ (K.holding keeper.old).failed_reads) }
     ensures fault { IfErr result (IsLookFault (K.holding keeper.old) (K.holding keeper.new)) }
 {
     let [b'I', name @ ..] = key else {
@@ -101,7 +104,8 @@ fn site_of<K: Keeper>(
 ) -> Result<MemSite, SiteOpenFault>
     ensures named { IsTrue (K.holding keeper.old).honest → (s : Site) → IsKept (K.holding keeper.old) s → IfOk result (λ m. m ≡ with_all_named s (site_under (K.holding keeper.old).banner) pairs.now) }
     ensures address { IfOk result (λ m. HasAddress m (K.holding keeper.old).banner) }
-    ensures looked { HasLooked (K.holding keeper.old) (K.holding keeper.new) (K.stops keeper.old) (K.stops keeper.new) }
+    ensures looked { HasLooked K.holding K.may_need K.stops keeper.old keeper.new }
+    ensures reads { OnOk result ((K.holding keeper.new).failed_reads ≡ (K.holding keeper.old).failed_reads) }
     ensures fault { IfErr result (IsLookFault (K.holding keeper.old) (K.holding keeper.new)) }
 {
     let banner = keeper.banner();
@@ -159,7 +163,8 @@ fn has_layout(alloc: Global, site: &MemSite, pairs: &[Pair]) -> Result<bool, All
 fn check<K: Keeper>(alloc: Global, keeper: &mut K) -> Result<(), SiteOpenFault>
     ensures kept { OnOk result (KeepsSite (K.holding keeper.old)) }
     ensures port { OnOk result (0 < (K.holding keeper.old).banner.port) }
-    ensures looked { HasLooked (K.holding keeper.old) (K.holding keeper.new) (K.stops keeper.old) (K.stops keeper.new) }
+    ensures looked { HasLooked K.holding K.may_need K.stops keeper.old keeper.new }
+    ensures reads { OnOk result ((K.holding keeper.new).failed_reads ≡ (K.holding keeper.old).failed_reads) }
     ensures fault { IfErr result (IsLookFault (K.holding keeper.old) (K.holding keeper.new)) }
     ensures closed { (K.holding keeper.old).usable ≡ false → IsErrOf result (Told Failed) }
 {
@@ -175,13 +180,14 @@ fn check<K: Keeper>(alloc: Global, keeper: &mut K) -> Result<(), SiteOpenFault>
 impl<K: Keeper> DiskSite<K> {
     /// Opens the site whose layout a keeper holds, and reads all of it. A refusal hands the keeper back; nothing is written.
     ///
-    /// `BadRecord` where what is kept is no lawful site's layout, else the keeper's fault or `Memory`.
+    /// A keeper that isn't usable is `Failed`, and gets no other answer. `BadRecord` where what is kept is no lawful site's layout, else the keeper's fault. `Memory` may stand in place of `BadRecord` and of success.
     pub fn open(alloc: Global, keeper: K) -> Result<DiskSite<K>, (SiteOpenFault, K)>
         ensures site { IsTrue (K.holding keeper).honest → IfOk result (λ d. IsKept (K.holding keeper) (seen_site d)) }
-        ensures looked { IfOk result (λ d. HasLooked (K.holding keeper) (K.holding (keeper_of d)) (K.stops keeper) (K.stops (keeper_of d))) }
+        ensures looked { IfOk result (λ d. HasLooked K.holding K.may_need K.stops keeper (keeper_of d)) }
+        ensures reads { IfOk result (λ d. NoneFailed (K.holding keeper) (K.holding (keeper_of d))) }
         ensures usable { IfOk result (λ d. (K.holding (keeper_of d)).usable ≡ true) }
-        ensures fault { IfErr result (λ e. IsLookFault (K.holding keeper) (K.holding e.1) e.0) }
-        ensures handed_back { IfErr result (λ e. HasLooked (K.holding keeper) (K.holding e.1) (K.stops keeper) (K.stops e.1)) }
+        ensures fault { IfErr result (λ e. IsOpenFault (K.holding keeper) (K.holding e.1) e.0) }
+        ensures handed_back { IfErr result (λ e. HasLooked K.holding K.may_need K.stops keeper e.1) }
         ensures closed { (K.holding keeper).usable ≡ false → IsErrAnd result (λ e. e.0 ≡ Told Failed) }
     {
         let mut keeper = keeper;

@@ -35,7 +35,8 @@ fn add_chunk<K: Keeper>(
     requires { 1000 * k < size }
     ensures bytes { IsTrue (K.holding keeper.old).honest → (p : List ℕ) → list.length p ≡ size → HasPart (K.holding keeper.old).pairs selector.now part p → bytes.old.items ≡ take (1000 * k) p → OnOk result (bytes.new.items ≡ take (1000 * k + 1000) p) }
     ensures size { list.length bytes.old.items ≡ 1000 * k → OnOk result (HasSize (list.length bytes.new.items) (1000 * k + 1000) size) }
-    ensures looked { HasLooked (K.holding keeper.old) (K.holding keeper.new) (K.stops keeper.old) (K.stops keeper.new) }
+    ensures looked { HasLooked K.holding K.may_need K.stops keeper.old keeper.new }
+    ensures reads { OnOk result ((K.holding keeper.new).failed_reads ≡ (K.holding keeper.old).failed_reads) }
     ensures fault { IfErr result (IsFaultUnless (SomePart (K.holding keeper.old).pairs selector.now part size) (K.holding keeper.old) (K.holding keeper.new)) }
     ensures closed { (K.holding keeper.old).usable ≡ false → IsErrOf result (Told Failed) }
 {
@@ -63,7 +64,8 @@ pub fn read_part<K: Keeper>(
     requires { size ≤ 65536 }
     ensures bytes { IsTrue (K.holding keeper.old).honest → (p : List ℕ) → list.length p ≡ size → HasPart (K.holding keeper.old).pairs selector.now part p → IfOk result (λ b. b ≡ p) }
     ensures size { IfOk result (λ b. list.length b ≡ size) }
-    ensures looked { HasLooked (K.holding keeper.old) (K.holding keeper.new) (K.stops keeper.old) (K.stops keeper.new) }
+    ensures looked { HasLooked K.holding K.may_need K.stops keeper.old keeper.new }
+    ensures reads { OnOk result ((K.holding keeper.new).failed_reads ≡ (K.holding keeper.old).failed_reads) }
     ensures fault { IfErr result (IsFaultUnless (SomePart (K.holding keeper.old).pairs selector.now part size) (K.holding keeper.old) (K.holding keeper.new)) }
 {
     let mut bytes = Vec::new(alloc);
@@ -87,7 +89,8 @@ pub fn read_view<K: Keeper>(
     requires { view.now.length ≤ 65536 }
     ensures view { IsTrue (K.holding keeper.old).honest → (v : ViewValue) → view.now ≡ card_view v → HasPart (K.holding keeper.old).pairs selector.now part v.bytes → IfOk result (λ w. w ≡ v) }
     ensures card { IfOk result (λ w. card_view w ≡ view.now) }
-    ensures looked { HasLooked (K.holding keeper.old) (K.holding keeper.new) (K.stops keeper.old) (K.stops keeper.new) }
+    ensures looked { HasLooked K.holding K.may_need K.stops keeper.old keeper.new }
+    ensures reads { OnOk result ((K.holding keeper.new).failed_reads ≡ (K.holding keeper.old).failed_reads) }
     ensures fault { IfErr result (IsFaultUnless (SomePart (K.holding keeper.old).pairs selector.now part view.now.length) (K.holding keeper.old) (K.holding keeper.new)) }
 {
     let bytes = match read_part(alloc, keeper, selector, part, view.length as usize) {

@@ -2,6 +2,8 @@
 ghost use Rattle.std.specs.Prelude.{◌≡◌, ◌∷◌, [], false, Some, None, IfOk, IfErr, IsErrOf, IsTrue};
 ghost use Rattle.host_types.specs.Site.{board_in};
 ghost use Rattle.host_types.specs.Change.{put, remove, keeps_cap};
+ghost use Rattle.host_types.specs.declared.change.Change.TheVariants.{Put, Remove};
+ghost use Rattle.site_records.specs.Layout.{touched};
 ghost use Rattle.site_store.specs.Looking.{HasLooked};
 ghost use Rattle.site_store.specs.Plan.{IsPlan, IsPlanFault};
 ghost use Rattle.site_store.specs.Strokes.{AreShort, IsShortOrNone};
@@ -53,9 +55,9 @@ pub fn plan_remove<K: Keeper>(
     keeper: &mut K,
     selector: Selector,
 ) -> Result<Vec<Stroke>, SiteFault>
-    ensures plan { IfOk result (λ l. IsPlan (K.holding keeper.old) (λ s. remove s selector) l.items) }
+    ensures plan { IfOk result (λ l. IsPlan (K.holding keeper.old) (λ s. remove s selector) (λ s. touched s (Remove selector)) l.items) }
     ensures short { IfOk result (λ l. AreShort l.items) }
-    ensures looked { HasLooked (K.holding keeper.old) (K.holding keeper.new) (K.stops keeper.old) (K.stops keeper.new) }
+    ensures looked { HasLooked K.holding K.may_need K.stops keeper.old keeper.new }
     ensures fault { IfErr result (IsPlanFault (K.holding keeper.old) (K.holding keeper.new) (λ s. remove s selector)) }
 {
     if selector.as_bytes().is_empty() {
@@ -81,7 +83,7 @@ pub fn plan_remove<K: Keeper>(
 }
 
 /// Puts an item.
-#[tactic(auto, unfolding(host_types::specs::Change::put))]
+#[tactic(auto, unfolding(host_types::specs::Change::put), using(crate::proofs::Looks::looks_later))]
 pub fn plan_put<K: Keeper>(
     alloc: Global,
     keeper: &mut K,
@@ -89,9 +91,9 @@ pub fn plan_put<K: Keeper>(
     item: Item,
     now: Stamp,
 ) -> Result<Vec<Stroke>, SiteFault>
-    ensures plan { IfOk result (λ l. IsPlan (K.holding keeper.old) (λ s. put s selector item now) l.items) }
+    ensures plan { IfOk result (λ l. IsPlan (K.holding keeper.old) (λ s. put s selector item now) (λ s. touched s (Put selector item)) l.items) }
     ensures short { IfOk result (λ l. AreShort l.items) }
-    ensures looked { HasLooked (K.holding keeper.old) (K.holding keeper.new) (K.stops keeper.old) (K.stops keeper.new) }
+    ensures looked { HasLooked K.holding K.may_need K.stops keeper.old keeper.new }
     ensures fault { IfErr result (IsPlanFault (K.holding keeper.old) (K.holding keeper.new) (λ s. put s selector item now)) }
 {
     if selector.as_bytes().is_empty() && !item.body.is_menu() {

@@ -3,6 +3,8 @@ ghost use Rattle.std.specs.Prelude.{◌≡◌, ◌&&◌, ◌||◌, ◌∷◌, []
 ghost use Rattle.host_types.specs.Names.{is_reserved};
 ghost use Rattle.host_types.specs.Site.{Site, item_at, board_of, has_posts};
 ghost use Rattle.host_types.specs.Change.{move_to, moved_item, is_empty};
+ghost use Rattle.host_types.specs.declared.change.Change.TheVariants.{Move};
+ghost use Rattle.site_records.specs.Layout.{touched};
 ghost use Rattle.site_records.specs.Limits.{is_short};
 ghost use Rattle.site_store.specs.Kept.{IsKept};
 ghost use Rattle.site_store.specs.Looking.{HasLooked, IsLookFault};
@@ -86,7 +88,7 @@ fn have_posts<K: Keeper>(
     there: &Option<Item>,
 ) -> Result<bool, SiteOpenFault>
     ensures posts { IsTrue (K.holding keeper.old).honest → (s : Site) → IsKept (K.holding keeper.old) s → Some item.now ≡ item_at s from.now → there.now ≡ item_at s to.now → IfOk result (λ posts. posts ≡ (has_posts s from.now || has_posts s to.now)) }
-    ensures looked { HasLooked (K.holding keeper.old) (K.holding keeper.new) (K.stops keeper.old) (K.stops keeper.new) }
+    ensures looked { HasLooked K.holding K.may_need K.stops keeper.old keeper.new }
     ensures fault { IfErr result (IsLookFault (K.holding keeper.old) (K.holding keeper.new)) }
 {
     match has_posts(alloc, keeper, from, item.body.board()) {
@@ -97,7 +99,7 @@ fn have_posts<K: Keeper>(
 }
 
 /// Moves an item, and leaves a note of where it went.
-#[tactic(auto, unfolding(host_types::specs::Change::move_to))]
+#[tactic(auto, unfolding(host_types::specs::Change::move_to), using(crate::proofs::Looks::looks_later))]
 pub fn plan_move<K: Keeper>(
     alloc: Global,
     keeper: &mut K,
@@ -105,9 +107,9 @@ pub fn plan_move<K: Keeper>(
     to: Selector,
     now: Stamp,
 ) -> Result<Vec<Stroke>, SiteFault>
-    ensures plan { IfOk result (λ l. IsPlan (K.holding keeper.old) (λ s. move_to s from to now) l.items) }
+    ensures plan { IfOk result (λ l. IsPlan (K.holding keeper.old) (λ s. move_to s from to now) (λ s. touched s (Move from to)) l.items) }
     ensures short { IfOk result (λ l. AreShort l.items) }
-    ensures looked { HasLooked (K.holding keeper.old) (K.holding keeper.new) (K.stops keeper.old) (K.stops keeper.new) }
+    ensures looked { HasLooked K.holding K.may_need K.stops keeper.old keeper.new }
     ensures fault { IfErr result (IsPlanFault (K.holding keeper.old) (K.holding keeper.new) (λ s. move_to s from to now)) }
 {
     if is_root(&from, &to) {

@@ -3,6 +3,8 @@ ghost use Rattle.std.specs.Prelude.{◌≡◌, ◌≤◌, ◌<◌, ◌-◌, ◌^
 ghost use Rattle.host_types.specs.Site.{Site, item_at, board_of};
 ghost use Rattle.host_types.specs.Change.{post, oldest_post};
 ghost use Rattle.host_types.specs.declared.refused.Refused.{Refused as RefusedValue};
+ghost use Rattle.host_types.specs.declared.change.Change.TheVariants.{Post};
+ghost use Rattle.site_records.specs.Layout.{touched};
 ghost use Rattle.site_records.specs.Limits.{is_short};
 ghost use Rattle.site_store.specs.Kept.{IsKept};
 ghost use Rattle.site_store.specs.Looking.{HasLooked, IsLookFault};
@@ -44,7 +46,7 @@ fn item_at_any<K: Keeper>(
 ) -> Result<Option<Item>, SiteOpenFault>
     ensures item { IsTrue (K.holding keeper.old).honest → (s : Site) → IsKept (K.holding keeper.old) s → IfOk result (λ o. (q : List ℕ) → selector.now ≡ Some q → o ≡ item_at s q) }
     ensures short { IfOk result (λ o. IsShortOrNone o) }
-    ensures looked { HasLooked (K.holding keeper.old) (K.holding keeper.new) (K.stops keeper.old) (K.stops keeper.new) }
+    ensures looked { HasLooked K.holding K.may_need K.stops keeper.old keeper.new }
     ensures fault { IfErr result (IsLookFault (K.holding keeper.old) (K.holding keeper.new)) }
 {
     match selector {
@@ -97,7 +99,7 @@ fn post_on<K: Keeper>(
     requires posted { IsTrue (is_short posted) }
     ensures plan { IsTrue (K.holding keeper.old).honest → (s : Site) → IsKept (K.holding keeper.old) s → Some item ≡ item_at s board → IfOk result (λ l. IsPosted s board item numbers posted now l.items) }
     ensures short { IfOk result (λ l. AreShort l.items) }
-    ensures looked { HasLooked (K.holding keeper.old) (K.holding keeper.new) (K.stops keeper.old) (K.stops keeper.new) }
+    ensures looked { HasLooked K.holding K.may_need K.stops keeper.old keeper.new }
     ensures fault { (applied : Site → Result Site RefusedValue) → IfErr result (IsPlanFault (K.holding keeper.old) (K.holding keeper.new) applied) }
 {
     let (cap, next) = numbers;
@@ -137,9 +139,9 @@ pub fn plan_post<K: Keeper>(
     text: Bytes,
     now: Stamp,
 ) -> Result<Vec<Stroke>, SiteFault>
-    ensures plan { IfOk result (λ l. IsPlan (K.holding keeper.old) (λ s. post s board title text now) l.items) }
+    ensures plan { IfOk result (λ l. IsPlan (K.holding keeper.old) (λ s. post s board title text now) (λ s. touched s (Post board title text)) l.items) }
     ensures short { IfOk result (λ l. AreShort l.items) }
-    ensures looked { HasLooked (K.holding keeper.old) (K.holding keeper.new) (K.stops keeper.old) (K.stops keeper.new) }
+    ensures looked { HasLooked K.holding K.may_need K.stops keeper.old keeper.new }
     ensures fault { IfErr result (IsPlanFault (K.holding keeper.old) (K.holding keeper.new) (λ s. post s board title text now)) }
 {
     if text.len() > 65_536 {

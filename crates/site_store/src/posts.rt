@@ -1,5 +1,5 @@
 // Which posts a board has.
-ghost use Rattle.std.specs.Prelude.{◌≡◌, false, is_some, IfOk, IfErr, IsErrOf, IsTrue};
+ghost use Rattle.std.specs.Prelude.{◌≡◌, false, is_some, IfOk, OnOk, IfErr, IsErrOf, IsTrue};
 ghost use Rattle.host_types.specs.Site.{Site, item_at, post_selector, posts_of, has_any, board_at, has_posts};
 ghost use Rattle.page_store.specs.declared.fault.KeeperFault.TheVariants.{Failed};
 ghost use Rattle.site_store.specs.Kept.{IsKept};
@@ -16,7 +16,8 @@ use std::alloc::Global;
 /// Whether an item stands at a selector.
 fn has_item<K: Keeper>(keeper: &mut K, selector: &Selector) -> Result<bool, SiteOpenFault>
     ensures there { IsTrue (K.holding keeper.old).honest → (s : Site) → IsKept (K.holding keeper.old) s → IfOk result (λ there. there ≡ is_some (item_at s selector.now)) }
-    ensures looked { HasLooked (K.holding keeper.old) (K.holding keeper.new) (K.stops keeper.old) (K.stops keeper.new) }
+    ensures looked { HasLooked K.holding K.may_need K.stops keeper.old keeper.new }
+    ensures reads { OnOk result ((K.holding keeper.new).failed_reads ≡ (K.holding keeper.old).failed_reads) }
     ensures fault { IfErr result (IsLookFault (K.holding keeper.old) (K.holding keeper.new)) }
 {
     let mut buffer = [0; 1024];
@@ -35,7 +36,8 @@ fn has_post<K: Keeper>(
     number: u64,
 ) -> Result<bool, SiteOpenFault>
     ensures there { IsTrue (K.holding keeper.old).honest → (s : Site) → IsKept (K.holding keeper.old) s → IfOk result (λ there. there ≡ is_some (item_at s (post_selector board.now number))) }
-    ensures looked { HasLooked (K.holding keeper.old) (K.holding keeper.new) (K.stops keeper.old) (K.stops keeper.new) }
+    ensures looked { HasLooked K.holding K.may_need K.stops keeper.old keeper.new }
+    ensures reads { OnOk result ((K.holding keeper.new).failed_reads ≡ (K.holding keeper.old).failed_reads) }
     ensures fault { IfErr result (IsLookFault (K.holding keeper.old) (K.holding keeper.new)) }
 {
     match Selector::of_post(alloc, board, number) {
@@ -55,7 +57,8 @@ fn has_some_post<K: Keeper>(
     next: u64,
 ) -> Result<bool, SiteOpenFault>
     ensures there { IsTrue (K.holding keeper.old).honest → (s : Site) → IsKept (K.holding keeper.old) s → IfOk result (λ there. there ≡ has_any (posts_of s board.now (cap, next))) }
-    ensures looked { HasLooked (K.holding keeper.old) (K.holding keeper.new) (K.stops keeper.old) (K.stops keeper.new) }
+    ensures looked { HasLooked K.holding K.may_need K.stops keeper.old keeper.new }
+    ensures reads { OnOk result ((K.holding keeper.new).failed_reads ≡ (K.holding keeper.old).failed_reads) }
     ensures fault { IfErr result (IsLookFault (K.holding keeper.old) (K.holding keeper.new)) }
 {
     let mut number = next;
@@ -81,7 +84,8 @@ pub fn has_posts<K: Keeper>(
     board: Option<(u16, u64)>,
 ) -> Result<bool, SiteOpenFault>
     ensures there { IsTrue (K.holding keeper.old).honest → (s : Site) → IsKept (K.holding keeper.old) s → board ≡ board_at s selector.now → IfOk result (λ there. there ≡ has_posts s selector.now) }
-    ensures looked { HasLooked (K.holding keeper.old) (K.holding keeper.new) (K.stops keeper.old) (K.stops keeper.new) }
+    ensures looked { HasLooked K.holding K.may_need K.stops keeper.old keeper.new }
+    ensures reads { OnOk result ((K.holding keeper.new).failed_reads ≡ (K.holding keeper.old).failed_reads) }
     ensures fault { IfErr result (IsLookFault (K.holding keeper.old) (K.holding keeper.new)) }
 {
     match board {

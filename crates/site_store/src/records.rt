@@ -1,5 +1,5 @@
 // Reading the record of an item.
-ghost use Rattle.std.specs.Prelude.{◌≡◌, ◌⊎◌, false, IfOk, IfErr, IfSome, IsErrOf, IsTrue};
+ghost use Rattle.std.specs.Prelude.{◌≡◌, ◌⊎◌, false, IfOk, OnOk, IfErr, IfSome, IsErrOf, IsTrue};
 ghost use Rattle.std.specs.Option.{option_map};
 ghost use Rattle.host_types.specs.Site.{Site, item_at};
 ghost use Rattle.page_store.specs.declared.fault.KeeperFault.TheVariants.{Failed};
@@ -38,7 +38,8 @@ pub fn record_at<K: Keeper>(
 ) -> Result<Option<Record>, SiteOpenFault>
     ensures record { IsTrue (K.holding keeper.old).honest → (s : Site) → IsKept (K.holding keeper.old) s → IfOk result (λ r. r ≡ option_map recorded (item_at s selector.now)) }
     ensures lawful { IfOk result (λ r. IfSome r (λ r. IsTrue (is_record r))) }
-    ensures looked { HasLooked (K.holding keeper.old) (K.holding keeper.new) (K.stops keeper.old) (K.stops keeper.new) }
+    ensures looked { HasLooked K.holding K.may_need K.stops keeper.old keeper.new }
+    ensures reads { OnOk result ((K.holding keeper.new).failed_reads ≡ (K.holding keeper.old).failed_reads) }
     ensures fault { IfErr result (IsLookFault (K.holding keeper.old) (K.holding keeper.new)) }
     ensures closed { (K.holding keeper.old).usable ≡ false → IsErrOf result (Told Failed) }
 {

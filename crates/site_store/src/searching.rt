@@ -28,7 +28,8 @@ fn look_in<K: Keeper>(
     selector: &Selector,
 ) -> Result<(), SiteOpenFault>
     ensures found { IsTrue (K.holding keeper.old).honest → (s : Site) → IsKept (K.holding keeper.old) s → (item : ItemValue) → item_at s selector.now ≡ Some item → OnOk result (found.new ≡ looked_at scope.now asked.now found.old (selector.now, item)) }
-    ensures looked { HasLooked (K.holding keeper.old) (K.holding keeper.new) (K.stops keeper.old) (K.stops keeper.new) }
+    ensures looked { HasLooked K.holding K.may_need K.stops keeper.old keeper.new }
+    ensures reads { OnOk result ((K.holding keeper.new).failed_reads ≡ (K.holding keeper.old).failed_reads) }
     ensures fault { IfErr result (IsFaultUnless ((s : Site) × IsKept (K.holding keeper.old) s × ((item : ItemValue) × (item_at s selector.now ≡ Some item))) (K.holding keeper.old) (K.holding keeper.new)) }
 {
     if !selector.as_bytes().starts_with(scope.as_bytes()) {
@@ -54,7 +55,8 @@ fn step<K: Keeper>(
     selector: &mut Selector,
 ) -> Result<bool, SiteOpenFault>
     ensures further { IsTrue (K.holding keeper.old).honest → (s : Site) → IsKept (K.holding keeper.old) s → spec.IsLeft s scope.now asked.now found.old selector.old → IfOk result (λ more. spec.IsFurther s scope.now asked.now more found.new selector.new) }
-    ensures looked { HasLooked (K.holding keeper.old) (K.holding keeper.new) (K.stops keeper.old) (K.stops keeper.new) }
+    ensures looked { HasLooked K.holding K.may_need K.stops keeper.old keeper.new }
+    ensures reads { OnOk result ((K.holding keeper.new).failed_reads ≡ (K.holding keeper.old).failed_reads) }
     ensures fault { IfErr result (IsFaultUnless ((s : Site) × IsKept (K.holding keeper.old) s × spec.IsLeft s scope.now asked.now found.old selector.old) (K.holding keeper.old) (K.holding keeper.new)) }
 {
     match look_in(alloc, keeper, found, scope, asked, selector) {
@@ -82,7 +84,8 @@ fn search_in<K: Keeper>(
     asked: &LineList,
 ) -> Result<SelectorList, SiteOpenFault>
     ensures found { IsTrue (K.holding keeper.old).honest → (s : Site) → IsKept (K.holding keeper.old) s → IfOk result (λ found. found ≡ spec.all_found s scope.now asked.now) }
-    ensures looked { HasLooked (K.holding keeper.old) (K.holding keeper.new) (K.stops keeper.old) (K.stops keeper.new) }
+    ensures looked { HasLooked K.holding K.may_need K.stops keeper.old keeper.new }
+    ensures reads { OnOk result ((K.holding keeper.new).failed_reads ≡ (K.holding keeper.old).failed_reads) }
     ensures fault { IfErr result (IsLookFault (K.holding keeper.old) (K.holding keeper.new)) }
 {
     let mut found = SelectorList::new(alloc);
@@ -107,7 +110,8 @@ pub fn search_all<K: Keeper>(
     query: &[u8],
 ) -> Result<SelectorList, SiteOpenFault>
     ensures found { IsTrue (K.holding keeper.old).honest → (s : Site) → IsKept (K.holding keeper.old) s → IfOk result (λ found. found ≡ search_of s scope.now query.now) }
-    ensures looked { HasLooked (K.holding keeper.old) (K.holding keeper.new) (K.stops keeper.old) (K.stops keeper.new) }
+    ensures looked { HasLooked K.holding K.may_need K.stops keeper.old keeper.new }
+    ensures reads { OnOk result ((K.holding keeper.new).failed_reads ≡ (K.holding keeper.old).failed_reads) }
     ensures fault { IfErr result (IsLookFault (K.holding keeper.old) (K.holding keeper.new)) }
 {
     let asked = words_in(alloc, query)?;

@@ -1,5 +1,5 @@
 // The items of a site, one after another.
-ghost use Rattle.std.specs.Prelude.{◌≡◌, false, Ok, Some, Option, List, ℕ, IfOk, IfErr, IsErrOf, IsTrue, option_map};
+ghost use Rattle.std.specs.Prelude.{◌≡◌, false, Ok, Some, Option, List, ℕ, IfOk, OnOk, IfErr, IsErrOf, IsTrue, option_map};
 ghost use Rattle.host_types.specs.Card.{card_of};
 ghost use Rattle.host_types.specs.Site.{Site, item_at};
 ghost use Rattle.host_types.specs.declared.item.Item.{Item as ItemValue};
@@ -37,7 +37,8 @@ pub fn selector_after<K: Keeper>(
     after: &Selector,
 ) -> Result<Option<Selector>, SiteOpenFault>
     ensures next { IsTrue (K.holding keeper.old).honest → (s : Site) → IsKept (K.holding keeper.old) s → IfOk result (λ next. next ≡ spec.selector_after s after.now) }
-    ensures looked { HasLooked (K.holding keeper.old) (K.holding keeper.new) (K.stops keeper.old) (K.stops keeper.new) }
+    ensures looked { HasLooked K.holding K.may_need K.stops keeper.old keeper.new }
+    ensures reads { OnOk result ((K.holding keeper.new).failed_reads ≡ (K.holding keeper.old).failed_reads) }
     ensures fault { IfErr result (IsQuickFault (K.holding keeper.old) (K.holding keeper.new)) }
     ensures closed { (K.holding keeper.old).usable ≡ false → IsErrOf result (Told Failed) }
 {
@@ -57,7 +58,8 @@ fn carded<K: Keeper>(
     selector: Selector,
 ) -> Result<Option<(Selector, Card)>, SiteOpenFault>
     ensures card { IsTrue (K.holding keeper.old).honest → (s : Site) → IsKept (K.holding keeper.old) s → (item : ItemValue) → item_at s selector ≡ Some item → IfOk result (λ found. found ≡ Some (selector, card_of item)) }
-    ensures looked { HasLooked (K.holding keeper.old) (K.holding keeper.new) (K.stops keeper.old) (K.stops keeper.new) }
+    ensures looked { HasLooked K.holding K.may_need K.stops keeper.old keeper.new }
+    ensures reads { OnOk result ((K.holding keeper.new).failed_reads ≡ (K.holding keeper.old).failed_reads) }
     ensures fault { IfErr result (IsFaultUnless ((s : Site) × IsKept (K.holding keeper.old) s × ((item : ItemValue) × (item_at s selector ≡ Some item))) (K.holding keeper.old) (K.holding keeper.new)) }
     ensures closed { (K.holding keeper.old).usable ≡ false → IsErrOf result (Told Failed) }
 {
@@ -76,7 +78,8 @@ pub fn next_in<K: Keeper>(
     after: Option<&Selector>,
 ) -> Result<Option<(Selector, Card)>, SiteOpenFault>
     ensures next { IsTrue (K.holding keeper.old).honest → (s : Site) → IsKept (K.holding keeper.old) s → IfOk result (λ next. next ≡ spec.card_after s (option_map (λ selector. selector.now) after.entry)) }
-    ensures looked { HasLooked (K.holding keeper.old) (K.holding keeper.new) (K.stops keeper.old) (K.stops keeper.new) }
+    ensures looked { HasLooked K.holding K.may_need K.stops keeper.old keeper.new }
+    ensures reads { OnOk result ((K.holding keeper.new).failed_reads ≡ (K.holding keeper.old).failed_reads) }
     ensures fault { IfErr result (IsLookFault (K.holding keeper.old) (K.holding keeper.new)) }
     ensures closed { (K.holding keeper.old).usable ≡ false → IsErrOf result (Told Failed) }
 {

@@ -1,6 +1,6 @@
 // A site that is searched.
 ghost use Rattle.std.specs.Prelude.{◌≡◌, true, false, IfOk, IfErr, IsErrOf, IsTrue};
-ghost use Rattle.host_types.specs.Keeping.{HasRead, IsReadFault};
+ghost use Rattle.host_types.specs.Keeping.{HasRead, LacksTheSame, IsReadFault};
 ghost use Rattle.host_types.specs.Stops.{IsQuiet};
 ghost use Rattle.host_types.specs.declared.site_fault.SiteFault.TheVariants.{Failed};
 ghost use Rattle.word_index.specs.Search.{search_of};
@@ -16,5 +16,6 @@ pub trait SearchKeeper: SiteKeeper {
         ensures kept { HasRead (Self.keeping self.old) (Self.keeping self.new) }
         ensures fault { IfErr result (IsReadFault true (Self.keeping self.old) (Self.keeping self.new)) }
         ensures closed { (Self.keeping self.old).usable ≡ false → IsErrOf result Failed }
+        ensures lacking { LacksTheSame (Self.lacks self.old) (Self.lacks self.new) }
         ensures stop { IsTrue (Self.keeping self.old).honest → IsQuiet (Self.stops self.old) (Self.stops self.new) };
 }

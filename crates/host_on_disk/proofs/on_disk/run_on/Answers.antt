@@ -1,7 +1,8 @@
 use Rattle.std.proofs.Common.{sym, subst, ap, ◌∙◌, IsTrue}
 use Rattle.page_store.specs.FlatSeen.{device_of}
 use Rattle.page_store.specs.Steps.{stops_of}
-use Rattle.site_store.specs.Seen.{seen_site}
+use Rattle.site_store.specs.Seen.{keeper_of, seen_site}
+use Rattle.host_on_disk.proofs.Openings.{no_memory}
 use Rattle.host_on_disk.proofs.Runs.{survives}
 use Rattle.host_on_disk.proofs.on_disk.run_on.Goals as goal
 
@@ -12,3 +13,20 @@ returns-in-Ok-run_over-clause-survives g c = λ honest.
     let still : IsTrue (g.D.Device.state c.in-Ok.site.keeper.device).honest = subst IsTrue (sym opened.honest) honest in
     survives g.D.Device.state (stops_of g.D.Device.moment g.D.Device.left_since) c.args.device c.in-Ok.site.keeper.device c.in-Ok-run_over.site.keeper.device c.into_device.result c.args.first c.args.events.now c.in-Ok-run_over.outcomes (seen_site c.in-Ok.site)
     (opened.site honest) (opened.alone honest) (opened.stop honest) (c.in-Ok-run_over.ensures.run still) back
+
+pub returns-in-Err-run_over-clause-fault : goal.returns-in-Err-run_over-clause-fault
+returns-in-Err-run_over-clause-fault g c =
+    let state = g.D.Device.state in
+    let opened = c.in-Ok.ensures in
+    let same = c.in-Err-run_over.ensures.err in
+    let back = c.into_device-in-Err-run_over.ensures ∙ ap (λ k. device_of k) (c.into_keeper-in-Err-run_over.ensures ∙ ap (λ d. keeper_of d) same.1) in
+    rw (same.0, back) (no_memory (state c.args.device) (state c.in-Ok.site.keeper.device) (seen_site c.in-Ok.site) opened.large opened.counts opened.site)
+
+pub returns-in-Ok-run_over-clause-calls : goal.returns-in-Ok-run_over-clause-calls
+returns-in-Ok-run_over-clause-calls g c = record {
+  opened = c.in-Ok.site;
+  closed = c.in-Ok-run_over.site;
+  usable = c.in-Ok.ensures.usable;
+  runs = c.in-Ok-run_over.ensures.calls;
+  handed = c.into_device.ensures ∙ ap (λ k. device_of k) c.into_keeper.ensures;
+}

@@ -1,6 +1,7 @@
-use Rattle.std.proofs.Common.{◌∙◌, subst, sym, IsTrue}
+use Rattle.std.proofs.Common.{◌∙◌, refl, subst, sym, IsTrue}
+use Rattle.page_store.specs.FlatSeen.{held}
 use Rattle.host_on_disk.proofs.Images.{one_site, kept_stands}
-use Rattle.host_on_disk.proofs.Openings.{keeper_refused}
+use Rattle.host_on_disk.proofs.Openings.{keeper_refused, small_refused, site_refused}
 use Rattle.host_on_disk.proofs.opening.open_site.Goals as goal
 
 pub returns-in-Err-clause-fault : goal.returns-in-Err-clause-fault
@@ -8,7 +9,29 @@ returns-in-Err-clause-fault g c =
     let d = g.met.D.Device in
     let device = c.args.device in
     rw c.of_keeper.ensures
-    (keeper_refused (g.D.Device.state device) (g.D.Device.state c.in-Err.device) (λ honest. (d.view_is_image device honest).size ∙ d.base_has_size device honest) c.in-Err.fault c.in-Err.ensures.fault)
+    (keeper_refused (g.D.Device.state device) (g.D.Device.state c.in-Err.device) (λ honest. (d.view_is_image device honest).size ∙ d.base_has_size device honest) c.in-Err.fault c.in-Err.ensures.fault c.in-Err.ensures.counts_fault)
+
+pub returns-in-Err-clause-small : goal.returns-in-Err-clause-small
+returns-in-Err-clause-small g c = λ small.
+    let is = small_refused g.D.Device.state c.args.device c.in-Err.device c.in-Err.fault c.in-Err.ensures.fault c.in-Err.ensures.small small in
+    (c.of_keeper.ensures ∙ is.0, is.1)
+
+pub returns-in-Err-open-clause-fault : goal.returns-in-Err-open-clause-fault
+returns-in-Err-open-clause-fault g c =
+    let state = g.D.Device.state in
+    let k = c.in-Ok.keeper in
+    let back = c.in-Err-open.keeper in
+    let opened = c.in-Ok.ensures in
+    let refused = site_refused (state c.args.device) (state back.device) (held state k) (held state back) (record {
+      large = opened.large;
+      honest = λ honest. opened.honest ∙ honest;
+      usable = opened.usable;
+      reads = opened.counts.reads;
+      writes = opened.counts.writes;
+      content = opened.content;
+      version = k.fitted.version;
+    }) refl c.in-Err-open.ensures.handed_back.read.writes c.in-Err-open.fault c.in-Err-open.ensures.fault in
+    rw (c.of_site.ensures, c.into_device.ensures) refused
 
 pub returns-in-Ok-open-clause-site : goal.returns-in-Ok-open-clause-site
 returns-in-Ok-open-clause-site g c =

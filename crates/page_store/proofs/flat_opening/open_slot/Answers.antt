@@ -1,8 +1,8 @@
-use Rattle.std.proofs.Common.{IsTrue, sym, subst, ap, ◌∙◌}
+use Rattle.std.proofs.Common.{IsTrue, sym, subst, ap, ◌∙◌, inr, arith}
 use Rattle.sector_device.specs.Disk.{Disk}
 use Rattle.page_store.specs.Sectors.{Image}
 use Rattle.page_store.specs.Roots.{current, greatest_seal}
-use Rattle.page_store.proofs.Outcomes.{on_ok}
+use Rattle.page_store.proofs.Outcomes.{on_ok, counts_err}
 use Rattle.page_store.proofs.flat_opening.open_slot.Goals as goal
 
 pub returns-clause-opened : goal.returns-clause-opened
@@ -11,8 +11,14 @@ returns-clause-opened g c =
     let synced = λ (keeps : IsTrue (g.D.Device.state c.args.device.now).honest). on_ok c.sync_all.result c.is_err.result _ c.is_err.ensures.value c.if-is_err.false (c.sync_all.ensures.shows keeps) in
     let sure = λ (keeps : IsTrue (g.D.Device.state c.args.device.now).honest). on_ok c.sync_all.result c.is_err.result _ c.is_err.ensures.value c.if-is_err.false (c.sync_all.ensures.sure keeps) in
     record {
-      all = λ keeps i left. sure keeps i ((c.open_roots.ensures.stop (keeps1 keeps)).now i left) ∙ sym (ap (λ (d : Disk). d.view) (c.open_roots.ensures.disk (keeps1 keeps)));
-      view = λ keeps. ap (λ (d : Disk). d.view) (c.open_roots.ensures.disk (keeps1 keeps)) ∙ synced keeps;
-      slot_is = λ keeps. ap current (sym (synced keeps)) ∙ sym (c.in-Ok.ensures.current (keeps1 keeps)) ∙ c.in-Some.is;
-      top_is = λ keeps. ap (λ (i : Image). greatest_seal i 16) (sym (synced keeps)) ∙ sym (c.in-Ok.ensures.greatest (keeps1 keeps));
+      all = λ keeps i left. sure keeps i ((c.flat_slot.ensures.stop (keeps1 keeps)).now i left) ∙ sym (ap (λ (d : Disk). d.view) (c.flat_slot.ensures.disk (keeps1 keeps)));
+      view = λ keeps. ap (λ (d : Disk). d.view) (c.flat_slot.ensures.disk (keeps1 keeps)) ∙ synced keeps;
+      slot_is = λ keeps. ap current (sym (synced keeps)) ∙ c.in_ok-found.ensures.slot (keeps1 keeps);
+      top_is = λ keeps. ap (λ (i : Image). greatest_seal i 16) (sym (synced keeps)) ∙ c.in_ok-found.ensures.top (keeps1 keeps);
     }
+
+pub returns-then-is_err-clause-fault : goal.returns-then-is_err-clause-fault
+returns-then-is_err-clause-fault g c = (omega (arith, c.sectors.ensures, c.if-sectors-lt128.false), inr (c.sync_all.ensures.reads, counts_err c.sync_all.result c.is_err.result _ _ c.is_err.ensures.value c.if-is_err.true c.sync_all.ensures.writes))
+
+pub returns-then-is_err-clause-counts_fault : goal.returns-then-is_err-clause-counts_fault
+returns-then-is_err-clause-counts_fault g c = inr (c.sync_all.ensures.reads, counts_err c.sync_all.result c.is_err.result _ _ c.is_err.ensures.value c.if-is_err.true c.sync_all.ensures.writes)

@@ -1,11 +1,12 @@
 use Rattle.std.proofs.Common.{◌≡◌, ◌+◌, ◌-◌, ℕ, List, suc, sym, subst, ap, ◌∙◌, arith, IsTrue, Some, None, inr}
 use Rattle.sector_device.specs.Disk.{Disk}
+use Rattle.sector_device.specs.Device.{counted}
 use Rattle.host_types.specs.Stops.{quiet_again}
 use Rattle.page_store.specs.Sectors.{Image, page_of}
 use Rattle.page_store.specs.Flat.{flat_next, flat_walk, half_size, with_pairs, HasNext}
 use Rattle.page_store.specs.Steps.{stops_of}
 use Rattle.page_store.proofs.Parsing.{pages_more, none_more, no_more}
-use Rattle.page_store.proofs.Outcomes.{on_ok, counts_ok}
+use Rattle.page_store.proofs.Outcomes.{on_ok, counts_ok, counts_err}
 use Rattle.page_store.proofs.flat_reading.read_half.Goals as goal
 
 pub returns-then-keys-eq0-clause-pairs : goal.returns-then-keys-eq0-clause-pairs
@@ -56,3 +57,9 @@ loop-page-preserved g c =
           (subst (λ (b : List ℕ). flat_next c.args.slot.now.seal page c.loop-page.room c.loop-page.keys b ≡ Some (next.0, c.in-Some.left)) bytes next.1) next.2 (c.loop-page.invariant.walk keeps));
       stop = λ keeps. quiet_again (now c.args.device.now) (now c.loop-page.device) (now c.read_page.new.device) (c.loop-page.invariant.stop keeps) (c.read_page.ensures.stop (keeps1 keeps));
     }
+
+pub returns-then-is_err-clause-fault : goal.returns-then-is_err-clause-fault
+returns-then-is_err-clause-fault g c = counts_err c.read_page.result c.is_err.result _ _ c.is_err.ensures.value c.if-is_err.true c.read_page.ensures.reads ∙ ap counted c.loop-page.invariant.reads
+
+pub returns-then-is_err-clause-reads : goal.returns-then-is_err-clause-reads
+returns-then-is_err-clause-reads g c = counts_err c.read_page.result c.is_err.result _ _ c.is_err.ensures.value c.if-is_err.true c.read_page.ensures.reads ∙ ap counted c.loop-page.invariant.reads

@@ -26,9 +26,9 @@ loop-part-preserved g c =
           let long = c.loop-part.invariant.long in
           let lt = c.loop-part-test.true in
           let size : length c.copy_from_slice.new.self ≡ 512 = ap length c.copy_from_slice.ensures.after ∙ c.read_sector.array_long in
-          take-put_mid (512 * k) _ c.loop-part.bytes c.copy_from_slice.new.self (512 * (k + 1)) (omega (arith, size)) (omega (arith, long, lt))
-          ∙ subst (λ (x : List ℕ). take (512 * k) c.loop-part.bytes ++ x ≡ sectors_from view (8 * c.args.page) (k + 1)) is (ap (λ (x : List ℕ). x ++ sector view (8 * c.args.page + k)) (c.loop-part.invariant.front keeps) ∙ sym (sectors_from_push view k (8 * c.args.page)));
-      long = length-over (512 * k) _ c.loop-part.bytes c.copy_from_slice.new.self (omega (arith, c.loop-part.invariant.long, c.loop-part-test.true)) (let size : length c.copy_from_slice.new.self ≡ 512 = ap length c.copy_from_slice.ensures.after ∙ c.read_sector.array_long in omega (arith, size)) ∙ c.loop-part.invariant.long;
+          take-put_mid (512 * k) _ c.loop-part.read c.copy_from_slice.new.self (512 * (k + 1)) (omega (arith, size)) (omega (arith, long, lt))
+          ∙ subst (λ (x : List ℕ). take (512 * k) c.loop-part.read ++ x ≡ sectors_from view (8 * c.args.page) (k + 1)) is (ap (λ (x : List ℕ). x ++ sector view (8 * c.args.page + k)) (c.loop-part.invariant.front keeps) ∙ sym (sectors_from_push view k (8 * c.args.page)));
+      long = length-over (512 * k) _ c.loop-part.read c.copy_from_slice.new.self (omega (arith, c.loop-part.invariant.long, c.loop-part-test.true)) (let size : length c.copy_from_slice.new.self ≡ 512 = ap length c.copy_from_slice.ensures.after ∙ c.read_sector.array_long in omega (arith, size)) ∙ c.loop-part.invariant.long;
       stop = λ keeps. quiet_again (now c.args.device.now) (now c.loop-part.device) (now c.read_sector.new.device) (c.loop-part.invariant.stop keeps) (c.read_sector.ensures.stop (subst IsTrue (sym c.loop-part.invariant.honest) keeps));
     }
 
@@ -36,4 +36,4 @@ pub returns-clause-shows : goal.returns-clause-shows
 unfolding page_of
 returns-clause-shows g c = λ keeps.
     let is : c.loop-part.part ≡ 8 = omega (arith, c.loop-part-test.false) in
-    sym (subst (λ (n : ℕ). take (512 * n) c.loop-part.bytes ≡ sectors_from (g.D.Device.state c.args.device.now).disk.view (8 * c.args.page) n) is (c.loop-part.invariant.front keeps)) ∙ take_all 4096 c.loop-part.bytes (omega (arith, c.loop-part.invariant.long))
+    sym (subst (λ (n : ℕ). take (512 * n) c.loop-part.read ≡ sectors_from (g.D.Device.state c.args.device.now).disk.view (8 * c.args.page) n) is (c.loop-part.invariant.front keeps)) ∙ take_all 4096 c.loop-part.read (omega (arith, c.loop-part.invariant.long))

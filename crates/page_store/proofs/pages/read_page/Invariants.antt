@@ -12,8 +12,8 @@ invariant-loop-part g l =
       honest : (d.state l.device).honest ≡ (d.state l.fn.device).honest;
       reads : (d.state l.device).failed_reads ≡ (d.state l.fn.device).failed_reads;
       writes : (d.state l.device).failed_writes ≡ (d.state l.fn.device).failed_writes;
-      long : length l.bytes ≡ 4096;
+      long : length l.read ≡ 4096;
       disk : IsTrue (d.state l.fn.device).honest → (d.state l.device).disk ≡ (d.state l.fn.device).disk;
-      front : IsTrue (d.state l.fn.device).honest → take (512 * l.part) l.bytes ≡ sectors_from (d.state l.fn.device).disk.view (8 * l.page) l.part;
+      front : IsTrue (d.state l.fn.device).honest → take (512 * l.part) l.read ≡ sectors_from (d.state l.fn.device).disk.view (8 * l.page) l.part;
       stop : IsTrue (d.state l.fn.device).honest → IsQuiet (stops_of d.moment d.left_since l.fn.device) (stops_of d.moment d.left_since l.device);
     }

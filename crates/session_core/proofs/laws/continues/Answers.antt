@@ -1,5 +1,9 @@
 use Rattle.session_core.proofs.Goes.{continues}
+use Rattle.session_core.proofs.Found.{continues_found}
 use Rattle.session_core.proofs.laws.continues.Goals as goal
 
-pub returns : goal.returns
-returns c = continues
+pub returns-clause-rest : goal.returns-clause-rest
+returns-clause-rest c = continues
+
+pub returns-clause-found : goal.returns-clause-found
+returns-clause-found c = continues_found

@@ -2,7 +2,7 @@ use Rattle.std.proofs.Common.{◌≡◌, ◌+◌, ◌++◌, ◌∷◌, [], take,
 use Rattle.std.proofs.lemmas.Grind.{common_steps}
 use Rattle.std.specs.Option.{option_to_list}
 use Rattle.text_writer.specs.Menu.{entry_line}
-use Rattle.session_core.proofs.AfterReads.{reads_on, quiet_on}
+use Rattle.session_core.proofs.AfterReads.{lacking_on, reads_on, quiet_on}
 use Rattle.session_core.proofs.Picks.{picked_next}
 use Rattle.session_core.proofs.menus.lines_of.Goals as goal
 
@@ -13,6 +13,7 @@ loop-entry-preserved g c =
     let added : c.add_any.new.lines ≡ c.loop-entry.lines ++ option_to_list c.in_ok-line.line = grind (arith, common_steps) in
     record {
       kept = reads_on (keeping c.args.site.now) (keeping c.loop-entry.site) (keeping c.line_of.new.site) c.loop-entry.invariant.kept c.line_of.ensures.kept;
+      lacking = lacking_on _ _ _ c.loop-entry.invariant.lacking c.line_of.ensures.lacking;
       quiet = quiet_on (keeping c.args.site.now) (keeping c.loop-entry.site) (g.S.SiteKeeper.stops c.args.site.now) (g.S.SiteKeeper.stops c.loop-entry.site) (g.S.SiteKeeper.stops c.line_of.new.site) c.loop-entry.invariant.kept c.loop-entry.invariant.quiet c.line_of.ensures.quiet;
       lines = λ honest.
           picked_next (keeping c.args.site.now) (keeping c.loop-entry.site) entry_line _ _ _ c.loop-entry.lines c.add_any.new.lines c.in_ok-line.line

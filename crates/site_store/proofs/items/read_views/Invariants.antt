@@ -9,7 +9,8 @@ abbrev pub invariant-loop-place : goal.invariant-loop-place
 invariant-loop-place g l =
     let holding = g.K.Keeper.holding in
     record {
-      looked : HasLooked (holding l.fn.keeper) (holding l.keeper) (g.K.Keeper.stops l.fn.keeper) (g.K.Keeper.stops l.keeper);
+      looked : HasLooked holding g.K.Keeper.may_need g.K.Keeper.stops l.fn.keeper l.keeper;
+      reads : (holding l.keeper).failed_reads ≡ (holding l.fn.keeper).failed_reads;
       views : IsTrue (holding l.fn.keeper).honest → (vs : List View) → HasViews (holding l.fn.keeper).pairs l.selector l.cards vs → l.views ≡ take l.place vs;
       cards : map card_view l.views ≡ take l.place l.cards;
     }

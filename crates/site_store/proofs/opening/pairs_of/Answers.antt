@@ -3,7 +3,7 @@ use Rattle.std.specs.Prelude.{IsTrue}
 use Rattle.page_store.specs.Batch.{pair_after}
 use Rattle.page_store.specs.Pages.{Pair}
 use Rattle.site_store.specs.Opening.{last_key}
-use Rattle.site_store.proofs.Looks.{looks_later}
+use Rattle.site_store.proofs.Looks.{looks_later, none_later}
 use Rattle.site_store.proofs.InOrder.{first_more, first_all}
 use Rattle.site_store.proofs.opening.pairs_of.Goals as goal
 
@@ -21,7 +21,8 @@ loop-preserved g c =
     let stops = g.K.Keeper.stops in
     let looked = c.loop.invariant.looked in
     record {
-      looked = looks_later (holding c.args.keeper.now) (holding c.loop.keeper) (holding c.pair_behind.new.keeper) (stops c.args.keeper.now) (stops c.loop.keeper) (stops c.pair_behind.new.keeper) looked c.in-Ok-Some.ensures.looked;
+      looked = looks_later holding g.K.Keeper.may_need stops c.args.keeper.now c.loop.keeper c.pair_behind.new.keeper looked c.in-Ok-Some.ensures.looked;
+      reads = none_later (holding c.args.keeper.now) (holding c.loop.keeper) (holding c.pair_behind.new.keeper) c.loop.invariant.reads c.in-Ok-Some.ensures.reads;
       first = λ honest.
           let now : IsTrue (holding c.loop.keeper).honest = looked.read.honest ∙ honest in
           let found : Some c.in-Ok-Some.pair ≡ pair_after (holding c.args.keeper.now).pairs (last_key c.loop.pairs.items) =

@@ -8,7 +8,8 @@ abbrev pub invariant-loop : goal.invariant-loop
 invariant-loop g l =
     let holding = g.K.Keeper.holding in
     record {
-      looked : HasLooked (holding l.fn.keeper) (holding l.keeper) (g.K.Keeper.stops l.fn.keeper) (g.K.Keeper.stops l.keeper);
+      looked : HasLooked holding g.K.Keeper.may_need g.K.Keeper.stops l.fn.keeper l.keeper;
+      reads : (holding l.keeper).failed_reads ≡ (holding l.fn.keeper).failed_reads;
       first : IsTrue (holding l.fn.keeper).honest → AreFirst l.pairs.items (holding l.fn.keeper).pairs;
       shut : (holding l.fn.keeper).usable ≡ false → l.counter ≡ 0;
     }

@@ -11,7 +11,8 @@ abbrev pub invariant-loop-pair : goal.invariant-loop-pair
 invariant-loop-pair g l =
     let holding = g.K.Keeper.holding in
     record {
-      looked : HasLooked (holding l.fn.keeper) (holding l.keeper) (g.K.Keeper.stops l.fn.keeper) (g.K.Keeper.stops l.keeper);
+      looked : HasLooked holding g.K.Keeper.may_need g.K.Keeper.stops l.fn.keeper l.keeper;
+      reads : (holding l.keeper).failed_reads ≡ (holding l.fn.keeper).failed_reads;
       address : HasAddress l.site (holding l.fn.keeper).banner;
       named : IsTrue (holding l.fn.keeper).honest → (s : Site) → IsKept (holding l.fn.keeper) s → with_all_named s (site_under (holding l.fn.keeper).banner) l.pairs ≡ with_all_named s l.site (drop l.pair-index l.pairs);
     }

@@ -7,7 +7,8 @@ abbrev pub invariant-loop-k : goal.invariant-loop-k
 invariant-loop-k g l =
     let holding = g.K.Keeper.holding in
     record {
-      looked : HasLooked (holding l.fn.keeper) (holding l.keeper) (g.K.Keeper.stops l.fn.keeper) (g.K.Keeper.stops l.keeper);
+      looked : HasLooked holding g.K.Keeper.may_need g.K.Keeper.stops l.fn.keeper l.keeper;
+      reads : (holding l.keeper).failed_reads ≡ (holding l.fn.keeper).failed_reads;
       bytes : IsTrue (holding l.fn.keeper).honest → (p : List ℕ) → length p ≡ l.size → HasPart (holding l.fn.keeper).pairs l.selector l.part p → l.bytes.items ≡ take (1000 * l.k) p;
       size : HasSize (length l.bytes.items) (1000 * l.k) l.size;
     }

@@ -14,4 +14,4 @@ pub returns-clause-fault : goal.returns-clause-fault
 returns-clause-fault g c =
     let holding = g.K.Keeper.holding in
     let applied : Site → Result Site Refused = λ s. post s c.args.board c.args.title c.args.text c.args.now in
-    plan_faults_later (holding c.args.keeper.now) (holding c.item_in.new.keeper) (holding c.post_on.new.keeper) applied c.post_on.result c.item_in.ensures.looked.read c.post_on.ensures.looked.read.reads (c.post_on.ensures.fault applied)
+    plan_faults_later (holding c.args.keeper.now) (holding c.item_in.new.keeper) (holding c.post_on.new.keeper) applied c.post_on.result c.item_in.ensures.looked.read c.in-Ok-Some.ensures.reads (c.post_on.ensures.fault applied)

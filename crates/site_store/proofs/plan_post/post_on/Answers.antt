@@ -10,7 +10,7 @@ pub returns-in-Err-item_at_any-clause-looked : goal.returns-in-Err-item_at_any-c
 returns-in-Err-item_at_any-clause-looked g c =
     let holding = g.K.Keeper.holding in
     let stops = g.K.Keeper.stops in
-    looks_later (holding c.args.keeper.now) (holding c.item_in.new.keeper) (holding c.item_at_any.new.keeper) (stops c.args.keeper.now) (stops c.item_in.new.keeper) (stops c.item_at_any.new.keeper) c.item_in.ensures.looked c.item_at_any.ensures.looked
+    looks_later holding g.K.Keeper.may_need stops c.args.keeper.now c.item_in.new.keeper c.item_at_any.new.keeper c.item_in.ensures.looked c.item_at_any.ensures.looked
 
 pub returns-clause-plan : goal.returns-clause-plan
 returns-clause-plan g c = λ honest s kept stands.

@@ -10,6 +10,7 @@ abbrev pub invariant-loop : goal.invariant-loop
 invariant-loop g l =
     let holding = g.K.Keeper.holding in
     record {
-      looked : HasLooked (holding l.fn.keeper) (holding l.keeper) (g.K.Keeper.stops l.fn.keeper) (g.K.Keeper.stops l.keeper);
+      looked : HasLooked holding g.K.Keeper.may_need g.K.Keeper.stops l.fn.keeper l.keeper;
+      reads : (holding l.keeper).failed_reads ≡ (holding l.fn.keeper).failed_reads;
       left : IsTrue (holding l.fn.keeper).honest → (s : Site) → IsKept (holding l.fn.keeper) s → has_any (posts_of s l.board (l.cap - l.counter, l.number)) ≡ has_any (posts_of s l.board (l.cap, l.next));
     }

@@ -10,7 +10,7 @@ returns-in_default-clause-record g c = λ honest s kept.
 
 pub returns-in-Err-clause-fault : goal.returns-in-Err-clause-fault
 returns-in-Err-clause-fault g c =
-    not_bad (g.K.Keeper.holding c.args.keeper.now) (g.K.Keeper.holding c.look_up.new.keeper) c.in-Err.fault c.in-Err.ensures.fault
+    not_bad (g.K.Keeper.holding c.args.keeper.now) (g.K.Keeper.holding c.look_up.new.keeper) c.in-Err.fault c.in_ok-length.ensures.reads c.in-Err.ensures.fault
     (λ honest known.
     let found = one_record c.items_have_records.ensures (g.K.Keeper.holding c.args.keeper.now) known.0 c.args.selector.now c.item_key.result (take c.in-Some.length c.look_up.new.buffer) known.1 c.item_key.ensures (sym (ap (option_map (λ n. take n c.look_up.new.buffer)) c.in-Some.is) ∙ c.in_ok-length.ensures.value honest) in
     (c.in-Err.ensures.only (recorded found.0) found.1.lawful found.1.bytes_are).1)

@@ -1,4 +1,4 @@
-use Rattle.std.specs.Prelude.{IsTrue}
+use Rattle.std.specs.Prelude.{◌≡◌, IsTrue}
 use Rattle.host_types.specs.Site.{Site}
 use Rattle.site_store.specs.Kept.{IsKept}
 use Rattle.site_store.specs.Looking.{HasLooked}
@@ -10,6 +10,7 @@ abbrev pub invariant-loop : goal.invariant-loop
 invariant-loop g l =
     let holding = g.K.Keeper.holding in
     record {
-      looked : HasLooked (holding l.fn.keeper) (holding l.keeper) (g.K.Keeper.stops l.fn.keeper) (g.K.Keeper.stops l.keeper);
+      looked : HasLooked holding g.K.Keeper.may_need g.K.Keeper.stops l.fn.keeper l.keeper;
+      reads : (holding l.keeper).failed_reads ≡ (holding l.fn.keeper).failed_reads;
       left : IsTrue (holding l.fn.keeper).honest → (s : Site) → IsKept (holding l.fn.keeper) s → IsLeft s l.scope l.asked l.found l.selector;
     }

@@ -35,7 +35,7 @@ pub returns-in-Ok-Some-clause-fault : goal.returns-in-Ok-Some-clause-fault
 returns-in-Ok-Some-clause-fault g c =
     let holding = g.K.Keeper.holding in
     let read = c.in-Ok-Some.ensures.looked.read in
-    faults_later c.carded-in-Ok-Some.result (holding c.args.keeper.now) (holding c.selector_after.new.keeper) (holding c.carded-in-Ok-Some.new.keeper) read c.carded-in-Ok-Some.ensures.looked.read.reads (λ honest known.
+    faults_later c.carded-in-Ok-Some.result (holding c.args.keeper.now) (holding c.selector_after.new.keeper) (holding c.carded-in-Ok-Some.new.keeper) read c.in-Ok-Some.ensures.reads (λ honest known.
     let is : Some c.in-Ok-Some.next ≡ selector_after known.0 c.in-Some.after.now = sym c.in-Ok-Some.field-0-is ∙ c.in-Ok-Some.ensures.next honest known.0 known.1 in
     let n = next_stands known.0 c.in-Some.after.now c.in-Ok-Some.next known.1.lawful is in
     (known.0, kept_after (holding c.args.keeper.now) (holding c.selector_after.new.keeper) known.0 read honest known.1, (n.item, n.stands))) c.carded-in-Ok-Some.ensures.fault

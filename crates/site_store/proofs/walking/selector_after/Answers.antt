@@ -16,7 +16,7 @@ pub returns-in-Ok-Some-clause-fault : goal.returns-in-Ok-Some-clause-fault
 returns-in-Ok-Some-clause-fault g c =
     let h = g.K.Keeper.holding c.args.keeper.now in
     let p : List ℕ × List ℕ = (take c.in-Ok-Some.length c.next.new.key, take c.in-Ok-Some.field-0-0-1 c.next.new.value) in
-    bad_faults c.selector_in.result h (g.K.Keeper.holding c.next.new.self) c.selector_in.ensures.fault (λ honest s kept bad.
+    bad_faults c.selector_in.result h (g.K.Keeper.holding c.next.new.self) c.in-Ok-Some.ensures.reads c.selector_in.ensures.fault (λ honest s kept bad.
     let some = sym (ap (option_map (λ n. (take n.0 c.next.new.key, take n.1 c.next.new.value))) c.in-Ok-Some.field-0-is) ∙ c.in-Ok-Some.ensures.pair honest in
     walked_well h s c.args.after.now c.as_bytes.result.now p kept (c.as_bytes.ensures.bytes ∙ c.item_key.ensures) some bad)
 

@@ -7,6 +7,8 @@ use Rattle.session_core.specs.Outcomes.{draw_outcome}
 use Rattle.session_core.specs.declared.fault.HubFault.TheVariants.{Unknown}
 use Rattle.session_core.proofs.FaultsKeep.{as_before}
 use Rattle.session_core.proofs.Steps.{draws_so, unknown, draw_answers}
+use Rattle.session_core.proofs.CallsMade.{exact, unasked}
+use Rattle.session_core.specs.declared.event.Event.TheVariants.{Draw}
 use Rattle.session_core.proofs.hub.Hub.draw.Goals as goal
 
 pub returns-in_default-clause-step : goal.returns-in_default-clause-step
@@ -34,3 +36,13 @@ returns-clause-reply g c = λ rest has usable.
 
 pub returns-clause-as_before : goal.returns-clause-as_before
 returns-clause-as_before g c = as_before _ _ _ (λ r. draw_outcome r c.draw.new.out) (λ fault. refl) c.draw.result (returns-clause-step g c)
+
+pub returns-in_default-clause-call : goal.returns-in_default-clause-call
+returns-in_default-clause-call g c =
+    let is = returns-in_default-clause-step g c in let answers = exact _ _ (Draw c.args.id (length c.args.out.now)) _ refl refl is in
+    unasked _ _ _ _ _ c.args.self.now.site (Draw c.args.id (length c.args.out.now)) _ _ (g.met.S.SiteKeeper.settled c.args.self.now.site) answers is (answers.0, refl) refl refl refl
+
+pub returns-clause-call : goal.returns-clause-call
+returns-clause-call g c =
+    let is = returns-clause-step g c in let answers = exact _ _ (Draw c.args.id (length c.args.out.now)) _ refl refl is in
+    unasked _ _ _ _ _ c.args.self.now.site (Draw c.args.id (length c.args.out.now)) _ _ (g.met.S.SiteKeeper.settled c.args.self.now.site) answers is (answers.0, refl) refl refl refl

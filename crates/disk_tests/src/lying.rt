@@ -1,0 +1,94 @@
+// A device that is not honest.
+ghost use Rattle.sector_device.specs.Lying.{lying, lies};
+
+use crate::made;
+use crate::trouble::Trouble;
+use page_store::{NewPage, Root, Slot, commit_pages, read_page, switch_root};
+use sector_device::{Device, DeviceFault, MemDisk, store};
+use std::alloc::Global;
+
+/// A device whose reads give the same bytes whatever was written.
+#[derive(Drop)]
+struct LyingDisk<D: Device> {
+    inner: D,
+    told: [u8; 512],
+}
+
+impl<D: Device> Device for LyingDisk<D> {
+    ghost state = { λ d. lying (D.state d.inner) };
+
+    ghost moment = { λ d. D.moment d.inner };
+
+    ghost left_since = { λ d. D.left_since d.inner };
+
+    ghost leaves_images = { λ d c h left. lies h };
+
+    ghost each_may_be_left = { λ d c h image. lies h };
+
+    ghost view_is_image = { λ d h. lies h };
+
+    ghost base_has_size = { λ d h. lies h };
+
+    fn sectors(&self) -> u64 {
+        self.inner.sectors()
+    }
+
+    fn read(&mut self, n: u64, buffer: &mut [u8; 512]) -> Result<(), DeviceFault> {
+        self.inner.read(n, buffer)?;
+        *buffer = self.told;
+        Ok(())
+    }
+
+    fn write(&mut self, n: u64, bytes: &[u8; 512]) -> Result<(), DeviceFault> {
+        self.inner.write(n, bytes)
+    }
+
+    fn sync(&mut self) -> Result<(), DeviceFault> {
+        self.inner.sync()
+    }
+}
+
+/// What the same caller reads behind its write of sevens over an honest device, and behind that of eights over one whose reads give nines.
+pub fn stored_and_told(alloc: Global) -> Result<[[u8; 512]; 2], Trouble> {
+    let mut disk = MemDisk::new(alloc, 2)?;
+    let stored = store(&mut disk, 1, &[7; 512])?;
+    let mut lying = LyingDisk {
+        inner: disk,
+        told: [9; 512],
+    };
+    let told = store(&mut lying, 1, &[8; 512])?;
+    Ok([stored, told])
+}
+
+/// The slot of a generation, without pairs.
+fn slot(number: u32, seal: u64) -> Result<Slot, Trouble> {
+    let banner = made::banner(b"localhost", 7070, b"Ada <ada@localhost>").ok_or(Trouble::Line)?;
+    let root = Root {
+        pages: 16,
+        tree: 2,
+        height: 0,
+        keys: 0,
+        banner,
+    };
+    Ok(Slot { number, seal, root })
+}
+
+/// What stands in pages 1, 0 and 5 once a root is switched to slot 1, and a commit of page 5 goes to slot 0, over a device that promises nothing.
+pub fn switched(alloc: Global) -> Result<[[u8; 4096]; 3], Trouble> {
+    let mut lying = LyingDisk {
+        inner: MemDisk::new(alloc, 128)?,
+        told: [9; 512],
+    };
+    switch_root(&mut lying, &slot(1, 1)?, &[1; 4096])?;
+    let page = NewPage {
+        number: 5,
+        bytes: [5; 4096],
+    };
+    commit_pages(&mut lying, &[page], &slot(0, 2)?, &[2; 4096])?;
+    let LyingDisk { mut inner, told: _ } = lying;
+    let mut pages = [[0; 4096]; 3];
+    read_page(&mut inner, 1, &mut pages[0])?;
+    read_page(&mut inner, 0, &mut pages[1])?;
+    read_page(&mut inner, 5, &mut pages[2])?;
+    Ok(pages)
+}
