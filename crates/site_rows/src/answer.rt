@@ -95,7 +95,7 @@ pub fn answer<S: SearchKeeper>(
     now: Stamp,
 ) -> Result<String, Fault> {
     match of_line(alloc, hub, fields, line, now) {
-        Err(Fault::Hub(fault)) => Ok(fault_line(alloc, &fault)?),
+        Err(Fault::Hub(fault)) => Ok(fault_line(alloc, fault)?),
         other => other,
     }
 }
