@@ -1,4 +1,5 @@
 // A device that is not honest.
+ghost use Rattle.std.specs.Prelude.{◌≡◌, IfOk};
 ghost use Rattle.sector_device.specs.Lying.{lying, lies};
 
 use crate::made;
@@ -61,7 +62,9 @@ pub fn stored_and_told(alloc: Global) -> Result<[[u8; 512]; 2], Trouble> {
 }
 
 /// The slot of a generation, without pairs.
-fn slot(number: u32, seal: u64) -> Result<Slot, Trouble> {
+fn slot(number: u32, seal: u64) -> Result<Slot, Trouble>
+    ensures { IfOk result (λ slot. slot.number ≡ number) }
+{
     let banner = made::banner(b"localhost", 7070, b"Ada <ada@localhost>").ok_or(Trouble::Line)?;
     let root = Root {
         pages: 16,
