@@ -1,11 +1,11 @@
 -- What a stop at any moment of a run leaves on a disk, and what is found when the disk is opened again.
-use Rattle.std.specs.Prelude.{◌≡◌, ◌⊎◌, ℕ, true, List, [], ◌∷◌}
+use Rattle.std.specs.Prelude.{◌≡◌, ◌⊎◌, ℕ, true, List, [], ◌∷◌, IsTrue}
 use Rattle.host_types.specs.Site.{Site}
 use Rattle.host_types.specs.Keeping.{Keeping}
 use Rattle.host_types.specs.Stops.{Stops, IsQuiet, may_leave}
 use Rattle.host_types.specs.declared.change.Change.{Change}
 use Rattle.host_types.specs.declared.site_fault.SiteFault.{SiteFault}
-use Rattle.sector_device.specs.Device.{State}
+use Rattle.sector_device.specs.Device.{State, NothingCounted}
 use Rattle.page_store.specs.Sectors.{Image}
 use Rattle.session_core.specs.World.{World, started}
 use Rattle.session_core.specs.Run.{Run}
@@ -37,10 +37,12 @@ pub record RunsOver {S L : Type 0} (keeping : S → Keeping) (lacks : S → Chan
   pub last : World
   pub calls : Calls keeping lacks stops stands (started (keeping old).site first) old events outcomes last new
 
--- A device is opened as a site, which is run over, and handed back: the calls, with their causes, on any device.
-pub record RunsOn {D S L : Type 0} (device : S → D) (keeping : S → Keeping) (lacks : S → Change → ℕ → SiteFault → Type 0) (stops : S → Stops L) (stands : L → Site → Type 0) (new : D) (first : ℕ) (events : List Event) (outcomes : List Outcome) : Type 0 where
+-- A device is opened as the site that it shows, which counts nothing; that is run over, and handed back: the calls, with their causes, on any device.
+pub record RunsOn {D S L : Type 0} (state : D → State) (device : S → D) (keeping : S → Keeping) (lacks : S → Change → ℕ → SiteFault → Type 0) (stops : S → Stops L) (stands : L → Site → Type 0) (old new : D) (first : ℕ) (events : List Event) (outcomes : List Outcome) : Type 0 where
   pub opened : S
   pub closed : S
+  pub shows : IsTrue (state old).honest → ImageStandsFor (state old).disk.view (keeping opened).site
+  pub counted : NothingCounted (state old) (state (device opened))
   pub usable : (keeping opened).usable ≡ true
   pub runs : RunsOver keeping lacks stops stands opened closed first events outcomes
   pub handed : new ≡ device closed

@@ -54,7 +54,7 @@ pub fn run_on<D: Device>(
     first: u64,
     events: &[Event],
 ) -> Result<(OutcomeList, D), (OpenFault, D)>
-    ensures calls { IfOk result (λ r. RunsOn (λ d. device_of (keeper_of d)) ⟦<DiskSite<FlatKeeper<D>> as SiteKeeper>⟧.keeping ⟦<DiskSite<FlatKeeper<D>> as SiteKeeper>⟧.lacks ⟦<DiskSite<FlatKeeper<D>> as SiteKeeper>⟧.stops ⟦<DiskSite<FlatKeeper<D>> as SiteKeeper>⟧.stands_for r.1 first events.now r.0) }
+    ensures calls { IfOk result (λ r. RunsOn D.state (λ d. device_of (keeper_of d)) ⟦<DiskSite<FlatKeeper<D>> as SiteKeeper>⟧.keeping ⟦<DiskSite<FlatKeeper<D>> as SiteKeeper>⟧.lacks ⟦<DiskSite<FlatKeeper<D>> as SiteKeeper>⟧.stops ⟦<DiskSite<FlatKeeper<D>> as SiteKeeper>⟧.stands_for device r.1 first events.now r.0) }
     ensures survives { IsTrue (D.state device).honest → IfOk result (λ r. Survives D.state (stops_of D.moment D.left_since) device r.1 first events.now r.0) }
     ensures honest { IfOk result (λ r. (D.state r.1).honest ≡ (D.state device).honest) }
     ensures fault { IfErr result (λ e. IsOpeningFault (D.state device) (D.state e.1) e.0) }

@@ -160,7 +160,7 @@ pub fn replay<R: Read, W: Write, S: SearchKeeper>(
 ) -> Result<(), Fault>
     ensures run { OnOk result (IfSome (R.remaining reader.old) (IsReplayed (HubRun S.keeping S.lacks S.stops S.stands_for) hub.old hub.new (W.contents writer.old) (W.contents writer.new))) }
     ensures script { (n : ℕ) → result ≡ Err (Script n) → IfSome (R.remaining reader.old) (IsRunInPart (HubRun S.keeping S.lacks S.stops S.stands_for) hub.old hub.new start n (W.contents writer.old) (W.contents writer.new) []) }
-    // Whatever is answered, the hub was run by events of the script, and a stop at any moment of that leaves what a run of them may leave.
+    // Whatever is answered, the hub was run by some events, so a stop at any moment leaves what a run of these may leave.
     ensures ran { RanSo (HubRun S.keeping S.lacks S.stops S.stands_for) hub.old hub.new }
 {
     let mut buffer = [0; 4096];

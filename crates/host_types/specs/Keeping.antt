@@ -42,7 +42,7 @@ pub record LacksTheSame (old new : Change → ℕ → SiteFault → Type 0) : Ty
   pub still : (change : Change) (now : ℕ) (fault : SiteFault) → old change now fault → new change now fault
   pub before : (change : Change) (now : ℕ) (fault : SiteFault) → new change now fault → old change now fault
 
--- The first n places of a buffer are filled, and what stands behind them stays.
+-- What stands in a buffer behind its first n places stays.
 abbrev pub IsBehindKept : ℕ → List ℕ → List ℕ → Type 0
 IsBehindKept n old new = drop n new ≡ drop n old
 

@@ -26,6 +26,8 @@ pub returns-in-Ok-run_over-clause-calls : goal.returns-in-Ok-run_over-clause-cal
 returns-in-Ok-run_over-clause-calls g c = record {
   opened = c.in-Ok.site;
   closed = c.in-Ok-run_over.site;
+  shows = c.in-Ok.ensures.site;
+  counted = c.in-Ok.ensures.counts;
   usable = c.in-Ok.ensures.usable;
   runs = c.in-Ok-run_over.ensures.calls;
   handed = c.into_device.ensures ∙ ap (λ k. device_of k) c.into_keeper.ensures;
