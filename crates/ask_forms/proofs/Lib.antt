@@ -1,3 +1,3 @@
-pub mod Both
+pub mod AnswersRelated
 pub mod Steps
 pub mod Titles

@@ -4,21 +4,21 @@ use Rattle.std.specs.Prelude.{Ok}
 use Rattle.std.proofs.lemmas.List.{length-map, take_all}
 use Rattle.std.specs.List.{list_any}
 use Rattle.std.proofs.lemmas.Bool.{cases_Bool, le-ltb}
-use Rattle.host_types.specs.Names.{is_barred, is_field, name_of}
+use Rattle.host_types.specs.Names.{is_forbidden, is_field, name_of}
 use Rattle.ask_forms.specs.Post.{title_byte, or_untitled}
 
-none_barred : (bs : List ℕ) → list_any is_barred (map title_byte bs) ≡ false
-none_barred [] = refl
-none_barred (b ∷ bs) =
-    elim (cases_Bool (is_barred b)) [
-      | inl is ↦ rw is (none_barred bs)
-      | inr other ↦ rw (other, other) (none_barred bs)
+none_forbidden : (bs : List ℕ) → list_any is_forbidden (map title_byte bs) ≡ false
+none_forbidden [] = refl
+none_forbidden (b ∷ bs) =
+    elim (cases_Bool (is_forbidden b)) [
+      | inl is ↦ rw is (none_forbidden bs)
+      | inr other ↦ rw (other, other) (none_forbidden bs)
     ]
 
 pub can_be_title : (bs : List ℕ) → length bs ≤ 69 → name_of is_field 69 (map title_byte bs) ≡ Ok (map title_byte bs)
 can_be_title bs short =
     let same : length (map title_byte bs) ≡ length bs = length-map bs title_byte in
-    rw (none_barred bs, le-ltb 69 (length (map title_byte bs)) (omega arith)) refl
+    rw (none_forbidden bs, le-ltb 69 (length (map title_byte bs)) (omega arith)) refl
 
 pub front_length : (n : ℕ) (bs : List ℕ) → n < length bs → n ≡ length (take n bs)
 front_length n bs less = simp length-take (omega arith)

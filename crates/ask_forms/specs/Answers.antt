@@ -4,7 +4,7 @@ use Rattle.std.specs.List.{list_any, list_all, zip}
 use Rattle.std.specs.Str.{bytes_eq}
 use Rattle.host_types.specs.declared.form.Question.{Question}
 use Rattle.host_types.specs.declared.form.Question.TheVariants.{Ask, AskL, AskP, Choose}
-use Rattle.ask_forms.specs.Digits.{is_number, number_of}
+use Rattle.common_types.specs.Digits.{is_number, number_of}
 use Rattle.ask_forms.specs.declared.answer.Answer.{Answer}
 use Rattle.ask_forms.specs.declared.answer.Answer.TheVariants.{One, Many}
 

@@ -1,4 +1,3 @@
-pub mod Digits
 pub mod Answers
 pub mod Reading
 pub mod Seen

@@ -2,7 +2,7 @@
 use Rattle.std.specs.Prelude.{ℕ, Bool, true, false, List, [], ◌∷◌, ◌++◌, if◌then◌else◌, map, filter, flat_map, take, codes}
 use Rattle.std.specs.List.{zip}
 use Rattle.host_types.specs.Items.{prompt_of}
-use Rattle.host_types.specs.Names.{is_barred}
+use Rattle.host_types.specs.Names.{is_forbidden}
 use Rattle.host_types.specs.declared.form.Question.{Question}
 use Rattle.host_types.specs.declared.form.Question.TheVariants.{Ask, AskL, AskP, Choose}
 use Rattle.ask_forms.specs.declared.answer.Answer.{Answer}
@@ -41,7 +41,7 @@ first_answered (p ∷ pairs) = first_line p.1
 
 -- TAB, CR and NUL become a space; a line has no LF
 abbrev pub title_byte : ℕ → ℕ
-title_byte b = if is_barred b then 32 else b
+title_byte b = if is_forbidden b then 32 else b
 
 abbrev pub or_untitled : List ℕ → List ℕ
 or_untitled [] = codes "Untitled"

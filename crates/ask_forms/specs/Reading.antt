@@ -2,7 +2,7 @@
 use Rattle.std.specs.Prelude.{◌≡◌, ◌↔◌, ℕ, List, [], ◌∷◌, ◌&&◌, if◌then◌else◌, length, take, drop, nat_le, Option, Some, None, slice_get, Result, Ok, Err}
 use Rattle.host_types.specs.declared.form.Question.{Question}
 use Rattle.host_types.specs.declared.form.Question.TheVariants.{Ask, AskL, AskP, Choose}
-use Rattle.ask_forms.specs.Digits.{is_number, number_of}
+use Rattle.common_types.specs.Digits.{is_number, number_of}
 use Rattle.ask_forms.specs.declared.answer.Answer.{Answer}
 use Rattle.ask_forms.specs.declared.answer.Answer.TheVariants.{One, Many}
 use Rattle.ask_forms.specs.declared.ask_fault.AskFault.{AskFault}
@@ -64,7 +64,7 @@ judged questions (Some answers) = if are_words_right questions answers then Ok a
 abbrev pub read_by : List Question → List (List ℕ) → Result (List Answer) AskFault
 read_by questions lines = judged questions (answers_of questions lines)
 
--- a fault that the lines have, or want of memory
+-- a fault that the lines have, or lack of memory
 abbrev pub IsFault : Result (List Answer) AskFault → AskFault → Type 0
 IsFault read WrongAnswers = read ≡ Err WrongAnswers
 IsFault read WrongWord = read ≡ Err WrongWord

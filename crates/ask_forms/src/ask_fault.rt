@@ -14,7 +14,7 @@ pub enum AskFault {
     /// They fit, but a word that is asked for is another one.
     #[error("WrongWord")]
     WrongWord,
-    /// Memory is wanting.
+    /// Out of memory.
     #[error("Memory")]
     Memory,
 }

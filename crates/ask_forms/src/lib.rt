@@ -3,7 +3,6 @@
 
 mod answer;
 mod ask_fault;
-mod digits;
 mod laws;
 mod post;
 mod read;

@@ -6,8 +6,8 @@ ghost use Rattle.ask_forms.specs.Reading as spec;
 ghost use Rattle.ask_forms.specs.Reading.{IsFault, read_by};
 ghost use Rattle.ask_forms.specs.Seen.{read_of};
 
-use crate::digits::{is_number, number_of};
 use crate::{Answer, AnswerList, AskFault};
+use common_types::{is_number, number_of};
 use host_types::{Bytes, LineList, Question, QuestionList};
 use std::alloc::{AllocError, Global};
 

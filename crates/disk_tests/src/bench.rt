@@ -1,38 +1,51 @@
 // What the lines of a run share, and which call a word names.
+use crate::crashes::{disk_of, in_memory};
 use crate::line::{Line, number};
 use crate::lying::{stored_and_told, switched};
-use crate::stops::{disk_of, in_memory};
 use crate::trouble::Trouble;
 use crate::{devices, disks, events, keepers, records, sites, texts};
 use host_on_disk::{open_site, run_on};
-use host_types::{Bytes, Change, MemSite, Stamp};
+use host_types::{Bytes, Change, Stamp};
+use mem_site::MemSite;
 use page_store::FlatKeeper;
 use sector_device::{FuseDisk, MemDisk};
-use session_core::{Event, Outcome};
+use session_core::{Event, HubFault, Outcome, OutcomeList};
 use site_store::DiskSite;
 use std::alloc::Global;
 use std::mem;
 
+fn show_id(line: &mut Line, id: u64) -> Result<(), Trouble> {
+    line.word("id")?;
+    line.number(id)
+}
+
+fn show_drawn(line: &mut Line, bytes: &Bytes) -> Result<(), Trouble> {
+    line.word("drawn")?;
+    line.bytes(bytes.as_slice())
+}
+
+fn show_fault(line: &mut Line, fault: HubFault) -> Result<(), Trouble> {
+    let text = format!(in line.alloc; "fault {fault}")?;
+    line.word(&text)
+}
+
 /// What a hub answers to an event, behind a comma.
 fn show_outcome(line: &mut Line, outcome: &Outcome) -> Result<(), Trouble> {
-    line.word(b",")?;
+    line.word(",")?;
     match outcome {
-        Outcome::Joined(id) => {
-            line.word(b"id")?;
-            line.number(*id)?;
-        }
-        Outcome::More => line.word(b"more")?,
-        Outcome::Ready => line.word(b"ready")?,
-        Outcome::Finished => line.word(b"finished")?,
-        Outcome::Drawn(bytes) => {
-            line.word(b"drawn")?;
-            line.bytes(bytes.as_slice())?;
-        }
-        Outcome::Gone | Outcome::Done => line.word(b"ok")?,
-        Outcome::Fault(fault) => {
-            let text = format!(in line.alloc; "fault {fault}")?;
-            line.word(text.as_bytes())?;
-        }
+        Outcome::Joined(id) => show_id(line, *id),
+        Outcome::More => line.word("more"),
+        Outcome::Ready => line.word("ready"),
+        Outcome::Finished => line.word("finished"),
+        Outcome::Drawn(bytes) => show_drawn(line, bytes),
+        Outcome::Gone | Outcome::Done => line.word("ok"),
+        Outcome::Fault(fault) => show_fault(line, *fault),
+    }
+}
+
+fn show_outcomes(line: &mut Line, outcomes: &OutcomeList) -> Result<(), Trouble> {
+    for outcome in outcomes.as_slice() {
+        show_outcome(line, outcome)?;
     }
     Ok(())
 }
@@ -128,31 +141,39 @@ impl Bench {
         }
     }
 
+    /// The site of a keeper.
+    fn open_keeper(&mut self, keeper: FlatKeeper<FuseDisk<MemDisk>>) -> Result<(), Trouble> {
+        match DiskSite::open(self.alloc, keeper) {
+            Ok(site) => {
+                self.held = Held::Site(site);
+                Ok(())
+            }
+            Err((fault, keeper)) => {
+                self.held = Held::Keeper(keeper);
+                Err(Trouble::from(fault))
+            }
+        }
+    }
+
     /// `turn`: the site of the keeper, or the keeper of the site.
     fn turn(&mut self) -> Result<(), Trouble> {
         match mem::replace(&mut self.held, Held::Nothing) {
-            Held::Site(site) => self.held = Held::Keeper(site.into_keeper()),
-            Held::Keeper(keeper) => match DiskSite::open(self.alloc, keeper) {
-                Ok(site) => self.held = Held::Site(site),
-                Err((fault, keeper)) => {
-                    self.held = Held::Keeper(keeper);
-                    return Err(Trouble::from(fault));
-                }
-            },
-            _ => return Err(Trouble::Line),
+            Held::Site(site) => {
+                self.held = Held::Keeper(site.into_keeper());
+                Ok(())
+            }
+            Held::Keeper(keeper) => self.open_keeper(keeper),
+            _ => Err(Trouble::Line),
         }
-        Ok(())
     }
 
     /// `run FIRST`: the events over the site on the device, with sessions from this number on.
-    fn run(&mut self, line: &mut Line, first: u64) -> Result<(), Trouble> {
+    fn run(&mut self, line: &mut Line, first: &[u8]) -> Result<(), Trouble> {
+        let first = number(first)?;
         match run_on(self.alloc, self.take_device()?, first, &self.events) {
             Ok((outcomes, device)) => {
                 self.held = Held::Fuse(device);
-                for outcome in outcomes.as_slice() {
-                    show_outcome(line, outcome)?;
-                }
-                Ok(())
+                show_outcomes(line, &outcomes)
             }
             Err((fault, device)) => {
                 self.held = Held::Fuse(device);
@@ -173,105 +194,143 @@ impl Bench {
         Ok(())
     }
 
-    /// The words that take no field and hold something else.
-    fn of_held(&mut self, word: &[u8]) -> Result<bool, Trouble> {
-        match word {
-            b"open" => self.open()?,
-            b"site" => self.open_device()?,
-            b"turn" => self.turn()?,
-            b"close" => self.held = Held::Disk(self.take_disk()?),
-            b"again" => self.held = Held::Disk(disk_of(self.alloc, &self.image)?),
-            b"memory" => self.held = Held::Memory(in_memory(self.alloc)?),
-            b"save" | b"same" => self.save(word == b"same".as_slice())?,
-            _ => return Ok(false),
-        }
-        Ok(true)
+    /// `close`: the disk under what is held.
+    fn close(&mut self) -> Result<(), Trouble> {
+        self.held = Held::Disk(self.take_disk()?);
+        Ok(())
+    }
+
+    /// `again`: a disk with the image.
+    fn again(&mut self) -> Result<(), Trouble> {
+        self.held = Held::Disk(disk_of(self.alloc, &self.image)?);
+        Ok(())
+    }
+
+    /// `memory`: a site in memory.
+    fn hold_memory(&mut self) -> Result<(), Trouble> {
+        self.held = Held::Memory(in_memory(self.alloc)?);
+        Ok(())
+    }
+
+    /// `now SECONDS`
+    fn set_now(&mut self, seconds: &[u8]) -> Result<(), Trouble> {
+        self.now = Stamp::new(number(seconds)?)?;
+        Ok(())
+    }
+
+    /// `disk SECTORS`
+    fn hold_disk(&mut self, sectors: &[u8]) -> Result<(), Trouble> {
+        let disk = MemDisk::new(self.alloc, number(sectors)? as usize)?;
+        self.held = Held::Disk(disk);
+        Ok(())
+    }
+
+    /// `fuse CALLS`
+    fn hold_fuse(&mut self, calls: &[u8]) -> Result<(), Trouble> {
+        let calls = number(calls)?;
+        self.held = Held::Fuse(FuseDisk::new(self.take_disk()?, calls));
+        Ok(())
+    }
+
+    /// `crash WRITE ..`
+    fn crash(&mut self, picks: &[Vec<u8>]) -> Result<(), Trouble> {
+        let left = disks::left_of(self.alloc, &self.take_disk()?, picks)?;
+        self.held = Held::Disk(MemDisk::of(self.alloc, left)?);
+        Ok(())
     }
 }
 
-/// The words that hold something of a size or of some writes: `disk SECTORS`, `fuse CALLS`, `stop WRITE ..` and `run FIRST`.
-fn of_fields(
+/// The words that take no field and hold something else.
+fn of_held(bench: &mut Bench, line: &mut Line, word: &str) -> Result<(), Trouble> {
+    match word {
+        "open" => bench.open(),
+        "site" => bench.open_device(),
+        "turn" => bench.turn(),
+        "close" => bench.close(),
+        "again" => bench.again(),
+        "memory" => bench.hold_memory(),
+        "save" => bench.save(false),
+        "same" => bench.save(true),
+        _ => events::call(bench, line, word, &[]),
+    }
+}
+
+/// `stored_and_told`
+fn show_stored(alloc: Global, line: &mut Line) -> Result<(), Trouble> {
+    for sector in stored_and_told(alloc)? {
+        line.bytes(&sector)?;
+    }
+    Ok(())
+}
+
+/// `switched`
+fn show_switched(alloc: Global, line: &mut Line) -> Result<(), Trouble> {
+    for page in switched(alloc)? {
+        line.bytes(&page)?;
+    }
+    Ok(())
+}
+
+/// The words that need nothing held, and then all others.
+pub fn of_none(
     bench: &mut Bench,
     line: &mut Line,
-    word: &[u8],
+    word: &str,
     fields: &[Vec<u8>],
-) -> Result<bool, Trouble> {
-    let alloc = bench.alloc;
+) -> Result<(), Trouble> {
     match (word, fields) {
-        (b"now", [seconds]) => bench.now = Stamp::new(number(seconds)?)?,
-        (b"disk", [sectors]) => bench.held = Held::Disk(MemDisk::new(
-            alloc,
-            number(sectors)? as usize,
-        )?),
-        (b"fuse", [calls]) => {
-            let disk = bench.take_disk()?;
-            bench.held = Held::Fuse(FuseDisk::new(disk, number(calls)?));
-        }
-        (b"stop", picks) => {
-            let left = disks::left_of(alloc, &bench.take_disk()?, picks)?;
-            bench.held = Held::Disk(MemDisk::of(alloc, left)?);
-        }
-        (b"run", [first]) => bench.run(line, number(first)?)?,
-        _ => return Ok(false),
+        ("pair", [key, value]) => keepers::show_pair(bench.alloc, line, key, value),
+        ("stored_and_told", []) => show_stored(bench.alloc, line),
+        ("switched", []) => show_switched(bench.alloc, line),
+        ("keeper_faults" | "device_faults" | "laws", []) => texts::call(bench.alloc, line, word),
+        _ => records::call(bench, line, word, fields),
     }
-    Ok(true)
 }
 
-/// The words that need nothing held, beside those of keys and records.
-fn of_none(
-    alloc: Global,
+/// The words of a fuse.
+fn on_fuse(
+    fuse: &mut FuseDisk<MemDisk>,
     line: &mut Line,
-    word: &[u8],
+    word: &str,
     fields: &[Vec<u8>],
-) -> Result<bool, Trouble> {
-    match (word, fields) {
-        (b"pair", [key, value]) => keepers::show_pair(alloc, line, key, value)?,
-        (b"stored_and_told", []) => {
-            for sector in stored_and_told(alloc)? {
-                line.bytes(&sector)?;
-            }
-        }
-        (b"switched", []) => {
-            for page in switched(alloc)? {
-                line.bytes(&page)?;
-            }
-        }
-        _ => return texts::call(alloc, line, word),
+) -> Result<(), Trouble> {
+    if word != "refused" {
+        return devices::call(fuse, line, word, fields);
     }
-    Ok(true)
+    line.number(fuse.refused_reads())?;
+    line.number(fuse.refused_writes())
+}
+
+/// The words of a site on a disk.
+fn on_site(
+    alloc: Global,
+    site: &mut DiskSite<FlatKeeper<FuseDisk<MemDisk>>>,
+    line: &mut Line,
+    now: Stamp,
+    word: &str,
+    fields: &[Vec<u8>],
+) -> Result<(), Trouble> {
+    match word {
+        "next" => sites::next(site, line, fields),
+        _ => sites::call(alloc, site, line, now, word, fields),
+    }
 }
 
 /// The words of what is held.
-fn on_held(
+pub fn on_held(
     bench: &mut Bench,
     line: &mut Line,
-    word: &[u8],
+    word: &str,
     fields: &[Vec<u8>],
-) -> Result<bool, Trouble> {
+) -> Result<(), Trouble> {
     let (alloc, now) = (bench.alloc, bench.now);
     match &mut bench.held {
-        Held::Disk(disk) => Ok(
-            disks::call(alloc, disk, line, word, fields)?
-                || devices::call(disk, line, word, fields)?,
-        ),
-        Held::Fuse(fuse) => match word {
-            b"refused" => {
-                line.number(fuse.refused_reads())?;
-                line.number(fuse.refused_writes())?;
-                Ok(true)
-            }
-            _ => devices::call(fuse, line, word, fields),
-        },
+        Held::Disk(disk) => disks::call(alloc, disk, line, word, fields),
+        Held::Fuse(fuse) => on_fuse(fuse, line, word, fields),
         Held::Keeper(keeper) => keepers::call(alloc, keeper, line, word, fields),
-        Held::Site(site) => match word {
-            b"next" => {
-                sites::next(site, line, fields)?;
-                Ok(true)
-            }
-            _ => sites::call(alloc, site, line, now, word, fields),
-        },
+        Held::Site(site) => on_site(alloc, site, line, now, word, fields),
         Held::Memory(site) => sites::call(alloc, site, line, now, word, fields),
-        Held::Nothing => Ok(false),
+        Held::Nothing => Err(Trouble::Line),
     }
 }
 
@@ -279,14 +338,16 @@ fn on_held(
 pub fn call(
     bench: &mut Bench,
     line: &mut Line,
-    word: &[u8],
+    word: &str,
     fields: &[Vec<u8>],
 ) -> Result<(), Trouble> {
-    let is_known = of_fields(bench, line, word, fields)?
-        || (fields.is_empty() && bench.of_held(word)?)
-        || events::call(bench, line, word, fields)?
-        || of_none(bench.alloc, line, word, fields)?
-        || records::call(bench.alloc, bench.now, line, word, fields)?
-        || on_held(bench, line, word, fields)?;
-    if is_known { Ok(()) } else { Err(Trouble::Line) }
+    match (word, fields) {
+        ("crash", picks) => bench.crash(picks),
+        ("now", [seconds]) => bench.set_now(seconds),
+        ("disk", [sectors]) => bench.hold_disk(sectors),
+        ("fuse", [calls]) => bench.hold_fuse(calls),
+        ("run", [first]) => bench.run(line, first),
+        (_, []) => of_held(bench, line, word),
+        _ => events::call(bench, line, word, fields),
+    }
 }

@@ -2,51 +2,53 @@
 use crate::line::{Line, copy, small_number};
 use crate::trouble::Trouble;
 use page_store::{
-    Banner, NewPage, Roots, open_roots, read_page, read_sector, sync_all, write_page, write_pages,
-    write_sector,
+    Banner, NewPage, Roots, Slot, open_roots, read_page, read_sector, sync_all, write_page,
+    write_pages, write_sector,
 };
-use sector_device::Device;
+use sector_device::{Device, DeviceFault};
+
+/// What a call of a device comes to.
+fn reported(ended: Result<(), DeviceFault>) -> Result<(), Trouble> {
+    Ok(ended?)
+}
 
 /// The words of one sector.
 fn of_sector<D: Device>(
     device: &mut D,
-    word: &[u8],
+    word: &str,
     n: u64,
     sector: &mut [u8; 512],
-) -> Result<bool, Trouble> {
+) -> Result<(), Trouble> {
     if n >= device.sectors() {
         return Err(Trouble::Line);
     }
     match word {
-        b"read" => device.read(n, sector)?,
-        b"write" => device.write(n, sector)?,
-        b"read_sector" => read_sector(device, n, sector)?,
-        b"write_sector" => write_sector(device, n, sector)?,
-        _ => return Ok(false),
+        "read" => reported(device.read(n, sector)),
+        "write" => reported(device.write(n, sector)),
+        "read_sector" => reported(read_sector(device, n, sector)),
+        "write_sector" => reported(write_sector(device, n, sector)),
+        _ => Err(Trouble::Line),
     }
-    Ok(true)
 }
 
 /// The words of one page.
 fn of_page<D: Device>(
     device: &mut D,
-    word: &[u8],
+    word: &str,
     number: u32,
     page: &mut [u8; 4096],
-) -> Result<bool, Trouble> {
+) -> Result<(), Trouble> {
     if 8 * u64::from(number) + 8 > device.sectors() {
         return Err(Trouble::Line);
     }
     match word {
-        b"read_page" => read_page(device, number, page)?,
-        b"write_page" => write_page(device, number, page)?,
-        b"write_pages" => {
+        "read_page" => reported(read_page(device, number, page)),
+        "write_page" => reported(write_page(device, number, page)),
+        _ => {
             let bytes = *page;
-            write_pages(device, &[NewPage { number, bytes }])?;
+            reported(write_pages(device, &[NewPage { number, bytes }]))
         }
-        _ => return Ok(false),
     }
-    Ok(true)
 }
 
 /// Version, host, port and administrator.
@@ -54,56 +56,87 @@ pub fn show_banner(line: &mut Line, banner: &Banner) -> Result<(), Trouble> {
     line.number(u64::from(banner.version))?;
     line.bytes(banner.host.as_bytes())?;
     line.number(u64::from(banner.port))?;
-    Ok(line.bytes(banner.admin.as_bytes())?)
+    line.bytes(banner.admin.as_bytes())
 }
 
-/// The greatest generation, and of the current slot its number, its generation, its first page of pairs and its banner.
-fn show_roots<D: Device>(device: &mut D, line: &mut Line) -> Result<(), Trouble> {
-    if device.sectors() < 16 {
-        return Err(Trouble::Line);
-    }
-    let Roots { current, greatest } = open_roots(device)?;
-    line.number(greatest)?;
-    let Some(slot) = current else {
-        return Ok(line.word(b"none")?);
-    };
+/// Of the current slot its number, its generation, its first page of pairs and its banner.
+fn show_slot(line: &mut Line, slot: &Slot) -> Result<(), Trouble> {
     line.number(u64::from(slot.number))?;
     line.number(slot.seal)?;
     line.number(u64::from(slot.root.tree))?;
     show_banner(line, &slot.root.banner)
 }
 
-/// The words without a field.
-fn of_device<D: Device>(device: &mut D, line: &mut Line, word: &[u8]) -> Result<bool, Trouble> {
-    match word {
-        b"sectors" => line.number(device.sectors())?,
-        b"sync" => device.sync()?,
-        b"sync_all" => sync_all(device)?,
-        b"roots" => show_roots(device, line)?,
-        _ => return Ok(false),
+/// `roots`: the greatest generation, and the current slot.
+fn show_roots<D: Device>(device: &mut D, line: &mut Line) -> Result<(), Trouble> {
+    if device.sectors() < 16 {
+        return Err(Trouble::Line);
     }
-    Ok(true)
+    let Roots { current, greatest } = open_roots(device)?;
+    line.number(greatest)?;
+    match &current {
+        Some(slot) => show_slot(line, slot),
+        None => line.word("none"),
+    }
 }
 
-/// The words with the number of a sector or of a page, and those with bytes too, which zeros follow. What is read is shown.
+/// The words without a field.
+fn of_device<D: Device>(device: &mut D, line: &mut Line, word: &str) -> Result<(), Trouble> {
+    match word {
+        "sectors" => line.number(device.sectors()),
+        "sync" => reported(device.sync()),
+        "sync_all" => reported(sync_all(device)),
+        "roots" => show_roots(device, line),
+        _ => Err(Trouble::Line),
+    }
+}
+
+/// The words of a sector with bytes, which zeros follow. What is read is shown.
+fn on_sector<D: Device>(
+    device: &mut D,
+    line: &mut Line,
+    word: &str,
+    n: &[u8],
+    bytes: &[u8],
+) -> Result<(), Trouble> {
+    let mut sector = [0; 512];
+    copy(&mut sector, bytes);
+    of_sector(device, word, u64::from(small_number(n)?), &mut sector)?;
+    match word.starts_with("read") {
+        true => line.bytes(&sector),
+        false => Ok(()),
+    }
+}
+
+/// The same of a page.
+fn on_page<D: Device>(
+    device: &mut D,
+    line: &mut Line,
+    word: &str,
+    n: &[u8],
+    bytes: &[u8],
+) -> Result<(), Trouble> {
+    let mut page = [0; 4096];
+    copy(&mut page, bytes);
+    of_page(device, word, u32::from(small_number(n)?), &mut page)?;
+    match word.starts_with("read") {
+        true => line.bytes(&page),
+        false => Ok(()),
+    }
+}
+
+/// The words with the number of a sector or of a page.
 fn of_number<D: Device>(
     device: &mut D,
     line: &mut Line,
-    word: &[u8],
-    n: u16,
+    word: &str,
+    n: &[u8],
     bytes: &[u8],
-) -> Result<bool, Trouble> {
-    let (mut sector, mut page) = ([0; 512], [0; 4096]);
-    copy(&mut sector, bytes);
-    copy(&mut page, bytes);
-    let is_sector = of_sector(device, word, u64::from(n), &mut sector)?;
-    let is_known = is_sector || of_page(device, word, u32::from(n), &mut page)?;
+) -> Result<(), Trouble> {
     match word {
-        b"read" | b"read_sector" => line.bytes(&sector)?,
-        b"read_page" => line.bytes(&page)?,
-        _ => {}
+        "read_page" | "write_page" | "write_pages" => on_page(device, line, word, n, bytes),
+        _ => on_sector(device, line, word, n, bytes),
     }
-    Ok(is_known)
 }
 
 /// `sectors`, `sync`, `sync_all`, `roots`; `read N`, `read_sector N`, `read_page N`; `write N BYTES`, `write_sector N BYTES`,
@@ -111,13 +144,13 @@ fn of_number<D: Device>(
 pub fn call<D: Device>(
     device: &mut D,
     line: &mut Line,
-    word: &[u8],
+    word: &str,
     fields: &[Vec<u8>],
-) -> Result<bool, Trouble> {
+) -> Result<(), Trouble> {
     match fields {
         [] => of_device(device, line, word),
-        [n] => of_number(device, line, word, small_number(n)?, b""),
-        [n, bytes] => of_number(device, line, word, small_number(n)?, bytes),
-        _ => Ok(false),
+        [n] => of_number(device, line, word, n, b""),
+        [n, bytes] => of_number(device, line, word, n, bytes),
+        _ => Err(Trouble::Line),
     }
 }

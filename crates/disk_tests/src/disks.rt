@@ -1,4 +1,5 @@
-// Disks in memory: what a stop leaves of them, and images on them.
+// Disks in memory: what a crash leaves of them, and images on them.
+use crate::devices;
 use crate::line::{Line, number, small_number};
 use crate::made::{banner, make_site};
 use crate::trouble::Trouble;
@@ -18,7 +19,7 @@ pub fn unsynced(disk: &MemDisk) -> usize {
     count
 }
 
-/// What a stop leaves where these of the writes since the last sync are on the disk.
+/// What a crash leaves where these of the writes since the last sync are on the disk.
 pub fn left_of(
     alloc: Global,
     disk: &MemDisk,
@@ -47,24 +48,34 @@ fn show_left(
     Ok(())
 }
 
-/// `set SECTOR PLACE BYTES`: a disk with these bytes there. The bytes from before are shown.
+/// Puts bytes at a place of a sector. The bytes from before are shown.
+fn set_part(
+    line: &mut Line,
+    sector: &mut [u8; 512],
+    place: usize,
+    bytes: &[u8],
+) -> Result<(), Trouble> {
+    if place > 512 || bytes.len() > 512 - place {
+        return Err(Trouble::Line);
+    }
+    let part = &mut sector[place..place + bytes.len()];
+    line.bytes(part)?;
+    part.copy_from_slice(bytes);
+    Ok(())
+}
+
+/// `set SECTOR PLACE BYTES`: a disk with these bytes there.
 fn set(
     alloc: Global,
     line: &mut Line,
     disk: &mut MemDisk,
-    fields: &[Vec<u8>],
+    (n, place, bytes): (&[u8], &[u8], &[u8]),
 ) -> Result<(), Trouble> {
-    let [n, place, bytes] = fields else {
-        return Err(Trouble::Line);
-    };
-    let (n, place) = (number(n)? as usize, number(place)? as usize);
     let mut sectors = disk.after_stop(alloc, &[])?;
-    if n >= sectors.len() || place > 512 || bytes.len() > 512 - place {
-        return Err(Trouble::Line);
+    match sectors.get_mut(number(n)? as usize) {
+        Some(sector) => set_part(line, sector, number(place)? as usize, bytes)?,
+        None => return Err(Trouble::Line),
     }
-    let part = &mut sectors[n][place..place + bytes.len()];
-    line.bytes(part)?;
-    part.copy_from_slice(bytes);
     *disk = MemDisk::of(alloc, sectors)?;
     Ok(())
 }
@@ -90,39 +101,54 @@ fn make(alloc: Global, disk: &mut MemDisk, banner: Banner, has_pair: bool) -> Re
     Ok(format(alloc, disk, 16, banner, &[])?)
 }
 
+/// `format HOST PORT ADMIN` and `format_flat HOST PORT ADMIN`
+fn make_of(
+    alloc: Global,
+    disk: &mut MemDisk,
+    fields: &[Vec<u8>],
+    has_pair: bool,
+) -> Result<(), Trouble> {
+    make(alloc, disk, banner_of(fields)?, has_pair)
+}
+
+/// `make_site PAGES`
+fn make_site_of(alloc: Global, disk: &mut MemDisk, pages: &[u8]) -> Result<(), Trouble> {
+    Ok(make_site(alloc, disk, u32::from(small_number(pages)?))?)
+}
+
 /// `calls`, `failed_writes`, `unsynced` and `left WRITE ..`.
 fn looks(
     alloc: Global,
     disk: &MemDisk,
     line: &mut Line,
-    word: &[u8],
+    word: &str,
     fields: &[Vec<u8>],
-) -> Result<bool, Trouble> {
+) -> Result<(), Trouble> {
     match word {
-        b"calls" => line.number(disk.calls().len() as u64)?,
-        b"failed_writes" => line.number(disk.failed_writes())?,
-        b"unsynced" => line.number(unsynced(disk) as u64)?,
-        b"left" => show_left(alloc, line, disk, fields)?,
-        _ => return Ok(false),
+        "calls" => line.number(disk.calls().len() as u64),
+        "failed_writes" => line.number(disk.failed_writes()),
+        "unsynced" => line.number(unsynced(disk) as u64),
+        _ => show_left(alloc, line, disk, fields),
     }
-    Ok(true)
 }
 
 /// The words of a disk in memory: `set SECTOR PLACE BYTES`, `format HOST PORT ADMIN`, `format_flat HOST PORT ADMIN`, `make_site PAGES` and
-/// what only looks at it.
+/// what only looks at it, and those of any device.
 pub fn call(
     alloc: Global,
     disk: &mut MemDisk,
     line: &mut Line,
-    word: &[u8],
+    word: &str,
     fields: &[Vec<u8>],
-) -> Result<bool, Trouble> {
+) -> Result<(), Trouble> {
     match (word, fields) {
-        (b"set", fields) => set(alloc, line, disk, fields)?,
-        (b"format", fields) => make(alloc, disk, banner_of(fields)?, false)?,
-        (b"format_flat", fields) => make(alloc, disk, banner_of(fields)?, true)?,
-        (b"make_site", [pages]) => make_site(alloc, disk, u32::from(small_number(pages)?))?,
-        _ => return looks(alloc, disk, line, word, fields),
+        ("set", [n, place, bytes]) => set(alloc, line, disk, (n, place, bytes)),
+        ("format", banner) => make_of(alloc, disk, banner, false),
+        ("format_flat", banner) => make_of(alloc, disk, banner, true),
+        ("make_site", [pages]) => make_site_of(alloc, disk, pages),
+        ("calls" | "failed_writes" | "unsynced" | "left", picks) => looks(
+            alloc, disk, line, word, picks,
+        ),
+        _ => devices::call(disk, line, word, fields),
     }
-    Ok(true)
 }

@@ -1,49 +1,65 @@
-// Events, and the scripts and stops of an image.
+// Events, and the scripts and crashes of an image.
+use crate::bench;
 use crate::bench::Bench;
+use crate::crashes::{disk_of, is_alike, kept_after, kept_and_used, survives};
 use crate::items::{change, event};
-use crate::line::{Line, number};
+use crate::line::{Line, number, text_of};
 use crate::scripts::{Dice, script};
-use crate::stops::{disk_of, is_alike, kept_after, kept_and_used, survives};
 use crate::trouble::Trouble;
 use host_types::{Bytes, Change};
 use session_core::Event;
 use std::mem;
 
-/// `survives CALLS`: whether the events are all answered on a disk with the image that stops after so many calls. What the stop leaves is
-/// always one of the sites that are told, and can be used.
-fn show_survival(line: &mut Line, ended: Option<bool>) -> Result<(), Trouble> {
-    Ok(line.word(match ended {
-        None => b"unopened".as_slice(),
-        Some(false) => b"stopped",
-        Some(true) => b"answered",
-    })?)
+/// `survives CALLS`: whether the events are all answered on a disk with the image that crashes after so many calls. What the crash leaves is
+/// always one of the sites that are named, and can be used.
+fn show_survival(bench: &Bench, line: &mut Line, calls: &[u8]) -> Result<(), Trouble> {
+    let calls = number(calls)?;
+    let ended = survives(bench.alloc, &bench.image, &bench.events, calls, &bench.used)?;
+    line.word(match ended {
+        None => "unopened",
+        Some(false) => "stopped",
+        Some(true) => "answered",
+    })
 }
 
-/// A script of the requests and changes that were told.
+/// A script of the requests and changes that were given.
 fn script_of(bench: &Bench, dice: &mut Dice) -> Result<Vec<Event>, Trouble> {
     script(bench.alloc, &bench.requests, &bench.changes, dice)
 }
 
 /// `choice TIMES CHANGE`: a change that scripts make, so many times as likely as one.
-fn choose(bench: &mut Bench, times: u64, change: &Change) -> Result<(), Trouble> {
-    for _ in 0..times {
+fn choose(bench: &mut Bench, times: &[u8], word: &[u8], fields: &[Vec<u8>]) -> Result<(), Trouble> {
+    let change = change(bench.alloc, text_of(word), fields)?;
+    for _ in 0..number(times)? {
         bench.changes.push(change.clone()?)?;
     }
     Ok(())
 }
 
+/// `event EVENT`: one more event.
+fn add(bench: &mut Bench, word: &[u8], fields: &[Vec<u8>]) -> Result<(), Trouble> {
+    let event = event(bench.alloc, bench.now, text_of(word), fields)?;
+    Ok(bench.events.push(event)?)
+}
+
+/// `request BYTES`: a request that scripts make.
+fn request(bench: &mut Bench, bytes: &[u8]) -> Result<(), Trouble> {
+    let request = Bytes::from_slice(bench.alloc, bytes)?;
+    Ok(bench.requests.push(request)?)
+}
+
 /// `alike SEED`: both sites answer the script of a seed alike.
-fn alike(bench: &mut Bench, seed: u64) -> Result<(), Trouble> {
-    let events = script_of(bench, &mut Dice::new(seed))?;
+fn alike(bench: &Bench, seed: &[u8]) -> Result<(), Trouble> {
+    let events = script_of(bench, &mut Dice::new(number(seed)?))?;
     match is_alike(bench.alloc, &bench.used, &bench.image, &events)? {
         true => Ok(()),
         false => Err(Trouble::Wrong("they differ")),
     }
 }
 
-/// `stopped SEED`: the script of a seed on a disk that stops after some calls, of which its opening makes 25 at least.
-fn stopped(bench: &mut Bench, seed: u64) -> Result<(), Trouble> {
-    let mut dice = Dice::new(seed);
+/// `stopped SEED`: the script of a seed on a disk that crashes after some calls, of which its opening makes 25 at least.
+fn stopped(bench: &Bench, seed: &[u8]) -> Result<(), Trouble> {
+    let mut dice = Dice::new(number(seed)?);
     let events = script_of(bench, &mut dice)?;
     let calls = 25 + dice.roll(200) as u64;
     match survives(bench.alloc, &bench.image, &events, calls, &[])? {
@@ -53,7 +69,7 @@ fn stopped(bench: &mut Bench, seed: u64) -> Result<(), Trouble> {
 }
 
 /// `changes`: the events change what is kept on a disk with the image.
-fn changes(bench: &mut Bench) -> Result<(), Trouble> {
+fn changes(bench: &Bench) -> Result<(), Trouble> {
     let before = kept_after(bench.alloc, &bench.image, &bench.events, 0)?;
     let after = kept_after(bench.alloc, &bench.image, &bench.events, usize::MAX)?;
     match before.as_slice() != after.as_slice() {
@@ -63,7 +79,7 @@ fn changes(bench: &mut Bench) -> Result<(), Trouble> {
 }
 
 /// `remembered`: the image is that of the site that was remembered, and can be used.
-fn remembered(bench: &mut Bench) -> Result<(), Trouble> {
+fn remembered(bench: &Bench) -> Result<(), Trouble> {
     let disk = disk_of(bench.alloc, &bench.image)?;
     let kept = kept_and_used(bench.alloc, disk, &bench.used)?;
     match kept.as_slice() == bench.remembered.as_slice() {
@@ -72,43 +88,52 @@ fn remembered(bench: &mut Bench) -> Result<(), Trouble> {
     }
 }
 
-/// The words without a field: `events` begins new events, `used` those that a site is used by afterwards.
-fn alone(bench: &mut Bench, word: &[u8]) -> Result<bool, Trouble> {
-    match word {
-        b"events" => bench.events = Vec::new(bench.alloc),
-        b"used" => bench.used = mem::replace(&mut bench.events, Vec::new(bench.alloc)),
-        b"changes" => changes(bench)?,
-        b"remember" => bench.remembered = kept_after(bench.alloc, &bench.image, &[], 0)?,
-        b"remembered" => remembered(bench)?,
-        _ => return Ok(false),
-    }
-    Ok(true)
+/// `remember`: the site of the image.
+fn remember(bench: &mut Bench) -> Result<(), Trouble> {
+    bench.remembered = kept_after(bench.alloc, &bench.image, &[], 0)?;
+    Ok(())
 }
 
+/// `events` begins new events, which `used` makes those that a site is used by afterwards.
+fn begin(bench: &mut Bench, is_used: bool) -> Result<(), Trouble> {
+    let events = mem::replace(&mut bench.events, Vec::new(bench.alloc));
+    if is_used {
+        bench.used = events;
+    }
+    Ok(())
+}
+
+/// The words without a field.
+fn alone(
+    bench: &mut Bench,
+    line: &mut Line,
+    word: &str,
+    fields: &[Vec<u8>],
+) -> Result<(), Trouble> {
+    match word {
+        "events" => begin(bench, false),
+        "used" => begin(bench, true),
+        "changes" => changes(bench),
+        "remember" => remember(bench),
+        "remembered" => remembered(bench),
+        _ => bench::of_none(bench, line, word, fields),
+    }
+}
+
+/// The words of events, scripts and crashes, and those that need nothing held.
 pub fn call(
     bench: &mut Bench,
     line: &mut Line,
-    word: &[u8],
+    word: &str,
     fields: &[Vec<u8>],
-) -> Result<bool, Trouble> {
+) -> Result<(), Trouble> {
     match (word, fields) {
-        (b"event", [word, rest @ ..]) => {
-            bench
-                .events
-                .push(event(bench.alloc, bench.now, word, rest)?)?;
-        }
-        (b"choice", [times, word, rest @ ..]) => {
-            choose(bench, number(times)?, &change(bench.alloc, word, rest)?)?;
-        }
-        (b"request", [bytes]) => bench.requests.push(Bytes::from_slice(bench.alloc, bytes)?)?,
-        (b"survives", [calls]) => {
-            let calls = number(calls)?;
-            let ended = survives(bench.alloc, &bench.image, &bench.events, calls, &bench.used)?;
-            show_survival(line, ended)?;
-        }
-        (b"alike", [seed]) => alike(bench, number(seed)?)?,
-        (b"stopped", [seed]) => stopped(bench, number(seed)?)?,
-        _ => return alone(bench, word),
+        ("event", [word, rest @ ..]) => add(bench, word, rest),
+        ("choice", [times, word, rest @ ..]) => choose(bench, times, word, rest),
+        ("request", [bytes]) => request(bench, bytes),
+        ("survives", [calls]) => show_survival(bench, line, calls),
+        ("alike", [seed]) => alike(bench, seed),
+        ("stopped", [seed]) => stopped(bench, seed),
+        _ => alone(bench, line, word, fields),
     }
-    Ok(true)
 }

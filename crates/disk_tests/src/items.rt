@@ -1,5 +1,5 @@
 // Items and changes from fields.
-use crate::line::{number, small_number};
+use crate::line::{number, small_number, text_of};
 use crate::trouble::Trouble;
 use host_types::{
     Admin, Body, Bytes, Change, Entry, EntryList, Host, Item, Kind, LinkKind, Selector, Stamp,
@@ -71,27 +71,53 @@ pub fn entries(alloc: Global, fields: &[Vec<u8>]) -> Result<EntryList, Trouble> 
     Ok(list)
 }
 
+/// A document of some views.
+fn document(alloc: Global, kind: Kind, fields: &[Vec<u8>]) -> Result<Body, Trouble> {
+    Ok(Body::Views(kind, views(alloc, fields)?))
+}
+
+fn menu(alloc: Global, fields: &[Vec<u8>]) -> Result<Body, Trouble> {
+    Ok(Body::Menu(entries(alloc, fields)?))
+}
+
+fn board(cap: &[u8], next: &[u8]) -> Result<Body, Trouble> {
+    Ok(Body::Board {
+        cap: small_number(cap)?,
+        next: number(next)?,
+    })
+}
+
+/// A form by the selector of its board, and its questions as a record has them.
+fn form(alloc: Global, board: &[u8], questions: &[u8]) -> Result<Body, Trouble> {
+    Ok(Body::Form {
+        board: Selector::new(board)?,
+        questions: read_questions(alloc, questions)?,
+    })
+}
+
+fn search(scope: &[u8]) -> Result<Body, Trouble> {
+    Ok(Body::Search {
+        scope: Selector::new(scope)?,
+    })
+}
+
+fn moved(target: &[u8]) -> Result<Body, Trouble> {
+    Ok(Body::Moved {
+        target: Selector::new(target)?,
+    })
+}
+
 /// A body by a word and what it needs.
-fn body(alloc: Global, sort: &[u8], fields: &[Vec<u8>]) -> Result<Body, Trouble> {
+fn body(alloc: Global, sort: &str, fields: &[Vec<u8>]) -> Result<Body, Trouble> {
     match (sort, fields) {
-        (b"text", views_of) => Ok(Body::Views(Kind::Text, views(alloc, views_of)?)),
-        (b"gif", views_of) => Ok(Body::Views(Kind::Gif, views(alloc, views_of)?)),
-        (b"html", views_of) => Ok(Body::Views(Kind::Html, views(alloc, views_of)?)),
-        (b"menu", all) => Ok(Body::Menu(entries(alloc, all)?)),
-        (b"board", [cap, next]) => Ok(Body::Board {
-            cap: small_number(cap)?,
-            next: number(next)?,
-        }),
-        (b"form", [board, bytes]) => Ok(Body::Form {
-            board: Selector::new(board)?,
-            questions: read_questions(alloc, bytes)?,
-        }),
-        (b"search", [scope]) => Ok(Body::Search {
-            scope: Selector::new(scope)?,
-        }),
-        (b"moved", [target]) => Ok(Body::Moved {
-            target: Selector::new(target)?,
-        }),
+        ("text", views) => document(alloc, Kind::Text, views),
+        ("gif", views) => document(alloc, Kind::Gif, views),
+        ("html", views) => document(alloc, Kind::Html, views),
+        ("menu", entries) => menu(alloc, entries),
+        ("board", [cap, next]) => board(cap, next),
+        ("form", [board, questions]) => form(alloc, board, questions),
+        ("search", [scope]) => search(scope),
+        ("moved", [target]) => moved(target),
         _ => Err(Trouble::Line),
     }
 }
@@ -101,61 +127,104 @@ pub fn item(alloc: Global, stamp: Stamp, fields: &[Vec<u8>]) -> Result<Item, Tro
     let [title, summary, sort, rest @ ..] = fields else {
         return Err(Trouble::Line);
     };
+    let body = body(alloc, text_of(sort), rest)?;
     Ok(Item {
         title: Title::new(title)?,
         stamp,
         summary: Bytes::from_slice(alloc, summary)?,
-        body: body(alloc, sort, rest)?,
+        body,
+    })
+}
+
+fn put(alloc: Global, selector: &[u8], fields: &[Vec<u8>]) -> Result<Change, Trouble> {
+    let item = item(alloc, Stamp::start(), fields)?;
+    Ok(Change::Put(Selector::new(selector)?, item))
+}
+
+fn remove(selector: &[u8]) -> Result<Change, Trouble> {
+    Ok(Change::Remove(Selector::new(selector)?))
+}
+
+fn move_to(from: &[u8], to: &[u8]) -> Result<Change, Trouble> {
+    Ok(Change::Move {
+        from: Selector::new(from)?,
+        to: Selector::new(to)?,
+    })
+}
+
+fn set_host(host: &[u8], port: &[u8]) -> Result<Change, Trouble> {
+    Ok(Change::SetHost {
+        host: Host::new(host)?,
+        port: small_number(port)?,
+    })
+}
+
+fn set_admin(text: &[u8]) -> Result<Change, Trouble> {
+    Ok(Change::SetAdmin(Admin::new(text)?))
+}
+
+fn post(alloc: Global, board: &[u8], title: &[u8], text: &[u8]) -> Result<Change, Trouble> {
+    Ok(Change::Post {
+        board: Selector::new(board)?,
+        title: Title::new(title)?,
+        text: Bytes::from_slice(alloc, text)?,
     })
 }
 
 /// The change that a word names: `put SELECTOR ITEM`, `remove SELECTOR`, `move SELECTOR SELECTOR`, `host HOST PORT`, `admin TEXT` or `post BOARD TITLE TEXT`.
-pub fn change(alloc: Global, word: &[u8], fields: &[Vec<u8>]) -> Result<Change, Trouble> {
+pub fn change(alloc: Global, word: &str, fields: &[Vec<u8>]) -> Result<Change, Trouble> {
     match (word, fields) {
-        (b"put", [selector, rest @ ..]) => {
-            let item = item(alloc, Stamp::start(), rest)?;
-            Ok(Change::Put(Selector::new(selector)?, item))
-        }
-        (b"remove", [selector]) => Ok(Change::Remove(Selector::new(selector)?)),
-        (b"move", [from, to]) => Ok(Change::Move {
-            from: Selector::new(from)?,
-            to: Selector::new(to)?,
-        }),
-        (b"host", [host, port]) => Ok(Change::SetHost {
-            host: Host::new(host)?,
-            port: small_number(port)?,
-        }),
-        (b"admin", [text]) => Ok(Change::SetAdmin(Admin::new(text)?)),
-        (b"post", [board, title, text]) => Ok(Change::Post {
-            board: Selector::new(board)?,
-            title: Title::new(title)?,
-            text: Bytes::from_slice(alloc, text)?,
-        }),
+        ("put", [selector, rest @ ..]) => put(alloc, selector, rest),
+        ("remove", [selector]) => remove(selector),
+        ("move", [from, to]) => move_to(from, to),
+        ("host", [host, port]) => set_host(host, port),
+        ("admin", [text]) => set_admin(text),
+        ("post", [board, title, text]) => post(alloc, board, title, text),
         _ => Err(Trouble::Line),
     }
 }
 
+fn bytes(alloc: Global, now: Stamp, id: &[u8], piece: &[u8]) -> Result<Event, Trouble> {
+    Ok(Event::Bytes {
+        id: number(id)?,
+        piece: Bytes::from_slice(alloc, piece)?,
+        now,
+    })
+}
+
+fn end(now: Stamp, id: &[u8]) -> Result<Event, Trouble> {
+    Ok(Event::End {
+        id: number(id)?,
+        now,
+    })
+}
+
+fn draw(id: &[u8], room: &[u8]) -> Result<Event, Trouble> {
+    Ok(Event::Draw {
+        id: number(id)?,
+        room: number(room)? as usize,
+    })
+}
+
+fn leave(id: &[u8]) -> Result<Event, Trouble> {
+    Ok(Event::Leave { id: number(id)? })
+}
+
+fn admin(alloc: Global, now: Stamp, word: &str, fields: &[Vec<u8>]) -> Result<Event, Trouble> {
+    Ok(Event::Admin {
+        change: change(alloc, word, fields)?,
+        now,
+    })
+}
+
 /// The event that a word names: `join`, `bytes ID PIECE`, `end ID`, `draw ID ROOM`, `leave ID` or a change.
-pub fn event(alloc: Global, now: Stamp, word: &[u8], fields: &[Vec<u8>]) -> Result<Event, Trouble> {
+pub fn event(alloc: Global, now: Stamp, word: &str, fields: &[Vec<u8>]) -> Result<Event, Trouble> {
     match (word, fields) {
-        (b"join", []) => Ok(Event::Join),
-        (b"bytes", [id, piece]) => Ok(Event::Bytes {
-            id: number(id)?,
-            piece: Bytes::from_slice(alloc, piece)?,
-            now,
-        }),
-        (b"end", [id]) => Ok(Event::End {
-            id: number(id)?,
-            now,
-        }),
-        (b"draw", [id, room]) => Ok(Event::Draw {
-            id: number(id)?,
-            room: number(room)? as usize,
-        }),
-        (b"leave", [id]) => Ok(Event::Leave { id: number(id)? }),
-        _ => Ok(Event::Admin {
-            change: change(alloc, word, fields)?,
-            now,
-        }),
+        ("join", []) => Ok(Event::Join),
+        ("bytes", [id, piece]) => bytes(alloc, now, id, piece),
+        ("end", [id]) => end(now, id),
+        ("draw", [id, room]) => draw(id, room),
+        ("leave", [id]) => leave(id),
+        _ => admin(alloc, now, word, fields),
     }
 }

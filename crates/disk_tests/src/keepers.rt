@@ -28,8 +28,8 @@ pub fn pairs_of<K: Keeper>(alloc: Global, keeper: &mut K) -> Result<Vec<Bytes>, 
 fn get<K: Keeper>(keeper: &mut K, line: &mut Line, key: &[u8]) -> Result<(), Trouble> {
     let mut value = [0; 1024];
     match keeper.get(key, &mut value)? {
-        Some(length) => Ok(line.bytes(&value[..length])?),
-        None => Ok(line.word(b"none")?),
+        Some(length) => line.bytes(&value[..length]),
+        None => line.word("none"),
     }
 }
 
@@ -37,23 +37,35 @@ fn get<K: Keeper>(keeper: &mut K, line: &mut Line, key: &[u8]) -> Result<(), Tro
 fn next<K: Keeper>(keeper: &mut K, line: &mut Line, after: &[u8]) -> Result<(), Trouble> {
     let (mut key, mut value) = ([0; 300], [0; 1024]);
     let Some((key_length, value_length)) = keeper.next(after, &mut key, &mut value)? else {
-        return Ok(line.word(b"none")?);
+        return line.word("none");
     };
     line.bytes(&key[..key_length])?;
-    Ok(line.bytes(&value[..value_length])?)
+    line.bytes(&value[..value_length])
 }
 
 /// `usable`: whether it is.
 pub fn show_usable(line: &mut Line, is_usable: bool) -> Result<(), Trouble> {
-    Ok(line.word(match is_usable {
-        true => b"usable".as_slice(),
-        false => b"unusable",
-    })?)
+    line.word(if is_usable { "usable" } else { "unusable" })
+}
+
+/// `pairs`: all keys and values by turns.
+fn show_pairs<K: Keeper>(alloc: Global, keeper: &mut K, line: &mut Line) -> Result<(), Trouble> {
+    for part in &pairs_of(alloc, keeper)? {
+        line.bytes(part.as_slice())?;
+    }
+    Ok(())
 }
 
 fn show_one(line: &mut Line, pair: &Pair) -> Result<(), Trouble> {
     line.bytes(pair.key())?;
-    Ok(line.bytes(pair.value())?)
+    line.bytes(pair.value())
+}
+
+/// The pair that is made of a key and a value.
+fn show_moved(alloc: Global, line: &mut Line, key: &[u8], value: &[u8]) -> Result<(), Trouble> {
+    let key = Bytes::from_slice(alloc, key)?;
+    let value = Bytes::from_slice(alloc, value)?;
+    show_one(line, &Pair::new(key, value))
 }
 
 /// `pair KEY VALUE`: the pair by copies, its copy, and the pair that is made of a key and a value.
@@ -61,11 +73,7 @@ pub fn show_pair(alloc: Global, line: &mut Line, key: &[u8], value: &[u8]) -> Re
     let pair = Pair::from_slices(alloc, key, value)?;
     show_one(line, &pair)?;
     show_one(line, &pair.clone()?)?;
-    let (key, value) = (
-        Bytes::from_slice(alloc, key)?,
-        Bytes::from_slice(alloc, value)?,
-    );
-    show_one(line, &Pair::new(key, value))
+    show_moved(alloc, line, key, value)
 }
 
 /// The words that look at a keeper: `banner`, `usable`, `pairs`, `get KEY` and `next KEY`.
@@ -73,22 +81,26 @@ fn looks<K: Keeper>(
     alloc: Global,
     keeper: &mut K,
     line: &mut Line,
-    word: &[u8],
+    word: &str,
     fields: &[Vec<u8>],
-) -> Result<bool, Trouble> {
+) -> Result<(), Trouble> {
     match (word, fields) {
-        (b"banner", []) => show_banner(line, keeper.banner())?,
-        (b"usable", []) => show_usable(line, keeper.is_usable())?,
-        (b"pairs", []) => {
-            for part in &pairs_of(alloc, keeper)? {
-                line.bytes(part.as_slice())?;
-            }
-        }
-        (b"get", [key]) => get(keeper, line, key)?,
-        (b"next", [key]) => next(keeper, line, key)?,
-        _ => return Ok(false),
+        ("banner", []) => show_banner(line, keeper.banner()),
+        ("usable", []) => show_usable(line, keeper.is_usable()),
+        ("pairs", []) => show_pairs(alloc, keeper, line),
+        ("get", [key]) => get(keeper, line, key),
+        ("next", [key]) => next(keeper, line, key),
+        _ => Err(Trouble::Line),
     }
-    Ok(true)
+}
+
+fn put<D: Device>(
+    alloc: Global,
+    keeper: &mut FlatKeeper<D>,
+    key: &[u8],
+    value: Option<&[u8]>,
+) -> Result<(), Trouble> {
+    Ok(change(alloc, keeper, key, value)?)
 }
 
 /// The words of a keeper: `put KEY VALUE`, `take KEY`, and those that look at it.
@@ -96,13 +108,12 @@ pub fn call<D: Device>(
     alloc: Global,
     keeper: &mut FlatKeeper<D>,
     line: &mut Line,
-    word: &[u8],
+    word: &str,
     fields: &[Vec<u8>],
-) -> Result<bool, Trouble> {
+) -> Result<(), Trouble> {
     match (word, fields) {
-        (b"put", [key, value]) => change(alloc, keeper, key, Some(value))?,
-        (b"take", [key]) => change(alloc, keeper, key, None)?,
-        _ => return looks(alloc, keeper, line, word, fields),
+        ("put", [key, value]) => put(alloc, keeper, key, Some(value)),
+        ("take", [key]) => put(alloc, keeper, key, None),
+        _ => looks(alloc, keeper, line, word, fields),
     }
-    Ok(true)
 }

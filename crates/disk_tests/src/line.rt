@@ -11,20 +11,24 @@ pub struct Line {
 
 impl Line {
     /// One more field as it is.
-    pub fn word(&mut self, word: &[u8]) -> Result<(), AllocError> {
+    pub fn word(&mut self, word: &str) -> Result<(), Trouble> {
         self.text.push(b' ')?;
-        self.text.extend_from_slice(word)?;
-        Ok(())
+        Ok(self.text.extend_from_slice(word.as_bytes())?)
     }
 
-    pub fn number(&mut self, number: u64) -> Result<(), AllocError> {
+    pub fn number(&mut self, number: u64) -> Result<(), Trouble> {
         let shown = format!(in self.alloc; "{number}")?;
-        self.word(shown.as_bytes())
+        self.word(&shown)
     }
 
     /// One more field of any bytes.
-    pub fn bytes(&mut self, bytes: &[u8]) -> Result<(), AllocError> {
+    pub fn bytes(&mut self, bytes: &[u8]) -> Result<(), Trouble> {
         self.text.push(b' ')?;
+        Ok(self.runs(bytes)?)
+    }
+
+    /// Bytes, of which those that follow each other and are the same stand by their count.
+    fn runs(&mut self, bytes: &[u8]) -> Result<(), AllocError> {
         let (mut last, mut count) = (0, 0usize);
         for byte in bytes {
             if *byte != last {
@@ -82,31 +86,19 @@ fn digit_value(digit: u8) -> u8 {
     }
 }
 
+/// The text of a field, which is empty where its bytes are none.
+pub fn text_of(field: &[u8]) -> &str {
+    std::str::from_utf8(field).unwrap_or("")
+}
+
 /// The number that decimal digits write.
 pub fn number(field: &[u8]) -> Result<u64, Trouble> {
-    let mut number = 0u64;
-    for digit in field {
-        let Some(tens) = number.checked_mul(10) else {
-            return Err(Trouble::Line);
-        };
-        if *digit < b'0' || *digit > b'9' {
-            return Err(Trouble::Line);
-        }
-        let Some(sum) = tens.checked_add(u64::from(*digit - b'0')) else {
-            return Err(Trouble::Line);
-        };
-        number = sum;
-    }
-    Ok(number)
+    text_of(field).parse::<u64>().or(Err(Trouble::Line))
 }
 
 /// The same of a number below 65,536.
 pub fn small_number(field: &[u8]) -> Result<u16, Trouble> {
-    let number = number(field)?;
-    if number > 65_535 {
-        return Err(Trouble::Line);
-    }
-    Ok(number as u16)
+    text_of(field).parse::<u16>().or(Err(Trouble::Line))
 }
 
 /// Where a field is read.

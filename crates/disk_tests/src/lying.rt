@@ -12,7 +12,7 @@ use std::alloc::Global;
 #[derive(Drop)]
 struct LyingDisk<D: Device> {
     inner: D,
-    told: [u8; 512],
+    lie: [u8; 512],
 }
 
 impl<D: Device> Device for LyingDisk<D> {
@@ -20,11 +20,11 @@ impl<D: Device> Device for LyingDisk<D> {
 
     ghost moment = { λ d. D.moment d.inner };
 
-    ghost left_since = { λ d. D.left_since d.inner };
+    ghost possible_since = { λ d. D.possible_since d.inner };
 
-    ghost leaves_images = { λ d c h left. lies h };
+    ghost crash_states_are_images = { λ d c h left. lies h };
 
-    ghost each_may_be_left = { λ d c h image. lies h };
+    ghost each_image_is_a_crash_state = { λ d c h image. lies h };
 
     ghost view_is_image = { λ d h. lies h };
 
@@ -36,7 +36,7 @@ impl<D: Device> Device for LyingDisk<D> {
 
     fn read(&mut self, n: u64, buffer: &mut [u8; 512]) -> Result<(), DeviceFault> {
         self.inner.read(n, buffer)?;
-        *buffer = self.told;
+        *buffer = self.lie;
         Ok(())
     }
 
@@ -55,10 +55,10 @@ pub fn stored_and_told(alloc: Global) -> Result<[[u8; 512]; 2], Trouble> {
     let stored = store(&mut disk, 1, &[7; 512])?;
     let mut lying = LyingDisk {
         inner: disk,
-        told: [9; 512],
+        lie: [9; 512],
     };
-    let told = store(&mut lying, 1, &[8; 512])?;
-    Ok([stored, told])
+    let lie = store(&mut lying, 1, &[8; 512])?;
+    Ok([stored, lie])
 }
 
 /// The slot of a generation, without pairs.
@@ -80,7 +80,7 @@ fn slot(number: u32, seal: u64) -> Result<Slot, Trouble>
 pub fn switched(alloc: Global) -> Result<[[u8; 4096]; 3], Trouble> {
     let mut lying = LyingDisk {
         inner: MemDisk::new(alloc, 128)?,
-        told: [9; 512],
+        lie: [9; 512],
     };
     switch_root(&mut lying, &slot(1, 1)?, &[1; 4096])?;
     let page = NewPage {
@@ -88,7 +88,7 @@ pub fn switched(alloc: Global) -> Result<[[u8; 4096]; 3], Trouble> {
         bytes: [5; 4096],
     };
     commit_pages(&mut lying, &[page], &slot(0, 2)?, &[2; 4096])?;
-    let LyingDisk { mut inner, told: _ } = lying;
+    let LyingDisk { mut inner, lie: _ } = lying;
     let mut pages = [[0; 4096]; 3];
     read_page(&mut inner, 1, &mut pages[0])?;
     read_page(&mut inner, 0, &mut pages[1])?;

@@ -33,7 +33,7 @@ pub fn make_site(alloc: Global, disk: &mut MemDisk, pages: u32) -> Result<(), Ke
     format(alloc, disk, pages, banner, &pairs)
 }
 
-/// Puts a value at a key, or takes it away, whatever site is kept. A key or a value of no lawful length is `Version`, so that callers need not prove one.
+/// Puts a value at a key, or takes it away, whatever site is kept. A key or a value of no valid length is `Version`, so that callers need not prove one.
 #[tactic(auto, unfolding(page_store::specs::Batch::is_value))]
 pub fn change<D: Device>(
     alloc: Global,

@@ -7,15 +7,16 @@
 //! answer at each number where it is not what they answered before.
 //!
 //! - Of what is held: `disk SECTORS` a new disk, `fuse CALLS` the disk behind a fuse, `open` a keeper, `site` a site, `turn` the site of a keeper or
-//!   the keeper of a site, `close` the disk under it, `stop WRITE ..` what a stop leaves of that, `memory` a site in memory.
+//!   the keeper of a site, `close` the disk under it, `crash WRITE ..` what a crash leaves of that, `memory` a site in memory.
 //! - `save` saves the image, `same` compares with it, `again` is a disk with it. `now SECONDS` is the moment of what follows.
-//! - `event` adds one to the events, which `events` empties and `used` moves to those that a site is used by after a stop; `run FIRST` runs them.
+//! - `event` adds one to the events, which `events` empties and `used` moves to those that a site is used by after a crash; `run FIRST` runs them.
 //!   `changes`, `survives CALLS`, `remember` and `remembered` are of the events on a disk with the saved image.
 //! - `request` and `choice` are what random scripts are made of; `alike SEED` and `stopped SEED` run one.
 //! - What disks, keepers, sites, records and texts are asked stands in the files of these names.
 #![tactic(auto)]
 
 mod bench;
+mod crashes;
 mod devices;
 mod disks;
 mod events;
@@ -28,19 +29,18 @@ mod records;
 mod refused;
 mod scripts;
 mod sites;
-mod stops;
 mod texts;
 mod trouble;
 
 use bench::{Bench, call};
-use line::{Line, fields_of, number};
+use line::{Line, fields_of, number, text_of};
 use refused::{kept, noted, written_often};
 use std::alloc::{AllocError, Global};
 use std::io;
 use std::io::Write;
 
 /// What is read in the end: of a disk, of a keeper, and of a site.
-fn told(alloc: Global) -> Result<(u8, usize, u8, u32, usize), &'static str> {
+fn shown_at_last(alloc: Global) -> Result<(u8, usize, u8, u32, usize), &'static str> {
     let (shown, calls) = written_often(alloc)?;
     let (byte, keeper) = kept(alloc)?;
     let (length, found) = noted(alloc, keeper)?;
@@ -62,7 +62,7 @@ fn answer(bench: &mut Bench, fields: &[Vec<u8>], shown: &mut Vec<u8>) -> Result<
         alloc,
         text: Vec::new(alloc),
     };
-    match call(bench, &mut line, word, rest) {
+    match call(bench, &mut line, text_of(word), rest) {
         Ok(()) => {
             shown.extend_from_slice(b"ok")?;
             shown.extend_from_slice(&line.text)?;
@@ -106,13 +106,13 @@ fn each(
     let mut shown = b"each".to_vec(alloc)?;
     let mut before = Vec::new(alloc);
     for number in first..=last {
-        let told = answers(bench, fields, number)?;
-        if told != before {
+        let given = answers(bench, fields, number)?;
+        if given != before {
             shown.extend_from_slice(b"\n  ")?;
             shown.extend_from_slice(&digits(alloc, number)?)?;
             shown.extend_from_slice(b": ")?;
-            shown.extend_from_slice(&told)?;
-            before = told;
+            shown.extend_from_slice(&given)?;
+            before = given;
         }
     }
     Ok(shown)
@@ -136,7 +136,7 @@ fn printed(bench: &mut Bench, text: &[u8]) -> Result<Vec<u8>, AllocError> {
 
 fn main(rt: HostRuntime) -> io::Result<()> {
     let alloc = rt.alloc();
-    match told(alloc) {
+    match shown_at_last(alloc) {
         Ok((shown, calls, byte, length, found)) => {
             println!(rt; "the disk shows {shown} after {calls} calls")?;
             println!(rt; "the keeper had {byte} at k")?;

@@ -1,4 +1,5 @@
 // Keys, records and parts.
+use crate::bench::{Bench, on_held};
 use crate::items::{entries, item};
 use crate::line::{Line, number, small_number};
 use crate::trouble::Trouble;
@@ -10,47 +11,51 @@ use site_records::{
 use std::alloc::Global;
 
 /// `word_key WORD SELECTOR`: the key, which is above the item's and the same each time.
-fn show_word_key(line: &mut Line, word: &[u8], selector: &Selector) -> Result<(), Trouble> {
+fn show_word_key(line: &mut Line, word: &[u8], selector: &[u8]) -> Result<(), Trouble> {
     if word.len() > 32 {
         return Err(Trouble::Line);
     }
-    let key = word_key(word, selector);
+    let selector = Selector::new(selector)?;
+    let key = word_key(word, &selector);
     line.bytes(key.as_bytes())?;
-    match key > item_key(selector) && key == word_key(word, selector) {
+    match key > item_key(&selector) && key == word_key(word, &selector) {
         true => Ok(()),
         false => Err(Trouble::Wrong("its place")),
     }
 }
 
-/// `item_key SELECTOR`, `chunk_key SELECTOR PART PLACE`, `word_key WORD SELECTOR`, `chunk_count SIZE` and `longest`.
-fn of_keys(line: &mut Line, word: &[u8], fields: &[Vec<u8>]) -> Result<bool, Trouble> {
-    match (word, fields) {
-        (b"item_key", [selector]) => {
-            line.bytes(item_key(&Selector::new(selector)?).as_bytes())?;
-        }
-        (b"chunk_key", [selector, part, place]) => {
-            let part = small_number(part)?;
-            if part > 255 {
-                return Err(Trouble::Line);
-            }
-            let key = chunk_key(&Selector::new(selector)?, part as u8, small_number(place)?);
-            line.bytes(key.as_bytes())?;
-        }
-        (b"word_key", [word, selector]) => show_word_key(line, word, &Selector::new(selector)?)?,
-        (b"chunk_count", [size]) => {
-            let size = number(size)?;
-            if size > 65_536 {
-                return Err(Trouble::Line);
-            }
-            line.number(chunk_count(size as usize) as u64)?;
-        }
-        (b"longest", []) => {
-            line.number(LONGEST_KEY as u64)?;
-            line.number(LONGEST_RECORD as u64)?;
-        }
-        _ => return Ok(false),
+/// `item_key SELECTOR`
+fn show_item_key(line: &mut Line, selector: &[u8]) -> Result<(), Trouble> {
+    line.bytes(item_key(&Selector::new(selector)?).as_bytes())
+}
+
+/// `chunk_key SELECTOR PART PLACE`
+fn show_chunk_key(
+    line: &mut Line,
+    selector: &[u8],
+    part: &[u8],
+    place: &[u8],
+) -> Result<(), Trouble> {
+    let selector = Selector::new(selector)?;
+    let Ok(part) = u8::try_from(small_number(part)?) else {
+        return Err(Trouble::Line);
+    };
+    line.bytes(chunk_key(&selector, part, small_number(place)?).as_bytes())
+}
+
+/// `chunk_count SIZE`
+fn show_chunk_count(line: &mut Line, size: &[u8]) -> Result<(), Trouble> {
+    let size = number(size)?;
+    if size > 65_536 {
+        return Err(Trouble::Line);
     }
-    Ok(true)
+    line.number(chunk_count(size as usize) as u64)
+}
+
+/// `longest`: the length of the longest key, and of the longest record.
+fn show_longest(line: &mut Line) -> Result<(), Trouble> {
+    line.number(LONGEST_KEY as u64)?;
+    line.number(LONGEST_RECORD as u64)
 }
 
 /// `read_entries BYTES`: how many they are; they are written with the same bytes.
@@ -59,7 +64,7 @@ fn show_entries(alloc: Global, line: &mut Line, bytes: &[u8]) -> Result<(), Trou
     if entries_bytes(alloc, &entries)?.as_slice() != bytes {
         return Err(Trouble::Wrong("other bytes"));
     }
-    Ok(line.number(entries.as_slice().len() as u64)?)
+    line.number(entries.as_slice().len() as u64)
 }
 
 /// `read_questions BYTES`: how many they are; they are written with the same bytes.
@@ -68,7 +73,7 @@ fn show_questions(alloc: Global, line: &mut Line, bytes: &[u8]) -> Result<(), Tr
     if questions_bytes(alloc, &questions)?.as_slice() != bytes {
         return Err(Trouble::Wrong("other bytes"));
     }
-    Ok(line.number(questions.as_slice().len() as u64)?)
+    line.number(questions.as_slice().len() as u64)
 }
 
 /// `read_record BYTES`: of a board its numbers; it is written with the same bytes.
@@ -92,27 +97,53 @@ fn written(alloc: Global, item: &Item) -> Result<Bytes, Trouble> {
     Ok(record_of(alloc, item)?)
 }
 
-/// The words of keys, records and parts. `entries ENTRY ..` and `record ITEM` show the bytes that are written.
-pub fn call(
+/// `record ITEM`: the bytes that are written.
+fn write_record(
     alloc: Global,
     now: Stamp,
     line: &mut Line,
-    word: &[u8],
     fields: &[Vec<u8>],
-) -> Result<bool, Trouble> {
+) -> Result<(), Trouble> {
+    let item = item(alloc, now, fields)?;
+    line.bytes(written(alloc, &item)?.as_slice())
+}
+
+/// `entries ENTRY ..`: the bytes that are written.
+fn write_entries(alloc: Global, line: &mut Line, fields: &[Vec<u8>]) -> Result<(), Trouble> {
+    let entries = entries(alloc, fields)?;
+    line.bytes(entries_bytes(alloc, &entries)?.as_slice())
+}
+
+/// The words of keys.
+fn of_keys(
+    bench: &mut Bench,
+    line: &mut Line,
+    word: &str,
+    fields: &[Vec<u8>],
+) -> Result<(), Trouble> {
     match (word, fields) {
-        (b"entries", all) => {
-            let part = entries_bytes(alloc, &entries(alloc, all)?)?;
-            line.bytes(part.as_slice())?;
-        }
-        (b"record", all) => {
-            let bytes = written(alloc, &item(alloc, now, all)?)?;
-            line.bytes(bytes.as_slice())?;
-        }
-        (b"read_entries", [bytes]) => show_entries(alloc, line, bytes)?,
-        (b"read_questions", [bytes]) => show_questions(alloc, line, bytes)?,
-        (b"read_record", [bytes]) => show_record(alloc, line, bytes)?,
-        _ => return of_keys(line, word, fields),
+        ("item_key", [selector]) => show_item_key(line, selector),
+        ("chunk_key", [selector, part, place]) => show_chunk_key(line, selector, part, place),
+        ("word_key", [word, selector]) => show_word_key(line, word, selector),
+        ("chunk_count", [size]) => show_chunk_count(line, size),
+        ("longest", []) => show_longest(line),
+        _ => on_held(bench, line, word, fields),
     }
-    Ok(true)
+}
+
+/// The words of keys, records and parts, and those of what is held.
+pub fn call(
+    bench: &mut Bench,
+    line: &mut Line,
+    word: &str,
+    fields: &[Vec<u8>],
+) -> Result<(), Trouble> {
+    match (word, fields) {
+        ("entries", all) => write_entries(bench.alloc, line, all),
+        ("record", all) => write_record(bench.alloc, bench.now, line, all),
+        ("read_entries", [bytes]) => show_entries(bench.alloc, line, bytes),
+        ("read_questions", [bytes]) => show_questions(bench.alloc, line, bytes),
+        ("read_record", [bytes]) => show_record(bench.alloc, line, bytes),
+        _ => of_keys(bench, line, word, fields),
+    }
 }

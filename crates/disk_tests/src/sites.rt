@@ -10,14 +10,14 @@ use std::alloc::Global;
 use word_index::SearchKeeper;
 
 /// What sort of body it is.
-fn sort(body: &CardBody) -> &'static [u8] {
+fn sort(body: &CardBody) -> &'static str {
     match body {
-        CardBody::Views(_, _) => b"views",
-        CardBody::Menu(_) => b"menu",
-        CardBody::Board { .. } => b"board",
-        CardBody::Form { .. } => b"form",
-        CardBody::Search { .. } => b"search",
-        CardBody::Moved { .. } => b"moved",
+        CardBody::Views(_, _) => "views",
+        CardBody::Menu(_) => "menu",
+        CardBody::Board { .. } => "board",
+        CardBody::Form { .. } => "form",
+        CardBody::Search { .. } => "search",
+        CardBody::Moved { .. } => "moved",
     }
 }
 
@@ -25,41 +25,61 @@ fn sort(body: &CardBody) -> &'static [u8] {
 fn show_card(line: &mut Line, card: &Card) -> Result<(), Trouble> {
     line.bytes(card.title.as_bytes())?;
     line.number(card.stamp.seconds())?;
-    Ok(line.word(sort(&card.body))?)
+    line.word(sort(&card.body))
 }
 
-/// `card SELECTOR`: what stands there, or `none`.
-fn card<S: SiteKeeper>(site: &mut S, line: &mut Line, selector: &Selector) -> Result<(), Trouble> {
+/// What stands at a selector, or `none`.
+fn card_at<S: SiteKeeper>(
+    site: &mut S,
+    line: &mut Line,
+    selector: &Selector,
+) -> Result<(), Trouble> {
     match site.card(selector)? {
         Some(card) => show_card(line, &card),
-        None => Ok(line.word(b"none")?),
+        None => line.word("none"),
     }
+}
+
+/// `card SELECTOR`
+fn card<S: SiteKeeper>(site: &mut S, line: &mut Line, selector: &[u8]) -> Result<(), Trouble> {
+    card_at(site, line, &Selector::new(selector)?)
 }
 
 /// `chunk SELECTOR VIEW PLACE`: the bytes.
 fn chunk<S: SiteKeeper>(
     site: &mut S,
     line: &mut Line,
-    selector: &Selector,
-    view: usize,
-    place: usize,
+    (selector, view, place): (&[u8], &[u8], &[u8]),
 ) -> Result<(), Trouble> {
+    let selector = Selector::new(selector)?;
+    let (view, place) = (number(view)? as usize, number(place)? as usize);
     let mut buffer = [0; 1000];
-    let length = site.chunk(selector, view, place, &mut buffer)?;
-    Ok(line.bytes(&buffer[..length])?)
+    let length = site.chunk(&selector, view, place, &mut buffer)?;
+    line.bytes(&buffer[..length])
 }
 
 /// `search SCOPE QUERY`: the selectors that are found.
 fn search<S: SearchKeeper>(
     site: &mut S,
     line: &mut Line,
-    scope: &Selector,
+    scope: &[u8],
     query: &[u8],
 ) -> Result<(), Trouble> {
-    for found in site.search(scope, query)?.as_slice() {
+    for found in site.search(&Selector::new(scope)?, query)?.as_slice() {
         line.bytes(found.as_bytes())?;
     }
     Ok(())
+}
+
+/// A change at a moment.
+fn make<S: SiteKeeper>(
+    alloc: Global,
+    site: &mut S,
+    now: Stamp,
+    word: &str,
+    fields: &[Vec<u8>],
+) -> Result<(), Trouble> {
+    Ok(site.change(change(alloc, word, fields)?, now)?)
 }
 
 /// The words of any site: those that look at it, and else changes at a moment.
@@ -68,26 +88,17 @@ pub fn call<S: SearchKeeper>(
     site: &mut S,
     line: &mut Line,
     now: Stamp,
-    word: &[u8],
+    word: &str,
     fields: &[Vec<u8>],
-) -> Result<bool, Trouble> {
+) -> Result<(), Trouble> {
     match (word, fields) {
-        (b"port", []) => line.number(u64::from(site.front().port))?,
-        (b"usable", []) => show_usable(line, site.is_usable())?,
-        (b"card", [selector]) => card(site, line, &Selector::new(selector)?)?,
-        (b"chunk", [selector, view, place]) => {
-            chunk(
-                site,
-                line,
-                &Selector::new(selector)?,
-                number(view)? as usize,
-                number(place)? as usize,
-            )?;
-        }
-        (b"search", [scope, query]) => search(site, line, &Selector::new(scope)?, query)?,
-        _ => site.change(change(alloc, word, fields)?, now)?,
+        ("port", []) => line.number(u64::from(site.front().port)),
+        ("usable", []) => show_usable(line, site.is_usable()),
+        ("card", [selector]) => card(site, line, selector),
+        ("chunk", [selector, view, place]) => chunk(site, line, (selector, view, place)),
+        ("search", [scope, query]) => search(site, line, scope, query),
+        _ => make(alloc, site, now, word, fields),
     }
-    Ok(true)
 }
 
 /// `next` and `next SELECTOR`: the first item, and the item behind a selector, with its card, which stands there alone too.
@@ -101,9 +112,9 @@ pub fn next<K: Keeper>(
         [after, ..] => site.next_card(Some(&Selector::new(after)?))?,
     };
     let Some((selector, next)) = found else {
-        return Ok(line.word(b"none")?);
+        return line.word("none");
     };
     line.bytes(selector.as_bytes())?;
     show_card(line, &next)?;
-    card(site, line, &selector)
+    card_at(site, line, &selector)
 }

@@ -25,7 +25,7 @@ fn show_keeper_faults(alloc: Global, line: &mut Line) -> Result<(), Trouble> {
         KeeperFault::Memory,
     ] {
         let text = format!(in alloc; "{fault}/{}", OpenFault::Keeper(fault))?;
-        line.word(text.as_bytes())?;
+        line.word(&text)?;
     }
     Ok(())
 }
@@ -38,13 +38,13 @@ fn show_device_faults(alloc: Global, line: &mut Line) -> Result<(), Trouble> {
         DeviceFault::Memory,
     ] {
         let text = format!(in alloc; "{fault}")?;
-        line.word(text.as_bytes())?;
+        line.word(&text)?;
     }
     Ok(())
 }
 
 /// `laws`: each law of keys, records and layouts.
-fn call_laws() {
+fn call_laws() -> Result<(), Trouble> {
     worked_examples();
     keys_are_one_to_one();
     items_share_no_key();
@@ -57,14 +57,14 @@ fn call_laws() {
     items_have_records();
     records_have_items();
     layout_tells();
+    Ok(())
 }
 
-pub fn call(alloc: Global, line: &mut Line, word: &[u8]) -> Result<bool, Trouble> {
+pub fn call(alloc: Global, line: &mut Line, word: &str) -> Result<(), Trouble> {
     match word {
-        b"keeper_faults" => show_keeper_faults(alloc, line)?,
-        b"device_faults" => show_device_faults(alloc, line)?,
-        b"laws" => call_laws(),
-        _ => return Ok(false),
+        "keeper_faults" => show_keeper_faults(alloc, line),
+        "device_faults" => show_device_faults(alloc, line),
+        "laws" => call_laws(),
+        _ => Err(Trouble::Line),
     }
-    Ok(true)
 }

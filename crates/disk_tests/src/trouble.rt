@@ -5,32 +5,88 @@ use page_store::KeeperFault;
 use sector_device::DeviceFault;
 use site_records::RecordFault;
 use site_store::SiteOpenFault;
-use std::alloc::AllocError;
-use thiserror::Error;
+use std::alloc::{AllocError, AllocFailed};
+use std::fmt;
 
 /// Why a line has no other answer.
-#[derive(Debug, Drop, Error)]
+#[derive(Clone, Copy)]
 pub enum Trouble {
     /// It has no form that is known.
-    #[error("line")]
     Line,
     /// Something is not as it has to be.
-    #[error("{0}")]
     Wrong(&'static str),
-    #[error("Memory")]
-    Memory(#[from(alloc)] AllocError),
-    #[error("{0}")]
-    Refused(#[from] Refused),
-    #[error("{0}")]
-    Device(#[from] DeviceFault),
-    #[error("{0}")]
-    Keeper(#[from] KeeperFault),
-    #[error("{0}")]
-    Record(#[from] RecordFault),
-    #[error("{0}")]
-    Site(#[from] SiteFault),
-    #[error("{0}")]
-    Opening(#[from] SiteOpenFault),
-    #[error("{0}")]
-    Open(#[from] OpenFault),
+    Device(DeviceFault),
+    /// A fault of a keeper, of a record or of an opening.
+    Open(OpenFault),
+    /// A fault of a site, of a name or of memory.
+    Site(SiteFault),
+}
+
+impl fmt::Display for Trouble {
+    fn fmt<W: fmt::Write>(&self, f: &mut fmt::Formatter<W>) -> fmt::Result {
+        match self {
+            Trouble::Line => f.write_str("line"),
+            Trouble::Wrong(what) => f.write_str(what),
+            Trouble::Device(fault) => fault.fmt(f),
+            Trouble::Open(fault) => fault.fmt(f),
+            Trouble::Site(fault) => fault.fmt(f),
+        }
+    }
+}
+
+impl From<AllocError> for Trouble {
+    fn from(_: AllocError) -> Self {
+        Trouble::Site(SiteFault::Memory)
+    }
+}
+
+impl<T: Drop> From<AllocFailed<T>> for Trouble {
+    fn from(_: AllocFailed<T>) -> Self {
+        Trouble::Site(SiteFault::Memory)
+    }
+}
+
+impl From<Refused> for Trouble {
+    fn from(refused: Refused) -> Self {
+        Trouble::Site(SiteFault::Refused(refused))
+    }
+}
+
+impl From<SiteFault> for Trouble {
+    fn from(fault: SiteFault) -> Self {
+        Trouble::Site(fault)
+    }
+}
+
+impl From<DeviceFault> for Trouble {
+    fn from(fault: DeviceFault) -> Self {
+        Trouble::Device(fault)
+    }
+}
+
+impl From<KeeperFault> for Trouble {
+    fn from(fault: KeeperFault) -> Self {
+        Trouble::Open(OpenFault::of_keeper(fault))
+    }
+}
+
+impl From<SiteOpenFault> for Trouble {
+    fn from(fault: SiteOpenFault) -> Self {
+        Trouble::Open(OpenFault::of_site(fault))
+    }
+}
+
+impl From<OpenFault> for Trouble {
+    fn from(fault: OpenFault) -> Self {
+        Trouble::Open(fault)
+    }
+}
+
+impl From<RecordFault> for Trouble {
+    fn from(fault: RecordFault) -> Self {
+        match fault {
+            RecordFault::BadRecord => Trouble::Open(OpenFault::BadRecord),
+            RecordFault::Memory => Trouble::Open(OpenFault::Memory),
+        }
+    }
 }

@@ -3,7 +3,7 @@
 
 mod words;
 
-use host_script::{Fault, replay, small_site, told};
+use host_script::{Fault, fault_text, replay, small_site};
 use session_core::Hub;
 use std::io;
 use std::io::{BufWriter, Write};
@@ -43,7 +43,7 @@ fn status_of(rt: &HostRuntime, ended: Result<(), Fault>) -> io::Result<ExitCode>
     match ended {
         Ok(()) => Ok(ExitCode::SUCCESS),
         Err(fault) => {
-            let line = told(rt.alloc(), &fault);
+            let line = fault_text(rt.alloc(), &fault);
             eprintln!(rt; "{}", line.as_deref().unwrap_or("memory"))?;
             Ok(ExitCode::FAILURE)
         }

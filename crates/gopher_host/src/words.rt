@@ -21,7 +21,7 @@ pub enum Task {
 /// Why words are no task.
 #[derive(Debug, Drop)]
 pub enum Misread {
-    /// A wanted help text, or what is wrong with the words.
+    /// A requested help text, or what is wrong with the words.
     Words(Error),
     /// A word is not UTF-8.
     NotUnicode,
@@ -29,7 +29,7 @@ pub enum Misread {
 }
 
 impl Misread {
-    /// The status with which the program ends: 0 after a wanted help text, 1 for want of memory, else 2.
+    /// The status with which the program ends: 0 after a requested help text, 1 for lack of memory, else 2.
     pub fn status(&self) -> u8
         ensures known { result ≤ 2 }
         ensures memory { (result ≡ 1) ↔ (self.now ≡ Misread.Memory) }

@@ -1,4 +1,4 @@
--- Which site an image stands for.
+-- Which site an image represents.
 use Rattle.std.proofs.Common.{◌≡◌, ℕ, ◌<◌, ◌≤◌, ◌*◌, Bool, true, List, Option, Some, None, length, refl, sym, ap, subst, ◌∙◌, arith}
 use Rattle.std.specs.Prelude.{◌&&◌, nat_le}
 use Rattle.std.specs.Int.{w16, w32, w64}
@@ -7,38 +7,38 @@ use Rattle.host_types.specs.Names.{name_of, is_word, is_field}
 use Rattle.host_types.specs.Site.{Site}
 use Rattle.page_store.specs.Reading.{◌>>=◌, number_at}
 use Rattle.page_store.specs.Sectors.{Image, page_of}
-use Rattle.page_store.specs.Roots.{if_lawful, short_text_at, root_at, slot_in, slot_of, newer, current, record_from, shared_seal}
+use Rattle.page_store.specs.Roots.{if_valid, short_text_at, root_at, slot_in, slot_of, newer, current, record_from, shared_seal}
 use Rattle.page_store.specs.Pages.{Pair}
-use Rattle.page_store.specs.Content.{Found, content, content_under, pairs_and_banner, told, HasContent}
+use Rattle.page_store.specs.Content.{Found, content, content_under, pairs_and_banner, pairs_and_banner_of, HasContent}
 use Rattle.page_store.specs.declared.banner.Banner.{Banner}
 use Rattle.page_store.specs.declared.slot.Root.{Root}
 use Rattle.page_store.specs.declared.slot.Slot.{Slot}
 use Rattle.page_store.proofs.Fields.{bind_some, test_passed}
-use Rattle.page_store.proofs.Stands.{both_true}
-use Rattle.page_store.specs.Settled.{opens_zero}
-use Rattle.site_store.specs.Kept.{Shows, same_site}
-use Rattle.host_on_disk.specs.ImageSites.{ImageStandsFor, StandsForNone}
+use Rattle.page_store.proofs.CommitImages.{both_true}
+use Rattle.page_store.specs.CrashStatesRepresent.{opens_zero}
+use Rattle.site_store.specs.Represented.{Shows, same_site}
+use Rattle.host_on_disk.specs.ImageSites.{ImageRepresents, RepresentsNone}
 
 -- one image, one content
-same_told : (o : Option (List Pair × Banner)) (pairs more : List Pair) (banner other : Banner) → o ≡ Some (pairs, banner) → o ≡ Some (more, other) → (pairs ≡ more) × (banner ≡ other)
-same_told o pairs more banner other x y = let same : (pairs, banner) ≡ (more, other) = cc in (ap (λ (t : List Pair × Banner). t.0) same, ap (λ (t : List Pair × Banner). t.1) same)
+same_pairs_and_banner : (o : Option (List Pair × Banner)) (pairs more : List Pair) (banner other : Banner) → o ≡ Some (pairs, banner) → o ≡ Some (more, other) → (pairs ≡ more) × (banner ≡ other)
+same_pairs_and_banner o pairs more banner other x y = let same : (pairs, banner) ≡ (more, other) = cc in (ap (λ (t : List Pair × Banner). t.0) same, ap (λ (t : List Pair × Banner). t.1) same)
 
--- what an image stands for is what its content shows
-pub shown : (image : Image) (pairs : List Pair) (banner : Banner) (s : Site) → HasContent image pairs banner → ImageStandsFor image s → Shows pairs banner s
+-- what an image represents is what its content shows
+pub shown : (image : Image) (pairs : List Pair) (banner : Banner) (s : Site) → HasContent image pairs banner → ImageRepresents image s → Shows pairs banner s
 shown image pairs banner s content (more, other, (is, opened), shows) =
-    let same = same_told _ more pairs other banner is content in
+    let same = same_pairs_and_banner _ more pairs other banner is content in
     subst (λ (b : Banner). Shows pairs b s) same.1 (subst (λ (p : List Pair). Shows p other s) same.0 shows)
 
-pub one_site : (image : Image) (s t : Site) → ImageStandsFor image s → ImageStandsFor image t → s ≡ t
+pub one_site : (image : Image) (s t : Site) → ImageRepresents image s → ImageRepresents image t → s ≡ t
 one_site image s t (pairs, banner, (is, opened), shows) y = same_site pairs banner s t shows (shown image pairs banner t is y)
 
--- what is kept under an image is what it stands for
-pub kept_stands : (image : Image) (pairs : List Pair) (banner : Banner) (s : Site) → HasContent image pairs banner → banner.version ≡ 0 → Shows pairs banner s → ImageStandsFor image s
+-- what is kept under an image is what it represents
+pub kept_stands : (image : Image) (pairs : List Pair) (banner : Banner) (s : Site) → HasContent image pairs banner → banner.version ≡ 0 → Shows pairs banner s → ImageRepresents image s
 kept_stands image pairs banner s has version shows = (pairs, banner, (has, opens_zero banner.version version), shows)
 
 -- ---- images without a site
 
-pub no_content : (image : Image) → content image ≡ None → StandsForNone image
+pub no_content : (image : Image) → content image ≡ None → RepresentsNone image
 no_content image none s (pairs, banner, (is, opened), shows) = absurd (none_is (content image) pairs banner none is)
   where
     none_is : (o : Option (Slot × Found)) (pairs : List Pair) (banner : Banner) → o ≡ None → pairs_and_banner o ≡ Some (pairs, banner) → ⊥
@@ -56,16 +56,16 @@ slot_there image pairs banner is = some_is (current image) (content image) (λ c
 
     some_is : (at : Option Slot) (o : Option (Slot × Found)) → ((c : Slot × Found) → o ≡ Some c → at ≡ Some c.0) → (pairs : List Pair) (banner : Banner) → pairs_and_banner o ≡ Some (pairs, banner) → (slot : Slot) × (at ≡ Some slot) × (banner ≡ slot.root.banner)
     some_is at None from pairs banner is = absurd cc
-    some_is at (Some c) from pairs banner is = let same : (pairs, banner) ≡ told c = cc in (c.0, from c refl, ap (λ (t : List Pair × Banner). t.1) same)
+    some_is at (Some c) from pairs banner is = let same : (pairs, banner) ≡ pairs_and_banner_of c = cc in (c.0, from c refl, ap (λ (t : List Pair × Banner). t.1) same)
 
-pub no_slot : (image : Image) → current image ≡ None → StandsForNone image
+pub no_slot : (image : Image) → current image ≡ None → RepresentsNone image
 no_slot image none s (pairs, banner, (is, opened), shows) = let there = slot_there image pairs banner is in absurd (none_is (current image) there.0 none there.1)
   where
     none_is : (o : Option Slot) (slot : Slot) → o ≡ None → o ≡ Some slot → ⊥
     none_is (Some c) slot e f = absurd cc
     none_is None slot e f = absurd cc
 
-pub other_version : (image : Image) (slot : Slot) → current image ≡ Some slot → 0 < slot.root.banner.version → StandsForNone image
+pub other_version : (image : Image) (slot : Slot) → current image ≡ Some slot → 0 < slot.root.banner.version → RepresentsNone image
 other_version image slot is above s (pairs, banner, (has, opened), shows) =
     let there = slot_there image pairs banner has in
     let same : slot ≡ there.0 = some_one (current image) slot there.0 is there.1 in
@@ -99,8 +99,8 @@ root_large sectors bytes root e =
     under (short_text_at keys.1) _ root e5 (λ host_text e6.
     under (number_at w16 host_text.1) _ root e6 (λ port e7.
     under (short_text_at port.1) _ root e7 (λ admin_text e8.
-    under (if_lawful (name_of is_word 100 host_text.0)) _ root e8 (λ host e9.
-    under (if_lawful (name_of is_field 100 admin_text.0)) _ root e9 (λ admin e10.
+    under (if_valid (name_of is_word 100 host_text.0)) _ root e8 (λ host e9.
+    under (if_valid (name_of is_field 100 admin_text.0)) _ root e9 (λ admin e10.
     sizes pages.0 sectors _ (test_passed _ _ root e10).0))))))))))
 
 slot_large : (sectors : ℕ) (image : Image) (s : ℕ) (slot : Slot) → slot_in sectors image s ≡ Some slot → 128 ≤ sectors
@@ -115,7 +115,7 @@ newer_large sectors (Some a) b slot p q is = p a refl
 newer_large sectors None (Some b) slot p q is = q b refl
 newer_large sectors None None slot p q is = absurd cc
 
-pub too_small : (image : Image) → length image < 128 → StandsForNone image
+pub too_small : (image : Image) → length image < 128 → RepresentsNone image
 too_small image small s (pairs, banner, (is, opened), shows) =
     let there = slot_there image pairs banner is in
     let large = newer_large (length image) (slot_of image 0) (slot_of image 1) there.0 (slot_large (length image) image 0) (slot_large (length image) image 1) there.1 in

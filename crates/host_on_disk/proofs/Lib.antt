@@ -1,5 +1,5 @@
 pub mod Images
 pub mod Openings
-pub mod Found
+pub mod FoundAgain
 pub mod Runs
-pub mod Turns
+pub mod RunsInTurn

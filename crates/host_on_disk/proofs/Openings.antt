@@ -3,14 +3,15 @@ use Rattle.std.proofs.Common.{◌≡◌, ◌≤◌, ◌<◌, true, length, inl, 
 use Rattle.std.specs.Prelude.{IsTrue, List}
 use Rattle.std.proofs.lemmas.Bool.{true≢false, eqb-true}
 use Rattle.host_types.specs.Site.{Site}
-use Rattle.sector_device.specs.Device.{State, counted, NothingCounted}
+use Rattle.common_types.specs.Counts.{counted}
+use Rattle.sector_device.specs.Device.{State, NothingCounted}
 use Rattle.page_store.specs.Sectors.{Image}
 use Rattle.page_store.specs.Pages.{Pair}
-use Rattle.page_store.specs.Holding.{Holding}
+use Rattle.page_store.specs.StoreState.{StoreState}
 use Rattle.page_store.specs.Content.{HasContent}
 use Rattle.page_store.specs.Counting.{CountsRefusal}
-use Rattle.page_store.specs.FlatKeeping.{IsFlat, IsOpenFault}
-use Rattle.page_store.specs.Settled.{opens_zero}
+use Rattle.page_store.specs.FlatState.{IsFlat, IsOpenFault}
+use Rattle.page_store.specs.CrashStatesRepresent.{opens_zero}
 use Rattle.page_store.specs.declared.banner.Banner.{Banner}
 use Rattle.page_store.specs.declared.slot.Slot.{Slot}
 use Rattle.page_store.specs.declared.fault.KeeperFault.{KeeperFault}
@@ -18,12 +19,12 @@ use Rattle.page_store.specs.declared.fault.KeeperFault.TheVariants as kinds
 use Rattle.site_store.specs.Opening as sites
 use Rattle.site_store.specs.declared.fault.SiteOpenFault.{SiteOpenFault}
 use Rattle.site_store.specs.declared.fault.SiteOpenFault.TheVariants as reading
-use Rattle.host_on_disk.specs.ImageSites.{ImageStandsFor}
+use Rattle.host_on_disk.specs.ImageSites.{ImageRepresents}
 use Rattle.host_on_disk.specs.OpenFaults.{IsOpeningFault, of_keeper, of_site}
 use Rattle.host_on_disk.specs.declared.open_fault.OpenFault.TheVariants.{Keeper, Memory}
 use Rattle.host_on_disk.proofs.Images.{shown, no_content, no_slot, other_version, too_small, slot_there}
 
--- a refusal of the keeper of the pairs
+-- a refusal of the key-value store
 pub keeper_refused : (old new : State) → (IsTrue old.honest → length old.disk.view ≡ old.size) → (fault : KeeperFault) → IsOpenFault old new fault → CountsRefusal fault old new → IsOpeningFault old new (of_keeper fault)
 keeper_refused old new size kinds.Device is counts = is
 keeper_refused old new size kinds.NoImage is counts = (is, counts, λ honest. no_slot old.disk.view (is.1 honest))
@@ -52,7 +53,7 @@ pub flat_slot : (image : Image) (pairs : List Pair) (banner : Banner) → HasCon
 flat_slot image pairs banner has version = let there = slot_there image pairs banner has in (there.0, (there.1, ap (λ (b : Banner). b.version) (sym there.2) ∙ version))
 
 -- The pairs of a device were opened: what they are, and that nothing was counted.
-pub record ArePairs (old : State) (before : Holding) : Type 0 where
+pub record ArePairs (old : State) (before : StoreState) : Type 0 where
   pub large : 128 ≤ old.size
   pub honest : IsTrue old.honest → IsTrue before.honest
   pub usable : before.usable ≡ true
@@ -62,7 +63,7 @@ pub record ArePairs (old : State) (before : Holding) : Type 0 where
   pub version : before.banner.version ≡ 0
 
 -- a refusal of the site, once its pairs are opened
-pub site_refused : (old new : State) (before after : Holding) → ArePairs old before → new.failed_reads ≡ after.failed_reads → new.failed_writes ≡ before.failed_writes → (fault : SiteOpenFault) → sites.IsOpenFault before after fault → IsOpeningFault old new (of_site fault)
+pub site_refused : (old new : State) (before after : StoreState) → ArePairs old before → new.failed_reads ≡ after.failed_reads → new.failed_writes ≡ before.failed_writes → (fault : SiteOpenFault) → sites.IsOpenFault before after fault → IsOpeningFault old new (of_site fault)
 site_refused old new before after opened reads writes fault is = by fault is
   where
     nothing : after.failed_reads ≡ before.failed_reads → NothingCounted old new
@@ -90,9 +91,9 @@ site_refused old new before after opened reads writes fault is = by fault is
     by (reading.Keeper kinds.Memory) is = absurd is
     by reading.Memory is = ((opened.large, λ honest. flat_slot old.disk.view before.pairs before.banner (opened.content honest) opened.version), nothing is.1)
 
--- want of memory once a site was opened
-pub no_memory : (old new : State) (s : Site) → 128 ≤ old.size → NothingCounted old new → (IsTrue old.honest → ImageStandsFor old.disk.view s) → IsOpeningFault old new Memory
+-- lack of memory once a site was opened
+pub no_memory : (old new : State) (s : Site) → 128 ≤ old.size → NothingCounted old new → (IsTrue old.honest → ImageRepresents old.disk.view s) → IsOpeningFault old new Memory
 no_memory old new s large counts stands = ((large, λ honest. by (stands honest)), counts)
   where
-    by : ImageStandsFor old.disk.view s → (slot : Slot) × IsFlat old.disk.view slot
+    by : ImageRepresents old.disk.view s → (slot : Slot) × IsFlat old.disk.view slot
     by (pairs, banner, (has, opened), shows) = flat_slot old.disk.view pairs banner has (eqb-true banner.version 0 opened)

@@ -1,77 +1,77 @@
 -- Runs over a site that is handed in, and over a device.
 use Rattle.std.proofs.Common.{◌≡◌, ◌⊎◌, ⊎_elim, inl, inr, ℕ, List, refl, sym, subst, arith}
-use Rattle.host_types.specs.Keeping.{Keeping}
+use Rattle.host_types.specs.SiteState.{SiteState}
 use Rattle.host_types.specs.declared.change.Change.{Change}
 use Rattle.host_types.specs.declared.site_fault.SiteFault.{SiteFault}
 use Rattle.session_core.specs.Calls.{Calls}
 use Rattle.host_types.specs.Site.{Site}
-use Rattle.host_types.specs.Stops.{Stops, IsQuiet}
+use Rattle.host_types.specs.CrashStates.{CrashStates, AddsNone}
 use Rattle.sector_device.specs.Device.{State}
 use Rattle.page_store.specs.Sectors.{Image}
 use Rattle.session_core.specs.World.{World, started}
 use Rattle.session_core.specs.Run.{Run}
-use Rattle.session_core.specs.Stopped.{IsStopped, StandsFrom}
+use Rattle.session_core.specs.RunCrashStates.{HasCrashStates, RepresentsFrom}
 use Rattle.session_core.specs.declared.event.Event.{Event}
 use Rattle.session_core.specs.declared.event.Outcome.{Outcome}
-use Rattle.host_on_disk.specs.ImageSites.{ImageStandsFor}
+use Rattle.host_on_disk.specs.ImageSites.{ImageRepresents}
 use Rattle.host_on_disk.specs.Headline.{Survives, RunsOver, IsFound}
 
 -- a hub runs over the site that was handed in, and gives it back
-pub handed_over : {S L : Type 0} (stands : L → Site → Type 0) (stops : S → Stops L) (site held new result : S) (old first last : World) (events : List Event) (outcomes : List Outcome) →
+pub handed_over : {S L : Type 0} (stands : L → Site → Type 0) (crash_states : S → CrashStates L) (site held new result : S) (old first last : World) (events : List Event) (outcomes : List Outcome) →
     held ≡ site →
     old ≡ first →
     result ≡ new →
     Run old events outcomes last →
-    IsStopped stands old last (stops held) (stops new) events outcomes →
-    (w : World) × Run first events outcomes w × IsStopped stands first w (stops site) (stops result) events outcomes
-handed_over stands stops site held new result old first last events outcomes p q r run stop = (
+    HasCrashStates stands old last (crash_states held) (crash_states new) events outcomes →
+    (w : World) × Run first events outcomes w × HasCrashStates stands first w (crash_states site) (crash_states result) events outcomes
+handed_over stands crash_states site held new result old first last events outcomes p q r run at_crash = (
   last,
   subst (λ w. Run w events outcomes last) q run,
-  subst (λ x. IsStopped stands first last (stops site) (stops x) events outcomes) (sym r) (subst (λ x. IsStopped stands first last (stops x) (stops new) events outcomes) p (subst (λ w. IsStopped stands w last (stops held) (stops new) events outcomes) q stop)),
+  subst (λ x. HasCrashStates stands first last (crash_states site) (crash_states x) events outcomes) (sym r) (subst (λ x. HasCrashStates stands first last (crash_states x) (crash_states new) events outcomes) p (subst (λ w. HasCrashStates stands w last (crash_states held) (crash_states new) events outcomes) q at_crash)),
 )
 
 -- the same of all its calls
-pub handed_on : {S L : Type 0} (keeping : S → Keeping) (lacks : S → Change → ℕ → SiteFault → Type 0) (stops : S → Stops L) (stands : L → Site → Type 0) (site held new result : S) (old last : World) (first : ℕ) (events : List Event) (outcomes : List Outcome) →
+pub handed_on : {S L : Type 0} (site_state : S → SiteState) (lacks : S → Change → ℕ → SiteFault → Type 0) (crash_states : S → CrashStates L) (stands : L → Site → Type 0) (site held new result : S) (old last : World) (first : ℕ) (events : List Event) (outcomes : List Outcome) →
     held ≡ site →
-    old ≡ started (keeping site).site first →
+    old ≡ started (site_state site).site first →
     result ≡ new →
-    Calls keeping lacks stops stands old held events outcomes last new →
-    RunsOver keeping lacks stops stands site result first events outcomes
-handed_on keeping lacks stops stands site held new result old last first events outcomes p q r calls = record {
+    Calls site_state lacks crash_states stands old held events outcomes last new →
+    RunsOver site_state lacks crash_states stands site result first events outcomes
+handed_on site_state lacks crash_states stands site held new result old last first events outcomes p q r calls = record {
   last = last;
-  calls = subst (λ x. Calls keeping lacks stops stands (started (keeping site).site first) site events outcomes last x) (sym r)
-      (subst (λ x. Calls keeping lacks stops stands (started (keeping site).site first) x events outcomes last new) p (subst (λ w. Calls keeping lacks stops stands w held events outcomes last new) q calls));
+  calls = subst (λ x. Calls site_state lacks crash_states stands (started (site_state site).site first) site events outcomes last x) (sym r)
+      (subst (λ x. Calls site_state lacks crash_states stands (started (site_state site).site first) x events outcomes last new) p (subst (λ w. Calls site_state lacks crash_states stands w held events outcomes last new) q calls));
 }
 
--- what is left stands for a site that is found
-found_at : (old : World) (events : List Event) (outcomes : List Outcome) (k : ℕ) (image : Image) → StandsFrom ImageStandsFor old events outcomes k image → (s : Site) × ImageStandsFor image s × IsFound old events outcomes k s
+-- what is left represents a site that is found
+found_at : (old : World) (events : List Event) (outcomes : List Outcome) (k : ℕ) (image : Image) → RepresentsFrom ImageRepresents old events outcomes k image → (s : Site) × ImageRepresents image s × IsFound old events outcomes k s
 found_at old events outcomes k image (inl (j, least, most, stands)) = (_, stands, inl (j, least, most, refl))
 found_at old events outcomes k image (inr (t, is, stands)) = (t, stands, inr (t, is, refl))
 
 -- a device is opened, runs, and is given back
-pub survives : {D : Type 0} (state : D → State) (stops : D → Stops Image) (old opened new result : D) (first : ℕ) (events : List Event) (outcomes : List Outcome) (site : Site) →
-    ImageStandsFor (state old).disk.view site →
-    ((s : Site) → ImageStandsFor (state old).disk.view s → s ≡ site) →
-    IsQuiet (stops old) (stops opened) →
-    ((w : World) × Run (started site first) events outcomes w × IsStopped ImageStandsFor (started site first) w (stops opened) (stops new) events outcomes) →
+pub survives : {D : Type 0} (state : D → State) (crash_states : D → CrashStates Image) (old opened new result : D) (first : ℕ) (events : List Event) (outcomes : List Outcome) (site : Site) →
+    ImageRepresents (state old).disk.view site →
+    ((s : Site) → ImageRepresents (state old).disk.view s → s ≡ site) →
+    AddsNone (crash_states old) (crash_states opened) →
+    ((w : World) × Run (started site first) events outcomes w × HasCrashStates ImageRepresents (started site first) w (crash_states opened) (crash_states new) events outcomes) →
     result ≡ new →
-    Survives state stops old result first events outcomes
-survives state stops old opened new result first events outcomes site stands alone quiet run back =
-    let stop : IsStopped ImageStandsFor (started site first) run.0 (stops opened) (stops result) events outcomes =
-    subst (λ x. IsStopped ImageStandsFor (started site first) run.0 (stops opened) (stops x) events outcomes) (sym back) run.2 in
-    let from : (c : Image) → (stops result).left_since (stops opened).moment c → StandsFrom ImageStandsFor (started site first) events outcomes 0 c =
-    λ c left. stop.each 0 c (omega arith) (subst (λ t. (stops result).left_since t c) (sym stop.begins) left) in
+    Survives state crash_states old result first events outcomes
+survives state crash_states old opened new result first events outcomes site stands alone no_new_crash_state run back =
+    let at_crash : HasCrashStates ImageRepresents (started site first) run.0 (crash_states opened) (crash_states result) events outcomes =
+    subst (λ x. HasCrashStates ImageRepresents (started site first) run.0 (crash_states opened) (crash_states x) events outcomes) (sym back) run.2 in
+    let from : (c : Image) → (crash_states result).possible_since (crash_states opened).moment c → RepresentsFrom ImageRepresents (started site first) events outcomes 0 c =
+    λ c left. at_crash.each 0 c (omega arith) (subst (λ t. (crash_states result).possible_since t c) (sym at_crash.begins) left) in
     record {
       site = site;
       stands = stands;
       alone = alone;
       opened = opened;
-      quiet = quiet;
+      no_new_crash_state = no_new_crash_state;
       last = run.0;
       run = run.1;
-      stop = stop;
+      at_crash = at_crash;
       since = λ c left.
-          ⊎_elim (λ was. ⊎_elim inl inl (quiet.nothing_else (stops old).moment c (omega arith) was)) inr
-          (stop.since (stops old).moment c quiet.later left);
+          ⊎_elim (λ was. ⊎_elim inl inl (no_new_crash_state.nothing_else (crash_states old).moment c (omega arith) was)) inr
+          (at_crash.since (crash_states old).moment c no_new_crash_state.later left);
       again = λ c left. found_at (started site first) events outcomes 0 c (from c left);
     }

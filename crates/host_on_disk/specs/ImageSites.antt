@@ -1,13 +1,13 @@
--- Which site a disk image stands for.
+-- Which site a disk image represents.
 use Rattle.host_types.specs.Site.{Site}
 use Rattle.page_store.specs.Sectors.{Image}
-use Rattle.page_store.specs.Content.{Holds}
-use Rattle.site_store.specs.Kept.{StandsFor}
+use Rattle.page_store.specs.Content.{ImageHas}
+use Rattle.site_store.specs.Represented.{Represents}
 
--- The image has the layout of a lawful site, under a banner with its host, port and administrator, in a version that is opened.
-abbrev pub ImageStandsFor : Image → Site → Type 0
-ImageStandsFor image s = StandsFor Holds image s
+-- The image has the layout of a valid site, under a banner with its host, port and administrator, in a version that is opened.
+abbrev pub ImageRepresents : Image → Site → Type 0
+ImageRepresents image s = Represents ImageHas image s
 
--- The image stands for no site.
-abbrev pub StandsForNone : Image → Type 0
-StandsForNone image = (s : Site) → ImageStandsFor image s → ⊥
+-- The image represents no site.
+abbrev pub RepresentsNone : Image → Type 0
+RepresentsNone image = (s : Site) → ImageRepresents image s → ⊥

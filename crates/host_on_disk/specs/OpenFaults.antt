@@ -2,14 +2,14 @@
 use Rattle.std.specs.Prelude.{◌≤◌, List, IsTrue}
 use Rattle.sector_device.specs.Device.{State, NothingCounted}
 use Rattle.page_store.specs.Pages.{Pair}
-use Rattle.page_store.specs.Content.{Holds}
-use Rattle.page_store.specs.FlatKeeping.{IsOpenFault}
+use Rattle.page_store.specs.Content.{ImageHas}
+use Rattle.page_store.specs.FlatState.{IsOpenFault}
 use Rattle.page_store.specs.declared.banner.Banner.{Banner}
 use Rattle.page_store.specs.declared.fault.KeeperFault.{KeeperFault}
 use Rattle.page_store.specs.declared.fault.KeeperFault.TheVariants as kinds
 use Rattle.site_store.specs.declared.fault.SiteOpenFault.{SiteOpenFault}
 use Rattle.site_store.specs.declared.fault.SiteOpenFault.TheVariants as reading
-use Rattle.host_on_disk.specs.ImageSites.{StandsForNone}
+use Rattle.host_on_disk.specs.ImageSites.{RepresentsNone}
 use Rattle.host_on_disk.specs.declared.open_fault.OpenFault.{OpenFault}
 use Rattle.host_on_disk.specs.declared.open_fault.OpenFault.TheVariants.{Keeper, BadRecord, Memory}
 
@@ -33,13 +33,13 @@ of_site reading.Memory = Memory
 
 -- A device that is honest shows no site.
 abbrev pub ShowsNone : State → Type 0
-ShowsNone old = IsTrue old.honest → StandsForNone old.disk.view
+ShowsNone old = IsTrue old.honest → RepresentsNone old.disk.view
 
 -- A device that is honest shows some content, in the version that is opened.
 abbrev pub ShowsContent : State → Type 0
-ShowsContent old = IsTrue old.honest → (pairs : List Pair) × (banner : Banner) × Holds old.disk.view pairs banner
+ShowsContent old = IsTrue old.honest → (pairs : List Pair) × (banner : Banner) × ImageHas old.disk.view pairs banner
 
--- Why an opening is refused, and what it counted. A fault of the keeper of the pairs has the cause that opening the keeper gives it, `BadRecord` comes where there is content but it stands for no site, and `Memory` where a slot to be opened is current. But for a device that fails and for want of memory, no two of these hold of one image.
+-- Why an opening is refused, and what it counted. A fault of the key-value store has the cause that opening the keeper gives it, `BadRecord` comes where there is content but it represents no site, and `Memory` where a slot to be opened is current. But for a device that fails and for lack of memory, no two of these hold of one image.
 abbrev pub IsOpeningFault : State → State → OpenFault → Type 0
 IsOpeningFault old new (Keeper kinds.Device) = IsOpenFault old new kinds.Device
 IsOpeningFault old new (Keeper kinds.NoImage) = IsOpenFault old new kinds.NoImage × NothingCounted old new × ShowsNone old

@@ -7,7 +7,7 @@ mod open_fault;
 mod opening;
 
 pub use laws::{
-    an_image_stands_for_one_site, any_number_of_stops, what_a_stop_left_is_found_again,
+    an_image_represents_one_site, any_number_of_crashes, what_a_crash_left_is_found_again,
 };
 pub use on_disk::{run_on, run_over};
 pub use open_fault::OpenFault;

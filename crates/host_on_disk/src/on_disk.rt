@@ -1,12 +1,12 @@
-// Runs of events over a site on a disk, and what survives a stop.
+// Runs of events over a site on a disk, and what survives a crash.
 ghost use Rattle.std.specs.Prelude.{◌≡◌, true, IfOk, IfErr, IsTrue};
-ghost use Rattle.host_types.specs.Stops.{IsQuiet};
-ghost use Rattle.page_store.specs.Steps.{stops_of};
+ghost use Rattle.host_types.specs.CrashStates.{AddsNone};
+ghost use Rattle.page_store.specs.Steps.{crash_states_of};
 ghost use Rattle.page_store.specs.FlatSeen.{device_of};
 ghost use Rattle.site_store.specs.Seen.{keeper_of};
 ghost use Rattle.session_core.specs.World.{World, started};
 ghost use Rattle.session_core.specs.Run.{Run};
-ghost use Rattle.session_core.specs.Stopped.{IsStopped};
+ghost use Rattle.session_core.specs.RunCrashStates.{HasCrashStates};
 ghost use Rattle.host_on_disk.specs.Headline.{Survives, RunsOver, RunsOn};
 ghost use Rattle.host_on_disk.specs.OpenFaults.{IsOpeningFault};
 ghost use Rattle.host_on_disk.specs.declared.open_fault.OpenFault.TheVariants.{Memory};
@@ -28,10 +28,10 @@ pub fn run_over<S: SearchKeeper>(
     first: u64,
     events: &[Event],
 ) -> Result<(OutcomeList, S), (OpenFault, S)>
-    requires { (S.keeping site).usable ≡ true }
-    ensures calls { IfOk result (λ r. RunsOver S.keeping S.lacks S.stops S.stands_for site r.1 first events.now r.0) }
-    ensures run { IsTrue (S.keeping site).honest → IfOk result (λ r. (last : World) × Run (started (S.keeping site).site first) events.now r.0 last × IsStopped S.stands_for (started (S.keeping site).site first) last (S.stops site) (S.stops r.1) events.now r.0) }
-    ensures honest { IfOk result (λ r. (S.keeping r.1).honest ≡ (S.keeping site).honest) }
+    requires { (S.site_state site).usable ≡ true }
+    ensures calls { IfOk result (λ r. RunsOver S.site_state S.lacks S.crash_states S.represents site r.1 first events.now r.0) }
+    ensures run { IsTrue (S.site_state site).honest → IfOk result (λ r. (last : World) × Run (started (S.site_state site).site first) events.now r.0 last × HasCrashStates S.represents (started (S.site_state site).site first) last (S.crash_states site) (S.crash_states r.1) events.now r.0) }
+    ensures honest { IfOk result (λ r. (S.site_state r.1).honest ≡ (S.site_state site).honest) }
     ensures err { IfErr result (λ e. (e.0 ≡ Memory) × (e.1 ≡ site)) }
 {
     let mut hub = match Hub::new(alloc, site, first) {
@@ -46,19 +46,19 @@ pub fn run_over<S: SearchKeeper>(
 
 /// Opens the image on a device, runs events over its site in one hub, and hands the device back.
 ///
-/// What a stop at any moment leaves on the device stands for the site after some of the events, with each change that was acknowledged by
-/// then, or for the one with the change that nobody was told of. A device that shows it, where it opens, gives that site.
+/// What a crash at any moment leaves on the device represents the site after some of the events, with each change that was acknowledged by
+/// then, or the one with the change in flight, unacknowledged. A device that shows it, where it opens, gives that site.
 pub fn run_on<D: Device>(
     alloc: Global,
     device: D,
     first: u64,
     events: &[Event],
 ) -> Result<(OutcomeList, D), (OpenFault, D)>
-    ensures calls { IfOk result (λ r. RunsOn D.state (λ d. device_of (keeper_of d)) ⟦<DiskSite<FlatKeeper<D>> as SiteKeeper>⟧.keeping ⟦<DiskSite<FlatKeeper<D>> as SiteKeeper>⟧.lacks ⟦<DiskSite<FlatKeeper<D>> as SiteKeeper>⟧.stops ⟦<DiskSite<FlatKeeper<D>> as SiteKeeper>⟧.stands_for device r.1 first events.now r.0) }
-    ensures survives { IsTrue (D.state device).honest → IfOk result (λ r. Survives D.state (stops_of D.moment D.left_since) device r.1 first events.now r.0) }
+    ensures calls { IfOk result (λ r. RunsOn D.state (λ d. device_of (keeper_of d)) ⟦<DiskSite<FlatKeeper<D>> as SiteKeeper>⟧.site_state ⟦<DiskSite<FlatKeeper<D>> as SiteKeeper>⟧.lacks ⟦<DiskSite<FlatKeeper<D>> as SiteKeeper>⟧.crash_states ⟦<DiskSite<FlatKeeper<D>> as SiteKeeper>⟧.represents device r.1 first events.now r.0) }
+    ensures survives { IsTrue (D.state device).honest → IfOk result (λ r. Survives D.state (crash_states_of D.moment D.possible_since) device r.1 first events.now r.0) }
     ensures honest { IfOk result (λ r. (D.state r.1).honest ≡ (D.state device).honest) }
     ensures fault { IfErr result (λ e. IsOpeningFault (D.state device) (D.state e.1) e.0) }
-    ensures stop_at_fault { IsTrue (D.state device).honest → IfErr result (λ e. IsQuiet (stops_of D.moment D.left_since device) (stops_of D.moment D.left_since e.1)) }
+    ensures at_crash_on_fault { IsTrue (D.state device).honest → IfErr result (λ e. AddsNone (crash_states_of D.moment D.possible_since device) (crash_states_of D.moment D.possible_since e.1)) }
     ensures handed_back { IfErr result (λ e. (D.state e.1).honest ≡ (D.state device).honest) }
 {
     let site = match open_site(alloc, device) {

@@ -9,13 +9,13 @@ use thiserror::Error;
 /// Why a device isn't opened as a site.
 #[derive(Clone, Copy, Debug, PartialEq, Eq, Error)]
 pub enum OpenFault {
-    /// The keeper of the pairs answered this fault.
+    /// The key-value store answered this fault.
     #[error("{0}")]
     Keeper(KeeperFault),
-    /// What is kept stands for no site.
+    /// What is kept represents no site.
     #[error("BadRecord")]
     BadRecord,
-    /// Memory is wanting.
+    /// Out of memory.
     #[error("Memory")]
     Memory,
 }

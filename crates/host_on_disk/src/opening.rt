@@ -1,13 +1,13 @@
 // Opening a device as a site.
 ghost use Rattle.std.specs.Prelude.{◌≡◌, ◌<◌, ◌≤◌, true, IfOk, IfErr, IsErrAnd, IsTrue};
 ghost use Rattle.host_types.specs.Site.{Site};
-ghost use Rattle.host_types.specs.Stops.{IsQuiet};
+ghost use Rattle.host_types.specs.CrashStates.{AddsNone};
 ghost use Rattle.sector_device.specs.Device.{NothingCounted};
-ghost use Rattle.page_store.specs.Steps.{stops_of};
+ghost use Rattle.page_store.specs.Steps.{crash_states_of};
 ghost use Rattle.page_store.specs.declared.fault.KeeperFault.TheVariants.{Small};
 ghost use Rattle.page_store.specs.FlatSeen.{device_of, is_open};
 ghost use Rattle.site_store.specs.Seen.{keeper_of, seen_site};
-ghost use Rattle.host_on_disk.specs.ImageSites.{ImageStandsFor};
+ghost use Rattle.host_on_disk.specs.ImageSites.{ImageRepresents};
 ghost use Rattle.host_on_disk.specs.OpenFaults.{IsOpeningFault};
 ghost use Rattle.host_on_disk.specs.declared.open_fault.OpenFault.TheVariants.{Keeper};
 
@@ -19,20 +19,20 @@ use std::alloc::Global;
 
 /// Opens the site that a device shows. It writes nothing, and a refusal hands the device back.
 ///
-/// Refusals in order: those of `FlatKeeper::open`, each by its own cause, where `Small` leaves the device as it was; `BadRecord` where the content stands for no site. `Memory` may stand in place of `Damaged`, of `BadRecord` and of success.
+/// Refusals in order: those of `FlatKeeper::open`, each by its own cause, where `Small` leaves the device as it was; `BadRecord` where the content represents no site. `Memory` may stand in place of `Damaged`, of `BadRecord` and of success.
 pub fn open_site<D: Device>(
     alloc: Global,
     device: D,
 ) -> Result<DiskSite<FlatKeeper<D>>, (OpenFault, D)>
-    ensures site { IsTrue (D.state device).honest → IfOk result (λ d. ImageStandsFor (D.state device).disk.view (seen_site d)) }
-    ensures alone { IsTrue (D.state device).honest → (s : Site) → ImageStandsFor (D.state device).disk.view s → IfOk result (λ d. s ≡ seen_site d) }
+    ensures site { IsTrue (D.state device).honest → IfOk result (λ d. ImageRepresents (D.state device).disk.view (seen_site d)) }
+    ensures alone { IsTrue (D.state device).honest → (s : Site) → ImageRepresents (D.state device).disk.view s → IfOk result (λ d. s ≡ seen_site d) }
     ensures usable { IfOk result (λ d. is_open (keeper_of d) ≡ true) }
     ensures large { IfOk result (λ d. 128 ≤ (D.state device).size) }
     ensures counts { IfOk result (λ d. NothingCounted (D.state device) (D.state (device_of (keeper_of d)))) }
     ensures small { (D.state device).size < 128 → IsErrAnd result (λ e. (e.0 ≡ Keeper Small) × (e.1 ≡ device)) }
     ensures fault { IfErr result (λ e. IsOpeningFault (D.state device) (D.state e.1) e.0) }
-    ensures stop { IsTrue (D.state device).honest → IfOk result (λ d. IsQuiet (stops_of D.moment D.left_since device) (stops_of D.moment D.left_since (device_of (keeper_of d)))) }
-    ensures stop_at_fault { IsTrue (D.state device).honest → IfErr result (λ e. IsQuiet (stops_of D.moment D.left_since device) (stops_of D.moment D.left_since e.1)) }
+    ensures at_crash { IsTrue (D.state device).honest → IfOk result (λ d. AddsNone (crash_states_of D.moment D.possible_since device) (crash_states_of D.moment D.possible_since (device_of (keeper_of d)))) }
+    ensures at_crash_on_fault { IsTrue (D.state device).honest → IfErr result (λ e. AddsNone (crash_states_of D.moment D.possible_since device) (crash_states_of D.moment D.possible_since e.1)) }
     ensures honest { IfOk result (λ d. (D.state (device_of (keeper_of d))).honest ≡ (D.state device).honest) }
     ensures handed_back { IfErr result (λ e. (D.state e.1).honest ≡ (D.state device).honest) }
 {

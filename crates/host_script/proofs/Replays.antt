@@ -34,24 +34,24 @@ consumes_more (Some known) (Some bs) (Some cs) xs ys p q = p ∙ ap (λ l. xs ++
 consumes_more (Some known) (Some bs) None xs ys p q = absurd q
 consumes_more (Some known) None c xs ys p q = absurd p
 
-pub lines_more : (now then after : ℕ) (lines others printed told : List (List ℕ)) (e f : List HubEvent) (o p : List Outcome) →
-    RunsLines now then lines printed e o → RunsLines then after others told f p → RunsLines now after (lines ++ others) (printed ++ told) (e ++ f) (o ++ p)
-lines_more now then after [] others [] told e f o p first second =
-    subst (λ t. RunsLines t after others told (e ++ f) (o ++ p)) first.0
-    (subst (λ l. RunsLines then after others told (l ++ f) (o ++ p)) (sym first.1) (subst (λ l. RunsLines then after others told f (l ++ p)) (sym first.2) second))
-lines_more now then after (l ∷ ls) others (t ∷ ts) told e f o p first second = record {
+pub lines_more : (now then after : ℕ) (lines others printed fault_text : List (List ℕ)) (e f : List HubEvent) (o p : List Outcome) →
+    RunsLines now then lines printed e o → RunsLines then after others fault_text f p → RunsLines now after (lines ++ others) (printed ++ fault_text) (e ++ f) (o ++ p)
+lines_more now then after [] others [] fault_text e f o p first second =
+    subst (λ t. RunsLines t after others fault_text (e ++ f) (o ++ p)) first.0
+    (subst (λ l. RunsLines then after others fault_text (l ++ f) (o ++ p)) (sym first.1) (subst (λ l. RunsLines then after others fault_text f (l ++ p)) (sym first.2) second))
+lines_more now then after (l ∷ ls) others (t ∷ ts) fault_text e f o p first second = record {
   moment = first.moment;
   first_events = first.first_events;
   first_outcomes = first.first_outcomes;
   later_events = first.later_events ++ f;
   later_outcomes = first.later_outcomes ++ p;
   first = first.first;
-  others = lines_more first.moment then after ls others ts told first.later_events f first.later_outcomes p first.others second;
+  others = lines_more first.moment then after ls others ts fault_text first.later_events f first.later_outcomes p first.others second;
   events_are = ap (λ (x : List HubEvent). x ++ f) first.events_are ∙ append_assoc first.first_events first.later_events f;
   outcomes_are = ap (λ (x : List Outcome). x ++ p) first.outcomes_are ∙ append_assoc first.first_outcomes first.later_outcomes p;
 }
-lines_more now then after [] others (t ∷ ts) told e f o p first second = absurd first
-lines_more now then after (l ∷ ls) others [] told e f o p first second = absurd first
+lines_more now then after [] others (t ∷ ts) fault_text e f o p first second = absurd first
+lines_more now then after (l ∷ ls) others [] fault_text e f o p first second = absurd first
 
 -- numbers go on
 number_more : (n : ℕ) (xs ys : List (List ℕ)) → number_after n (xs ++ ys) ≡ number_after (number_after n xs) ys

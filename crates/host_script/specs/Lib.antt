@@ -1,5 +1,5 @@
 pub mod Number
 pub mod Script
-pub mod Asked
+pub mod ParsedLine
 pub mod Printed
 pub mod Lines

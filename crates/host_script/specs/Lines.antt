@@ -1,24 +1,24 @@
 -- What a line of a script asks of a hub, and what is printed of it; and a whole script, line by line.
-use Rattle.std.specs.Prelude.{◌≡◌, ◌⊎◌, ℕ, ◌+◌, ◌-◌, ◌^◌, min, Bool, false, List, [], ◌∷◌, ◌++◌, ◌==◌, Option, Some, codes, flat_map, All}
+use Rattle.std.specs.Prelude.{◌≡◌, ◌⊎◌, ℕ, ◌+◌, ◌-◌, ◌^◌, min, Bool, false, List, [], ◌∷◌, ◌++◌, ◌==◌, Option, Some, Result, IfOk, codes, flat_map, All}
 use Rattle.std.specs.List.{list_any}
 use Rattle.std.specs.Io.KnownBytes.{Appends}
 use Rattle.session_core.specs.declared.event.Event.{Event as HubEvent}
 use Rattle.session_core.specs.declared.event.Outcome.{Outcome}
 use Rattle.host_script.specs.Script.{line_command}
-use Rattle.host_script.specs.Asked.{asked_of}
+use Rattle.host_script.specs.ParsedLine.{parsed_of}
 use Rattle.host_script.specs.Printed.{line_of, refused_line}
 use Rattle.host_script.specs.declared.script.Command.{Command}
 use Rattle.host_script.specs.declared.replaying.Place.{Place as Standing}
-use Rattle.host_script.specs.declared.asking.Asked.{Asked}
-use Rattle.host_script.specs.declared.asking.Asked.TheVariants.{Moment, Event, Refused}
+use Rattle.host_script.specs.declared.asking.ParsedLine.{ParsedLine}
+use Rattle.host_script.specs.declared.asking.ParsedLine.TheVariants.{Moment, Event, Refused}
 
 -- ---- one line
 
 -- One event of the hub, and its outcome is printed.
 pub record IsAnswered (event : HubEvent) (printed : List ℕ) (events : List HubEvent) (outcomes : List Outcome) : Type 0 where
   pub outcome : Outcome
-  pub asked : events ≡ event ∷ []
-  pub told : outcomes ≡ outcome ∷ []
+  pub parsed : events ≡ event ∷ []
+  pub fault_text : outcomes ≡ outcome ∷ []
   pub line : printed ≡ line_of outcome
 
 -- Or there was no memory for it, and nothing happened.
@@ -26,7 +26,7 @@ abbrev pub IsAnswer : HubEvent → List ℕ → List HubEvent → List Outcome �
 IsAnswer event printed events outcomes = IsAnswered event printed events outcomes ⊎ ((events ≡ []) × (outcomes ≡ []) × (printed ≡ codes "fault Memory"))
 
 -- What is asked for at a moment, the moment after it, what is printed, and the hub's events with their outcomes.
-abbrev pub IsDone : ℕ → ℕ → List ℕ → List HubEvent → List Outcome → Asked → Type 0
+abbrev pub IsDone : ℕ → ℕ → List ℕ → List HubEvent → List Outcome → ParsedLine → Type 0
 IsDone now after printed events outcomes (Moment stamp) = (events ≡ []) × (outcomes ≡ []) × (after ≡ stamp) × (printed ≡ codes "ok")
 IsDone now after printed events outcomes (Event event) = (after ≡ now) × IsAnswer event printed events outcomes
 IsDone now after printed events outcomes (Refused refused) = (events ≡ []) × (outcomes ≡ []) × (after ≡ now) × (printed ≡ refused_line refused)
@@ -35,18 +35,18 @@ IsDone now after printed events outcomes (Refused refused) = (events ≡ []) × 
 pub record RunsLine (now after : ℕ) (line printed : List ℕ) (events : List HubEvent) (outcomes : List Outcome) : Type 0 where
   pub command : Command
   pub is : line_command line ≡ Some command
-  pub done : IsDone now after printed events outcomes (asked_of command now)
+  pub done : IsDone now after printed events outcomes (parsed_of command now)
 
 -- ---- a whole script
 
 -- one line and then others
-pub record RunsFirst (now after : ℕ) (line told : List ℕ) (events : List HubEvent) (outcomes : List Outcome) (Others : ℕ → List HubEvent → List Outcome → Type 0) : Type 0 where
+pub record RunsFirst (now after : ℕ) (line fault_text : List ℕ) (events : List HubEvent) (outcomes : List Outcome) (Others : ℕ → List HubEvent → List Outcome → Type 0) : Type 0 where
   pub moment : ℕ
   pub first_events : List HubEvent
   pub first_outcomes : List Outcome
   pub later_events : List HubEvent
   pub later_outcomes : List Outcome
-  pub first : RunsLine now moment line told first_events first_outcomes
+  pub first : RunsLine now moment line fault_text first_events first_outcomes
   pub others : Others moment later_events later_outcomes
   pub events_are : events ≡ first_events ++ later_events
   pub outcomes_are : outcomes ≡ first_outcomes ++ later_outcomes
@@ -54,8 +54,8 @@ pub record RunsFirst (now after : ℕ) (line told : List ℕ) (events : List Hub
 -- one line after another
 abbrev pub RunsLines : ℕ → ℕ → List (List ℕ) → List (List ℕ) → List HubEvent → List Outcome → Type 0
 RunsLines now after [] [] events outcomes = (after ≡ now) × (events ≡ []) × (outcomes ≡ [])
-RunsLines now after (line ∷ lines) (told ∷ printed) events outcomes = RunsFirst now after line told events outcomes (λ moment e o. RunsLines moment after lines printed e o)
-RunsLines now after [] (told ∷ printed) events outcomes = ⊥
+RunsLines now after (line ∷ lines) (fault_text ∷ printed) events outcomes = RunsFirst now after line fault_text events outcomes (λ moment e o. RunsLines moment after lines printed e o)
+RunsLines now after [] (fault_text ∷ printed) events outcomes = ⊥
 RunsLines now after (line ∷ lines) [] events outcomes = ⊥
 
 abbrev pub is_lf : ℕ → Bool
@@ -82,6 +82,13 @@ RanBy ran old new P = (events : List HubEvent) × (outcomes : List Outcome) × P
 -- It was led by some events.
 abbrev pub RanSo : {H : Type 0} → Ran H → H → H → Type 0
 RanSo ran old new = (events : List HubEvent) × (outcomes : List Outcome) × ran old events outcomes new
+
+-- What a call does that runs events of a hub.
+pub record Runs {H T E : Type 0} (ran : Ran H) (old new : H) (result : Result T E) (done : Ran H → H → H → T → Type 0) : Type 0 where
+  -- where it is done, this holds of the hub before and after it, and of what it answers
+  pub holds : IfOk result (done ran old new)
+  -- whatever it answers, some events led from the one hub to the other
+  pub led : RanSo ran old new
 
 -- Where a script stands: the moment, and the number of the next line.
 pub record Place : Type 0 where

@@ -1,8 +1,8 @@
 -- Outcomes as a script's answers are printed, and faults by their names.
 use Rattle.std.specs.Prelude.{ℕ, List, ◌++◌, codes, decimal, encode_utf8_all}
 use Rattle.bstr.specs.Escape.{escaped}
-use Rattle.host_types.specs.declared.refused.Refused.{Refused as Refusal}
-use Rattle.host_types.specs.declared.refused.Refused.TheVariants as refusals
+use Rattle.common_types.specs.declared.refused.Refused.{Refused as Refusal}
+use Rattle.common_types.specs.declared.refused.Refused.TheVariants as refusals
 use Rattle.session_core.specs.declared.event.Outcome.{Outcome}
 use Rattle.session_core.specs.declared.event.Outcome.TheVariants.{Joined, More, Ready, Finished, Drawn, Gone, Done, Fault}
 use Rattle.session_core.specs.declared.fault.HubFault.{HubFault}
@@ -58,8 +58,8 @@ line_of Gone = codes "ok"
 line_of Done = codes "ok"
 line_of (Fault fault) = fault_line fault
 
--- what standard error is told of a run that ends with status 1
-abbrev pub told : RunFault → List ℕ
-told (Script n) = codes "script: line " ++ decimal n
-told Memory = codes "memory"
-told Output = codes "output"
+-- what standard error gets of a run that ends with status 1
+abbrev pub fault_text : RunFault → List ℕ
+fault_text (Script n) = codes "script: line " ++ decimal n
+fault_text Memory = codes "memory"
+fault_text Output = codes "output"

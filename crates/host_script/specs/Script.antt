@@ -13,7 +13,7 @@ use Rattle.host_script.specs.declared.script.Command.TheVariants.{Now, Text, Joi
 abbrev pub fields : List ℕ → List (List ℕ)
 fields line = slice_split (λ b. b == 32) line
 
--- the bytes that the escapes of a field stand for
+-- the bytes that the escapes of a field represent
 abbrev pub field_bytes : List ℕ → List ℕ
 field_bytes field = unescaped (chars field)
 

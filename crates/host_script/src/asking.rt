@@ -1,6 +1,6 @@
 // What a line of a script asks for.
 ghost use Rattle.std.specs.Prelude.{◌≡◌, IfOk};
-ghost use Rattle.host_script.specs.Asked.{asked_of, text_asked};
+ghost use Rattle.host_script.specs.ParsedLine.{parsed_of, text_parsed};
 
 use crate::script::Command;
 use host_types::{Bytes, Change, Item, Refused, Selector, Stamp, Title};
@@ -9,7 +9,7 @@ use std::alloc::{AllocError, Global};
 
 /// What a command asks for.
 #[derive(Debug, Drop)]
-pub enum Asked {
+pub enum ParsedLine {
     /// A new moment.
     Moment(Stamp),
     /// An event of the hub.
@@ -18,47 +18,47 @@ pub enum Asked {
     Refused(Refused),
 }
 
-/// The administrator's change of a line `text`; the selector is looked at before the title.
+/// The administrator's change of a line `text`; the selector is examined before the title.
 fn text(
     alloc: Global,
     selector: &Bytes,
     title: &Bytes,
     body: Bytes,
     now: Stamp,
-) -> Result<Asked, AllocError>
-    ensures { IfOk result (λ asked. asked ≡ text_asked selector.now title.now body now) }
+) -> Result<ParsedLine, AllocError>
+    ensures { IfOk result (λ parsed. parsed ≡ text_parsed selector.now title.now body now) }
 {
     let selector = match Selector::new(selector.as_slice()) {
         Ok(selector) => selector,
-        Err(refused) => return Ok(Asked::Refused(refused)),
+        Err(refused) => return Ok(ParsedLine::Refused(refused)),
     };
     let title = match Title::new(title.as_slice()) {
         Ok(title) => title,
-        Err(refused) => return Ok(Asked::Refused(refused)),
+        Err(refused) => return Ok(ParsedLine::Refused(refused)),
     };
     let change = Change::Put(selector, Item::text(alloc, title, now, body)?);
-    Ok(Asked::Event(Event::Admin { change, now }))
+    Ok(ParsedLine::Event(Event::Admin { change, now }))
 }
 
 /// What a command asks for at a moment.
-pub fn ask(alloc: Global, command: Command, now: Stamp) -> Result<Asked, AllocError>
-    ensures { IfOk result (λ asked. asked ≡ asked_of command now) }
+pub fn ask(alloc: Global, command: Command, now: Stamp) -> Result<ParsedLine, AllocError>
+    ensures { IfOk result (λ parsed. parsed ≡ parsed_of command now) }
 {
     Ok(match command {
-        Command::Now(stamp) => Asked::Moment(stamp),
+        Command::Now(stamp) => ParsedLine::Moment(stamp),
         Command::Text {
             selector,
             title,
             body,
         } => text(alloc, &selector, &title, body, now)?,
-        Command::Join => Asked::Event(Event::Join),
-        Command::Bytes { id, text } => Asked::Event(Event::Bytes {
+        Command::Join => ParsedLine::Event(Event::Join),
+        Command::Bytes { id, text } => ParsedLine::Event(Event::Bytes {
             id,
             piece: text,
             now,
         }),
-        Command::End(id) => Asked::Event(Event::End { id, now }),
-        Command::Draw { id, room } => Asked::Event(Event::Draw { id, room }),
-        Command::Leave(id) => Asked::Event(Event::Leave { id }),
+        Command::End(id) => ParsedLine::Event(Event::End { id, now }),
+        Command::Draw { id, room } => ParsedLine::Event(Event::Draw { id, room }),
+        Command::Leave(id) => ParsedLine::Event(Event::Leave { id }),
     })
 }

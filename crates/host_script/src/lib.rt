@@ -8,9 +8,9 @@ mod replaying;
 mod script;
 mod site;
 
-pub use asking::{Asked, ask};
+pub use asking::{ParsedLine, ask};
 pub use fault::Fault;
-pub use printed::{escaped, fault_line, line_of, refused_line, told};
+pub use printed::{escaped, fault_line, fault_text, line_of, refused_line};
 pub use replaying::{MOST_READS, replay};
 pub use script::{Command, LineFault, MOST_ROOM, parse};
 pub use site::small_site;

@@ -63,9 +63,9 @@ pub fn fault_line(alloc: Global, fault: HubFault) -> Result<String, AllocError>
     String::from_str(alloc, line)
 }
 
-/// What standard error is told of a run that ends with status 1, without its LF.
-pub fn told(alloc: Global, fault: &Fault) -> Result<String, AllocError>
-    ensures { IfOk result (λ t. string_bytes t ≡ spec.told fault.now) }
+/// What standard error gets of a run that ends with status 1, without its LF.
+pub fn fault_text(alloc: Global, fault: &Fault) -> Result<String, AllocError>
+    ensures { IfOk result (λ t. string_bytes t ≡ spec.fault_text fault.now) }
 {
     match fault {
         Fault::Script(number) => format!(in alloc; "script: line {number}"),

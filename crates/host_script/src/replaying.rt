@@ -1,14 +1,14 @@
 // Runs a script over a hub.
-ghost use Rattle.std.specs.Prelude.{◌≡◌, ℕ, false, List, [], ◌∷◌, ◌++◌, None, Err, IfOk, IfSome, OnOk, IsUtf8};
+ghost use Rattle.std.specs.Prelude.{◌≡◌, ℕ, false, List, [], ◌∷◌, ◌++◌, None, Err, IfSome, OnOk, IsUtf8};
 ghost use Rattle.std.specs.List.{list_any};
 ghost use Rattle.std.specs.Io.KnownBytes.{Appends};
 ghost use Rattle.std.specs.String.{string_bytes};
 ghost use Rattle.session_core.specs.Calls.{HubRun};
 ghost use Rattle.host_script.specs.Script.{line_command};
 ghost use Rattle.host_script.specs.declared.fault.Fault.TheVariants.{Script};
-ghost use Rattle.host_script.specs.Lines.{RanBy, RanSo, place_of, start, IsAnswer, RunsLine, IsRunTo, IsRunInPart, IsLastRun, IsReplayed, is_lf};
+ghost use Rattle.host_script.specs.Lines.{RanBy, RanSo, Runs, place_of, start, IsAnswer, RunsLine, IsRunTo, IsRunInPart, IsLastRun, IsReplayed, is_lf};
 
-use crate::asking::{Asked, ask};
+use crate::asking::{ParsedLine, ask};
 use crate::fault::Fault;
 use crate::printed::{line_of, refused_line};
 use crate::script::{LineFault, parse};
@@ -27,8 +27,7 @@ fn answer<S: SearchKeeper>(
     hub: &mut Hub<S>,
     event: Event,
 ) -> Result<String, AllocError>
-    ensures answer { IfOk result (λ printed. RanBy (HubRun S.keeping S.lacks S.stops S.stands_for) hub.old hub.new (IsAnswer event (string_bytes printed))) }
-    ensures ran { RanSo (HubRun S.keeping S.lacks S.stops S.stands_for) hub.old hub.new }
+    ensures answer { Runs (HubRun S.site_state S.lacks S.crash_states S.represents) hub.old hub.new result (λ ran a b printed. RanBy ran a b (IsAnswer event (string_bytes printed))) }
 {
     let Ok(outcomes) = hub.run(&[event]) else {
         return String::from_str(alloc, "fault Memory");
@@ -46,14 +45,13 @@ fn answer_line<S: SearchKeeper>(
     line: &[u8],
     now: Stamp,
 ) -> Result<(Stamp, String), LineFault>
-    ensures line { IfOk result (λ (after, printed). RanBy (HubRun S.keeping S.lacks S.stops S.stands_for) hub.old hub.new (RunsLine now after line.now (string_bytes printed))) }
+    ensures line { Runs (HubRun S.site_state S.lacks S.crash_states S.represents) hub.old hub.new result (λ ran a b (after, printed). RanBy ran a b (RunsLine now after line.now (string_bytes printed))) }
     ensures form { result ≡ Err LineFault.Form → (hub.new ≡ hub.old) × (IsUtf8 line.now → line_command line.now ≡ None) }
-    ensures ran { RanSo (HubRun S.keeping S.lacks S.stops S.stands_for) hub.old hub.new }
 {
     match ask(alloc, parse(alloc, line)?, now)? {
-        Asked::Moment(moment) => Ok((moment, String::from_str(alloc, "ok")?)),
-        Asked::Event(event) => Ok((now, answer(alloc, hub, event)?)),
-        Asked::Refused(refused) => Ok((now, refused_line(alloc, refused)?)),
+        ParsedLine::Moment(moment) => Ok((moment, String::from_str(alloc, "ok")?)),
+        ParsedLine::Event(event) => Ok((now, answer(alloc, hub, event)?)),
+        ParsedLine::Refused(refused) => Ok((now, refused_line(alloc, refused)?)),
     }
 }
 
@@ -66,9 +64,8 @@ fn run_line<S: SearchKeeper, W: Write>(
     number: u64,
     line: &[u8],
 ) -> Result<Stamp, Fault>
-    ensures line { IfOk result (λ after. (printed : List ℕ) × RanBy (HubRun S.keeping S.lacks S.stops S.stands_for) hub.old hub.new (RunsLine now after line.now printed) × Appends (W.contents writer.old) (W.contents writer.new) (printed ++ 10 ∷ [])) }
+    ensures line { Runs (HubRun S.site_state S.lacks S.crash_states S.represents) hub.old hub.new result (λ ran a b after. (printed : List ℕ) × RanBy ran a b (RunsLine now after line.now printed) × Appends (W.contents writer.old) (W.contents writer.new) (printed ++ 10 ∷ [])) }
     ensures script { (n : ℕ) → result ≡ Err (Script n) → (n ≡ number) × (hub.new ≡ hub.old) × (writer.new ≡ writer.old) × (IsUtf8 line.now → line_command line.now ≡ None) }
-    ensures ran { RanSo (HubRun S.keeping S.lacks S.stops S.stands_for) hub.old hub.new }
 {
     let (moment, printed) = match answer_line(alloc, hub, line, now) {
         Ok(answered) => answered,
@@ -97,9 +94,8 @@ fn run_byte<S: SearchKeeper, W: Write>(
     place: &mut Place,
     byte: u8,
 ) -> Result<(), Fault>
-    ensures run { list_any is_lf place.old.line.items ≡ false → OnOk result (IsRunTo (HubRun S.keeping S.lacks S.stops S.stands_for) hub.old hub.new (place_of place.old) (place_of place.new) (W.contents writer.old) (W.contents writer.new) (place.old.line.items ++ byte ∷ []) place.new.line.items) }
+    ensures run { Runs (HubRun S.site_state S.lacks S.crash_states S.represents) hub.old hub.new result (λ ran a b _. list_any is_lf place.old.line.items ≡ false → IsRunTo ran a b (place_of place.old) (place_of place.new) (W.contents writer.old) (W.contents writer.new) (place.old.line.items ++ byte ∷ []) place.new.line.items) }
     ensures script { (n : ℕ) → result ≡ Err (Script n) → (n ≡ place.old.number) × (hub.new ≡ hub.old) × (writer.new ≡ writer.old) × (byte ≡ 10) × (IsUtf8 place.old.line.items → line_command place.old.line.items ≡ None) }
-    ensures ran { RanSo (HubRun S.keeping S.lacks S.stops S.stands_for) hub.old hub.new }
 {
     if byte != b'\n' {
         return match place.line.push(byte) {
@@ -121,9 +117,8 @@ fn run_piece<S: SearchKeeper, W: Write>(
     place: &mut Place,
     piece: &[u8],
 ) -> Result<(), Fault>
-    ensures run { list_any is_lf place.old.line.items ≡ false → OnOk result (IsRunTo (HubRun S.keeping S.lacks S.stops S.stands_for) hub.old hub.new (place_of place.old) (place_of place.new) (W.contents writer.old) (W.contents writer.new) (place.old.line.items ++ piece.now) place.new.line.items) }
-    ensures script { list_any is_lf place.old.line.items ≡ false → (n : ℕ) → result ≡ Err (Script n) → IsRunInPart (HubRun S.keeping S.lacks S.stops S.stands_for) hub.old hub.new (place_of place.old) n (W.contents writer.old) (W.contents writer.new) place.old.line.items piece.now }
-    ensures ran { RanSo (HubRun S.keeping S.lacks S.stops S.stands_for) hub.old hub.new }
+    ensures run { Runs (HubRun S.site_state S.lacks S.crash_states S.represents) hub.old hub.new result (λ ran a b _. list_any is_lf place.old.line.items ≡ false → IsRunTo ran a b (place_of place.old) (place_of place.new) (W.contents writer.old) (W.contents writer.new) (place.old.line.items ++ piece.now) place.new.line.items) }
+    ensures script { list_any is_lf place.old.line.items ≡ false → (n : ℕ) → result ≡ Err (Script n) → IsRunInPart (HubRun S.site_state S.lacks S.crash_states S.represents) hub.old hub.new (place_of place.old) n (W.contents writer.old) (W.contents writer.new) place.old.line.items piece.now }
 {
     for byte in piece {
         run_byte(alloc, hub, writer, place, *byte)?;
@@ -138,9 +133,8 @@ fn run_last<S: SearchKeeper, W: Write>(
     writer: &mut W,
     place: &Place,
 ) -> Result<(), Fault>
-    ensures run { OnOk result (IsLastRun (HubRun S.keeping S.lacks S.stops S.stands_for) hub.old hub.new place.now.moment (W.contents writer.old) (W.contents writer.new) place.now.line.items) }
+    ensures run { Runs (HubRun S.site_state S.lacks S.crash_states S.represents) hub.old hub.new result (λ ran a b _. IsLastRun ran a b place.now.moment (W.contents writer.old) (W.contents writer.new) place.now.line.items) }
     ensures script { (n : ℕ) → result ≡ Err (Script n) → (n ≡ place.now.number) × (hub.new ≡ hub.old) × (writer.new ≡ writer.old) }
-    ensures ran { RanSo (HubRun S.keeping S.lacks S.stops S.stands_for) hub.old hub.new }
 {
     let line = place.line.as_slice();
     if line.is_empty() {
@@ -158,10 +152,10 @@ pub fn replay<R: Read, W: Write, S: SearchKeeper>(
     writer: &mut W,
     hub: &mut Hub<S>,
 ) -> Result<(), Fault>
-    ensures run { OnOk result (IfSome (R.remaining reader.old) (IsReplayed (HubRun S.keeping S.lacks S.stops S.stands_for) hub.old hub.new (W.contents writer.old) (W.contents writer.new))) }
-    ensures script { (n : ℕ) → result ≡ Err (Script n) → IfSome (R.remaining reader.old) (IsRunInPart (HubRun S.keeping S.lacks S.stops S.stands_for) hub.old hub.new start n (W.contents writer.old) (W.contents writer.new) []) }
-    // Whatever is answered, the hub was run by some events, so a stop at any moment leaves what a run of these may leave.
-    ensures ran { RanSo (HubRun S.keeping S.lacks S.stops S.stands_for) hub.old hub.new }
+    ensures run { OnOk result (IfSome (R.remaining reader.old) (IsReplayed (HubRun S.site_state S.lacks S.crash_states S.represents) hub.old hub.new (W.contents writer.old) (W.contents writer.new))) }
+    ensures script { (n : ℕ) → result ≡ Err (Script n) → IfSome (R.remaining reader.old) (IsRunInPart (HubRun S.site_state S.lacks S.crash_states S.represents) hub.old hub.new start n (W.contents writer.old) (W.contents writer.new) []) }
+    // Whatever is answered, the hub was run by some events, so a crash at any moment leaves what a run of these may leave.
+    ensures ran { RanSo (HubRun S.site_state S.lacks S.crash_states S.represents) hub.old hub.new }
 {
     let mut buffer = [0; 4096];
     let mut place = Place {

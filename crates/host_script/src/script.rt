@@ -75,7 +75,7 @@ fn number(field: &str) -> Option<u64>
     field.parse::<u64>().ok()
 }
 
-/// The bytes that the escapes of a field stand for.
+/// The bytes that the escapes of a field represent.
 fn unescaped(alloc: Global, field: &str) -> Result<Bytes, AllocError>
     ensures { IfOk result (λ b. b ≡ field_bytes field.now) }
 {

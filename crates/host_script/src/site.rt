@@ -2,7 +2,8 @@
 ghost use Rattle.std.specs.Prelude.{◌≡◌, IfOk, codes};
 ghost use Rattle.host_types.specs.Site.{fresh_site};
 
-use host_types::{Admin, Host, MemSite, Stamp, Title};
+use host_types::{Admin, Host, Stamp, Title};
+use mem_site::MemSite;
 use std::alloc::{AllocError, Global};
 
 /// `localhost`, port 7070, kept by Ada, with an empty top menu titled `Top`.

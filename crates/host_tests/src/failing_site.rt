@@ -1,8 +1,9 @@
 // A site in memory whose reads and changes can be made to fail, or be refused. It promises nothing of its contents.
 ghost use Rattle.std.specs.Prelude.{◌≡◌, ℕ, true, false};
-ghost use Rattle.host_types.specs.Stops.{nothing, no_stop};
+ghost use Rattle.host_types.specs.CrashStates.{nothing, no_crash_state};
 
-use host_types::{Card, Change, Front, MemSite, Refused, Selector, SiteFault, SiteKeeper, Stamp};
+use host_types::{Card, Change, Front, Refused, Selector, SiteFault, SiteKeeper, Stamp};
+use mem_site::MemSite;
 use word_index::{SearchKeeper, SelectorList};
 
 /// A site of which one read fails, or a change.
@@ -53,17 +54,17 @@ impl FailingSite {
 }
 
 impl SiteKeeper for FailingSite {
-    ghost keeping = { λ m. record { site = m.site; honest = false; usable = m.usable; free = 0; failed_reads = 0; failed_writes = 0 } };
+    ghost site_state = { λ m. record { site = m.site; honest = false; usable = m.usable; free = 0; failed_reads = 0; failed_writes = 0 } };
 
     ghost lacks = { λ m change now fault. ⊥ };
 
-    ghost Left = { ℕ };
+    ghost CrashState = { ℕ };
 
-    ghost stands_for = { λ c s. ⊥ };
+    ghost represents = { λ c s. ⊥ };
 
-    ghost stops = { λ m. nothing };
+    ghost crash_states = { λ m. nothing };
 
-    ghost settled = { λ m c honest usable left. no_stop left };
+    ghost crash_states_represent = { λ m c honest usable left. no_crash_state left };
 
     fn front(&self) -> Front<'_> {
         self.site.front()

@@ -1,10 +1,11 @@
 // Answers to the forms of the site.
 use crate::bench::Bench;
 use crate::line::Line;
+use crate::replies;
 use crate::sites::card_at;
 use crate::trouble::Trouble;
 use ask_forms::{Answer, AnswerList, post_of, read_answers};
-use host_types::{Bytes, CardBody, LineList, QuestionList};
+use host_types::{Bytes, Card, CardBody, LineList, QuestionList};
 use plus_blocks::ask_block;
 use std::alloc::Global;
 
@@ -35,24 +36,66 @@ fn one_answer(alloc: Global, lines: &LineList) -> Result<AnswerList, Trouble> {
     Ok(answers)
 }
 
-/// `answers SELECTOR LINE ..`, `one_answer SELECTOR LINE ..` and `ask SELECTOR`, of the form that stands there.
+/// `answers SELECTOR LINE ..`: the post of the lines.
+fn show_answers(
+    alloc: Global,
+    line: &mut Line,
+    questions: &QuestionList,
+    lines: &LineList,
+) -> Result<(), Trouble> {
+    let answers = read_answers(alloc, questions, lines)?;
+    show_post(alloc, line, questions, &answers)
+}
+
+/// `one_answer SELECTOR LINE ..`
+fn show_one_answer(
+    alloc: Global,
+    line: &mut Line,
+    questions: &QuestionList,
+    lines: &LineList,
+) -> Result<(), Trouble> {
+    let answers = one_answer(alloc, lines)?;
+    show_post(alloc, line, questions, &answers)
+}
+
+/// `ask SELECTOR`
+fn show_ask(alloc: Global, line: &mut Line, questions: &QuestionList) -> Result<(), Trouble> {
+    Ok(line.bytes(ask_block(alloc, questions)?.as_slice())?)
+}
+
+/// The words of the form of a card.
 fn of_form(
     alloc: Global,
     line: &mut Line,
     word: &str,
-    questions: &QuestionList,
-    lines: &LineList,
-) -> Result<bool, Trouble> {
+    card: &Card,
+    rest: &[Vec<u8>],
+) -> Result<(), Trouble> {
+    let CardBody::Form { questions, .. } = &card.body else {
+        return Err(Trouble::Line);
+    };
+    let lines = list_of(alloc, rest)?;
     match word {
-        "answers" => {
-            let answers = read_answers(alloc, questions, lines)?;
-            show_post(alloc, line, questions, &answers)?;
-        }
-        "one_answer" => show_post(alloc, line, questions, &one_answer(alloc, lines)?)?,
-        "ask" => line.bytes(ask_block(alloc, questions)?.as_slice())?,
-        _ => return Ok(false),
+        "answers" => show_answers(alloc, line, questions, &lines),
+        "one_answer" => show_one_answer(alloc, line, questions, &lines),
+        _ => show_ask(alloc, line, questions),
     }
-    Ok(true)
+}
+
+/// The words of the form at a selector.
+fn on_form(
+    bench: &mut Bench,
+    line: &mut Line,
+    word: &str,
+    fields: &[Vec<u8>],
+) -> Result<(), Trouble> {
+    let [selector, rest @ ..] = fields else {
+        return Err(Trouble::Line);
+    };
+    match &card_at(bench, selector)? {
+        Some(card) => of_form(bench.alloc, line, word, card, rest),
+        None => Err(Trouble::Line),
+    }
 }
 
 pub fn call(
@@ -60,18 +103,9 @@ pub fn call(
     line: &mut Line,
     word: &str,
     fields: &[Vec<u8>],
-) -> Result<bool, Trouble> {
-    let [selector, rest @ ..] = fields else {
-        return Ok(false);
-    };
-    let Some(card) = card_at(bench, selector)? else {
-        return Ok(false);
-    };
-    match &card.body {
-        CardBody::Form { questions, .. } => {
-            let lines = list_of(bench.alloc, rest)?;
-            of_form(bench.alloc, line, word, questions, &lines)
-        }
-        _ => Ok(false),
+) -> Result<(), Trouble> {
+    match word {
+        "answers" | "one_answer" | "ask" => on_form(bench, line, word, fields),
+        _ => replies::call(bench, line, word, fields),
     }
 }

@@ -1,9 +1,9 @@
 // Items from fields.
-use crate::line::{number, small_number};
+use crate::line::{number, small_number, text_of};
 use crate::trouble::Trouble;
 use host_types::{
-    Body, Bytes, ChoiceList, Entry, EntryList, Host, Item, Kind, LineList, LinkKind, Question,
-    QuestionList, Selector, Stamp, Title, Url, View, ViewList,
+    Body, Bytes, ChoiceList, Entry, EntryList, Host, Item, Kind, LinkKind, Question, QuestionList,
+    Selector, Stamp, Title, Url, View, ViewList, lines_of,
 };
 use std::alloc::Global;
 
@@ -70,78 +70,90 @@ pub fn entries(alloc: Global, fields: &[Vec<u8>]) -> Result<EntryList, Trouble> 
 /// Choices, each a line.
 fn choices(alloc: Global, lines: &[u8]) -> Result<ChoiceList, Trouble> {
     let mut list = ChoiceList::new(alloc);
-    for line in LineList::of_body(alloc, lines)?.as_slice() {
+    for line in lines_of(alloc, lines)?.as_slice() {
         list.push(line.clone()?)?;
     }
     Ok(list)
 }
 
+/// A question for a word that has to be known.
+fn ask_word(alloc: Global, prompt: Title, word: &[u8]) -> Result<Question, Trouble> {
+    Ok(Question::AskP {
+        prompt,
+        word: Bytes::from_slice(alloc, word)?,
+    })
+}
+
+/// A question with choices.
+fn choose(alloc: Global, prompt: Title, lines: &[u8]) -> Result<Question, Trouble> {
+    Ok(Question::Choose {
+        prompt,
+        choices: choices(alloc, lines)?,
+    })
+}
+
 /// A question: `ask` and `askl` need no more than a prompt, `askp` a word, `choose` choices.
-fn question(alloc: Global, sort: &[u8], prompt: Title, more: &[u8]) -> Result<Question, Trouble> {
+fn question(alloc: Global, sort: &str, prompt: Title, more: &[u8]) -> Result<Question, Trouble> {
     match sort {
-        b"ask" => Ok(Question::Ask(prompt)),
-        b"askl" => Ok(Question::AskL(prompt)),
-        b"askp" => Ok(Question::AskP {
-            prompt,
-            word: Bytes::from_slice(alloc, more)?,
-        }),
-        b"choose" => Ok(Question::Choose {
-            prompt,
-            choices: choices(alloc, more)?,
-        }),
+        "ask" => Ok(Question::Ask(prompt)),
+        "askl" => Ok(Question::AskL(prompt)),
+        "askp" => ask_word(alloc, prompt, more),
+        "choose" => choose(alloc, prompt, more),
         _ => Err(Trouble::Line),
     }
 }
 
 /// A form by the selector of its board, and questions of three fields each.
-fn form(alloc: Global, fields: &[Vec<u8>]) -> Result<Body, Trouble> {
-    let [board, rest @ ..] = fields else {
-        return Err(Trouble::Line);
-    };
+fn form(alloc: Global, board: &[u8], fields: &[Vec<u8>]) -> Result<Body, Trouble> {
+    let board = Selector::new(board)?;
     let mut questions = QuestionList::new(alloc);
-    for fields in rest.chunks(3) {
+    for fields in fields.chunks(3) {
         let [sort, prompt, more] = fields else {
             return Err(Trouble::Line);
         };
-        questions.push(question(alloc, sort, Title::new(prompt)?, more)?)?;
+        questions.push(question(alloc, text_of(sort), Title::new(prompt)?, more)?)?;
     }
-    Ok(Body::Form {
-        board: Selector::new(board)?,
-        questions,
-    })
+    Ok(Body::Form { board, questions })
 }
 
-fn board(fields: &[Vec<u8>]) -> Result<Body, Trouble> {
-    let [cap, next] = fields else {
-        return Err(Trouble::Line);
-    };
+fn board(cap: &[u8], next: &[u8]) -> Result<Body, Trouble> {
     Ok(Body::Board {
         cap: small_number(cap)?,
         next: number(next)?,
     })
 }
 
-/// The selector that is the only field.
-fn only(fields: &[Vec<u8>]) -> Result<Selector, Trouble> {
-    let [selector] = fields else {
-        return Err(Trouble::Line);
-    };
-    Ok(Selector::new(selector)?)
+/// A document of some views.
+fn document(alloc: Global, kind: Kind, fields: &[Vec<u8>]) -> Result<Body, Trouble> {
+    Ok(Body::Views(kind, views(alloc, fields)?))
 }
 
-fn body(alloc: Global, sort: &[u8], fields: &[Vec<u8>]) -> Result<Body, Trouble> {
-    match sort {
-        b"text" => Ok(Body::Views(Kind::Text, views(alloc, fields)?)),
-        b"image" => Ok(Body::Views(Kind::Image, views(alloc, fields)?)),
-        b"menu" => Ok(Body::Menu(entries(alloc, fields)?)),
-        b"board" => board(fields),
-        b"form" => form(alloc, fields),
-        b"search" => Ok(Body::Search {
-            scope: only(fields)?,
-        }),
-        b"moved" => Ok(Body::Moved {
-            target: only(fields)?,
-        }),
+fn menu(alloc: Global, fields: &[Vec<u8>]) -> Result<Body, Trouble> {
+    Ok(Body::Menu(entries(alloc, fields)?))
+}
+
+fn search(scope: &[u8]) -> Result<Body, Trouble> {
+    Ok(Body::Search {
+        scope: Selector::new(scope)?,
+    })
+}
+
+fn moved(target: &[u8]) -> Result<Body, Trouble> {
+    Ok(Body::Moved {
+        target: Selector::new(target)?,
+    })
+}
+
+/// A body by a word and what it needs.
+fn body(alloc: Global, sort: &str, fields: &[Vec<u8>]) -> Result<Body, Trouble> {
+    match (sort, fields) {
+        ("text", fields) => document(alloc, Kind::Text, fields),
+        ("image", fields) => document(alloc, Kind::Image, fields),
+        ("menu", fields) => menu(alloc, fields),
+        ("board", [cap, next]) => board(cap, next),
+        ("form", [board, rest @ ..]) => form(alloc, board, rest),
+        ("search", [scope]) => search(scope),
+        ("moved", [target]) => moved(target),
         _ => Err(Trouble::Line),
     }
 }
@@ -151,10 +163,11 @@ pub fn item(alloc: Global, fields: &[Vec<u8>]) -> Result<Item, Trouble> {
     let [title, summary, sort, rest @ ..] = fields else {
         return Err(Trouble::Line);
     };
+    let body = body(alloc, text_of(sort), rest)?;
     Ok(Item {
         title: Title::new(title)?,
         stamp: Stamp::start(),
         summary: Bytes::from_slice(alloc, summary)?,
-        body: body(alloc, sort, rest)?,
+        body,
     })
 }

@@ -51,20 +51,22 @@ impl Line {
     }
 }
 
+/// The text of a field, which is empty where its bytes are none.
+pub fn text_of(field: &[u8]) -> &str {
+    std::str::from_utf8(field).unwrap_or("")
+}
+
 /// The number that decimal digits write.
 pub fn number(field: &[u8]) -> Result<u64, Trouble> {
-    let Ok(text) = std::str::from_utf8(field) else {
-        return Err(Trouble::Line);
-    };
-    text.parse::<u64>().or(Err(Trouble::Line))
+    text_of(field).parse::<u64>().or(Err(Trouble::Line))
 }
 
 /// The same of a port or of how many posts a board keeps.
 pub fn small_number(field: &[u8]) -> Result<u16, Trouble> {
-    u16::try_from(number(field)?).or(Err(Trouble::Line))
+    text_of(field).parse::<u16>().or(Err(Trouble::Line))
 }
 
-/// Adds the bytes that a part of a field stands for: escapes, or behind a count and `*` so many times the same.
+/// Adds the bytes that a part of a field represents: escapes, or behind a count and `*` so many times the same.
 fn push_part(alloc: Global, bytes: &mut Vec<u8>, part: &str) -> Result<(), Trouble> {
     let Some((count, repeated)) = part.split_once('*') else {
         bytes.extend_from_slice(&Vec::unescape_bytes(alloc, part)?)?;

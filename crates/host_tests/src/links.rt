@@ -1,7 +1,9 @@
 // Replies of bytes alone: texts, heads, pages of links; and the laws.
+use crate::bench::Bench;
 use crate::line::{Line, number};
+use crate::replays;
 use crate::trouble::Trouble;
-use host_types::{Admin, LineList, Stamp};
+use host_types::{Admin, Stamp, lines_of};
 use plus_blocks::{abstract_block, admin, head, info};
 use std::alloc::Global;
 use text_writer::text;
@@ -9,13 +11,13 @@ use url_page::{escape, redirect, unescape};
 use word_index::{index_change, words_in};
 
 /// `laws`: the laws of each library, which promise without a value.
-fn laws() {
+fn laws() -> Result<(), Trouble> {
     host_types::worked_examples();
-    host_types::changes_keep_sites_lawful();
+    host_types::changes_keep_sites_valid();
     host_types::what_stands_has_limits();
-    request_reader::settled();
+    request_reader::closed_verdict_stays();
     request_reader::decided();
-    request_reader::lawful();
+    request_reader::valid();
     request_reader::any_cuts();
     request_reader::worked_examples();
     text_writer::reads_back();
@@ -30,6 +32,7 @@ fn laws() {
     word_index::worked_examples();
     session_core::continues();
     session_core::worked_examples();
+    Ok(())
 }
 
 /// `redirect URL`: the page, and the page with its names read back.
@@ -55,56 +58,74 @@ fn changed_words(alloc: Global, line: &mut Line, old: &[u8], new: &[u8]) -> Resu
     Ok(line.list(&change.add)?)
 }
 
-/// The words with one field.
-fn of_one(alloc: Global, line: &mut Line, word: &str, bytes: &[u8]) -> Result<bool, Trouble> {
-    match word {
-        "text" => line.bytes(text(alloc, bytes)?.as_slice())?,
-        "lines" => line.list(&LineList::of_body(alloc, bytes)?)?,
-        "head" => line.bytes(head(alloc, Some(number(bytes)? as usize))?.as_slice())?,
-        "info" => line.bytes(info(alloc, bytes)?.as_slice())?,
-        "abstract" => line.bytes(abstract_block(alloc, bytes)?.as_slice())?,
-        "redirect" => page(alloc, line, bytes)?,
-        "escape" => named(alloc, line, bytes)?,
-        "unescape" => line.bytes(unescape(alloc, bytes)?.as_slice())?,
-        _ => return Ok(false),
-    }
-    Ok(true)
+/// `text BYTES`, and what else gives bytes back.
+fn show_text(alloc: Global, line: &mut Line, bytes: &[u8]) -> Result<(), Trouble> {
+    Ok(line.bytes(text(alloc, bytes)?.as_slice())?)
 }
 
-/// The words with two fields.
-fn of_two(
-    alloc: Global,
-    line: &mut Line,
-    word: &str,
-    one: &[u8],
-    other: &[u8],
-) -> Result<bool, Trouble> {
-    match word {
-        "admin" => {
-            let stamp = Stamp::new(number(other)?)?;
-            line.bytes(admin(alloc, &Admin::new(one)?, stamp)?.as_slice())?;
-        }
-        "changed_words" => changed_words(alloc, line, one, other)?,
-        _ => return Ok(false),
-    }
-    Ok(true)
+fn show_lines(alloc: Global, line: &mut Line, bytes: &[u8]) -> Result<(), Trouble> {
+    Ok(line.list(&lines_of(alloc, bytes)?)?)
 }
 
-pub fn call(
-    alloc: Global,
+fn show_head(alloc: Global, line: &mut Line, length: &[u8]) -> Result<(), Trouble> {
+    let length = number(length)? as usize;
+    Ok(line.bytes(head(alloc, Some(length))?.as_slice())?)
+}
+
+fn show_endless(alloc: Global, line: &mut Line) -> Result<(), Trouble> {
+    Ok(line.bytes(head(alloc, None)?.as_slice())?)
+}
+
+fn show_info(alloc: Global, line: &mut Line, bytes: &[u8]) -> Result<(), Trouble> {
+    Ok(line.bytes(info(alloc, bytes)?.as_slice())?)
+}
+
+fn show_abstract(alloc: Global, line: &mut Line, bytes: &[u8]) -> Result<(), Trouble> {
+    Ok(line.bytes(abstract_block(alloc, bytes)?.as_slice())?)
+}
+
+fn show_unescaped(alloc: Global, line: &mut Line, bytes: &[u8]) -> Result<(), Trouble> {
+    Ok(line.bytes(unescape(alloc, bytes)?.as_slice())?)
+}
+
+/// `admin KEEPER STAMP`
+fn show_admin(alloc: Global, line: &mut Line, name: &[u8], seconds: &[u8]) -> Result<(), Trouble> {
+    let stamp = Stamp::new(number(seconds)?)?;
+    let name = Admin::new(name)?;
+    Ok(line.bytes(admin(alloc, &name, stamp)?.as_slice())?)
+}
+
+/// The words of pages of links, and of two fields.
+fn of_pages(
+    bench: &mut Bench,
     line: &mut Line,
     word: &str,
     fields: &[Vec<u8>],
-) -> Result<bool, Trouble> {
-    match fields {
-        [] => match word {
-            "laws" => laws(),
-            "endless" => line.bytes(head(alloc, None)?.as_slice())?,
-            _ => return Ok(false),
-        },
-        [one] => return of_one(alloc, line, word, one),
-        [one, other] => return of_two(alloc, line, word, one, other),
-        _ => return Ok(false),
+) -> Result<(), Trouble> {
+    match (word, fields) {
+        ("redirect", [url]) => page(bench.alloc, line, url),
+        ("escape", [bytes]) => named(bench.alloc, line, bytes),
+        ("unescape", [bytes]) => show_unescaped(bench.alloc, line, bytes),
+        ("admin", [name, stamp]) => show_admin(bench.alloc, line, name, stamp),
+        ("changed_words", [old, new]) => changed_words(bench.alloc, line, old, new),
+        ("laws", []) => laws(),
+        _ => replays::call(bench, line, word, fields),
     }
-    Ok(true)
+}
+
+pub fn call(
+    bench: &mut Bench,
+    line: &mut Line,
+    word: &str,
+    fields: &[Vec<u8>],
+) -> Result<(), Trouble> {
+    match (word, fields) {
+        ("text", [bytes]) => show_text(bench.alloc, line, bytes),
+        ("lines", [bytes]) => show_lines(bench.alloc, line, bytes),
+        ("head", [length]) => show_head(bench.alloc, line, length),
+        ("info", [bytes]) => show_info(bench.alloc, line, bytes),
+        ("abstract", [bytes]) => show_abstract(bench.alloc, line, bytes),
+        ("endless", []) => show_endless(bench.alloc, line),
+        _ => of_pages(bench, line, word, fields),
+    }
 }

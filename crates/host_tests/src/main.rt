@@ -1,9 +1,12 @@
 //! Calls of what the protocol is made of, one for each line of standard input: `WORD FIELD FIELD ..`. Each line prints one: `ok` and what the
 //! call gave, or `fault` and why it gave nothing. Lines that begin with `#` are printed as they are.
+//! Each module makes the calls of its own words, and hands other words to the next: names, links, replays, texts of faults, requests, sites,
+//! forms, replies.
 #![tactic(auto)]
 
 mod bench;
 mod failing_site;
+mod fault_text;
 mod forms;
 mod items;
 mod line;
@@ -13,7 +16,6 @@ mod replays;
 mod replies;
 mod requests;
 mod sites;
-mod told;
 mod trouble;
 
 use bench::Bench;
@@ -25,10 +27,10 @@ use trouble::Trouble;
 /// Makes the call of a line.
 fn call(bench: &mut Bench, line: &mut Line, text: &str) -> Result<(), Trouble> {
     let Some((word, rest)) = text.split_once(' ') else {
-        return bench.call(line, text, &[]);
+        return names::call(bench, line, text, &[]);
     };
     let fields = fields_of(bench.alloc, rest)?;
-    bench.call(line, word, &fields)
+    names::call(bench, line, word, &fields)
 }
 
 /// What is printed for a line.

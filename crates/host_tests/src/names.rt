@@ -1,5 +1,7 @@
 // Names, stamps, and the texts of faults.
+use crate::bench::Bench;
 use crate::line::{Line, number};
+use crate::links;
 use crate::trouble::Trouble;
 use host_types::{
     Admin, Bytes, GREATEST_STAMP, Host, Refused, Selector, SiteFault, Stamp, Title, Url,
@@ -45,58 +47,91 @@ fn faults(alloc: Global, line: &mut Line) -> Result<(), Trouble> {
 }
 
 /// `same BYTES BYTES`: whether bytes that were moved and bytes that were copied are equal.
-fn same(alloc: Global, line: &mut Line, fields: &[Vec<u8>]) -> Result<(), Trouble> {
-    let [one, other] = fields else {
-        return Err(Trouble::Line);
-    };
-    let is_same = Bytes::from(one.clone()?) == Bytes::from_slice(alloc, other)?;
+fn same(alloc: Global, line: &mut Line, one: &Vec<u8>, other: &[u8]) -> Result<(), Trouble> {
+    let moved = Bytes::from(one.clone()?);
+    let is_same = moved == Bytes::from_slice(alloc, other)?;
     Ok(line.word(if is_same { "same" } else { "other" })?)
 }
 
+/// `selector BYTES` gives the name back, as do the next four.
+fn selector(line: &mut Line, bytes: &[u8]) -> Result<(), Trouble> {
+    Ok(line.bytes(Selector::new(bytes)?.clone()?.as_bytes())?)
+}
+
+fn title(line: &mut Line, bytes: &[u8]) -> Result<(), Trouble> {
+    Ok(line.bytes(Title::new(bytes)?.clone()?.as_bytes())?)
+}
+
+fn keeper(line: &mut Line, bytes: &[u8]) -> Result<(), Trouble> {
+    Ok(line.bytes(Admin::new(bytes)?.clone()?.as_bytes())?)
+}
+
+fn host(line: &mut Line, bytes: &[u8]) -> Result<(), Trouble> {
+    Ok(line.bytes(Host::new(bytes)?.clone()?.as_bytes())?)
+}
+
+fn url(line: &mut Line, bytes: &[u8]) -> Result<(), Trouble> {
+    Ok(line.bytes(Url::new(bytes)?.clone()?.as_bytes())?)
+}
+
+/// `reserved BYTES`: whether the selector is.
+fn reserved(line: &mut Line, bytes: &[u8]) -> Result<(), Trouble> {
+    let is_reserved = Selector::new(bytes)?.is_reserved();
+    Ok(line.word(if is_reserved { "reserved" } else { "free" })?)
+}
+
+/// `stamp SECONDS`
+fn stamp(line: &mut Line, seconds: &[u8]) -> Result<(), Trouble> {
+    moment(line, number(seconds)?)
+}
+
+fn moment(line: &mut Line, seconds: u64) -> Result<(), Trouble> {
+    Ok(line.number(Stamp::new(seconds)?.seconds())?)
+}
+
+fn echo(line: &mut Line, bytes: &[u8]) -> Result<(), Trouble> {
+    Ok(line.bytes(bytes)?)
+}
+
 /// The words that give a name back.
-fn one_name(line: &mut Line, word: &str, bytes: &[u8]) -> Result<bool, Trouble> {
-    match word {
-        "selector" => line.bytes(Selector::new(bytes)?.clone()?.as_bytes())?,
-        "title" => line.bytes(Title::new(bytes)?.clone()?.as_bytes())?,
-        "keeper" => line.bytes(Admin::new(bytes)?.clone()?.as_bytes())?,
-        "host" => line.bytes(Host::new(bytes)?.clone()?.as_bytes())?,
-        "url" => line.bytes(Url::new(bytes)?.clone()?.as_bytes())?,
-        _ => return Ok(false),
-    }
-    Ok(true)
-}
-
-/// The words of one field.
-fn one_field(alloc: Global, line: &mut Line, word: &str, bytes: &[u8]) -> Result<bool, Trouble> {
-    match word {
-        "names" => names(alloc, line, bytes)?,
-        "reserved" => line.word(if Selector::new(bytes)?.is_reserved() {
-            "reserved"
-        } else {
-            "free"
-        })?,
-        "stamp" => line.number(Stamp::new(number(bytes)?)?.seconds())?,
-        "echo" => line.bytes(bytes)?,
-        _ => return one_name(line, word, bytes),
-    }
-    Ok(true)
-}
-
-pub fn call(
-    alloc: Global,
+fn one_name(
+    bench: &mut Bench,
     line: &mut Line,
     word: &str,
     fields: &[Vec<u8>],
-) -> Result<bool, Trouble> {
-    if let [bytes] = fields {
-        return one_field(alloc, line, word, bytes);
+) -> Result<(), Trouble> {
+    match (word, fields) {
+        ("selector", [bytes]) => selector(line, bytes),
+        ("title", [bytes]) => title(line, bytes),
+        ("keeper", [bytes]) => keeper(line, bytes),
+        ("host", [bytes]) => host(line, bytes),
+        ("url", [bytes]) => url(line, bytes),
+        _ => links::call(bench, line, word, fields),
     }
+}
+
+/// The words without a name.
+fn nameless(line: &mut Line, alloc: Global, word: &str) -> Result<(), Trouble> {
     match word {
-        "faults" => faults(alloc, line)?,
-        "same" => same(alloc, line, fields)?,
-        "root" => line.bytes(Selector::root().as_bytes())?,
-        "greatest" => line.number(Stamp::new(GREATEST_STAMP)?.seconds())?,
-        _ => return Ok(false),
+        "faults" => faults(alloc, line),
+        "root" => echo(line, Selector::root().as_bytes()),
+        _ => moment(line, GREATEST_STAMP),
     }
-    Ok(true)
+}
+
+pub fn call(
+    bench: &mut Bench,
+    line: &mut Line,
+    word: &str,
+    fields: &[Vec<u8>],
+) -> Result<(), Trouble> {
+    match (word, fields) {
+        ("names", [bytes]) => names(bench.alloc, line, bytes),
+        ("reserved", [bytes]) => reserved(line, bytes),
+        ("stamp", [seconds]) => stamp(line, seconds),
+        ("echo", [bytes]) => echo(line, bytes),
+        ("same", [one, other]) => same(bench.alloc, line, one, other),
+        ("faults" | "root" | "greatest", []) => nameless(line, bench.alloc, word),
+        _ => one_name(bench, line, word, fields),
+    }
 }

@@ -1,7 +1,9 @@
 // Lines of scripts, and scripts over sites, readers and writers that fail.
 ghost use Rattle.std.specs.Prelude.{◌≡◌, true, IfOk};
 
+use crate::bench::Bench;
 use crate::failing_site::FailingSite;
+use crate::fault_text;
 use crate::line::{Line, number};
 use crate::trouble::Trouble;
 use host_script::{Command, LineFault, parse, replay, small_site};
@@ -118,87 +120,117 @@ fn replay_both(alloc: Global, line: &mut Line, script: &[u8]) -> Result<(), Trou
 }
 
 /// `replay_into ROOM SCRIPT`: how it ends where no more can be written.
-fn replay_into(alloc: Global, line: &mut Line, script: &[u8], room: u64) -> Result<(), AllocError> {
+fn replay_into(alloc: Global, line: &mut Line, script: &[u8], room: &[u8]) -> Result<(), Trouble> {
     let mut whole = script;
-    let mut kept = vec![in alloc; 0u8; room as usize]?;
+    let mut kept = vec![in alloc; 0u8; number(room)? as usize]?;
     let site = site(alloc, u64::MAX, u64::MAX)?;
-    replayed(alloc, line, &mut whole, &mut kept.as_mut_slice(), site)
+    Ok(replayed(alloc, line, &mut whole, &mut kept.as_mut_slice(), site)?)
 }
 
 /// `replay_endless`: how a script without an end ends.
-fn replay_endless(alloc: Global, line: &mut Line) -> Result<(), AllocError> {
+fn replay_endless(alloc: Global, line: &mut Line) -> Result<(), Trouble> {
     let mut printed = Vec::new(alloc);
     let site = site(alloc, u64::MAX, u64::MAX)?;
     replayed(alloc, line, &mut Endless, &mut printed, site)?;
-    line.bytes(&printed)
+    Ok(line.bytes(&printed)?)
+}
+
+/// A word and a number.
+fn show_number(line: &mut Line, word: &str, number: u64) -> Result<(), AllocError> {
+    line.word(word)?;
+    line.number(number)
+}
+
+/// `bytes ID TEXT`
+fn show_bytes(line: &mut Line, id: u64, text: &[u8]) -> Result<(), AllocError> {
+    show_number(line, "bytes", id)?;
+    line.bytes(text)
+}
+
+/// `text SELECTOR TITLE BODY`
+fn show_text(
+    line: &mut Line,
+    selector: &[u8],
+    title: &[u8],
+    body: &[u8],
+) -> Result<(), AllocError> {
+    line.word("text")?;
+    line.bytes(selector)?;
+    line.bytes(title)?;
+    line.bytes(body)
+}
+
+/// `draw ID ROOM`
+fn show_draw(line: &mut Line, id: u64, room: usize) -> Result<(), AllocError> {
+    show_number(line, "draw", id)?;
+    line.number(room as u64)
 }
 
 /// `parse LINE`: the command of a line of a script.
 fn show_command(line: &mut Line, command: &Command) -> Result<(), AllocError> {
     match command {
-        Command::Now(stamp) => {
-            line.word("now")?;
-            line.number(stamp.seconds())
-        }
+        Command::Now(stamp) => show_number(line, "now", stamp.seconds()),
         Command::Text {
             selector,
             title,
             body,
-        } => {
-            line.word("text")?;
-            line.bytes(selector.as_slice())?;
-            line.bytes(title.as_slice())?;
-            line.bytes(body.as_slice())
-        }
+        } => show_text(line, selector.as_slice(), title.as_slice(), body.as_slice()),
         Command::Join => line.word("join"),
-        Command::Bytes { id, text } => {
-            line.word("bytes")?;
-            line.number(*id)?;
-            line.bytes(text.as_slice())
-        }
-        Command::End(id) => {
-            line.word("end")?;
-            line.number(*id)
-        }
-        Command::Draw { id, room } => {
-            line.word("draw")?;
-            line.number(*id)?;
-            line.number(*room as u64)
-        }
-        Command::Leave(id) => {
-            line.word("leave")?;
-            line.number(*id)
-        }
+        Command::Bytes { id, text } => show_bytes(line, *id, text.as_slice()),
+        Command::End(id) => show_number(line, "end", *id),
+        Command::Draw { id, room } => show_draw(line, *id, *room),
+        Command::Leave(id) => show_number(line, "leave", *id),
     }
 }
 
-fn parse_line(alloc: Global, line: &mut Line, text: &[u8]) -> Result<(), AllocError> {
+fn parse_line(alloc: Global, line: &mut Line, text: &[u8]) -> Result<(), Trouble> {
     match parse(alloc, text) {
-        Ok(command) => show_command(line, &command),
-        Err(LineFault::Form) => line.word("none"),
-        Err(LineFault::Memory) => Err(AllocError),
+        Ok(command) => Ok(show_command(line, &command)?),
+        Err(LineFault::Form) => Ok(line.word("none")?),
+        Err(LineFault::Memory) => Err(Trouble::from(AllocError)),
     }
+}
+
+/// `replay_reads READS SCRIPT` and `replay_changes CHANGES SCRIPT`: a read or a change of the site fails behind so many others.
+fn replay_failing(
+    alloc: Global,
+    line: &mut Line,
+    count: &[u8],
+    script: &[u8],
+    is_read: bool,
+) -> Result<(), Trouble> {
+    let count = number(count)?;
+    let (reads, changes) = if is_read {
+        (count, u64::MAX)
+    } else {
+        (u64::MAX, count)
+    };
+    Ok(replay_whole(alloc, line, script, reads, changes)?)
+}
+
+/// `replay_cut BEFORE SCRIPT`: byte by byte, up to a read that fails.
+fn replay_cut(alloc: Global, line: &mut Line, before: &[u8], script: &[u8]) -> Result<(), Trouble> {
+    let before = number(before)?;
+    Ok(replay_slowly(alloc, line, script, before)?)
 }
 
 pub fn call(
-    alloc: Global,
+    bench: &mut Bench,
     line: &mut Line,
     word: &str,
     fields: &[Vec<u8>],
-) -> Result<bool, Trouble> {
+) -> Result<(), Trouble> {
+    let alloc = bench.alloc;
     match (word, fields) {
-        ("parse", [text]) => parse_line(alloc, line, text)?,
-        ("replay", [script]) => replay_both(alloc, line, script)?,
-        ("replay_cut", [before, script]) => replay_slowly(alloc, line, script, number(before)?)?,
-        ("replay_into", [room, script]) => replay_into(alloc, line, script, number(room)?)?,
-        ("replay_endless", []) => replay_endless(alloc, line)?,
-        ("replay_reads", [reads, script]) => {
-            replay_whole(alloc, line, script, number(reads)?, u64::MAX)?
-        }
-        ("replay_changes", [changes, script]) => {
-            replay_whole(alloc, line, script, u64::MAX, number(changes)?)?
-        }
-        _ => return Ok(false),
+        ("parse", [text]) => parse_line(alloc, line, text),
+        ("replay", [script]) => replay_both(alloc, line, script),
+        ("replay_cut", [before, script]) => replay_cut(alloc, line, before, script),
+        ("replay_into", [room, script]) => replay_into(alloc, line, script, room),
+        ("replay_endless", []) => replay_endless(alloc, line),
+        ("replay_reads", [reads, script]) => replay_failing(alloc, line, reads, script, true),
+        ("replay_changes", [changes, script]) => replay_failing(
+            alloc, line, changes, script, false,
+        ),
+        _ => fault_text::call(bench, line, word, fields),
     }
-    Ok(true)
 }

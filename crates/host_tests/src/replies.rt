@@ -117,6 +117,21 @@ fn show_views(alloc: Global, line: &mut Line, card: &Card) -> Result<(), Trouble
     }
 }
 
+/// `attributes SELECTOR NAME ..` and `entries SELECTOR LINE ..`
+fn blocks(
+    bench: &Bench,
+    line: &mut Line,
+    word: &str,
+    (selector, card): (&Selector, &Card),
+    rest: &[Vec<u8>],
+) -> Result<(), Trouble> {
+    let rest = list_of(bench.alloc, rest)?;
+    match word {
+        "attributes" => all_attributes(bench, line, selector, card, &rest),
+        _ => menu_attributes(bench, line, selector, card, &rest),
+    }
+}
+
 /// The words of an item and its selector.
 fn shown(
     bench: &Bench,
@@ -124,16 +139,14 @@ fn shown(
     word: &str,
     (selector, card): (&Selector, &Card),
     rest: &[Vec<u8>],
-) -> Result<bool, Trouble> {
+) -> Result<(), Trouble> {
     match word {
-        "item_line" => lines(bench, line, selector, card)?,
-        "menu" => whole_menu(bench, line, selector, card, rest)?,
-        "attributes" => all_attributes(bench, line, selector, card, &list_of(bench.alloc, rest)?)?,
-        "entries" => menu_attributes(bench, line, selector, card, &list_of(bench.alloc, rest)?)?,
-        "views" => show_views(bench.alloc, line, card)?,
-        _ => return Ok(false),
+        "item_line" => lines(bench, line, selector, card),
+        "menu" => whole_menu(bench, line, selector, card, rest),
+        "attributes" | "entries" => blocks(bench, line, word, (selector, card), rest),
+        "views" => show_views(bench.alloc, line, card),
+        _ => Err(Trouble::Line),
     }
-    Ok(true)
 }
 
 /// The words of the item at a selector.
@@ -143,12 +156,18 @@ fn of_item(
     word: &str,
     selector: &[u8],
     rest: &[Vec<u8>],
-) -> Result<bool, Trouble> {
+) -> Result<(), Trouble> {
     let selector = Selector::new(selector)?;
     match bench.site.card(&selector)? {
         Some(card) => shown(bench, line, word, (&selector, &card), rest),
-        None => Ok(false),
+        None => Err(Trouble::Line),
     }
+}
+
+/// `no_entries`: the attributes of a menu of nothing.
+fn no_entries(alloc: Global, line: &mut Line) -> Result<(), Trouble> {
+    let none = LineList::new(alloc);
+    Ok(line.bytes(entry_attributes(alloc, &none)?.as_slice())?)
 }
 
 pub fn call(
@@ -156,16 +175,12 @@ pub fn call(
     line: &mut Line,
     word: &str,
     fields: &[Vec<u8>],
-) -> Result<bool, Trouble> {
+) -> Result<(), Trouble> {
     match (word, fields) {
-        ("error", fields) => error(bench.alloc, line, false, fields)?,
-        ("plus_error", fields) => error(bench.alloc, line, true, fields)?,
-        ("no_entries", []) => {
-            let none = LineList::new(bench.alloc);
-            line.bytes(entry_attributes(bench.alloc, &none)?.as_slice())?;
-        }
-        (word, [selector, rest @ ..]) => return of_item(bench, line, word, selector, rest),
-        _ => return Ok(false),
+        ("error", fields) => error(bench.alloc, line, false, fields),
+        ("plus_error", fields) => error(bench.alloc, line, true, fields),
+        ("no_entries", []) => no_entries(bench.alloc, line),
+        (word, [selector, rest @ ..]) => of_item(bench, line, word, selector, rest),
+        _ => Err(Trouble::Line),
     }
-    Ok(true)
 }

@@ -3,15 +3,16 @@ ghost use Rattle.std.specs.Prelude.{◌<◌};
 
 use crate::bench::Bench;
 use crate::line::Line;
+use crate::sites;
 use crate::trouble::Trouble;
 use host_types::{LineList, Selector};
-use request_reader::{Answer, Cause, Names, Plus, Reader, Request, Wanted, answer_to};
+use request_reader::{Answer, Cause, Names, Plus, Reader, Request, RequestedView, answer_to};
 use std::alloc::{AllocError, Global};
 
-fn show_view(line: &mut Line, wanted: Wanted<'_>) -> Result<(), AllocError> {
+fn show_view(line: &mut Line, requested: RequestedView<'_>) -> Result<(), AllocError> {
     line.word("view")?;
-    line.bytes(wanted.name)?;
-    match wanted.language {
+    line.bytes(requested.name)?;
+    match requested.language {
         Some(language) => line.bytes(language),
         None => Ok(()),
     }
@@ -30,7 +31,7 @@ fn show_names(
 fn show_plus(alloc: Global, line: &mut Line, plus: Plus<'_>) -> Result<(), AllocError> {
     match plus {
         Plus::Fetch(None) => line.word("fetch"),
-        Plus::Fetch(Some(wanted)) => show_view(line, wanted),
+        Plus::Fetch(Some(requested)) => show_view(line, requested),
         Plus::Attributes(names) => show_names(alloc, line, "attributes", names),
         Plus::EntryAttributes(names) => show_names(alloc, line, "entries", names),
     }
@@ -112,28 +113,53 @@ fn exact(alloc: Global, line: &mut Line, stream: &[u8]) -> Result<(), Trouble> {
 }
 
 /// `each STREAM`: feeds the bytes one by one, and says whether each was taken as not whole yet.
-fn feed_each(reader: &mut Reader, line: &mut Line, stream: &[u8]) -> Result<(), AllocError> {
+fn feed_each(reader: &mut Reader, line: &mut Line, stream: &[u8]) -> Result<(), Trouble> {
     for byte in stream {
         let _ = reader.feed(&[*byte])?;
         if !reader.is_open() {
-            return line.word("said");
+            return Ok(line.word("said")?);
         }
     }
-    line.word("open")
+    Ok(line.word("open")?)
 }
 
-/// The words without a field, of the reader.
-fn of_reader(bench: &mut Bench, line: &mut Line, word: &str) -> Result<bool, Trouble> {
-    match word {
-        "reader" => bench.reader = Reader::new(bench.alloc),
-        "finish" => show(bench.alloc, line, bench.reader.finish())?,
-        "undo" => {
-            bench.reader.undo();
-            show(bench.alloc, line, bench.reader.answer())?;
-        }
-        _ => return Ok(false),
+/// `feed STREAM`
+fn feed(bench: &mut Bench, line: &mut Line, stream: &[u8]) -> Result<(), Trouble> {
+    Ok(show(bench.alloc, line, bench.reader.feed(stream)?)?)
+}
+
+/// `finish`
+fn finish(bench: &mut Bench, line: &mut Line) -> Result<(), Trouble> {
+    Ok(show(bench.alloc, line, bench.reader.finish())?)
+}
+
+/// `undo`
+fn undo(bench: &mut Bench, line: &mut Line) -> Result<(), Trouble> {
+    bench.reader.undo();
+    Ok(show(bench.alloc, line, bench.reader.answer())?)
+}
+
+/// `reader`: another one.
+fn begin(bench: &mut Bench) -> Result<(), Trouble> {
+    bench.reader = Reader::new(bench.alloc);
+    Ok(())
+}
+
+/// The words of the reader.
+fn of_reader(
+    bench: &mut Bench,
+    line: &mut Line,
+    word: &str,
+    fields: &[Vec<u8>],
+) -> Result<(), Trouble> {
+    match (word, fields) {
+        ("reader", []) => begin(bench),
+        ("finish", []) => finish(bench, line),
+        ("undo", []) => undo(bench, line),
+        ("feed", [stream]) => feed(bench, line, stream),
+        ("each", [stream]) => feed_each(&mut bench.reader, line, stream),
+        _ => sites::call(bench, line, word, fields),
     }
-    Ok(true)
 }
 
 pub fn call(
@@ -141,17 +167,11 @@ pub fn call(
     line: &mut Line,
     word: &str,
     fields: &[Vec<u8>],
-) -> Result<bool, Trouble> {
-    let [stream] = fields else {
-        return of_reader(bench, line, word);
-    };
-    match word {
-        "request" => request(bench.alloc, line, stream, false)?,
-        "ended" => request(bench.alloc, line, stream, true)?,
-        "exact" => exact(bench.alloc, line, stream)?,
-        "each" => feed_each(&mut bench.reader, line, stream)?,
-        "feed" => show(bench.alloc, line, bench.reader.feed(stream)?)?,
-        _ => return Ok(false),
+) -> Result<(), Trouble> {
+    match (word, fields) {
+        ("request", [stream]) => request(bench.alloc, line, stream, false),
+        ("ended", [stream]) => request(bench.alloc, line, stream, true),
+        ("exact", [stream]) => exact(bench.alloc, line, stream),
+        _ => of_reader(bench, line, word, fields),
     }
-    Ok(true)
 }

@@ -1,11 +1,13 @@
 // A site in memory: its changes, and what is seen of it.
 use crate::bench::Bench;
+use crate::forms;
 use crate::items::item;
 use crate::line::{Line, number, small_number};
 use crate::trouble::Trouble;
 use host_types::{
-    Admin, Bytes, Card, CardBody, Change, Host, Kind, MemSite, Selector, SiteKeeper, Stamp, Title,
+    Admin, Bytes, Card, CardBody, Change, Host, Kind, Selector, SiteKeeper, Stamp, Title,
 };
+use mem_site::MemSite;
 use word_index::{SearchKeeper, card_words, words};
 
 /// `site HOST PORT KEEPER TITLE STAMP`: a fresh site.
@@ -28,9 +30,9 @@ fn fresh(bench: &mut Bench, fields: &[Vec<u8>]) -> Result<(), Trouble> {
     Ok(())
 }
 
-/// Makes a change, of which each name is lawful, at the moment that was told.
+/// Makes a change, of which each name is valid, at the moment that was given.
 fn change(bench: &mut Bench, change: Change) -> Result<(), Trouble> {
-    change.lawful_names();
+    change.valid_names();
     Ok(bench.site.change(change.clone()?, bench.now)?)
 }
 
@@ -167,20 +169,27 @@ fn show_words(bench: &mut Bench, line: &mut Line, fields: &[Vec<u8>]) -> Result<
     Ok(line.list(&card_words(bench.alloc, &card, bytes)?)?)
 }
 
-/// The words that change something.
-fn of_changes(bench: &mut Bench, word: &str, fields: &[Vec<u8>]) -> Result<bool, Trouble> {
-    match word {
-        "site" => fresh(bench, fields)?,
-        "put" => put(bench, fields)?,
-        "insert" => insert(bench, fields)?,
-        "post" => post(bench, fields)?,
-        "remove" | "set_keeper" | "move" | "set_host" => {
-            let short = short_change(word, fields)?;
-            change(bench, short)?;
-        }
-        _ => return Ok(false),
-    }
-    Ok(true)
+/// `remove SELECTOR`, `set_keeper KEEPER`, `move SELECTOR SELECTOR` and `set_host HOST PORT`
+fn change_shortly(bench: &mut Bench, word: &str, fields: &[Vec<u8>]) -> Result<(), Trouble> {
+    change(bench, short_change(word, fields)?)
+}
+
+/// `now SECONDS`
+fn set_now(bench: &mut Bench, seconds: &[u8]) -> Result<(), Trouble> {
+    bench.now = Stamp::new(number(seconds)?)?;
+    Ok(())
+}
+
+/// `valid`: whether the site keeps the rules.
+fn show_valid(bench: &mut Bench, line: &mut Line) -> Result<(), Trouble> {
+    let is_valid = bench.site.is_valid(bench.alloc)?;
+    Ok(line.word(if is_valid { "valid" } else { "invalid" })?)
+}
+
+/// `words ITEM`: the words of an item.
+fn show_item_words(bench: &Bench, line: &mut Line, fields: &[Vec<u8>]) -> Result<(), Trouble> {
+    let item = item(bench.alloc, fields)?;
+    Ok(line.list(&words(bench.alloc, &item)?)?)
 }
 
 /// The words that look at the site.
@@ -189,19 +198,16 @@ fn looks(
     line: &mut Line,
     word: &str,
     fields: &[Vec<u8>],
-) -> Result<bool, Trouble> {
+) -> Result<(), Trouble> {
     match word {
-        "front" => show_front(bench, line)?,
-        "lawful" => {
-            let is_lawful = bench.site.is_lawful(bench.alloc)?;
-            line.word(if is_lawful { "lawful" } else { "unlawful" })?;
-        }
-        "chunk" => show_chunk(bench, line, fields)?,
-        "search" => search(bench, line, fields)?,
-        "card_words" => show_words(bench, line, fields)?,
-        _ => return Ok(false),
+        "front" => show_front(bench, line),
+        "valid" => show_valid(bench, line),
+        "chunk" => show_chunk(bench, line, fields),
+        "search" => search(bench, line, fields),
+        "card_words" => show_words(bench, line, fields),
+        "words" => show_item_words(bench, line, fields),
+        _ => forms::call(bench, line, word, fields),
     }
-    Ok(true)
 }
 
 pub fn call(
@@ -209,12 +215,17 @@ pub fn call(
     line: &mut Line,
     word: &str,
     fields: &[Vec<u8>],
-) -> Result<bool, Trouble> {
+) -> Result<(), Trouble> {
     match (word, fields) {
-        ("now", [moment]) => bench.now = Stamp::new(number(moment)?)?,
-        ("card", [selector]) => show_card(bench, line, selector)?,
-        ("words", fields) => line.list(&words(bench.alloc, &item(bench.alloc, fields)?)?)?,
-        _ => return Ok(looks(bench, line, word, fields)? || of_changes(bench, word, fields)?),
+        ("now", [moment]) => set_now(bench, moment),
+        ("card", [selector]) => show_card(bench, line, selector),
+        ("site", fields) => fresh(bench, fields),
+        ("put", fields) => put(bench, fields),
+        ("insert", fields) => insert(bench, fields),
+        ("post", fields) => post(bench, fields),
+        ("remove" | "set_keeper" | "move" | "set_host", fields) => {
+            change_shortly(bench, word, fields)
+        }
+        _ => looks(bench, line, word, fields),
     }
-    Ok(true)
 }

@@ -1,8 +1,8 @@
--- Boards of a site, and when their posts stay lawful.
+-- Boards of a site, and when their posts stay valid.
 use Rattle.std.proofs.Common.{◌≡◌, ℕ, zero, suc, ◌+◌, ◌-◌, ◌<◌, ◌≤◌, Bool, true, false, List, [], ◌∷◌, Option, Some, None, refl, ap, sym, subst, ◌∙◌, arith, inl, inr, ◌⊎◌}
 use Rattle.std.specs.Prelude.{is_some, filter}
 use Rattle.std.proofs.lemmas.Bool.{cases_Bool, cases_eq, both_ways, lt-ltb}
-use Rattle.host_types.specs.Names.{is_post_name}
+use Rattle.common_types.specs.Names.{is_post_name}
 use Rattle.host_types.specs.Site.{Site, item_at, post_selector, last_numbers, has_any, board_of, board_in, board_at, posts_of, has_posts, has_posts_in, text_view, IsPost, IsSite, IsMenuBody, IsMenuIn, MayStand}
 use Rattle.host_types.specs.Standing.{HasBoardLimits, HasBodyLimits, limits_at}
 use Rattle.host_types.specs.declared.item.Item.{Item}
@@ -100,7 +100,7 @@ no_posts s k none cap next n is first given last =
 
 -- ---- posts that stay
 
--- All boards but one are as they were, and that one has no posts, or is as it was: then each post is still one of the last of its board.
+-- All boards but one are as they were, and that one has no posts, or is as it was: then each post remains one of the last of its board.
 pub stays_post : (s t : Site) (k q : List ℕ) (item : Item) → ((b : List ℕ) → Differ b k → board_at t b ≡ board_at s b) → (HasNoPosts s k ⊎ (board_at t k ≡ board_at s k)) → item_at s q ≡ Some item → IsPost s q item → IsPost t q item
 stays_post s t k q item others own stood p = record {
   board = p.board;

@@ -2,14 +2,14 @@
 use Rattle.std.proofs.Common.{◌≡◌, ℕ, ◌<◌, ◌≤◌, ◌^◌, List, [], ◌∷◌, length, Some, refl, sym, subst}
 use Rattle.std.specs.Prelude.{IsTrue}
 use Rattle.std.proofs.lemmas.Bool.{le-leb}
-use Rattle.host_types.specs.Names.{is_field, is_word}
+use Rattle.common_types.specs.Names.{is_field, is_word}
 use Rattle.host_types.specs.Site.{Site, item_at, fresh_site, empty_menu, IsSite, MayStand}
 use Rattle.host_types.specs.declared.item.Item.{Item}
 
 empty_menu_may_stand : (s : Site) (title : List ℕ) (stamp : ℕ) → length title ≤ 69 → IsTrue (is_field title) → stamp ≤ 253402300799 → MayStand s [] (empty_menu title stamp)
 empty_menu_may_stand s title stamp fits field early = record {
   name = refl;
-  lawful = rw (le-leb (length title) 69 fits, field, le-leb stamp 253402300799 early) refl;
+  valid = rw (le-leb (length title) 69 fits, field, le-leb stamp 253402300799 early) refl;
   no_url = refl;
   counted = λ cap next is. absurd (cc is);
   post = λ is. absurd (cc is);

@@ -1,10 +1,10 @@
 -- Applying a change to a site: the new site, or the first refusal.
-use Rattle.std.specs.Prelude.{ℕ, ◌+◌, ◌-◌, ◌^◌, Bool, true, false, List, [], length, nat_lt, ◌&&◌, ◌||◌, ◌==◌, not, bytes_eq, Option, Some, None, is_some, is_none, Result, Ok, Err, if◌then◌else◌}
+use Rattle.std.specs.Prelude.{ℕ, ◌+◌, ◌-◌, ◌^◌, Bool, true, false, List, [], ◌∷◌, length, nat_lt, ◌&&◌, ◌||◌, ◌==◌, not, bytes_eq, Option, Some, None, is_some, is_none, Result, Ok, Err, option_to_list, if◌then◌else◌}
 use Rattle.host_types.specs.Items.{is_bad_body, is_long_item}
 use Rattle.host_types.specs.Site.{Site, item_at, with_item, without_item, post_selector, board_of, board_at, has_posts, text_item}
-use Rattle.host_types.specs.Names.{is_reserved}
-use Rattle.host_types.specs.declared.refused.Refused.{Refused}
-use Rattle.host_types.specs.declared.refused.Refused.TheVariants as refusals
+use Rattle.common_types.specs.Names.{is_reserved}
+use Rattle.common_types.specs.declared.refused.Refused.{Refused}
+use Rattle.common_types.specs.declared.refused.Refused.TheVariants as refusals
 use Rattle.host_types.specs.declared.item.Item.{Item}
 use Rattle.host_types.specs.declared.item.Body.{Body}
 use Rattle.host_types.specs.declared.item.Body.TheVariants as bodies
@@ -144,3 +144,19 @@ apply s (changes.Move from to) now = move_to s from to now
 apply s (changes.SetHost host port) now = set_host s host port
 apply s (changes.SetAdmin admin) now = set_admin s admin
 apply s (changes.Post board title text) now = post s board title text now
+
+-- ---- what a change touches
+
+-- the selectors of a board's post n: the board, the post, and the post that it pushes out
+abbrev pub touched_by_post : List ℕ → Option (ℕ × ℕ) → List (List ℕ)
+touched_by_post board None = []
+touched_by_post board (Some b) = board ∷ post_selector board b.1 ∷ option_to_list (oldest_post board b.0 b.1)
+
+-- the selectors at which a change changes something
+abbrev pub touched : Site → Change → List (List ℕ)
+touched s (changes.Put selector item) = selector ∷ []
+touched s (changes.Remove selector) = selector ∷ []
+touched s (changes.Move from to) = from ∷ to ∷ []
+touched s (changes.SetHost host port) = []
+touched s (changes.SetAdmin admin) = []
+touched s (changes.Post board title text) = touched_by_post board (board_at s board)

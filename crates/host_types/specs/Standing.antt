@@ -3,7 +3,7 @@ use Rattle.std.specs.Prelude.{◌≡◌, ℕ, ◌^◌, ◌<◌, ◌≤◌, true,
 use Rattle.std.specs.List.{list_all, list_any}
 use Rattle.std.proofs.Common.{arith, refl}
 use Rattle.std.proofs.lemmas.Bool.{and_parts, or_parts, not-true, leb-true, ltb-true, ltb-false, eqb-false}
-use Rattle.host_types.specs.Names.{is_field, is_url_name}
+use Rattle.common_types.specs.Names.{is_field, is_url_name}
 use Rattle.host_types.specs.Items.{has_bad_name, has_twins, is_bad_entry, is_bad_question, is_bad_body, most_view_bytes, view_bytes, is_long_view, is_long_question, is_long_body, is_long_item, is_selector, is_title, is_typed_entry, prompt_of, is_typed_body, is_typed_item}
 use Rattle.host_types.specs.Site.{Site, IsSite, item_at, board_of}
 use Rattle.host_types.specs.declared.view.View.{View}
@@ -113,11 +113,11 @@ pub limits_at : AllHaveLimits
 limits_at s selector item site stands =
     let may = site.each selector item stands in
     let name = and_parts (nat_le (length selector) 255) (is_field selector) may.name in
-    let lawful = and_parts (is_typed_item item) (not (is_bad_body item.body) && not (is_long_item selector item)) may.lawful in
-    let typed = and_parts (is_title item.title) (nat_le item.stamp 253402300799 && is_typed_body item.body) lawful.0 in
+    let valid = and_parts (is_typed_item item) (not (is_bad_body item.body) && not (is_long_item selector item)) may.valid in
+    let typed = and_parts (is_title item.title) (nat_le item.stamp 253402300799 && is_typed_body item.body) valid.0 in
     let title = and_parts (nat_le (length item.title) 69) (is_field item.title) typed.0 in
     let body = and_parts (nat_le item.stamp 253402300799) (is_typed_body item.body) typed.1 in
-    let limits = and_parts (not (is_bad_body item.body)) (not (is_long_item selector item)) lawful.1 in
+    let limits = and_parts (not (is_bad_body item.body)) (not (is_long_item selector item)) valid.1 in
     let sizes = or_parts (nat_lt 400 (length item.summary)) (is_long_body selector item.body) (not-true (is_long_item selector item) limits.1) in
     record {
       name = leb-true (length selector) 255 name.0;

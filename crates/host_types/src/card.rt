@@ -3,10 +3,9 @@ ghost use Rattle.std.specs.Prelude.{◌≡◌, ◌<◌, ◌≤◌, ◌^◌, OnOk
 ghost use Rattle.host_types.specs.Card.{card_view, card_body, card_of, viewed, chunk_of, has_short_views};
 
 use crate::{
-    Body, Bytes, EntryList, Item, Kind, QuestionList, Selector, Stamp, Title, View, ViewList,
+    Body, Bytes, EntryList, Item, Kind, List, QuestionList, Selector, Stamp, Title, View, ViewList,
 };
 use std::alloc::{AllocError, Global};
-use std::marker::Model;
 
 /// One form of a document, with its length in place of its bytes.
 #[derive(Clone, Debug, Drop)]
@@ -20,47 +19,7 @@ pub struct CardView {
 }
 
 /// The views of a card, in the order in which they are offered.
-#[derive(Debug, Drop)]
-pub struct CardViewList {
-    views: Vec<CardView>,
-}
-
-impl Model for CardViewList {
-    ghost use Rattle.std.specs.Prelude.{List};
-    ghost use Rattle.host_types.specs.declared.card.CardView.{CardView};
-
-    ghost Value = { List CardView };
-
-    ghost view = { λ l. l.views.items };
-}
-
-impl CardViewList {
-    /// No views, which take no memory.
-    pub fn new(alloc: Global) -> Self
-        ensures { result ≡ [] }
-    {
-        CardViewList {
-            views: Vec::new(alloc),
-        }
-    }
-
-    /// Adds one at the end; where memory is wanting, none.
-    pub fn push(&mut self, one: CardView) -> Result<(), AllocError>
-        ensures ok { OnOk result (self.new ≡ self.old ++ one ∷ []) }
-        ensures err { OnErr result (self.new ≡ self.old) }
-    {
-        self.views.push(one)?;
-        Ok(())
-    }
-
-    /// The views in their order.
-    pub fn as_slice(&self) -> &[CardView]
-        ensures { result.now ≡ self.now }
-    {
-        let views = &self.views;
-        views
-    }
-}
+pub type CardViewList = List<CardView>;
 
 /// What an item has beside its title, stamp and summary, without the bytes of its views.
 #[derive(Debug, Drop)]
@@ -115,17 +74,29 @@ impl View {
     }
 }
 
-impl ViewList {
-    fn cards(&self, alloc: Global) -> Result<CardViewList, AllocError>
-        requires { All (λ v. length v.bytes < 2 ^ 32) self.now }
-        ensures { IfOk result (λ cards. cards ≡ map card_view self.now) }
-    {
-        let mut views = Vec::new(alloc);
-        for view in self.as_slice() {
-            views.push(view.card()?)?;
-        }
-        Ok(CardViewList { views })
+fn cards(alloc: Global, views: &ViewList) -> Result<CardViewList, AllocError>
+    requires { All (λ v. length v.bytes < 2 ^ 32) views.now }
+    ensures { IfOk result (λ cards. cards ≡ map card_view views.now) }
+{
+    let mut cards = CardViewList::new(alloc);
+    for view in views.as_slice() {
+        cards.push(view.card()?)?;
     }
+    Ok(cards)
+}
+
+/// Equal entries, which a copied list of any type does not promise.
+fn entries_of(entries: &EntryList) -> Result<EntryList, AllocError>
+    ensures { IfOk result (λ copy. copy ≡ entries.now) }
+{
+    Ok(entries.clone()?)
+}
+
+/// Equal questions, which a copied list of any type does not promise.
+fn questions_of(questions: &QuestionList) -> Result<QuestionList, AllocError>
+    ensures { IfOk result (λ copy. copy ≡ questions.now) }
+{
+    Ok(questions.clone()?)
 }
 
 impl Body {
@@ -134,15 +105,15 @@ impl Body {
         ensures { IfOk result (λ card. card ≡ card_body self.now) }
     {
         Ok(match self {
-            Body::Views(kind, views) => CardBody::Views(*kind, views.cards(alloc)?),
-            Body::Menu(entries) => CardBody::Menu(entries.clone()?),
+            Body::Views(kind, views) => CardBody::Views(*kind, cards(alloc, views)?),
+            Body::Menu(entries) => CardBody::Menu(entries_of(entries)?),
             Body::Board { cap, next } => CardBody::Board {
                 cap: *cap,
                 next: *next,
             },
             Body::Form { board, questions } => CardBody::Form {
                 board: board.clone()?,
-                questions: questions.clone()?,
+                questions: questions_of(questions)?,
             },
             Body::Search { scope } => CardBody::Search {
                 scope: scope.clone()?,

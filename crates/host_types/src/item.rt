@@ -1,7 +1,7 @@
 // Items of a site.
 ghost use Rattle.std.specs.Prelude.{◌≡◌, ◌<◌, ◌^◌, ◌-◌, IfOk};
 ghost use Rattle.host_types.specs.Site.{board_of, text_item, empty_menu};
-ghost use Rattle.host_types.specs.Change.{is_menu, is_moved, keeps_cap, body_put, item_put, moved_item, board_after};
+ghost use Rattle.host_types.specs.Change.{is_menu, is_moved, body_put, item_put, moved_item, board_after};
 
 use crate::{
     Admin, Bytes, EntryList, Host, Kind, QuestionList, Selector, Stamp, Title, View, ViewList,
@@ -74,16 +74,6 @@ impl Body {
             }
             other => other,
         }
-    }
-}
-
-/// Whether the new board has the cap of the old one.
-pub fn keeps_cap(old: Option<(u16, u64)>, new: Option<(u16, u64)>) -> bool
-    ensures { result ≡ keeps_cap old new }
-{
-    match (old, new) {
-        (Some((old, _)), Some((new, _))) => old == new,
-        _ => false,
     }
 }
 

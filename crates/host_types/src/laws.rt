@@ -1,15 +1,15 @@
 // What holds of the definitions.
-ghost use Rattle.host_types.specs.Examples.{Examples};
-ghost use Rattle.host_types.specs.LawfulChanges.{ChangesKeepSites, FreshSites};
+ghost use Rattle.host_types.specs.SiteExamples.{SiteExamples};
+ghost use Rattle.host_types.specs.ValidChanges.{ChangesKeepSites, FreshSites};
 ghost use Rattle.host_types.specs.Standing.{AllHaveLimits};
 
 /// Worked examples of changes.
 pub fn worked_examples()
-    ensures { Examples }
+    ensures { SiteExamples }
 {}
 
 /// Whatever is changed, the rules of a site hold on: no change that is made leaves an item that may not stand where it stands.
-pub fn changes_keep_sites_lawful()
+pub fn changes_keep_sites_valid()
     ensures fresh { FreshSites }
     ensures changed { ChangesKeepSites }
 {}

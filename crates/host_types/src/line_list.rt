@@ -3,13 +3,12 @@ ghost use Rattle.std.specs.Prelude.{◌≡◌, ℕ, List, false, OnOk, OnErr, If
 ghost use Rattle.std.specs.List.{list_any};
 ghost use Rattle.host_types.specs.Lines.{is_lf, lines, without_cr};
 
-use crate::Bytes;
+use crate::{Bytes, List};
 use std::alloc::{AllocError, Global};
-use std::marker::Model;
 
 /// The line without one CR at its end.
 #[tactic(auto, using(crate::proofs::CutLines::without_cr_at, crate::proofs::CutLines::without_cr_none))]
-fn without_cr(line: &[u8]) -> &[u8]
+pub fn without_cr(line: &[u8]) -> &[u8]
     ensures { result.now ≡ without_cr line.now }
 {
     match line {
@@ -19,28 +18,7 @@ fn without_cr(line: &[u8]) -> &[u8]
 }
 
 /// Lines in their order, without what ends them.
-#[derive(Debug, Drop)]
-pub struct LineList {
-    lines: Vec<Bytes>,
-}
-
-impl Model for LineList {
-    ghost use Rattle.std.specs.Prelude.{List, ℕ};
-
-    ghost Value = { List (List ℕ) };
-
-    ghost view = { λ l. l.lines.items };
-}
-
-impl Clone for LineList {
-    ghost is_clone = { λ a b. b ≡ a };
-
-    fn clone(&self) -> Result<Self, AllocError> {
-        Ok(LineList {
-            lines: self.lines.clone()?,
-        })
-    }
-}
+pub type LineList = List<Bytes>;
 
 /// Takes one byte more of a body; the lines before it are in the list, the bytes since then in the line.
 #[tactic(auto, using(crate::proofs::CutLines::cut_here, crate::proofs::CutLines::goes_in, crate::proofs::CutLines::still_none))]
@@ -62,47 +40,19 @@ fn take_byte(
     Ok(())
 }
 
-impl LineList {
-    /// No lines, which take no memory.
-    pub fn new(alloc: Global) -> Self
-        ensures { result ≡ [] }
-    {
-        LineList {
-            lines: Vec::new(alloc),
-        }
+#[tactic(auto, using(crate::proofs::CutLines::rest_of, crate::proofs::CutLines::no_rest))]
+/// The lines of a body: it is cut at each LF, one CR before it dropped; a last part without LF is a line where it has bytes.
+pub fn lines_of(alloc: Global, body: &[u8]) -> Result<LineList, AllocError>
+    ensures { IfOk result (λ list. list ≡ lines body.now) }
+{
+    let mut list = LineList::new(alloc);
+    let mut line = Vec::new(alloc);
+    for byte in body {
+        take_byte(alloc, &mut list, &mut line, *byte)?;
     }
-
-    /// The lines in their order.
-    pub fn as_slice(&self) -> &[Bytes]
-        ensures { result.now ≡ self.now }
-    {
-        let lines = &self.lines;
-        lines
+    if line.is_empty() {
+        return Ok(list);
     }
-
-    /// Adds one at the end; where memory is wanting, none.
-    pub fn push(&mut self, one: Bytes) -> Result<(), AllocError>
-        ensures ok { OnOk result (self.new ≡ self.old ++ one ∷ []) }
-        ensures err { OnErr result (self.new ≡ self.old) }
-    {
-        self.lines.push(one)?;
-        Ok(())
-    }
-
-    #[tactic(auto, using(crate::proofs::CutLines::rest_of, crate::proofs::CutLines::no_rest))]
-    /// The lines of a body: it is cut at each LF, one CR before it dropped; a last part without LF is a line where it has bytes.
-    pub fn of_body(alloc: Global, body: &[u8]) -> Result<Self, AllocError>
-        ensures { IfOk result (λ list. list ≡ lines body.now) }
-    {
-        let mut list = LineList::new(alloc);
-        let mut line = Vec::new(alloc);
-        for byte in body {
-            take_byte(alloc, &mut list, &mut line, *byte)?;
-        }
-        if line.is_empty() {
-            return Ok(list);
-        }
-        list.push(Bytes::from(line))?;
-        Ok(list)
-    }
+    list.push(Bytes::from(line))?;
+    Ok(list)
 }

@@ -9,7 +9,7 @@ use thiserror::Error;
 /// Why a call of a keeper of a site fails.
 #[derive(Clone, Copy, Debug, PartialEq, Eq, Error)]
 pub enum SiteFault {
-    /// The change is not lawful on the site as it stands.
+    /// The change is not valid on the site as it stands.
     #[error("{0}")]
     Refused(Refused),
     /// A read of what the site is kept on failed.
@@ -29,7 +29,7 @@ pub enum SiteFault {
     /// A write or a sync failed, in this call or before.
     #[error("Failed")]
     Failed,
-    /// Memory is wanting.
+    /// Out of memory.
     #[error("Memory")]
     Memory,
 }

@@ -1,61 +1,54 @@
-// What the types say of each value: its names are lawful, and its numbers fit.
+// What the types say of each value: its names are valid, and its numbers fit.
 ghost use Rattle.std.specs.Prelude.{IsTrue};
 ghost use Rattle.std.specs.List.{list_all};
 ghost use Rattle.host_types.specs.Items.{is_selector, is_title, is_admin, is_host, is_link, is_typed_entry, prompt_of, is_typed_body, is_typed_item};
-ghost use Rattle.host_types.specs.LawfulChanges.{is_typed_change};
+ghost use Rattle.host_types.specs.ValidChanges.{is_typed_change};
 
 use crate::{Admin, Body, Change, Entry, Host, Item, Question, Selector, Title, Url};
 
-impl Selector {
-    pub(crate) fn lawful(&self)
-        ensures { IsTrue (is_selector self.now) }
-    {
-        let _ = self.as_bytes();
-    }
+/// A name is valid as its type says.
+pub fn valid_selector(selector: &Selector)
+    ensures { IsTrue (is_selector selector.now) }
+{
+    let _ = selector.as_bytes();
 }
 
-impl Title {
-    fn lawful(&self)
-        ensures { IsTrue (is_title self.now) }
-    {
-        let _ = self.as_bytes();
-    }
+fn valid_title(title: &Title)
+    ensures { IsTrue (is_title title.now) }
+{
+    let _ = title.as_bytes();
 }
 
-impl Admin {
-    pub(crate) fn lawful(&self)
-        ensures { IsTrue (is_admin self.now) }
-    {
-        let _ = self.as_bytes();
-    }
+/// A name is valid as its type says.
+pub fn valid_admin(admin: &Admin)
+    ensures { IsTrue (is_admin admin.now) }
+{
+    let _ = admin.as_bytes();
 }
 
-impl Host {
-    pub(crate) fn lawful(&self)
-        ensures { IsTrue (is_host self.now) }
-    {
-        let _ = self.as_bytes();
-    }
+/// A name is valid as its type says.
+pub fn valid_host(host: &Host)
+    ensures { IsTrue (is_host host.now) }
+{
+    let _ = host.as_bytes();
 }
 
-impl Url {
-    fn lawful(&self)
-        ensures { IsTrue (is_link self.now) }
-    {
-        let _ = self.as_bytes();
-    }
+fn valid_url(url: &Url)
+    ensures { IsTrue (is_link url.now) }
+{
+    let _ = url.as_bytes();
 }
 
 impl Entry {
-    fn lawful_names(&self)
+    fn valid_names(&self)
         ensures { IsTrue (is_typed_entry self.now) }
     {
         match self {
-            Entry::Local(selector) => selector.lawful(),
-            Entry::Info(title) => title.lawful(),
+            Entry::Local(selector) => valid_selector(selector),
+            Entry::Info(title) => valid_title(title),
             Entry::Url { title, url } => {
-                title.lawful();
-                url.lawful();
+                valid_title(title);
+                valid_url(url);
             }
             Entry::Remote {
                 title,
@@ -64,97 +57,98 @@ impl Entry {
                 port,
                 ..
             } => {
-                title.lawful();
-                selector.lawful();
-                host.lawful();
+                valid_title(title);
+                valid_selector(selector);
+                valid_host(host);
                 let _port = *port;
             }
         }
     }
 }
 
-fn lawful_entries(entries: &[Entry])
+fn valid_entries(entries: &[Entry])
     ensures { IsTrue (list_all is_typed_entry entries.now) }
 {
     for entry in entries {
-        entry.lawful_names();
+        entry.valid_names();
     }
 }
 
 impl Question {
-    fn lawful_prompt(&self)
+    fn valid_prompt(&self)
         ensures { IsTrue (is_title (prompt_of self.now)) }
     {
         match self {
             Question::Ask(prompt)
             | Question::AskL(prompt)
             | Question::AskP { prompt, .. }
-            | Question::Choose { prompt, .. } => prompt.lawful(),
+            | Question::Choose { prompt, .. } => valid_title(prompt),
         }
     }
 }
 
-fn lawful_questions(questions: &[Question])
+fn valid_questions(questions: &[Question])
     ensures { IsTrue (list_all (λ q. is_title (prompt_of q)) questions.now) }
 {
     for question in questions {
-        question.lawful_prompt();
+        question.valid_prompt();
     }
 }
 
 impl Body {
-    fn lawful_names(&self)
+    fn valid_names(&self)
         ensures { IsTrue (is_typed_body self.now) }
     {
         match self {
             Body::Views(..) => (),
-            Body::Menu(entries) => lawful_entries(entries.as_slice()),
+            Body::Menu(entries) => valid_entries(entries.as_slice()),
             Body::Board { next, .. } => {
                 let _next = *next;
             }
             Body::Form { board, questions } => {
-                board.lawful();
-                lawful_questions(questions.as_slice());
+                valid_selector(board);
+                valid_questions(questions.as_slice());
             }
-            Body::Search { scope } => scope.lawful(),
-            Body::Moved { target } => target.lawful(),
+            Body::Search { scope } => valid_selector(scope),
+            Body::Moved { target } => valid_selector(target),
         }
     }
 }
 
 impl Item {
-    pub(crate) fn lawful_names(&self)
+    /// Each of its names is valid as its type says, and its numbers fit.
+    pub fn valid_names(&self)
         ensures { IsTrue (is_typed_item self.now) }
     {
-        self.title.lawful();
+        valid_title(&self.title);
         let _ = self.stamp.seconds();
-        self.body.lawful_names();
+        self.body.valid_names();
     }
 }
 
 impl Change {
-    /// Each of its names is lawful as its type says, and each of its numbers fits, which `changes_keep_sites_lawful` asks of a change.
-    pub fn lawful_names(&self)
+    /// Each of its names is valid as its type says, and each of its numbers fits, which `changes_keep_sites_valid` asks of a change.
+    pub fn valid_names(&self)
         ensures { IsTrue (is_typed_change self.now) }
     {
         match self {
             Change::Put(selector, item) => {
-                selector.lawful();
-                item.lawful_names();
+                valid_selector(selector);
+                item.valid_names();
             }
-            Change::Remove(selector) => selector.lawful(),
+            Change::Remove(selector) => valid_selector(selector),
             Change::Move { from, to } => {
-                from.lawful();
-                to.lawful();
+                valid_selector(from);
+                valid_selector(to);
             }
             Change::SetHost { host, port } => {
-                host.lawful();
+                valid_host(host);
                 let _port = *port;
             }
-            Change::SetAdmin(admin) => admin.lawful(),
+            Change::SetAdmin(admin) => valid_admin(admin),
             Change::Post { board, title, .. } => {
-                board.lawful();
-                title.lawful();
+                valid_selector(board);
+                valid_title(title);
             }
         }
     }

@@ -1,8 +1,8 @@
 // The site of the run, and the changes that fill it.
 use host_types::{
-    Admin, Body, Bytes, Change, Host, Item, MemSite, Question, QuestionList, Refused, Selector,
-    Stamp, Title,
+    Admin, Body, Bytes, Change, Host, Item, Question, QuestionList, Refused, Selector, Stamp, Title,
 };
+use mem_site::MemSite;
 use session_core::HubFault;
 use std::alloc::{AllocError, AllocFailed, Global};
 

@@ -1,7 +1,8 @@
 // The calls of the run, each made at most twice.
 use crate::site::{CHANGES, Ended, change, small_site};
-use host_types::{Bytes, MemSite, Stamp};
-use session_core::{Drawn, Event, Heard, Hub, Outcome, OutcomeList};
+use host_types::{Bytes, Stamp};
+use mem_site::MemSite;
+use session_core::{Drawn, Event, Hub, InputStatus, Outcome, OutcomeList};
 use std::alloc::Global;
 
 /// How much of a reply is kept.
@@ -53,7 +54,7 @@ fn ask(hub: &mut Hub<MemSite>, request: &[u8], reply: &mut [u8]) -> Result<(), E
         Ok(heard) => heard,
         Err(_) => hub.bytes(id, request, Stamp::start())?,
     };
-    if heard != Heard::Ready {
+    if heard != InputStatus::Ready {
         return Err(Ended::Other);
     }
     match hub.draw(id, reply)? {

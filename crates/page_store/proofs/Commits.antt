@@ -9,7 +9,7 @@ use Rattle.page_store.specs.Steps.{AreWritten, MayBeAllWritten}
 use Rattle.page_store.specs.Content.{is_among}
 use Rattle.page_store.specs.Commit.{number_of, numbers, put_page, patched, IsSameOutside, ArePatched}
 use Rattle.page_store.specs.declared.commit.NewPage.{NewPage}
-use Rattle.page_store.proofs.Elsewhere.{page_of-same}
+use Rattle.page_store.proofs.UntouchedPages.{page_of-same}
 
 -- ---- pages, one after another
 

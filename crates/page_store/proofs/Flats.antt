@@ -1,14 +1,14 @@
 -- The steps of a commit of a keeper of flat pages.
 use Rattle.std.proofs.Common.{◌≡◌, ℕ, zero, suc, ◌+◌, ◌-◌, ◌*◌, ◌^◌, ◌<◌, ◌≤◌, true, List, [], ◌∷◌, length, map, get_or, Some, refl, sym, ap, subst, ◌∙◌, arith, IsTrue}
 use Rattle.std.specs.List.{list_all}
-use Rattle.host_types.specs.Stops.{Stops, may_leave}
+use Rattle.common_types.specs.CrashStates.{CrashStates, may_crash_to}
 use Rattle.page_store.specs.Sectors.{Image}
 use Rattle.page_store.specs.Keys.{rises}
 use Rattle.page_store.specs.Pages.{Pair, key_of}
 use Rattle.page_store.specs.Batch.{is_map, is_batch, is_edit, is_pair, edit_key, updated}
 use Rattle.page_store.specs.Content.{content}
-use Rattle.page_store.specs.Spelling.{flat_pages}
-use Rattle.page_store.specs.FlatKeeping.{flat_commit, found_in_half}
+use Rattle.page_store.specs.Encoding.{flat_pages}
+use Rattle.page_store.specs.FlatState.{flat_commit, found_in_half}
 use Rattle.page_store.specs.declared.banner.Banner.{Banner}
 use Rattle.page_store.specs.declared.commit.NewPage.{NewPage}
 use Rattle.page_store.specs.declared.edit.Edit.{Edit}
@@ -19,11 +19,11 @@ use Rattle.sector_device.specs.Disk.{Disk, IsImage}
 use Rattle.page_store.specs.Roots.{greatest_seal}
 use Rattle.page_store.specs.Flat.{half_size}
 use Rattle.page_store.specs.Commit.{IsReady, IsDone}
-use Rattle.page_store.specs.Spelling.{by_pages, pages_needed}
-use Rattle.page_store.specs.FlatKeeping.{IsFitted, IsSettled, other_half, new_slot}
+use Rattle.page_store.specs.Encoding.{by_pages, pages_needed}
+use Rattle.page_store.specs.FlatState.{IsFitted, CrashStatesDoRepresent, other_half, new_slot}
 use Rattle.page_store.specs.declared.slot.Root.{Root}
-use Rattle.page_store.proofs.Ready.{ready, seals_after, other_bounds, other_is_half}
-use Rattle.page_store.proofs.Stands.{both_true}
+use Rattle.page_store.proofs.OtherHalfCommits.{ready, seals_after, other_bounds, other_is_half}
+use Rattle.page_store.proofs.CommitImages.{both_true}
 use Rattle.page_store.proofs.Maps.{updated_map}
 
 pub now_map : (old now : List Pair) (batch : List Edit) → now ≡ updated old batch → is_map old ≡ true → IsTrue (is_batch batch) → is_map now ≡ true
@@ -73,9 +73,9 @@ fitted_now size slot pairs now seal banner f version map_is = record {
   map = map_is;
 }
 
-pub settled_now : (slot : Slot) (pairs now : List Pair) (top : ℕ) (banner : Banner) (seen : List NewPage) (a : Image) (disk : Disk) (stops : Stops Image) → greatest_seal a 16 ≤ top → IsDone (flat_commit slot pairs (top + 1) now banner) seen stops a disk.view
-    → ((c : Image) → IsImage disk c → may_leave stops c) → IsSettled disk (new_slot slot (top + 1) now banner) now (top + 1)
-settled_now slot pairs now top banner seen a disk stops seals done may = record {
+pub crash_states_represent_now : (slot : Slot) (pairs now : List Pair) (top : ℕ) (banner : Banner) (seen : List NewPage) (a : Image) (disk : Disk) (crash_states : CrashStates Image) → greatest_seal a 16 ≤ top → IsDone (flat_commit slot pairs (top + 1) now banner) seen crash_states a disk.view
+    → ((c : Image) → IsImage disk c → may_crash_to crash_states c) → CrashStatesDoRepresent disk (new_slot slot (top + 1) now banner) now (top + 1)
+crash_states_represent_now slot pairs now top banner seen a disk crash_states seals done may = record {
   images = λ c image. done.all c (may c image);
   content = done.content;
   seals = seals_after (flat_commit slot pairs (top + 1) now banner) a disk.view top (top + 1) done.content refl seals (omega arith) done.others;

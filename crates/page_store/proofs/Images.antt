@@ -2,12 +2,12 @@
 use Rattle.std.proofs.Common.{◌≡◌, ◌≢◌, ◌⊎◌, inl, inr, ⊎_elim, ℕ, zero, suc, ◌+◌, ◌<◌, ◌≤◌, List, [], ◌∷◌, ◌++◌, length, refl, sym, ◌∙◌, ap, subst, arith, Some, Result, Ok, Err, slice_set}
 use Rattle.std.specs.Prelude.{slice_get, OnOk, OnErr}
 use Rattle.std.proofs.lemmas.Bool.{cases_lt}
-use Rattle.std.proofs.lemmas.List.{length-set, get_or-set_other}
+use Rattle.std.proofs.lemmas.List.{length-set, get_or-set_same, get_or-set_other}
 use native.Mathlib.Decide.{ℕ_discrete}
 use Prim.{yes, no}
 use Rattle.sector_device.specs.Disk.{Disk, IsImage, WasWritten, written, listed, synced, WriteFailed}
 use Rattle.sector_device.specs.Device.{Elapses}
-use Rattle.host_types.specs.Stops.{Stops, LeavesOnly, goes_on, may_leave}
+use Rattle.common_types.specs.CrashStates.{CrashStates, AddsOnly, adds_both, may_crash_to}
 use Rattle.page_store.specs.Sectors.{Image, sector}
 use Rattle.page_store.specs.Steps.{After, Makes, AllAre, IsWritten, MayBeWritten, AreWritten, MayBeAllWritten, chunk}
 
@@ -93,21 +93,7 @@ after_write (Err _) n b old new lt ok (inl same) c i = unchanged n b old c (subs
 after_write (Err _) n b old new lt ok (inr (inl same)) c i = image_step n b old c lt (same_images new (listed n b old) c (ap (λ d. d.base) same) (ap (λ d. d.writes) same) i)
 after_write (Err _) n b old new lt ok (inr (inr same)) c i = image_step n b old c lt (same_images new (listed n b old) c (ap (λ d. d.base) same) (ap (λ d. d.writes) same) i)
 
-from_elapses : {L : Type 0} (before now : ℕ) (past since : ℕ → L → Type 0) (P : L → Type 0) → Elapses before now past since → ((c : L) → since now c → P c) → LeavesOnly (record { moment = before; left_since = past }) (record { moment = now; left_since = since }) P
-from_elapses before now past since P time here = record {
-  later = time.later;
-  keeps = time.keeps;
-  nothing_else = λ t c le left. ⊎_elim (λ o. inl o) (λ x. inr (here c x)) (time.nothing_else t c le left);
-  now = here;
-}
-
-pub write_makes : {T E : Type 0} (r : Result T E) (n : ℕ) (b : List ℕ) (old new : Disk) (m0 m1 : ℕ) (l0 l1 : ℕ → Image → Type 0) → n < length old.base → OnOk r (new ≡ written n b old) → OnErr r (WriteFailed n b old new)
-    → Elapses m0 m1 l0 l1 → ((c : Image) → l1 m1 c → IsImage new c) → ((c : Image) → IsImage old c → l0 m0 c)
-    → Makes (record { moment = m0; left_since = l0 }) (record { moment = m1; left_since = l1 }) (MayBeWritten n b)
-write_makes r n b old new m0 m1 l0 l1 lt ok err time leaves may =
-    from_elapses m0 m1 l0 l1 _ time (λ c left. let a = after_write r n b old new lt ok err c (leaves c left) in (a.0, may a.0 a.1, a.2))
-
-pub weaker : {L : Type 0} (old new : Stops L) (P R : L → Type 0) → LeavesOnly old new P → ((c : L) → P c → R c) → LeavesOnly old new R
+pub weaker : {L : Type 0} (old new : CrashStates L) (P R : L → Type 0) → AddsOnly old new P → ((c : L) → P c → R c) → AddsOnly old new R
 weaker old new P R first p = record {
   later = first.later;
   keeps = first.keeps;
@@ -115,10 +101,29 @@ weaker old new P R first p = record {
   now = λ c left. p c (first.now c left);
 }
 
+beside : (k n : ℕ) → (k < n) ⊎ (n < k) → k ≢ n
+beside k n (inl lt) e = absurd (omega arith)
+beside k n (inr lt) e = absurd (omega arith)
+
+-- a write that succeeded is shown
+pub write_shows : {T E : Type 0} (r : Result T E) (n : ℕ) (b : List ℕ) (old new : Disk) → n < length old.view → OnOk r (new ≡ written n b old) → OnOk r (IsWritten n b old.view new.view)
+write_shows (Ok _) n b old new lt ok = subst (λ (d : Disk). IsWritten n b old.view d.view) (sym ok) (record {
+  size = length-set old.view n b;
+  others = λ k ne. get_or-set_other old.view n k b [] (beside k n ne);
+  here = get_or-set_same old.view n b [] lt;
+})
+write_shows (Err _) n b old new lt ok = tt
+
+pub write_makes : {T E : Type 0} (r : Result T E) (n : ℕ) (b : List ℕ) (old new : Disk) (m0 m1 : ℕ) (l0 l1 : ℕ → Image → Type 0) → n < length old.base → OnOk r (new ≡ written n b old) → OnErr r (WriteFailed n b old new)
+    → Elapses m0 m1 l0 l1 → ((c : Image) → l1 m1 c → IsImage new c) → ((c : Image) → IsImage old c → l0 m0 c)
+    → Makes (record { moment = m0; possible_since = l0 }) (record { moment = m1; possible_since = l1 }) (MayBeWritten n b)
+write_makes r n b old new m0 m1 l0 l1 lt ok err time leaves may =
+    weaker (record { moment = m0; possible_since = l0 }) (record { moment = m1; possible_since = l1 }) (l1 m1) _ time (λ c left. let a = after_write r n b old new lt ok err c (leaves c left) in (a.0, may a.0 a.1, a.2))
+
 -- one call after another
-pub makes_then : (old mid new : Stops Image) (P Q R : Image → Image → Type 0) → Makes old mid P → Makes mid new Q → ((i j : Image) → P i j → R i j) → ((i j c : Image) → P i j → Q j c → R i c) → Makes old new R
+pub makes_then : (old mid new : CrashStates Image) (P Q R : Image → Image → Type 0) → Makes old mid P → Makes mid new Q → ((i j : Image) → P i j → R i j) → ((i j c : Image) → P i j → Q j c → R i c) → Makes old new R
 makes_then old mid new P Q R first second one both =
-    goes_on old mid new (After old P) (After mid Q) (After old R) first second
+    adds_both old mid new (After old P) (After mid Q) (After old R) first second
     (λ c p. (p.0, p.1, one p.0 c p.2))
     (λ c q. let p = first.now q.0 q.1 in (p.0, p.1, both p.0 q.0 c p.2 q.2))
 
@@ -180,6 +185,6 @@ same_image (x ∷ xs) (y ∷ ys) size each =
 pub synced_is : (d : Disk) (c : Image) → IsImage (synced d) c → c ≡ d.view
 synced_is d c i = same_image c d.view i.size (λ n x h. ⊎_elim (λ base. base) (λ w. absurd w) (i.each n x h))
 
-pub all_are_view : {T E : Type 0} (r : Result T E) (old new : Disk) (stops : Stops Image) → OnOk r (new ≡ synced old) → ((c : Image) → may_leave stops c → IsImage new c) → OnOk r (AllAre stops new.view)
-all_are_view (Ok _) old new stops ok leaves = λ c left. synced_is old c (subst (λ d. IsImage d c) ok (leaves c left)) ∙ sym (ap (λ d. d.view) ok)
-all_are_view (Err _) old new stops ok leaves = ok
+pub all_are_view : {T E : Type 0} (r : Result T E) (old new : Disk) (crash_states : CrashStates Image) → OnOk r (new ≡ synced old) → ((c : Image) → may_crash_to crash_states c → IsImage new c) → OnOk r (AllAre crash_states new.view)
+all_are_view (Ok _) old new crash_states ok leaves = λ c left. synced_is old c (subst (λ d. IsImage d c) ok (leaves c left)) ∙ sym (ap (λ d. d.view) ok)
+all_are_view (Err _) old new crash_states ok leaves = ok

@@ -6,12 +6,12 @@ use Rattle.std.specs.declared.cmp.Ordering.TheVariants.{Less, Equal, Greater}
 use Rattle.std.specs.Map.{remove_entry}
 use Rattle.std.specs.BTreeMap.{insert_entry, is_at}
 use Rattle.std.proofs.lemmas.Cmp.{nat_list_cmp_total}
-use Rattle.host_types.specs.Site.{byte_cmp}
+use Rattle.common_types.specs.ByteOrder.{byte_cmp}
 use Rattle.page_store.specs.Keys.{precedes, rises}
 use Rattle.page_store.specs.Pages.{Pair, key_of}
 use Rattle.page_store.specs.Batch.{is_pair, is_key, is_value, is_map, is_edit, is_value_or_none, edited, with_value, updated}
 use Rattle.page_store.specs.declared.edit.Edit.{Edit}
-use Rattle.page_store.proofs.Stands.{both_true}
+use Rattle.page_store.proofs.CommitImages.{both_true}
 
 precedes_less : (a b : List ℕ) → byte_cmp a b ≡ Less → precedes a b ≡ true
 precedes_less a b e = ap is_lt e

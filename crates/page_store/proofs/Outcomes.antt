@@ -1,7 +1,7 @@
 -- What is known once a call succeeded.
 use Rattle.std.proofs.Common.{◌≡◌, ℕ, Bool, true, false, Result, Ok, Err, OnOk}
 use Rattle.std.specs.Result.{is_err}
-use Rattle.sector_device.specs.Device.{counted, Counts}
+use Rattle.common_types.specs.Counts.{counted, Counts}
 
 pub on_ok : {T E : Type 0} (r : Result T E) (b : Bool) (P : Type 0) → b ≡ is_err r → b ≡ false → OnOk r P → P
 on_ok (Ok _) b P is off h = h

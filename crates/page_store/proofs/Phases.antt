@@ -2,7 +2,7 @@
 use Rattle.std.proofs.Common.{◌∷◌, ◌≡◌, ◌⊎◌, inl, inr, ⊎_elim, ℕ, ◌+◌, ◌*◌, ◌-◌, ◌<◌, ◌≤◌, Bool, true, false, List, length, Option, Some, None, refl, sym, ap, subst, ◌∙◌, IsTrue, arith, cond}
 use Rattle.std.specs.Prelude.{nat_lt, OnOk, Result, Ok, Err, ◌||◌, ◌==◌}
 use Rattle.std.proofs.lemmas.Bool.{cases_Bool, cases_lt, lt-ltb, le-ltb, eqb-false}
-use Rattle.host_types.specs.Stops.{Stops, LeavesOnly, goes_on}
+use Rattle.common_types.specs.CrashStates.{CrashStates, AddsOnly, adds_both}
 use Rattle.page_store.proofs.Images.{weaker}
 use Rattle.page_store.specs.Reading.{◌>>=◌}
 use Rattle.page_store.specs.Sectors.{Image, sector, page_of}
@@ -15,9 +15,9 @@ use Rattle.page_store.specs.Same.{Agree}
 use Rattle.page_store.specs.Commit.{numbers, patched, IsSameOutside, ArePatched, Commit, IsReady, Shows, IsOldOrNew, IsBetween, IsDone}
 use Rattle.page_store.specs.declared.commit.NewPage.{NewPage}
 use Rattle.page_store.proofs.Fields.{bind_some, bind_again}
-use Rattle.page_store.proofs.Local.{content_under-local}
-use Rattle.page_store.proofs.Elsewhere.{slot_of-same, page_of-same, pair_is}
-use Rattle.page_store.proofs.Stands.{content_under-inside}
+use Rattle.page_store.proofs.ReachedPages.{content_under-local}
+use Rattle.page_store.proofs.UntouchedPages.{slot_of-same, page_of-same, pair_is}
+use Rattle.page_store.proofs.CommitImages.{content_under-inside}
 use Rattle.page_store.proofs.Switches.{slot_is, slot_shares, shared_each}
 use Rattle.page_store.proofs.Commits.{apart}
 
@@ -149,7 +149,7 @@ module _ (commit : Commit) (pages : List NewPage) (a : Image) (ready : IsReady c
       let agree = old_pages c same in
       record { current_is = now; content_is = content-of c commit.old commit.old_found now (content_under-local commit.old (page_of a) (page_of c) commit.old_found parts.1 agree); pages = agree }
 
-  -- the seal is still above all
+  -- the seal remains above all
   pub still_above : (b : Image) → ArePatched pages a b → IsAbove commit.new.seal commit.new.number b
   still_above b is = record {
     each = λ k old lt e.
@@ -181,7 +181,7 @@ module _ (commit : Commit) (pages : List NewPage) (a : Image) (ready : IsReady c
       let now = switched_current b c commit.old commit.new (while_written b patch.outside).current_is ready.number ready.seal is in
       (new_stands b c patch (switched_is_switching commit.new b c is) now).content_is
 
-  -- ---- stops
+  -- ---- crash states
 
   -- a page that is neither the new slot's nor new
   kept_written : (c : Image) → IsSameOutside (numbers pages) a c → IsSameOutside (commit.new.number ∷ numbers pages) a c
@@ -220,24 +220,24 @@ module _ (commit : Commit) (pages : List NewPage) (a : Image) (ready : IsReady c
           let same : 8 * commit.new.number + k ≡ n = omega (arith, ge) in
           subst (IsSealed c) same (⊎_elim (λ old. inl (old ∙ same_root b patch.outside (8 * commit.new.number + k) (omega (arith, ge, lt)))) (λ new. inr new) (is.sealed k (omega (arith, ge, inside))))
 
-  pub pages_stop : (old mid : Stops Image) → AllAre old a → Makes old mid (IsSameOutside (numbers pages)) → LeavesOnly old mid (IsBetween commit pages a)
-  pages_stop old mid all makes =
+  pub pages_at_crash : (old mid : CrashStates Image) → AllAre old a → Makes old mid (IsSameOutside (numbers pages)) → AddsOnly old mid (IsBetween commit pages a)
+  pages_at_crash old mid all makes =
       weaker old mid (After old (IsSameOutside (numbers pages))) (IsBetween commit pages a) makes
       (λ c p.
       let same = subst (λ (d : Image). IsSameOutside (numbers pages) d c) (all p.0 p.1) p.2 in
       record { shows = inl (while_written c same); kept = kept_written c same; sealed = λ n lt. inl (same_root c same n lt) })
 
-  pub root_stop : (old mid new : Stops Image) (b : Image) → ArePatched pages a b → LeavesOnly old mid (IsBetween commit pages a) → LeavesOnly mid new (IsSwitching commit.new b) → LeavesOnly old new (IsBetween commit pages a)
-  root_stop old mid new b patch first second =
-      goes_on old mid new (IsBetween commit pages a) (IsSwitching commit.new b) (IsBetween commit pages a) first second (λ c p. p)
+  pub root_at_crash : (old mid new : CrashStates Image) (b : Image) → ArePatched pages a b → AddsOnly old mid (IsBetween commit pages a) → AddsOnly mid new (IsSwitching commit.new b) → AddsOnly old new (IsBetween commit pages a)
+  root_at_crash old mid new b patch first second =
+      adds_both old mid new (IsBetween commit pages a) (IsSwitching commit.new b) (IsBetween commit pages a) first second (λ c p. p)
       (λ c is. record { shows = while_switched b c patch is; kept = kept_switched b c patch is; sealed = sealed_switched b c patch is })
 
-  pub done_by : {T E : Type 0} (r : Result T E) (stops : Stops Image) (b v : Image) → ArePatched pages a b → OnOk r (IsSwitched commit.new b v × AllAre stops v) → OnOk r (IsDone commit pages stops a v)
-  done_by (Ok _) stops b v patch h = record {
+  pub done_by : {T E : Type 0} (r : Result T E) (crash_states : CrashStates Image) (b v : Image) → ArePatched pages a b → OnOk r (IsSwitched commit.new b v × AllAre crash_states v) → OnOk r (IsDone commit pages crash_states a v)
+  done_by (Ok _) crash_states b v patch h = record {
     all = h.1;
     content = once_switched b v patch h.0;
     bytes = λ n le. sym (high_pages b v (switched_is_switching commit.new b v h.0) n le) ∙ patch.bytes n;
     size = h.0.size ∙ patch.outside.size;
     others = λ n lt away. h.0.others n away ∙ same_root b patch.outside n lt;
   }
-  done_by (Err _) stops b v patch h = h
+  done_by (Err _) crash_states b v patch h = h

@@ -5,9 +5,9 @@ use Rattle.std.specs.declared.cmp.Ordering.TheVariants.{Less, Equal}
 use Rattle.std.specs.BTreeMap.{insert_entry}
 use Rattle.std.proofs.Math.Seq.{drop-cons}
 use Rattle.std.proofs.lemmas.List.{take_all, drop_all, set_split}
-use Rattle.host_types.specs.Site.{byte_cmp}
+use Rattle.common_types.specs.ByteOrder.{byte_cmp}
 use Rattle.page_store.specs.Pages.{Pair}
-use Rattle.page_store.proofs.Stands.{both_true}
+use Rattle.page_store.proofs.CommitImages.{both_true}
 
 pub all_at : {A : Type 0} (f : A → Bool) (xs : List A) (i : ℕ) (x : A) → IsTrue (list_all f xs) → i < length xs → x ≡ get_or xs i x → f x ≡ true
 all_at f [] i x all lt is = absurd (omega arith)

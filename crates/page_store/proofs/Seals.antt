@@ -8,7 +8,7 @@ use Rattle.page_store.specs.Roots.{is_zero}
 use Rattle.page_store.specs.Pages.{Pair, Child, Head, Place, head_at, page_word, pair_at, child_at, entries_at, entries_of, fits_place, leaf_of, branch_of, are_leaf, are_branch}
 use Rattle.page_store.specs.Content.{Found, Bounds, place_in, joined, low_of, high_of, fan, walk}
 use Rattle.page_store.proofs.Fields.{bind_some, bind_again, test_passed}
-use Rattle.page_store.proofs.Stands.{both_true}
+use Rattle.page_store.proofs.CommitImages.{both_true}
 
 abbrev later : Place → ℕ → Place
 later place seal = record { page = place.page; level = place.level; pages = place.pages; seal = seal }

@@ -4,7 +4,7 @@ use borrow.Rule.Slice.PartMut.{put_mid}
 use Rattle.std.proofs.lemmas.Grind.{common_steps}
 use Rattle.page_store.specs.Sectors.{Image, sector, sectors_from}
 use Rattle.page_store.specs.Roots.{record_from, slot_in, greatest_seal}
-use Rattle.page_store.proofs.Elsewhere.{Same, record_from-same, shared_seal-same}
+use Rattle.page_store.proofs.UntouchedPages.{Same, record_from-same, shared_seal-same}
 
 pub sectors_from_push : (image : Image) (k n : ℕ) → sectors_from image n (k + 1) ≡ sectors_from image n k ++ sector image (n + k)
 sectors_from_push image zero n = let e : n + 0 ≡ n = omega arith in rw e (append-nil (sector image n))

@@ -8,12 +8,12 @@ use Rattle.page_store.specs.Reading.{◌>>=◌, where_true}
 use Rattle.page_store.specs.Sectors.{Image, sector}
 use Rattle.page_store.specs.Roots.{seal_of, shared_seal, record_from, root_at, slot_of, slot_in}
 use Rattle.page_store.specs.declared.slot.Slot.{Slot}
-use Rattle.host_types.specs.Stops.{Stops, LeavesOnly, IsQuiet, may_leave, goes_on}
+use Rattle.common_types.specs.CrashStates.{CrashStates, AddsOnly, AddsNone, may_crash_to, adds_both}
 use Rattle.page_store.proofs.Images.{weaker}
 use Rattle.page_store.specs.Steps.{chunk, AreWritten, MayBeAllWritten, Makes, AllAre, After}
 use Rattle.page_store.specs.Switch.{record_in, IsSlotPage, IsAbove, IsSwitching, IsSwitched}
 use Rattle.page_store.proofs.Fields.{bind_some, test_passed}
-use Rattle.page_store.proofs.Elsewhere.{slot_of-same}
+use Rattle.page_store.proofs.UntouchedPages.{slot_of-same}
 
 -- each has P, or one has Q
 all_or_some : (count : ℕ) (P Q : ℕ → Type 0) → ((k : ℕ) → k < count → P k ⊎ Q k) → ((k : ℕ) → k < count → P k) ⊎ ((k : ℕ) × (k < count) × Q k)
@@ -127,12 +127,12 @@ switched slot bytes a c page is = record {
   here = slot_written slot bytes c (subst (λ (n : ℕ). IsSlotPage n slot bytes) (sym is.size) page) is.here;
 }
 
--- ---- stops
+-- ---- crash states
 
-pub page_switches : (slot : Slot) (bytes : List ℕ) (a : Image) (old new : Stops Image) → IsSlotPage (length a) slot bytes → IsAbove slot.seal slot.number a → AllAre old a → Makes old new (MayBeAllWritten (8 * slot.number) 8 bytes) → LeavesOnly old new (IsSwitching slot a)
+pub page_switches : (slot : Slot) (bytes : List ℕ) (a : Image) (old new : CrashStates Image) → IsSlotPage (length a) slot bytes → IsAbove slot.seal slot.number a → AllAre old a → Makes old new (MayBeAllWritten (8 * slot.number) 8 bytes) → AddsOnly old new (IsSwitching slot a)
 page_switches slot bytes a old new page above all makes =
     weaker old new (After old (MayBeAllWritten (8 * slot.number) 8 bytes)) (IsSwitching slot a) makes
     (λ c p. switching slot bytes a c page above (subst (λ (d : Image). MayBeAllWritten (8 * slot.number) 8 bytes d c) (all p.0 p.1) p.2))
 
-pub then_quiet : (old mid new : Stops Image) (P : Image → Type 0) → LeavesOnly old mid P → IsQuiet mid new → LeavesOnly old new P
-then_quiet old mid new P first second = goes_on old mid new P (may_leave mid) P first second (λ c p. p) (λ c left. first.now c left)
+pub then_none_added : (old mid new : CrashStates Image) (P : Image → Type 0) → AddsOnly old mid P → AddsNone mid new → AddsOnly old new P
+then_none_added old mid new P first second = adds_both old mid new P (may_crash_to mid) P first second (λ c p. p) (λ c left. first.now c left)

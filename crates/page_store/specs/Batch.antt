@@ -4,7 +4,7 @@ use Rattle.std.specs.List.{list_all}
 use Rattle.std.specs.Ordering.{is_lt}
 use Rattle.std.specs.Map.{lookup, remove_entry}
 use Rattle.std.specs.BTreeMap.{insert_entry, is_at}
-use Rattle.host_types.specs.Site.{byte_cmp}
+use Rattle.common_types.specs.ByteOrder.{byte_cmp}
 use Rattle.page_store.specs.Keys.{rises}
 use Rattle.page_store.specs.Pages.{Pair, key_of}
 use Rattle.page_store.specs.declared.edit.Edit.{Edit}

@@ -5,7 +5,7 @@ use Rattle.page_store.specs.declared.slot.Slot.{Slot}
 use Rattle.page_store.specs.Content.{Found, content, content_under, is_among}
 use Rattle.page_store.specs.Roots.{seal_of, current}
 use Rattle.page_store.specs.Same.{Agree}
-use Rattle.host_types.specs.Stops.{Stops}
+use Rattle.common_types.specs.CrashStates.{CrashStates}
 use Rattle.page_store.specs.Steps.{AllAre}
 use Rattle.page_store.specs.Switch.{IsAbove}
 use Rattle.page_store.specs.declared.commit.NewPage.{NewPage}
@@ -65,19 +65,19 @@ pub record Shows (slot : Slot) (found : Found) (bytes : ℕ → List ℕ) (c : I
   pub content_is : content c ≡ Some (slot, found)
   pub pages : Agree found.pages bytes (page_of c)
 
--- The current slot is the one from before, or the new one. In either case its content and the pages under it are settled, whatever the image.
+-- The current slot is the one from before, or the new one. In either case its content and the pages under it are fixed, whatever the image.
 abbrev pub IsOldOrNew : Commit → List NewPage → Image → Image → Type 0
 IsOldOrNew commit pages a c = Shows commit.old commit.old_found (page_of a) c ⊎ Shows commit.new commit.new_found (patched pages (page_of a)) c
 
 -- every image is this one, which has the new content; pages that weren't written are as before
-pub record IsDone (commit : Commit) (pages : List NewPage) (stops : Stops Image) (a b : Image) : Type 0 where
-  pub all : AllAre stops b
+pub record IsDone (commit : Commit) (pages : List NewPage) (crash_states : CrashStates Image) (a b : Image) : Type 0 where
+  pub all : AllAre crash_states b
   pub content : content b ≡ Some (commit.new, commit.new_found)
   pub bytes : (n : ℕ) → 2 ≤ n → page_of b n ≡ patched pages (page_of a) n
   pub size : length b ≡ length a
   pub others : (n : ℕ) → n < 16 → (n < 8 * commit.new.number) ⊎ (8 * commit.new.number + 8 ≤ n) → sector b n ≡ sector a n
 
--- An image that a stop within the commit may leave: the old slot is current or the new one is; no sector changed but those of the new slot (whose page has its number) and of the new pages; and no root sector changed but to one with the new seal.
+-- An image that a crash within the commit may leave: the old slot is current or the new one is; no sector changed but those of the new slot (whose page has its number) and of the new pages; and no root sector changed but to one with the new seal.
 pub record IsBetween (commit : Commit) (pages : List NewPage) (a c : Image) : Type 0 where
   pub shows : IsOldOrNew commit pages a c
   pub kept : IsSameOutside (commit.new.number ∷ numbers pages) a c

@@ -82,7 +82,7 @@ flat_found slot bytes = do
   pairs ← flat_walk bytes slot.seal (half_size slot.root.pages) slot.root.tree 0 slot.root.keys
   where_true (is_half slot.root && is_map pairs) (Some (record { pages = numbers_from slot.root.tree (half_size slot.root.pages); pairs = pairs }))
 
--- what a slot's record stands for, by the bytes of the pages: version 0 is flat, 1 a tree
+-- what a slot's record represents, by the bytes of the pages: version 0 is flat, 1 a tree
 abbrev pub found_as : ℕ → Slot → (ℕ → List ℕ) → Option Found
 found_as zero slot bytes = flat_found slot bytes
 found_as (suc zero) slot bytes = tree_found slot bytes
@@ -99,12 +99,12 @@ content image = do
   Some (slot, found)
 
 -- the pairs and the banner of an image
-abbrev pub told : Slot × Found → List Pair × Banner
-told c = (c.1.pairs, c.0.root.banner)
+abbrev pub pairs_and_banner_of : Slot × Found → List Pair × Banner
+pairs_and_banner_of c = (c.1.pairs, c.0.root.banner)
 
 abbrev pub pairs_and_banner : Option (Slot × Found) → Option (List Pair × Banner)
 pairs_and_banner None = None
-pairs_and_banner (Some c) = Some (told c)
+pairs_and_banner (Some c) = Some (pairs_and_banner_of c)
 
 -- an image has these pairs and this banner
 abbrev pub HasContent : Image → List Pair → Banner → Type 0
@@ -115,5 +115,5 @@ abbrev pub is_opened : ℕ → Bool
 is_opened version = version == 0
 
 -- An image has these pairs and this banner, in the version that is opened.
-abbrev pub Holds : Image → List Pair → Banner → Type 0
-Holds image pairs banner = HasContent image pairs banner × IsTrue (is_opened banner.version)
+abbrev pub ImageHas : Image → List Pair → Banner → Type 0
+ImageHas image pairs banner = HasContent image pairs banner × IsTrue (is_opened banner.version)

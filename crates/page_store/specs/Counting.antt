@@ -1,6 +1,7 @@
--- What the calls of a keeper of pairs count.
+-- What the calls of a key-value store count.
 use Rattle.std.specs.Prelude.{◌≡◌, ℕ, Bool, true, Result, Ok, Err}
-use Rattle.sector_device.specs.Device.{State, counted, NothingCounted, OneCounted}
+use Rattle.common_types.specs.Counts.{counted}
+use Rattle.sector_device.specs.Device.{State, NothingCounted, OneCounted}
 use Rattle.page_store.specs.declared.fault.KeeperFault.{KeeperFault}
 use Rattle.page_store.specs.declared.fault.KeeperFault.TheVariants as faults
 

@@ -68,7 +68,7 @@ abbrev pub with_pairs : List Pair → Option (List Pair) → Option (List Pair)
 with_pairs front None = None
 with_pairs front (Some pairs) = Some (front ++ pairs)
 
--- pairs with those of the next page, how many bytes are left in it, and how many pairs are still to come
+-- pairs with those of the next page, how many bytes are left in it, and how many pairs are to come
 abbrev pub HasNext : ℕ → List Pair → List Pair → Option (List Pair × ℕ) → Option (ℕ × ℕ) → Type 0
 HasNext keys old new read None = read ≡ None
 HasNext keys old new read (Some next) = (here : List Pair) × (read ≡ Some (here, next.0)) × (new ≡ old ++ here) × (next.1 ≡ keys - length here) × (length here ≤ keys)

@@ -2,9 +2,9 @@
 use Rattle.std.specs.Prelude.{◌≡◌, ◌≤◌, ◌<◌, ◌*◌, ℕ, List}
 use Rattle.page_store.specs.Pages.{Pair}
 use Rattle.page_store.specs.Flat.{half_size}
-use Rattle.page_store.specs.Spelling.{by_pages, pages_needed, flat_pages}
+use Rattle.page_store.specs.Encoding.{by_pages, pages_needed, flat_pages}
 use Rattle.page_store.specs.Switch.{IsSlotPage}
-use Rattle.page_store.specs.FlatKeeping.{other_half, new_slot}
+use Rattle.page_store.specs.FlatState.{other_half, new_slot}
 use Rattle.page_store.specs.declared.banner.Banner.{Banner}
 use Rattle.page_store.specs.declared.slot.Slot.{Slot}
 use Rattle.page_store.specs.declared.flat_plan.Plan.{Plan}

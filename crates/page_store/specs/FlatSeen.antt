@@ -2,8 +2,8 @@
 use Rattle.std.specs.Prelude.{ℕ, List, Bool}
 use Rattle.sector_device.specs.Device.{State}
 use Rattle.page_store.specs.Pages.{Pair}
-use Rattle.page_store.specs.Holding.{Holding}
-use Rattle.page_store.specs.FlatKeeping.{flat_holding}
+use Rattle.page_store.specs.StoreState.{StoreState}
+use Rattle.page_store.specs.FlatState.{flat_holding}
 use Rattle.page_store.specs.declared.slot.Slot.{Slot}
 use Rattle.page_store.specs.declared.banner.Banner.{Banner}
 use Rattle.page_store.specs.declared.flat_keeper.FlatKeeper.{FlatKeeper}
@@ -28,5 +28,5 @@ abbrev pub slot_of : {D : Type 0} {dict : _} → FlatKeeper D dict → Slot
 slot_of k = k.slot
 
 -- what its trait tells
-abbrev pub held : {D : Type 0} {dict : _} → (D → State) → FlatKeeper D dict → Holding
+abbrev pub held : {D : Type 0} {dict : _} → (D → State) → FlatKeeper D dict → StoreState
 held state k = flat_holding (state k.device) k.slot k.pairs.items k.top k.usable

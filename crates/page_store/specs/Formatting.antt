@@ -1,6 +1,7 @@
 -- What is made, and when it is not.
 use Rattle.std.specs.Prelude.{◌≡◌, ◌⊎◌, ◌<◌, ◌*◌, ℕ, Some}
-use Rattle.sector_device.specs.Device.{State, counted}
+use Rattle.common_types.specs.Counts.{counted}
+use Rattle.sector_device.specs.Device.{State}
 use Rattle.page_store.specs.Sectors.{Image}
 use Rattle.page_store.specs.Roots.{current, greatest_seal}
 use Rattle.page_store.specs.declared.slot.Slot.{Slot}

@@ -1,7 +1,7 @@
 -- Keys in byte order.
 use Rattle.std.specs.Prelude.{ℕ, Bool, true, List, [], ◌∷◌, Option, Some, None, ◌&&◌, not}
 use Rattle.std.specs.Ordering.{is_lt}
-use Rattle.host_types.specs.Site.{byte_cmp}
+use Rattle.common_types.specs.ByteOrder.{byte_cmp}
 
 -- comes before, in byte order
 abbrev pub precedes : List ℕ → List ℕ → Bool

@@ -1,6 +1,6 @@
 -- When a walk over flat pages fails.
 use Rattle.std.specs.Prelude.{Bool, IsTrue, ◌≡◌, ◌⊎◌, ◌≤◌, ◌<◌, ◌+◌, None, Option, List, ℕ}
-use Rattle.sector_device.specs.Device.{counted}
+use Rattle.common_types.specs.Counts.{counted}
 use Rattle.page_store.specs.Pages.{Pair}
 use Rattle.page_store.specs.Flat.{half_size}
 use Rattle.page_store.specs.declared.slot.Slot.{Slot}
@@ -11,7 +11,7 @@ use Rattle.page_store.specs.declared.fault.KeeperFault.TheVariants as faults
 abbrev pub MayBeNamed : Slot → ℕ → Type 0
 MayBeNamed slot page = (page ≡ slot.number) ⊎ ((slot.root.tree ≤ page) × (page < slot.root.tree + half_size slot.root.pages))
 
--- A read failed, a page was found wrong, or memory was wanting; `read` is what the pages hold.
+-- A read failed, a page was found wrong, or memory was lacking; `read` is what the pages hold.
 abbrev pub IsHalfFault : Slot → Bool → ℕ → ℕ → Option (List Pair) → KeeperFault → Type 0
 IsHalfFault slot honest before now read faults.Device = now ≡ counted before
 IsHalfFault slot honest before now read faults.NoImage = ⊥

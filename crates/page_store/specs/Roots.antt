@@ -3,8 +3,8 @@ use Rattle.std.specs.Prelude.{◌≤◌, ℕ, zero, suc, ◌*◌, Bool, List, []
 use Rattle.std.specs.Prelude.{bytes_eq}
 use Rattle.std.specs.List.{list_all}
 use Rattle.std.specs.Int.{w16, w32, w64, from_be_bytes}
-use Rattle.host_types.specs.Names.{name_of, is_word, is_field}
-use Rattle.host_types.specs.declared.refused.Refused.{Refused}
+use Rattle.common_types.specs.Names.{name_of, is_word, is_field}
+use Rattle.common_types.specs.declared.refused.Refused.{Refused}
 use Rattle.page_store.specs.Reading.{◌>>=◌, where_true, piece_at, byte_at, number_at}
 use Rattle.page_store.specs.Sectors.{Image, sector}
 use Rattle.page_store.specs.declared.slot.Root.{Root}
@@ -35,9 +35,9 @@ record_from image n (suc k) = drop 24 (sector image n) ++ record_from image (suc
 abbrev pub is_zero : ℕ → Bool
 is_zero b = b == 0
 
-abbrev pub if_lawful : Result (List ℕ) Refused → Option (List ℕ)
-if_lawful (Ok name) = Some name
-if_lawful (Err refused) = None
+abbrev pub if_valid : Result (List ℕ) Refused → Option (List ℕ)
+if_valid (Ok name) = Some name
+if_valid (Err refused) = None
 
 -- a length of one byte, and so many bytes
 unfoldable pub short_text_at : List ℕ → Option (List ℕ × List ℕ)
@@ -45,7 +45,7 @@ short_text_at bytes = do
   size ← byte_at bytes
   piece_at size.0 size.1
 
--- version, host, port and administrator are told apart from the rest of the record
+-- version, host, port and administrator are read apart from the rest of the record
 unfoldable pub root_at : ℕ → List ℕ → Option Root
 root_at sectors bytes = do
   version ← number_at w16 bytes
@@ -56,8 +56,8 @@ root_at sectors bytes = do
   host_text ← short_text_at keys.1
   port ← number_at w16 host_text.1
   admin_text ← short_text_at port.1
-  host ← if_lawful (name_of is_word 100 host_text.0)
-  admin ← if_lawful (name_of is_field 100 admin_text.0)
+  host ← if_valid (name_of is_word 100 host_text.0)
+  admin ← if_valid (name_of is_field 100 admin_text.0)
   where_true
       (nat_le 16 pages.0 && (nat_le pages.0 65536 && (nat_le (8 * pages.0) sectors && (nat_le 1 port.0 && list_all is_zero admin_text.1))))
       (Some (record { pages = pages.0; tree = tree.0; height = height.0; keys = keys.0; banner = record { version = version.0; host = host; port = port.0; admin = admin } }))

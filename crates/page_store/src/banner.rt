@@ -1,7 +1,7 @@
 // What an image says of its site beside its pairs.
 ghost use Rattle.std.specs.Prelude.{◌≡◌};
 
-use host_types::{Admin, Host};
+use common_types::{Admin, Host};
 use std::alloc::AllocError;
 
 /// What an image says of its site beside its pairs: of which form it is, and under which name clients find the site.

@@ -3,11 +3,11 @@ ghost use Rattle.std.specs.Prelude.{◌≡◌, ◌≤◌, ◌<◌, ◌+◌, ◌+
 ghost use Rattle.std.specs.Map.{lookup, remove_entry};
 ghost use Rattle.std.specs.BTreeMap.{insert_entry, is_at};
 ghost use Rattle.std.specs.List.{list_all};
-ghost use Rattle.host_types.specs.Site.{byte_cmp};
+ghost use Rattle.common_types.specs.ByteOrder.{byte_cmp};
 ghost use Rattle.page_store.specs.Batch.{value_at, pair_after, edited, updated, is_pair};
 
 use crate::{Edit, Pair};
-use host_types::Bytes;
+use common_types::Bytes;
 use std::alloc::{AllocError, Global};
 use std::cmp::Ordering;
 

@@ -1,10 +1,10 @@
 // New pages, and a new root over them.
-ghost use Rattle.std.specs.Prelude.{◌≡◌, ◌≤◌, ◌+◌, ◌*◌, ℕ, IsTrue, OnOk, IfErr, Some, All, length};
-ghost use Rattle.sector_device.specs.declared.device.DeviceFault.TheVariants.{Device as Failing};
-ghost use Rattle.sector_device.specs.Device.{Counts};
-ghost use Rattle.host_types.specs.Stops.{LeavesOnly};
+ghost use Rattle.std.specs.Prelude.{◌≡◌, ◌≤◌, ◌+◌, ◌*◌, ℕ, IsTrue, OnOk, All};
+ghost use Rattle.sector_device.specs.Effects.{WriteOutcome};
+ghost use Rattle.common_types.specs.CrashStates.{AddsOnly};
 ghost use Rattle.page_store.specs.Switch.{IsSlotPage};
-ghost use Rattle.page_store.specs.Steps.{stops_of, Makes, AllAre};
+ghost use Rattle.page_store.specs.Steps.{crash_states_of, AllAre};
+ghost use Rattle.page_store.specs.DeviceEffects.{WritesDevice};
 ghost use Rattle.page_store.specs.Commit.{numbers, IsSameOutside, ArePatched, Commit, IsReady, MayBeCommitted, IsBetween, IsDone};
 
 use crate::Slot;
@@ -21,13 +21,7 @@ pub struct NewPage {
 /// Writes pages, one after another.
 pub fn write_pages<D: Device>(device: &mut D, pages: &[NewPage]) -> Result<(), DeviceFault>
     requires { All (λ page. 8 * page.number + 8 ≤ (D.state device.old).size) pages.now }
-    ensures shows { IsTrue (D.state device.old).honest → OnOk result (ArePatched pages.now (D.state device.old).disk.view (D.state device.new).disk.view) }
-    ensures stop { IsTrue (D.state device.old).honest → Makes (stops_of D.moment D.left_since device.old) (stops_of D.moment D.left_since device.new) (IsSameOutside (numbers pages.now)) }
-    ensures size { (D.state device.new).size ≡ (D.state device.old).size }
-    ensures honest { (D.state device.new).honest ≡ (D.state device.old).honest }
-    ensures reads { (D.state device.new).failed_reads ≡ (D.state device.old).failed_reads }
-    ensures writes { Counts result (D.state device.old).failed_writes (D.state device.new).failed_writes }
-    ensures fault { IfErr result (λ e. e ≡ Failing) }
+    ensures pages { WritesDevice D.state (crash_states_of D.moment D.possible_since) device.old device.new result (ArePatched pages.now) (IsSameOutside (numbers pages.now)) }
 {
     for page in pages {
         write_page(device, page.number, &page.bytes)?;
@@ -45,19 +39,15 @@ pub fn commit_pages<D: Device>(
     requires fits { All (λ page. 8 * page.number + 8 ≤ (D.state device.old).size) pages.now }
     requires slot { 8 * slot.now.number + 8 ≤ (D.state device.old).size }
     requires page { IsTrue (D.state device.old).honest → IsSlotPage (D.state device.old).size slot.now root.now }
-    requires sure { IsTrue (D.state device.old).honest → AllAre (stops_of D.moment D.left_since device.old) (D.state device.old).disk.view }
+    requires sure { IsTrue (D.state device.old).honest → AllAre (crash_states_of D.moment D.possible_since device.old) (D.state device.old).disk.view }
     requires ready { IsTrue (D.state device.old).honest → MayBeCommitted slot.now pages.now (D.state device.old).disk.view }
-    // Every stop leaves the content from before or the new one, and no page changed that wasn't free.
-    ensures stop { IsTrue (D.state device.old).honest → (commit : Commit) → commit.new ≡ slot.now → IsReady commit pages.now (D.state device.old).disk.view →
-        LeavesOnly (stops_of D.moment D.left_since device.old) (stops_of D.moment D.left_since device.new) (IsBetween commit pages.now (D.state device.old).disk.view) }
+    // Every crash leaves the content from before or the new one, and no page changed that wasn't free.
+    ensures at_crash { IsTrue (D.state device.old).honest → (commit : Commit) → commit.new ≡ slot.now → IsReady commit pages.now (D.state device.old).disk.view →
+        AddsOnly (crash_states_of D.moment D.possible_since device.old) (crash_states_of D.moment D.possible_since device.new) (IsBetween commit pages.now (D.state device.old).disk.view) }
     // Once it is done, every image is the view, and that has the new content.
     ensures done { IsTrue (D.state device.old).honest → (commit : Commit) → commit.new ≡ slot.now → IsReady commit pages.now (D.state device.old).disk.view →
-        OnOk result (IsDone commit pages.now (stops_of D.moment D.left_since device.new) (D.state device.old).disk.view (D.state device.new).disk.view) }
-    ensures size { (D.state device.new).size ≡ (D.state device.old).size }
-    ensures honest { (D.state device.new).honest ≡ (D.state device.old).honest }
-    ensures reads { (D.state device.new).failed_reads ≡ (D.state device.old).failed_reads }
-    ensures writes { Counts result (D.state device.old).failed_writes (D.state device.new).failed_writes }
-    ensures fault { IfErr result (λ e. e ≡ Failing) }
+        OnOk result (IsDone commit pages.now (crash_states_of D.moment D.possible_since device.new) (D.state device.old).disk.view (D.state device.new).disk.view) }
+    ensures outcome { WriteOutcome result (D.state device.old) (D.state device.new) }
 {
     write_pages(device, pages)?;
     sync_all(device)?;

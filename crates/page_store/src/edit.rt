@@ -1,5 +1,5 @@
 // What a batch does to one key.
-use host_types::Bytes;
+use common_types::Bytes;
 
 /// What a batch does to one key: it gets a value, or goes.
 #[derive(Debug, Drop)]

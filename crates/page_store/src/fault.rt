@@ -1,11 +1,11 @@
-// Faults of a keeper of pairs.
+// Faults of a key-value store.
 ghost use Rattle.std.specs.Prelude.{◌≡◌};
 ghost use Rattle.page_store.specs.declared.fault.KeeperFault.TheVariants.{Memory};
 
 use std::alloc::{AllocError, AllocFailed};
 use thiserror::Error;
 
-/// Why a call of a keeper of pairs fails.
+/// Why a call of a key-value store fails.
 #[derive(Clone, Copy, Debug, PartialEq, Eq, Error)]
 pub enum KeeperFault {
     /// A read failed, or the sync of an opening.
@@ -40,7 +40,7 @@ pub enum KeeperFault {
     /// A write or a sync failed, in this call or before.
     #[error("Failed")]
     Failed,
-    /// Memory is wanting.
+    /// Out of memory.
     #[error("Memory")]
     Memory,
 }

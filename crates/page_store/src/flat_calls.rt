@@ -1,19 +1,19 @@
 // The calls of a keeper of flat pages.
 ghost use Rattle.std.specs.Prelude.{◌≡◌, ◌⊎◌, ◌≤◌, ◌<◌, ◌+◌, ◌==◌, ℕ, true, false, IsTrue, OnOk, OnErr, IfErr, IsErrOf};
-ghost use Rattle.host_types.specs.Stops.{LeavesOnly, IsQuiet, may_leave};
+ghost use Rattle.common_types.specs.CrashStates.{AddsOnly, AddsNone, may_crash_to};
 ghost use Rattle.page_store.specs.Batch.{is_batch, is_map, updated};
-ghost use Rattle.sector_device.specs.Device.{Counts};
+ghost use Rattle.common_types.specs.Counts.{Counts};
 ghost use Rattle.page_store.specs.Commit.{IsBetween};
 ghost use Rattle.page_store.specs.FlatPlan.{IsPlan};
 ghost use Rattle.page_store.specs.Counting.{CountsReads, CountsWrites};
-ghost use Rattle.page_store.specs.Holding.{HasTried, IsCommitFault, last_generation};
+ghost use Rattle.page_store.specs.StoreState.{HasTried, IsCommitFault, last_generation};
 ghost use Rattle.page_store.specs.FlatSeen.{held, device_of, slot_of, pairs_of, top_of, is_open};
 ghost use Rattle.page_store.specs.declared.fault.KeeperFault.TheVariants.{Failed, Spent};
-ghost use Rattle.page_store.specs.Content.{is_opened, Holds};
+ghost use Rattle.page_store.specs.Content.{is_opened, ImageHas};
 ghost use Rattle.page_store.specs.Sectors.{Image};
-ghost use Rattle.page_store.specs.Steps.{stops_of};
-ghost use Rattle.page_store.specs.FlatKeeping.{NeedsPages, IsFlatBetween, flat_commit};
-ghost use Rattle.page_store.specs.Settled.{settled_content, opens_zero};
+ghost use Rattle.page_store.specs.Steps.{crash_states_of};
+ghost use Rattle.page_store.specs.FlatState.{NeedsPages, IsFlatBetween, flat_commit};
+ghost use Rattle.page_store.specs.CrashStatesRepresent.{crash_states_represent_content, opens_zero};
 
 use crate::batch::{next_pair, value_of};
 use crate::commit::commit_pages;
@@ -29,7 +29,7 @@ impl<D: Device> FlatKeeper<D> {
         requires plan { IsPlan (slot_of self.old) (top_of self.old + 1) plan.pairs.items plan.slot.root.banner plan }
         requires map { is_map plan.pairs.items ≡ true }
         requires version { IsTrue (is_opened plan.slot.root.banner.version) }
-        ensures stop { IsTrue (D.state (device_of self.old)).honest → LeavesOnly (stops_of D.moment D.left_since (device_of self.old)) (stops_of D.moment D.left_since (device_of self.new))
+        ensures at_crash { IsTrue (D.state (device_of self.old)).honest → AddsOnly (crash_states_of D.moment D.possible_since (device_of self.old)) (crash_states_of D.moment D.possible_since (device_of self.new))
             (IsBetween (flat_commit (slot_of self.old) (pairs_of self.old) (top_of self.old + 1) plan.pairs.items plan.slot.root.banner) plan.pages.items (D.state (device_of self.old)).disk.view) }
         ensures pairs { OnOk result (pairs_of self.new ≡ plan.pairs.items) }
         ensures slot { OnOk result (slot_of self.new ≡ plan.slot) }
@@ -59,23 +59,23 @@ impl<D: Device> FlatKeeper<D> {
 }
 
 impl<D: Device> Keeper for FlatKeeper<D> {
-    ghost holding = { λ k. held D.state k };
+    ghost store_state = { λ k. held D.state k };
 
     ghost may_need = { λ k batch need. NeedsPages (pairs_of k) batch need };
 
     ghost holds_version = { is_opened };
 
-    ghost Left = { Image };
+    ghost CrashState = { Image };
 
-    ghost has_content = { Holds };
+    ghost has_content = { ImageHas };
 
-    ghost stops = { λ k. stops_of D.moment D.left_since (device_of k) };
+    ghost crash_states = { λ k. crash_states_of D.moment D.possible_since (device_of k) };
 
     ghost held = { λ k. opens_zero k.slot.root.banner.version k.fitted.version };
 
     ghost ordered = { λ k honest. k.fitted.map };
 
-    ghost settled = { λ k c honest usable left. settled_content (D.state k.device).disk k.slot k.pairs.items k.top (k.settled honest usable) k.fitted.version c (D.leaves_images k.device c honest left) };
+    ghost crash_states_represent = { λ k c honest usable left. crash_states_represent_content (D.state k.device).disk k.slot k.pairs.items k.top (k.crash_states_represent honest usable) k.fitted.version c (D.crash_states_are_images k.device c honest left) };
 
     fn banner(&self) -> &Banner {
         &self.slot.root.banner
@@ -125,21 +125,21 @@ impl<D: Device> Keeper for FlatKeeper<D> {
         ensures fault { IfErr result (IsCommitFault (held D.state self.old) (held D.state self.new) (NeedsPages (pairs_of self.old) batch.now)) }
         ensures closed { (held D.state self.old).usable ≡ false → IsErrOf result Failed }
         ensures spent { (held D.state self.old).usable ≡ true → (held D.state self.old).top ≡ last_generation → IsErrOf result Spent }
-        ensures still { (held D.state self.old).usable ≡ false → held D.state self.new ≡ held D.state self.old }
+        ensures unchanged { (held D.state self.old).usable ≡ false → held D.state self.new ≡ held D.state self.old }
         ensures tried { HasTried (held D.state self.old) (held D.state self.new) }
         ensures reads { CountsReads result (held D.state self.old).failed_reads (held D.state self.new).failed_reads }
         ensures writes { CountsWrites (held D.state self.old).usable result (held D.state self.old).failed_writes (held D.state self.new).failed_writes }
-        ensures stop { IsTrue (held D.state self.old).honest → (held D.state self.old).usable ≡ true →
-            LeavesOnly (stops_of D.moment D.left_since (device_of self.old)) (stops_of D.moment D.left_since (device_of self.new))
-            (λ c. Holds c (held D.state self.old).pairs (held D.state self.old).banner ⊎ Holds c (updated (held D.state self.old).pairs batch.now) banner) }
+        ensures at_crash { IsTrue (held D.state self.old).honest → (held D.state self.old).usable ≡ true →
+            AddsOnly (crash_states_of D.moment D.possible_since (device_of self.old)) (crash_states_of D.moment D.possible_since (device_of self.new))
+            (λ c. ImageHas c (held D.state self.old).pairs (held D.state self.old).banner ⊎ ImageHas c (updated (held D.state self.old).pairs batch.now) banner) }
         ensures tight { IsTrue (held D.state self.old).honest → (held D.state self.old).usable ≡ true → (held D.state self.new).usable ≡ false → (n : ℕ) × NeedsPages (pairs_of self.old) batch.now n × (n ≤ (held D.state self.old).free) }
-        ensures quiet { IsTrue (held D.state self.old).honest → IfErr result (λ e. (held D.state self.new).usable ≡ true → IsQuiet (stops_of D.moment D.left_since (device_of self.old)) (stops_of D.moment D.left_since (device_of self.new))) }
-        ensures quiet_when_closed { IsTrue (held D.state self.old).honest → (held D.state self.old).usable ≡ false → IsQuiet (stops_of D.moment D.left_since (device_of self.old)) (stops_of D.moment D.left_since (device_of self.new)) }
+        ensures no_new_crash_state { IsTrue (held D.state self.old).honest → IfErr result (λ e. (held D.state self.new).usable ≡ true → AddsNone (crash_states_of D.moment D.possible_since (device_of self.old)) (crash_states_of D.moment D.possible_since (device_of self.new))) }
+        ensures no_new_crash_state_when_closed { IsTrue (held D.state self.old).honest → (held D.state self.old).usable ≡ false → AddsNone (crash_states_of D.moment D.possible_since (device_of self.old)) (crash_states_of D.moment D.possible_since (device_of self.new)) }
 
-        // How it writes: a stop leaves what one before the call might have left, or an image on the way to the other half and the other slot.
+        // How it writes: a crash leaves what one before the call might have left, or an image on the way to the other half and the other slot.
         ensures between { IsTrue (held D.state self.old).honest → (held D.state self.old).usable ≡ true →
-            LeavesOnly (stops_of D.moment D.left_since (device_of self.old)) (stops_of D.moment D.left_since (device_of self.new))
-            (λ c. may_leave (stops_of D.moment D.left_since (device_of self.old)) c ⊎ IsFlatBetween (slot_of self.old) (pairs_of self.old) (top_of self.old) (D.state (device_of self.old)).disk.view batch.now banner c) }
+            AddsOnly (crash_states_of D.moment D.possible_since (device_of self.old)) (crash_states_of D.moment D.possible_since (device_of self.new))
+            (λ c. may_crash_to (crash_states_of D.moment D.possible_since (device_of self.old)) c ⊎ IsFlatBetween (slot_of self.old) (pairs_of self.old) (top_of self.old) (D.state (device_of self.old)).disk.view batch.now banner c) }
 
         // A fault before the first write leaves the device as it is.
         ensures unwritten { IfErr result (λ e. is_open self.new ≡ is_open self.old → device_of self.new ≡ device_of self.old) }

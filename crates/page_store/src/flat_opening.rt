@@ -9,11 +9,12 @@ ghost use Rattle.page_store.specs.Pages.{key_of};
 ghost use Rattle.page_store.specs.Batch.{is_map, is_pair, is_key, is_value};
 ghost use Rattle.page_store.specs.Flat.{half_size, is_half};
 ghost use Rattle.page_store.specs.Content.{HasContent};
-ghost use Rattle.page_store.specs.Steps.{stops_of, AllAre};
-ghost use Rattle.page_store.specs.FlatKeeping.{IsFitted, IsSettled, IsOpened, IsSlotFault, IsOpenFault, HasOpened, found_in_half};
+ghost use Rattle.page_store.specs.Steps.{crash_states_of};
+ghost use Rattle.page_store.specs.DeviceEffects.{KeepsDevice, IsReadCall};
+ghost use Rattle.page_store.specs.FlatState.{IsFitted, CrashStatesDoRepresent, IsOpened, IsSlotFault, IsOpenFault, HasOpened, found_in_half};
 ghost use Rattle.page_store.specs.FlatSeen.{pairs_of, banner_of, device_of, top_of, is_open};
 ghost use Rattle.page_store.specs.Roots.{FitsDevice, current, greatest_seal};
-ghost use Rattle.host_types.specs.Stops.{IsQuiet};
+ghost use Rattle.common_types.specs.CrashStates.{AddsNone};
 
 use crate::flat_reading::read_half;
 use crate::pages::sync_all;
@@ -53,12 +54,8 @@ fn flat_slot<D: Device>(device: &mut D) -> Result<(Slot, u64), KeeperFault>
     ensures fits { IfOk result (λ found. (found.0.number < 2) × FitsDevice (D.state device.old).size found.0.root) }
     ensures version { IfOk result (λ found. found.0.root.banner.version ≡ 0) }
     ensures fault { IfErr result (IsSlotFault (D.state device.old)) }
-    ensures disk { IsTrue (D.state device.old).honest → (D.state device.new).disk ≡ (D.state device.old).disk }
-    ensures stop { IsTrue (D.state device.old).honest → IsQuiet (stops_of D.moment D.left_since device.old) (stops_of D.moment D.left_since device.new) }
-    ensures size { (D.state device.new).size ≡ (D.state device.old).size }
-    ensures honest { (D.state device.new).honest ≡ (D.state device.old).honest }
+    ensures device { IsReadCall D.state (crash_states_of D.moment D.possible_since) device.old device.new }
     ensures reads { CountsReads result (D.state device.old).failed_reads (D.state device.new).failed_reads }
-    ensures writes { (D.state device.new).failed_writes ≡ (D.state device.old).failed_writes }
 {
     let Ok(roots) = open_roots(device) else {
         return Err(KeeperFault::Device);
@@ -75,14 +72,12 @@ fn flat_slot<D: Device>(device: &mut D) -> Result<(Slot, u64), KeeperFault>
 
 /// Makes sure of what is there, and finds the current slot of a flat image and the greatest seal.
 fn open_slot<D: Device>(device: &mut D) -> Result<(Slot, u64), KeeperFault>
-    ensures opened { IfOk result (λ found. IsOpened (D.state device.old) (D.state device.new) (stops_of D.moment D.left_since device.new) found.0 found.1) }
+    ensures opened { IfOk result (λ found. IsOpened (D.state device.old) (D.state device.new) (crash_states_of D.moment D.possible_since device.new) found.0 found.1) }
     ensures fits { IfOk result (λ found. (found.0.number < 2) × FitsDevice (D.state device.old).size found.0.root) }
     ensures version { IfOk result (λ found. found.0.root.banner.version ≡ 0) }
     ensures large { IfOk result (λ found. 128 ≤ (D.state device.old).size) }
     ensures fault { IfErr result (IsOpenFault (D.state device.old) (D.state device.new)) }
-    ensures stop { IsTrue (D.state device.old).honest → IsQuiet (stops_of D.moment D.left_since device.old) (stops_of D.moment D.left_since device.new) }
-    ensures size { (D.state device.new).size ≡ (D.state device.old).size }
-    ensures honest { (D.state device.new).honest ≡ (D.state device.old).honest }
+    ensures device { KeepsDevice D.state (crash_states_of D.moment D.possible_since) device.old device.new }
     ensures counts { OnOk result (NothingCounted (D.state device.old) (D.state device.new)) }
     ensures counts_fault { IfErr result (λ e. CountsRefusal e (D.state device.old) (D.state device.new)) }
     ensures small { IfErr result (λ e. e ≡ Small → device.new ≡ device.old) }
@@ -124,13 +119,11 @@ fn open_parts<D: Device>(
     alloc: Global,
     device: &mut D,
 ) -> Result<(Slot, Vec<Pair>, u64), KeeperFault>
-    ensures opened { IfOk result (λ parts. HasOpened (D.state device.old) (D.state device.new) (stops_of D.moment D.left_since device.new) parts.0 parts.1.items parts.2) }
+    ensures opened { IfOk result (λ parts. HasOpened (D.state device.old) (D.state device.new) (crash_states_of D.moment D.possible_since device.new) parts.0 parts.1.items parts.2) }
     ensures fitted { IfOk result (λ parts. IsFitted (D.state device.old).size parts.0 parts.1.items) }
     ensures large { IfOk result (λ parts. 128 ≤ (D.state device.old).size) }
     ensures fault { IfErr result (IsOpenFault (D.state device.old) (D.state device.new)) }
-    ensures stop { IsTrue (D.state device.old).honest → IsQuiet (stops_of D.moment D.left_since device.old) (stops_of D.moment D.left_since device.new) }
-    ensures size { (D.state device.new).size ≡ (D.state device.old).size }
-    ensures honest { (D.state device.new).honest ≡ (D.state device.old).honest }
+    ensures device { KeepsDevice D.state (crash_states_of D.moment D.possible_since) device.old device.new }
     ensures counts { OnOk result (NothingCounted (D.state device.old) (D.state device.new)) }
     ensures counts_fault { IfErr result (λ e. CountsRefusal e (D.state device.old) (D.state device.new)) }
     ensures small { IfErr result (λ e. e ≡ Small → device.new ≡ device.old) }
@@ -165,9 +158,9 @@ impl<D: Device> FlatKeeper<D> {
         ensures fault { IfErr result (λ e. IsOpenFault (D.state device) (D.state e.1) e.0) }
         ensures counts_fault { IfErr result (λ e. CountsRefusal e.0 (D.state device) (D.state e.1)) }
         ensures small { IfErr result (λ e. e.0 ≡ Small → e.1 ≡ device) }
-        // Nothing is written: a stop within the call leaves what one before it might have left.
-        ensures stop { IsTrue (D.state device).honest → IfOk result (λ k. IsQuiet (stops_of D.moment D.left_since device) (stops_of D.moment D.left_since (device_of k))) }
-        ensures stop_at_fault { IsTrue (D.state device).honest → IfErr result (λ e. IsQuiet (stops_of D.moment D.left_since device) (stops_of D.moment D.left_since e.1)) }
+        // Nothing is written: a crash within the call leaves what one before it might have left.
+        ensures at_crash { IsTrue (D.state device).honest → IfOk result (λ k. AddsNone (crash_states_of D.moment D.possible_since device) (crash_states_of D.moment D.possible_since (device_of k))) }
+        ensures at_crash_on_fault { IsTrue (D.state device).honest → IfErr result (λ e. AddsNone (crash_states_of D.moment D.possible_since device) (crash_states_of D.moment D.possible_since e.1)) }
         ensures handed_back { IfErr result (λ e. ((D.state e.1).size ≡ (D.state device).size) × ((D.state e.1).honest ≡ (D.state device).honest)) }
     {
         let mut device = device;

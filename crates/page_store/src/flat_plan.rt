@@ -2,11 +2,11 @@
 ghost use Rattle.std.specs.Prelude.{◌≡◌, ◌≤◌, ◌<◌, ◌*◌, ◌^◌, IsTrue, IfOk, IfErr};
 ghost use Rattle.page_store.specs.Batch.{is_batch, updated};
 ghost use Rattle.page_store.specs.Flat.{half_size};
-ghost use Rattle.page_store.specs.FlatKeeping.{IsFitted, other_half};
+ghost use Rattle.page_store.specs.FlatState.{IsFitted, other_half};
 ghost use Rattle.page_store.specs.FlatPlan.{IsPlan, IsPlanFault};
 
 use crate::batch::updated_pairs;
-use crate::spelling::{flat_pages, pages_needed, slot_page};
+use crate::encoding::{flat_pages, pages_needed, slot_page};
 use crate::{Banner, Edit, KeeperFault, NewPage, Pair, Root, Slot};
 use std::alloc::Global;
 

@@ -1,10 +1,10 @@
 // The pairs of flat pages.
 ghost use Rattle.std.specs.Prelude.{◌≡◌, ◌⊎◌, ◌+◌, ◌*◌, ◌<◌, ◌≤◌, ◌^◌, None, Some, IsTrue, IfOk, IfErr, IfSome, option_map, length, false};
-ghost use Rattle.host_types.specs.Stops.{IsQuiet};
 ghost use Rattle.page_store.specs.Pages.{pair_at, entries_at};
 ghost use Rattle.page_store.specs.Flat.{flat_page, flat_next, flat_walk, is_over, half_size, with_front, with_pairs, is_flat_head, HasNext};
 ghost use Rattle.page_store.specs.Sectors.{page_of};
-ghost use Rattle.page_store.specs.Steps.{stops_of};
+ghost use Rattle.page_store.specs.Steps.{crash_states_of};
+ghost use Rattle.page_store.specs.DeviceEffects.{IsReadCall};
 ghost use Rattle.page_store.specs.Counting.{CountsReads};
 ghost use Rattle.page_store.specs.ReadFaults.{IsHalfFault};
 
@@ -74,7 +74,7 @@ fn is_over(room: usize, pairs: &[Pair]) -> bool
     }
 }
 
-/// Adds the pairs of the next page, and answers how many bytes are left in it and how many pairs are still to come; none where it has not the form, is begun too early, or has more pairs than there are.
+/// Adds the pairs of the next page, and answers how many bytes are left in it and how many pairs are to come; none where it has not the form, is begun too early, or has more pairs than there are.
 fn read_next(
     alloc: Global,
     seal: u64,
@@ -112,12 +112,8 @@ pub(crate) fn read_half<D: Device>(
     requires numbers { slot.now.root.tree + half_size slot.now.root.pages < 2 ^ 32 }
     ensures pairs { IsTrue (D.state device.old).honest → IfOk result (λ pairs. flat_walk (page_of (D.state device.old).disk.view) slot.now.seal (half_size slot.now.root.pages) slot.now.root.tree 0 slot.now.root.keys ≡ Some pairs.items) }
     ensures fault { IfErr result (IsHalfFault slot.now (D.state device.old).honest (D.state device.old).failed_reads (D.state device.new).failed_reads (flat_walk (page_of (D.state device.old).disk.view) slot.now.seal (half_size slot.now.root.pages) slot.now.root.tree 0 slot.now.root.keys)) }
-    ensures disk { IsTrue (D.state device.old).honest → (D.state device.new).disk ≡ (D.state device.old).disk }
-    ensures stop { IsTrue (D.state device.old).honest → IsQuiet (stops_of D.moment D.left_since device.old) (stops_of D.moment D.left_since device.new) }
-    ensures size { (D.state device.new).size ≡ (D.state device.old).size }
-    ensures honest { (D.state device.new).honest ≡ (D.state device.old).honest }
+    ensures device { IsReadCall D.state (crash_states_of D.moment D.possible_since) device.old device.new }
     ensures reads { CountsReads result (D.state device.old).failed_reads (D.state device.new).failed_reads }
-    ensures writes { (D.state device.new).failed_writes ≡ (D.state device.old).failed_writes }
 {
     let mut pairs = Vec::new(alloc);
     let mut bytes = [0; 4096];

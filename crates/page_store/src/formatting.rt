@@ -1,23 +1,24 @@
 // Making an image.
 ghost use Rattle.std.specs.Prelude.{◌≡◌, ◌≢◌, ◌⊎◌, ◌≤◌, ◌<◌, ◌*◌, IsTrue, OnOk, IfErr, true, length};
 ghost use Rattle.sector_device.specs.Device.{NothingCounted};
+ghost use Rattle.sector_device.specs.Effects.{IsSameDevice};
 ghost use Rattle.page_store.specs.Batch.{is_map};
-ghost use Rattle.page_store.specs.Spelling.{pages_needed};
-ghost use Rattle.page_store.specs.Steps.{stops_of, AllAre};
+ghost use Rattle.page_store.specs.Encoding.{pages_needed};
+ghost use Rattle.page_store.specs.Steps.{crash_states_of, AllAre};
 ghost use Rattle.page_store.specs.Content.{HasContent};
 ghost use Rattle.page_store.specs.declared.fault.KeeperFault.TheVariants.{Failed};
 ghost use Rattle.page_store.specs.Formatting.{IsFirst, IsFormatFault};
 
 use crate::commit::write_pages;
+use crate::encoding::{flat_pages, slot_page};
 use crate::pages::{sync_all, write_page};
-use crate::spelling::{flat_pages, slot_page};
 use crate::{Banner, KeeperFault, Pair, Root, Slot};
 use sector_device::Device;
 use std::alloc::Global;
 
 /// Makes an image of flat pages, with pairs that fit one page: it clears the second slot and writes generation 1 to the first. What was there is gone.
 ///
-/// `Small` where the count of pages isn't 16 to 65,536 or the device hasn't eight sectors for each, and `Memory`, come before the first write and leave the device as it is; `Failed` where a write or a sync failed. A stop within the call may leave anything.
+/// `Small` where the count of pages isn't 16 to 65,536 or the device hasn't eight sectors for each, and `Memory`, come before the first write and leave the device as it is; `Failed` where a write or a sync failed. A crash within the call may leave anything.
 pub fn format_flat<D: Device>(
     alloc: Global,
     device: &mut D,
@@ -31,13 +32,12 @@ pub fn format_flat<D: Device>(
     requires version { banner.version ≡ 0 }
     ensures content { IsTrue (D.state device.old).honest → OnOk result (HasContent (D.state device.new).disk.view pairs.now banner) }
     ensures first { IsTrue (D.state device.old).honest → OnOk result (IsFirst pages (D.state device.new).disk.view) }
-    ensures sure { IsTrue (D.state device.old).honest → OnOk result (AllAre (stops_of D.moment D.left_since device.new) (D.state device.new).disk.view) }
+    ensures sure { IsTrue (D.state device.old).honest → OnOk result (AllAre (crash_states_of D.moment D.possible_since device.new) (D.state device.new).disk.view) }
     ensures fits { OnOk result ((16 ≤ pages) × (pages ≤ 65536) × (8 * pages ≤ (D.state device.old).size)) }
     ensures fault { IfErr result (IsFormatFault pages (D.state device.old) (D.state device.new)) }
     ensures counts { OnOk result (NothingCounted (D.state device.old) (D.state device.new)) }
     ensures unwritten { IfErr result (λ e. e ≢ Failed → device.new ≡ device.old) }
-    ensures size { (D.state device.new).size ≡ (D.state device.old).size }
-    ensures honest { (D.state device.new).honest ≡ (D.state device.old).honest }
+    ensures same { IsSameDevice (D.state device.old) (D.state device.new) }
 {
     if pages < 16 || pages > 65_536 || 8 * u64::from(pages) > device.sectors() {
         return Err(KeeperFault::Small);
@@ -85,13 +85,12 @@ pub fn format<D: Device>(
     requires version { banner.version ≡ 0 }
     ensures content { IsTrue (D.state device.old).honest → OnOk result (HasContent (D.state device.new).disk.view pairs.now banner) }
     ensures first { IsTrue (D.state device.old).honest → OnOk result (IsFirst pages (D.state device.new).disk.view) }
-    ensures sure { IsTrue (D.state device.old).honest → OnOk result (AllAre (stops_of D.moment D.left_since device.new) (D.state device.new).disk.view) }
+    ensures sure { IsTrue (D.state device.old).honest → OnOk result (AllAre (crash_states_of D.moment D.possible_since device.new) (D.state device.new).disk.view) }
     ensures fits { OnOk result ((16 ≤ pages) × (pages ≤ 65536) × (8 * pages ≤ (D.state device.old).size)) }
     ensures fault { IfErr result (IsFormatFault pages (D.state device.old) (D.state device.new)) }
     ensures counts { OnOk result (NothingCounted (D.state device.old) (D.state device.new)) }
     ensures unwritten { IfErr result (λ e. e ≢ Failed → device.new ≡ device.old) }
-    ensures size { (D.state device.new).size ≡ (D.state device.old).size }
-    ensures honest { (D.state device.new).honest ≡ (D.state device.old).honest }
+    ensures same { IsSameDevice (D.state device.old) (D.state device.new) }
 {
     format_flat(alloc, device, pages, banner, pairs)
 }

@@ -1,22 +1,22 @@
 // A map of byte keys that is kept on a device.
 ghost use Rattle.std.specs.Prelude.{◌≡◌, ◌⊎◌, ◌≤◌, ◌<◌, ◌+◌, ℕ, Bool, List, true, false, IfOk, OnOk, IfErr, IsErrOf, IfSome, IsTrue, length, take, option_map};
-ghost use Rattle.host_types.specs.Stops.{Stops, LeavesOnly, IsQuiet, may_leave};
+ghost use Rattle.common_types.specs.CrashStates.{CrashStates, AddsOnly, AddsNone, may_crash_to};
 ghost use Rattle.page_store.specs.Pages.{Pair};
 ghost use Rattle.page_store.specs.Batch.{value_at, pair_after, updated, is_batch, is_map};
 ghost use Rattle.page_store.specs.Counting.{CountsReads, CountsWrites};
-ghost use Rattle.page_store.specs.Holding.{Holding, HasRead, HasTried, NeedsTheSame, IsFilled, IsReadFault, IsCommitFault, last_generation};
+ghost use Rattle.page_store.specs.StoreState.{StoreState, HasRead, HasTried, NeedsTheSame, IsFilled, IsReadFault, IsCommitFault, last_generation};
 ghost use Rattle.page_store.specs.declared.banner.Banner.{Banner as BannerValue};
 ghost use Rattle.page_store.specs.declared.edit.Edit.{Edit as EditValue};
 ghost use Rattle.page_store.specs.declared.fault.KeeperFault.TheVariants.{Failed, Spent};
 
 use crate::{Banner, Edit, KeeperFault};
 
-/// A map of byte keys with a banner, which changes by whole batches: a stop within a commit leaves the map and the banner from before, or the new ones.
+/// A map of byte keys with a banner, which changes by whole batches: a crash within a commit leaves the map and the banner from before, or the new ones.
 ///
 /// Keys have 1 to 300 bytes and values at most 1,024. Whatever speaks of the pairs holds where what they are kept on is honest, that is, keeps its written meaning.
 pub trait Keeper {
     /// The pairs and the banner, the flags and the counts.
-    ghost holding: { Self → Holding };
+    ghost store_state: { Self → StoreState };
 
     /// How much a commit of a batch may need.
     ghost may_need: { Self → List EditValue → ℕ → Type 0 };
@@ -24,35 +24,35 @@ pub trait Keeper {
     /// Whether an image of that version is held.
     ghost holds_version: { ℕ → Bool };
 
-    /// What a stop leaves.
-    ghost Left: { Type 0 };
+    /// A crash state.
+    ghost CrashState: { Type 0 };
 
-    /// What is left has these pairs and this banner.
-    ghost has_content: { Left → List Pair → BannerValue → Type 0 };
+    /// A crash state has these pairs and this banner.
+    ghost has_content: { CrashState → List Pair → BannerValue → Type 0 };
 
-    /// What a stop may leave.
-    ghost stops: { Self → Stops Left };
+    /// The crash states.
+    ghost crash_states: { Self → CrashStates CrashState };
 
     /// Version, host, port and administrator. It takes no memory.
     fn banner(&self) -> &Banner
-        ensures { result.now ≡ (holding self.now).banner };
+        ensures { result.now ≡ (store_state self.now).banner };
 
     /// Whether no write or sync has failed.
     fn is_usable(&self) -> bool
-        ensures { result ≡ (holding self.now).usable };
+        ensures { result ≡ (store_state self.now).usable };
 
     /// Puts the value at a key into the front of the buffer, and answers its length, or none where nothing stands there. What stands behind the value stays. It takes no memory.
     fn get(&mut self, key: &[u8], buffer: &mut [u8; 1024]) -> Result<Option<usize>, KeeperFault>
         ensures within { IfOk result (λ found. IfSome found (λ n. n ≤ length buffer.new)) }
-        ensures value { IsTrue (holding self.old).honest → IfOk result (λ found. option_map (λ n. take n buffer.new) found ≡ value_at (holding self.old).pairs key.now) }
+        ensures value { IsTrue (store_state self.old).honest → IfOk result (λ found. option_map (λ n. take n buffer.new) found ≡ value_at (store_state self.old).pairs key.now) }
         ensures buffer { IsFilled (λ n. n) result buffer.old buffer.new }
-        ensures kept { HasRead (holding self.old) (holding self.new) }
+        ensures kept { HasRead (store_state self.old) (store_state self.new) }
         ensures need { NeedsTheSame (may_need self.old) (may_need self.new) }
-        ensures reads { CountsReads result (holding self.old).failed_reads (holding self.new).failed_reads }
-        ensures fault { IfErr result (IsReadFault (holding self.old) (holding self.new)) }
-        ensures closed { (holding self.old).usable ≡ false → IsErrOf result Failed }
-        ensures still { (holding self.old).usable ≡ false → holding self.new ≡ holding self.old }
-        ensures stop { IsTrue (holding self.old).honest → IsQuiet (stops self.old) (stops self.new) };
+        ensures reads { CountsReads result (store_state self.old).failed_reads (store_state self.new).failed_reads }
+        ensures fault { IfErr result (IsReadFault (store_state self.old) (store_state self.new)) }
+        ensures closed { (store_state self.old).usable ≡ false → IsErrOf result Failed }
+        ensures unchanged { (store_state self.old).usable ≡ false → store_state self.new ≡ store_state self.old }
+        ensures at_crash { IsTrue (store_state self.old).honest → AddsNone (crash_states self.old) (crash_states self.new) };
 
     /// Puts the pair with the least key above this one into the fronts of the buffers, and answers its lengths, or none where no key is above. The empty key is below all. What stands behind key and value stays. It takes no memory.
     fn next(
@@ -62,16 +62,16 @@ pub trait Keeper {
         value: &mut [u8; 1024],
     ) -> Result<Option<(usize, usize)>, KeeperFault>
         ensures within { IfOk result (λ found. IfSome found (λ n. (n.0 ≤ length key.new) × (n.1 ≤ length value.new))) }
-        ensures pair { IsTrue (holding self.old).honest → IfOk result (λ found. option_map (λ n. (take n.0 key.new, take n.1 value.new)) found ≡ pair_after (holding self.old).pairs after.now) }
+        ensures pair { IsTrue (store_state self.old).honest → IfOk result (λ found. option_map (λ n. (take n.0 key.new, take n.1 value.new)) found ≡ pair_after (store_state self.old).pairs after.now) }
         ensures key { IsFilled (λ n. n.0) result key.old key.new }
         ensures value { IsFilled (λ n. n.1) result value.old value.new }
-        ensures kept { HasRead (holding self.old) (holding self.new) }
+        ensures kept { HasRead (store_state self.old) (store_state self.new) }
         ensures need { NeedsTheSame (may_need self.old) (may_need self.new) }
-        ensures reads { CountsReads result (holding self.old).failed_reads (holding self.new).failed_reads }
-        ensures fault { IfErr result (IsReadFault (holding self.old) (holding self.new)) }
-        ensures closed { (holding self.old).usable ≡ false → IsErrOf result Failed }
-        ensures still { (holding self.old).usable ≡ false → holding self.new ≡ holding self.old }
-        ensures stop { IsTrue (holding self.old).honest → IsQuiet (stops self.old) (stops self.new) };
+        ensures reads { CountsReads result (store_state self.old).failed_reads (store_state self.new).failed_reads }
+        ensures fault { IfErr result (IsReadFault (store_state self.old) (store_state self.new)) }
+        ensures closed { (store_state self.old).usable ≡ false → IsErrOf result Failed }
+        ensures unchanged { (store_state self.old).usable ≡ false → store_state self.new ≡ store_state self.old }
+        ensures at_crash { IsTrue (store_state self.old).honest → AddsNone (crash_states self.old) (crash_states self.new) };
 
     /// Makes all edits of a batch, whose keys rise, and sets the banner, in one step.
     ///
@@ -80,36 +80,36 @@ pub trait Keeper {
         requires batch { IsTrue (is_batch batch.now) }
         requires port { 0 < banner.port }
         requires version { IsTrue (holds_version banner.version) }
-        ensures done { IsTrue (holding self.old).honest → OnOk result ((holding self.new).pairs ≡ updated (holding self.old).pairs batch.now) }
-        ensures banner { OnOk result ((holding self.new).banner ≡ banner) }
-        ensures still_usable { OnOk result ((holding self.new).usable ≡ true) }
-        ensures rises { OnOk result ((holding self.new).top ≡ (holding self.old).top + 1) }
-        ensures fits { IsTrue (holding self.old).honest → OnOk result ((n : ℕ) × may_need self.old batch.now n × (n ≤ (holding self.old).free)) }
-        ensures fault { IfErr result (IsCommitFault (holding self.old) (holding self.new) (may_need self.old batch.now)) }
-        ensures closed { (holding self.old).usable ≡ false → IsErrOf result Failed }
-        ensures spent { (holding self.old).usable ≡ true → (holding self.old).top ≡ last_generation → IsErrOf result Spent }
-        ensures still { (holding self.old).usable ≡ false → holding self.new ≡ holding self.old }
-        ensures tried { HasTried (holding self.old) (holding self.new) }
-        ensures reads { CountsReads result (holding self.old).failed_reads (holding self.new).failed_reads }
-        ensures writes { CountsWrites (holding self.old).usable result (holding self.old).failed_writes (holding self.new).failed_writes }
+        ensures done { IsTrue (store_state self.old).honest → OnOk result ((store_state self.new).pairs ≡ updated (store_state self.old).pairs batch.now) }
+        ensures banner { OnOk result ((store_state self.new).banner ≡ banner) }
+        ensures still_usable { OnOk result ((store_state self.new).usable ≡ true) }
+        ensures rises { OnOk result ((store_state self.new).top ≡ (store_state self.old).top + 1) }
+        ensures fits { IsTrue (store_state self.old).honest → OnOk result ((n : ℕ) × may_need self.old batch.now n × (n ≤ (store_state self.old).free)) }
+        ensures fault { IfErr result (IsCommitFault (store_state self.old) (store_state self.new) (may_need self.old batch.now)) }
+        ensures closed { (store_state self.old).usable ≡ false → IsErrOf result Failed }
+        ensures spent { (store_state self.old).usable ≡ true → (store_state self.old).top ≡ last_generation → IsErrOf result Spent }
+        ensures unchanged { (store_state self.old).usable ≡ false → store_state self.new ≡ store_state self.old }
+        ensures tried { HasTried (store_state self.old) (store_state self.new) }
+        ensures reads { CountsReads result (store_state self.old).failed_reads (store_state self.new).failed_reads }
+        ensures writes { CountsWrites (store_state self.old).usable result (store_state self.old).failed_writes (store_state self.new).failed_writes }
 
-        // A stop within the call leaves the pairs and the banner from before it, or the new ones.
-        ensures stop { IsTrue (holding self.old).honest → (holding self.old).usable ≡ true →
-            LeavesOnly (stops self.old) (stops self.new) (λ c. has_content c (holding self.old).pairs (holding self.old).banner ⊎ has_content c (updated (holding self.old).pairs batch.now) banner) }
+        // A crash within the call leaves the pairs and the banner from before it, or the new ones.
+        ensures at_crash { IsTrue (store_state self.old).honest → (store_state self.old).usable ≡ true →
+            AddsOnly (crash_states self.old) (crash_states self.new) (λ c. has_content c (store_state self.old).pairs (store_state self.old).banner ⊎ has_content c (updated (store_state self.old).pairs batch.now) banner) }
 
         // Where a write or a sync failed, the batch had room.
-        ensures tight { IsTrue (holding self.old).honest → (holding self.old).usable ≡ true → (holding self.new).usable ≡ false → (n : ℕ) × may_need self.old batch.now n × (n ≤ (holding self.old).free) }
+        ensures tight { IsTrue (store_state self.old).honest → (store_state self.old).usable ≡ true → (store_state self.new).usable ≡ false → (n : ℕ) × may_need self.old batch.now n × (n ≤ (store_state self.old).free) }
 
         // Where no write or sync has failed and nothing was changed, nothing was written.
-        ensures quiet { IsTrue (holding self.old).honest → IfErr result (λ e. (holding self.new).usable ≡ true → IsQuiet (stops self.old) (stops self.new)) }
-        ensures quiet_when_closed { IsTrue (holding self.old).honest → (holding self.old).usable ≡ false → IsQuiet (stops self.old) (stops self.new) };
+        ensures no_new_crash_state { IsTrue (store_state self.old).honest → IfErr result (λ e. (store_state self.new).usable ≡ true → AddsNone (crash_states self.old) (crash_states self.new)) }
+        ensures no_new_crash_state_when_closed { IsTrue (store_state self.old).honest → (store_state self.old).usable ≡ false → AddsNone (crash_states self.old) (crash_states self.new) };
 
     /// The banner is of a version that is held.
-    ghost held: { (k : Self) → IsTrue (holds_version (holding k).banner.version) };
+    ghost held: { (k : Self) → IsTrue (holds_version (store_state k).banner.version) };
 
     /// The keys rise in byte order, and keys and values have their sizes.
-    ghost ordered: { (k : Self) → IsTrue (holding k).honest → IsTrue (is_map (holding k).pairs) };
+    ghost ordered: { (k : Self) → IsTrue (store_state k).honest → IsTrue (is_map (store_state k).pairs) };
 
-    /// What a stop between two calls leaves has the pairs and the banner.
-    ghost settled: { (k : Self) (c : Left) → IsTrue (holding k).honest → (holding k).usable ≡ true → may_leave (stops k) c → has_content c (holding k).pairs (holding k).banner };
+    /// Between two calls each crash state has the pairs and the banner.
+    ghost crash_states_represent: { (k : Self) (c : CrashState) → IsTrue (store_state k).honest → (store_state k).usable ≡ true → may_crash_to (crash_states k) c → has_content c (store_state k).pairs (store_state k).banner };
 }

@@ -2,7 +2,7 @@
 ghost use Rattle.std.specs.Prelude.{Option, ◌≡◌, ◌≤◌, ◌<◌, ◌+◌, ◌*◌, ℕ, List, Some, None, IsTrue, false, length};
 ghost use Rattle.page_store.specs.Sectors.{Image, sector, page_of};
 ghost use Rattle.page_store.specs.Roots.{seal_of, root_at, record_from, slot_of, current, greatest_seal};
-ghost use Rattle.page_store.specs.Examples.{Examples};
+ghost use Rattle.page_store.specs.ImageExamples.{ImageExamples};
 ghost use Rattle.page_store.specs.declared.slot.Root.{Root};
 ghost use Rattle.page_store.specs.declared.slot.Slot.{Slot};
 ghost use Rattle.page_store.specs.Content.{Bounds, walk, Found, content, content_under, is_among};
@@ -47,5 +47,5 @@ pub fn seals_are_at_most_the_greatest()
 
 /// Worked examples of records, root slots, flat pages and batches.
 pub fn worked_examples()
-    ensures { Examples }
+    ensures { ImageExamples }
 {}

@@ -1,10 +1,11 @@
-//! Pages and root slots of an image, and a keeper of pairs on them.
+//! Pages and root slots of an image, and a key-value store on them.
 #![tactic(auto)]
 
 mod banner;
 mod batch;
 mod commit;
 mod edit;
+mod encoding;
 mod fault;
 mod flat_calls;
 mod flat_keeper;
@@ -19,7 +20,6 @@ mod pair;
 mod reading;
 mod roots;
 mod slot;
-mod spelling;
 
 pub use banner::Banner;
 pub use commit::{NewPage, commit_pages, write_pages};

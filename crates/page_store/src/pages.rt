@@ -1,11 +1,11 @@
 // Sectors and pages of a device.
-ghost use Rattle.std.specs.Prelude.{◌≡◌, ◌+◌, ◌*◌, ◌<◌, ◌≤◌, IsTrue, OnOk, OnErr, IfErr, length};
-ghost use Rattle.sector_device.specs.declared.device.DeviceFault.TheVariants.{Device as Failing};
-ghost use Rattle.sector_device.specs.Device.{Counts};
-ghost use Rattle.host_types.specs.Stops.{IsQuiet, LeavesOnly};
+ghost use Rattle.std.specs.Prelude.{◌≡◌, ◌+◌, ◌*◌, ◌<◌, ◌≤◌, IsTrue, OnOk, IfErr};
+ghost use Rattle.sector_device.specs.Effects.{WriteOutcome};
+ghost use Rattle.common_types.specs.CrashStates.{AddsNone, AddsOnly};
 ghost use Rattle.page_store.specs.Sectors.{sector, page_of};
 ghost use Rattle.page_store.specs.Switch.{IsSlotPage, IsAbove, IsSwitching, IsSwitched};
-ghost use Rattle.page_store.specs.Steps.{stops_of, Makes, AllAre, IsWritten, MayBeWritten, AreWritten, MayBeAllWritten, chunk};
+ghost use Rattle.page_store.specs.Steps.{crash_states_of, AllAre, IsWritten, MayBeWritten, AreWritten, MayBeAllWritten, chunk};
+ghost use Rattle.page_store.specs.DeviceEffects.{ReadsDevice, WritesDevice};
 
 use crate::Slot;
 use sector_device::{Device, DeviceFault};
@@ -27,15 +27,8 @@ pub fn read_sector<D: Device>(
     buffer: &mut [u8; 512],
 ) -> Result<(), DeviceFault>
     requires { n < (D.state device.old).size }
-    ensures shows { IsTrue (D.state device.old).honest → OnOk result (sector (D.state device.old).disk.view n ≡ buffer.new) }
+    ensures sector { ReadsDevice D.state (crash_states_of D.moment D.possible_since) device.old device.new result (λ view _. sector view n ≡ buffer.new) }
     ensures untouched { IfErr result (λ e. buffer.new ≡ buffer.old) }
-    ensures disk { IsTrue (D.state device.old).honest → (D.state device.new).disk ≡ (D.state device.old).disk }
-    ensures stop { IsTrue (D.state device.old).honest → IsQuiet (stops_of D.moment D.left_since device.old) (stops_of D.moment D.left_since device.new) }
-    ensures size { (D.state device.new).size ≡ (D.state device.old).size }
-    ensures honest { (D.state device.new).honest ≡ (D.state device.old).honest }
-    ensures reads { Counts result (D.state device.old).failed_reads (D.state device.new).failed_reads }
-    ensures writes { (D.state device.new).failed_writes ≡ (D.state device.old).failed_writes }
-    ensures fault { IfErr result (λ e. e ≡ Failing) }
 {
     device.read(n, buffer)
 }
@@ -47,15 +40,8 @@ pub fn read_page<D: Device>(
     bytes: &mut [u8; 4096],
 ) -> Result<(), DeviceFault>
     requires { 8 * page + 8 ≤ (D.state device.old).size }
-    ensures shows { IsTrue (D.state device.old).honest → OnOk result (page_of (D.state device.old).disk.view page ≡ bytes.new) }
+    ensures page { ReadsDevice D.state (crash_states_of D.moment D.possible_since) device.old device.new result (λ view _. page_of view page ≡ bytes.new) }
     ensures untouched { IfErr result (λ e. bytes.new ≡ bytes.old) }
-    ensures disk { IsTrue (D.state device.old).honest → (D.state device.new).disk ≡ (D.state device.old).disk }
-    ensures stop { IsTrue (D.state device.old).honest → IsQuiet (stops_of D.moment D.left_since device.old) (stops_of D.moment D.left_since device.new) }
-    ensures size { (D.state device.new).size ≡ (D.state device.old).size }
-    ensures honest { (D.state device.new).honest ≡ (D.state device.old).honest }
-    ensures reads { Counts result (D.state device.old).failed_reads (D.state device.new).failed_reads }
-    ensures writes { (D.state device.new).failed_writes ≡ (D.state device.old).failed_writes }
-    ensures fault { IfErr result (λ e. e ≡ Failing) }
 {
     let first = 8 * page as u64;
     let mut sector = [0; 512];
@@ -71,13 +57,7 @@ pub fn read_page<D: Device>(
 /// Writes one sector.
 pub fn write_sector<D: Device>(device: &mut D, n: u64, bytes: &[u8; 512]) -> Result<(), DeviceFault>
     requires { n < (D.state device.old).size }
-    ensures shows { IsTrue (D.state device.old).honest → OnOk result (IsWritten n bytes.now (D.state device.old).disk.view (D.state device.new).disk.view) }
-    ensures stop { IsTrue (D.state device.old).honest → Makes (stops_of D.moment D.left_since device.old) (stops_of D.moment D.left_since device.new) (MayBeWritten n bytes.now) }
-    ensures size { (D.state device.new).size ≡ (D.state device.old).size }
-    ensures honest { (D.state device.new).honest ≡ (D.state device.old).honest }
-    ensures reads { (D.state device.new).failed_reads ≡ (D.state device.old).failed_reads }
-    ensures writes { Counts result (D.state device.old).failed_writes (D.state device.new).failed_writes }
-    ensures fault { IfErr result (λ e. e ≡ Failing) }
+    ensures sector { WritesDevice D.state (crash_states_of D.moment D.possible_since) device.old device.new result (IsWritten n bytes.now) (MayBeWritten n bytes.now) }
 {
     device.write(n, bytes)
 }
@@ -85,13 +65,9 @@ pub fn write_sector<D: Device>(device: &mut D, n: u64, bytes: &[u8; 512]) -> Res
 /// Makes sure of all that the view shows.
 pub fn sync_all<D: Device>(device: &mut D) -> Result<(), DeviceFault>
     ensures shows { IsTrue (D.state device.old).honest → OnOk result ((D.state device.new).disk.view ≡ (D.state device.old).disk.view) }
-    ensures sure { IsTrue (D.state device.old).honest → OnOk result (AllAre (stops_of D.moment D.left_since device.new) (D.state device.new).disk.view) }
-    ensures stop { IsTrue (D.state device.old).honest → IsQuiet (stops_of D.moment D.left_since device.old) (stops_of D.moment D.left_since device.new) }
-    ensures size { (D.state device.new).size ≡ (D.state device.old).size }
-    ensures honest { (D.state device.new).honest ≡ (D.state device.old).honest }
-    ensures reads { (D.state device.new).failed_reads ≡ (D.state device.old).failed_reads }
-    ensures writes { Counts result (D.state device.old).failed_writes (D.state device.new).failed_writes }
-    ensures fault { IfErr result (λ e. e ≡ Failing) }
+    ensures sure { IsTrue (D.state device.old).honest → OnOk result (AllAre (crash_states_of D.moment D.possible_since device.new) (D.state device.new).disk.view) }
+    ensures outcome { WriteOutcome result (D.state device.old) (D.state device.new) }
+    ensures at_crash { IsTrue (D.state device.old).honest → AddsNone (crash_states_of D.moment D.possible_since device.old) (crash_states_of D.moment D.possible_since device.new) }
 {
     device.sync()
 }
@@ -103,14 +79,8 @@ pub fn write_page<D: Device>(
     bytes: &[u8; 4096],
 ) -> Result<(), DeviceFault>
     requires { 8 * page + 8 ≤ (D.state device.old).size }
-    ensures shows { IsTrue (D.state device.old).honest → OnOk result (AreWritten (8 * page) 8 bytes.now (D.state device.old).disk.view (D.state device.new).disk.view) }
+    ensures sectors { WritesDevice D.state (crash_states_of D.moment D.possible_since) device.old device.new result (AreWritten (8 * page) 8 bytes.now) (MayBeAllWritten (8 * page) 8 bytes.now) }
     ensures page { IsTrue (D.state device.old).honest → OnOk result (page_of (D.state device.new).disk.view page ≡ bytes.now) }
-    ensures stop { IsTrue (D.state device.old).honest → Makes (stops_of D.moment D.left_since device.old) (stops_of D.moment D.left_since device.new) (MayBeAllWritten (8 * page) 8 bytes.now) }
-    ensures size { (D.state device.new).size ≡ (D.state device.old).size }
-    ensures honest { (D.state device.new).honest ≡ (D.state device.old).honest }
-    ensures reads { (D.state device.new).failed_reads ≡ (D.state device.old).failed_reads }
-    ensures writes { Counts result (D.state device.old).failed_writes (D.state device.new).failed_writes }
-    ensures fault { IfErr result (λ e. e ≡ Failing) }
 {
     let first = 8 * page as u64;
     for k in 0..8 {
@@ -129,14 +99,10 @@ pub fn switch_root<D: Device>(
     requires fits { 8 * slot.now.number + 8 ≤ (D.state device.old).size }
     requires page { IsTrue (D.state device.old).honest → IsSlotPage (D.state device.old).size slot.now bytes.now }
     requires above { IsTrue (D.state device.old).honest → IsAbove slot.now.seal slot.now.number (D.state device.old).disk.view }
-    requires sure { IsTrue (D.state device.old).honest → AllAre (stops_of D.moment D.left_since device.old) (D.state device.old).disk.view }
-    ensures done { IsTrue (D.state device.old).honest → OnOk result (IsSwitched slot.now (D.state device.old).disk.view (D.state device.new).disk.view × AllAre (stops_of D.moment D.left_since device.new) (D.state device.new).disk.view) }
-    ensures stop { IsTrue (D.state device.old).honest → LeavesOnly (stops_of D.moment D.left_since device.old) (stops_of D.moment D.left_since device.new) (IsSwitching slot.now (D.state device.old).disk.view) }
-    ensures size { (D.state device.new).size ≡ (D.state device.old).size }
-    ensures honest { (D.state device.new).honest ≡ (D.state device.old).honest }
-    ensures reads { (D.state device.new).failed_reads ≡ (D.state device.old).failed_reads }
-    ensures writes { Counts result (D.state device.old).failed_writes (D.state device.new).failed_writes }
-    ensures fault { IfErr result (λ e. e ≡ Failing) }
+    requires sure { IsTrue (D.state device.old).honest → AllAre (crash_states_of D.moment D.possible_since device.old) (D.state device.old).disk.view }
+    ensures done { IsTrue (D.state device.old).honest → OnOk result (IsSwitched slot.now (D.state device.old).disk.view (D.state device.new).disk.view × AllAre (crash_states_of D.moment D.possible_since device.new) (D.state device.new).disk.view) }
+    ensures at_crash { IsTrue (D.state device.old).honest → AddsOnly (crash_states_of D.moment D.possible_since device.old) (crash_states_of D.moment D.possible_since device.new) (IsSwitching slot.now (D.state device.old).disk.view) }
+    ensures outcome { WriteOutcome result (D.state device.old) (D.state device.new) }
 {
     write_page(device, slot.number, bytes)?;
     sync_all(device)

@@ -1,7 +1,7 @@
 // A key and its value.
 ghost use Rattle.std.specs.Prelude.{◌≡◌, IfOk};
 
-use host_types::Bytes;
+use common_types::Bytes;
 use std::alloc::{AllocError, Global};
 use std::marker::Model;
 

@@ -8,7 +8,7 @@ ghost use Rattle.page_store.specs.Heads.{seen_head};
 ghost use Rattle.page_store.specs.Pages.{Head, head_at, pair_at};
 
 use crate::{Banner, Root};
-use host_types::{Admin, Host};
+use common_types::{Admin, Host};
 
 /// The first word of a root sector.
 pub(crate) const ROOT_WORD: [u8; 8] = *b"GOPHROOT";

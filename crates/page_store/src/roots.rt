@@ -1,11 +1,9 @@
 // Which root slots are valid, and which is current.
-ghost use Rattle.std.specs.Prelude.{◌⊎◌, IfSome, ◌≡◌, ◌+◌, ◌*◌, ◌<◌, ◌≤◌, ℕ, IsTrue, OnOk, IfOk, IfErr, length, drop, ◌++◌};
-ghost use Rattle.sector_device.specs.declared.device.DeviceFault.TheVariants.{Device as Failing};
-ghost use Rattle.sector_device.specs.Device.{Counts};
-ghost use Rattle.host_types.specs.Stops.{IsQuiet};
+ghost use Rattle.std.specs.Prelude.{◌⊎◌, IfSome, ◌≡◌, ◌+◌, ◌*◌, ◌<◌, ◌≤◌, ℕ, IfOk, length, drop, ◌++◌};
 ghost use Rattle.page_store.specs.Sectors.{sector};
 ghost use Rattle.page_store.specs.Roots.{FitsDevice, shared_seal, record_from, slot_in, newer, current, greater, seal_or_zero, greatest_seal};
-ghost use Rattle.page_store.specs.Steps.{stops_of};
+ghost use Rattle.page_store.specs.Steps.{crash_states_of};
+ghost use Rattle.page_store.specs.DeviceEffects.{ReadsDevice};
 
 use crate::pages::read_sector;
 use crate::reading::{root_at, seal_at};
@@ -115,14 +113,7 @@ fn greatest_seal(sectors: &[[u8; 512]; 16]) -> u64
 /// Reads the sectors of both slots.
 fn read_slots<D: Device>(device: &mut D, sectors: &mut [[u8; 512]; 16]) -> Result<(), DeviceFault>
     requires { 16 ≤ (D.state device.old).size }
-    ensures shows { IsTrue (D.state device.old).honest → OnOk result ((n : ℕ) → n < 16 → sector (D.state device.old).disk.view n ≡ sector sectors.new n) }
-    ensures disk { IsTrue (D.state device.old).honest → (D.state device.new).disk ≡ (D.state device.old).disk }
-    ensures stop { IsTrue (D.state device.old).honest → IsQuiet (stops_of D.moment D.left_since device.old) (stops_of D.moment D.left_since device.new) }
-    ensures size { (D.state device.new).size ≡ (D.state device.old).size }
-    ensures honest { (D.state device.new).honest ≡ (D.state device.old).honest }
-    ensures reads { Counts result (D.state device.old).failed_reads (D.state device.new).failed_reads }
-    ensures writes { (D.state device.new).failed_writes ≡ (D.state device.old).failed_writes }
-    ensures fault { IfErr result (λ e. e ≡ Failing) }
+    ensures sectors { ReadsDevice D.state (crash_states_of D.moment D.possible_since) device.old device.new result (λ view _. (n : ℕ) → n < 16 → sector view n ≡ sector sectors.new n) }
 {
     let mut sector = [0; 512];
     for n in 0..16 {
@@ -135,16 +126,8 @@ fn read_slots<D: Device>(device: &mut D, sectors: &mut [[u8; 512]; 16]) -> Resul
 /// Reads the root slots: which of them is current, and the greatest seal that stands in either. It takes no memory.
 pub fn open_roots<D: Device>(device: &mut D) -> Result<Roots, DeviceFault>
     requires { 16 ≤ (D.state device.old).size }
-    ensures current { IsTrue (D.state device.old).honest → IfOk result (λ roots. roots.current ≡ current (D.state device.old).disk.view) }
-    ensures greatest { IsTrue (D.state device.old).honest → IfOk result (λ roots. roots.greatest ≡ greatest_seal (D.state device.old).disk.view 16) }
+    ensures roots { ReadsDevice D.state (crash_states_of D.moment D.possible_since) device.old device.new result (λ view roots. (roots.current ≡ current view) × (roots.greatest ≡ greatest_seal view 16)) }
     ensures fits { IfOk result (λ roots. IfSome roots.current (λ slot. (slot.number < 2) × FitsDevice (D.state device.old).size slot.root)) }
-    ensures disk { IsTrue (D.state device.old).honest → (D.state device.new).disk ≡ (D.state device.old).disk }
-    ensures stop { IsTrue (D.state device.old).honest → IsQuiet (stops_of D.moment D.left_since device.old) (stops_of D.moment D.left_since device.new) }
-    ensures size { (D.state device.new).size ≡ (D.state device.old).size }
-    ensures honest { (D.state device.new).honest ≡ (D.state device.old).honest }
-    ensures reads { Counts result (D.state device.old).failed_reads (D.state device.new).failed_reads }
-    ensures writes { (D.state device.new).failed_writes ≡ (D.state device.old).failed_writes }
-    ensures fault { IfErr result (λ e. e ≡ Failing) }
 {
     let mut sectors = [[0; 512]; 16];
     read_slots(device, &mut sectors)?;

@@ -62,8 +62,8 @@ pub clean_date : (stamp : ℕ) → IsClean (mod_date stamp)
 unfolding mod_date
 clean_date stamp =
     let date = date_of (day_of stamp) in
-    let told = spoken date (weekday_of (day_of stamp)) (second_of stamp) in
+    let words = spoken date (weekday_of (day_of stamp)) (second_of stamp) in
     let more = numbered date (second_of stamp) in
-    two ((told ++ codes " <") ++ more) (62 ∷ [])
-    (two (told ++ codes " <") more (two told (codes " <") (clean_spoken date (weekday_of (day_of stamp)) (second_of stamp)) (record { none = refl })) (clean_numbered date (second_of stamp)))
+    two ((words ++ codes " <") ++ more) (62 ∷ [])
+    (two (words ++ codes " <") more (two words (codes " <") (clean_spoken date (weekday_of (day_of stamp)) (second_of stamp)) (record { none = refl })) (clean_numbered date (second_of stamp)))
     (record { none = refl })

@@ -1,4 +1,4 @@
--- The blocks of a lawful item at a lawful address are whole lines.
+-- The blocks of a valid item at a valid address are whole lines.
 use Rattle.std.proofs.Common.{◌≡◌, ℕ, ◌+◌, ◌/◌, ◌<◌, ◌≤◌, ◌^◌, Bool, true, false, List, [], ◌∷◌, ◌++◌, ◌==◌, length, arith, refl, if◌then◌else◌}
 use Rattle.std.specs.Prelude.{◌||◌, ◌&&◌, not, codes, decimal, flat_map, map, nat_le, nat_lt, Some}
 use Rattle.std.specs.List.{AllByRecursion, list_any, list_all}
@@ -6,7 +6,7 @@ use Rattle.std.proofs.lemmas.Bool.Decides.{nat_tests}
 use Rattle.std.proofs.lemmas.List.Sums.{sum_by-cons}
 use Rattle.host_types.specs.Names.{is_field, is_visible, is_word}
 use Rattle.host_types.specs.Lines.{is_lf, lines}
-use Rattle.host_types.specs.Items.{kind_letter, has_bad_name, is_bad_word, is_bad_question, is_bad_body, is_long_item, is_long_body, is_long_view, is_admin, is_host, is_selector, is_title, is_typed_body, is_typed_item, is_lawful_item, prompt_of, view_bytes, most_view_bytes}
+use Rattle.host_types.specs.Items.{kind_letter, has_bad_name, is_bad_word, is_bad_question, is_bad_body, is_long_item, is_long_body, is_long_view, is_admin, is_host, is_selector, is_title, is_typed_body, is_typed_item, is_valid_item, prompt_of, view_bytes, most_view_bytes}
 use Rattle.host_types.specs.Card.{card_of, card_body, card_view}
 use Rattle.host_types.specs.Front.{Address, address}
 use Rattle.host_types.specs.Site.{Site, IsSite, item_at}
@@ -106,10 +106,10 @@ view_clean : (v : View) → has_bad_name v ≡ false → length v.bytes ≤ 6553
 view_clean v good small =
     let name : IsClean v.name = word v.name (is_not (is_word v.name) (or_first (not (is_word v.name)) (not (list_all is_visible v.language)) good)) in
     let language : IsClean v.language = visible v.language (is_not (list_all is_visible v.language) (or_second (not (is_word v.name)) (not (list_all is_visible v.language)) good)) in
-    let told = view_name (card_view v) in
+    let words = view_name (card_view v) in
     let size = decimal (kilobytes (length v.bytes)) in
-    let named : IsClean told = two v.name (if is_empty v.language then [] else codes " " ++ v.language) name (language_clean v.language (is_empty v.language) language) in
-    two ((told ++ codes ": <") ++ size) (codes "k>") (two (told ++ codes ": <") size (two told (codes ": <") named (record { none = refl })) (size_clean (length v.bytes) small)) (record { none = refl })
+    let named : IsClean words = two v.name (if is_empty v.language then [] else codes " " ++ v.language) name (language_clean v.language (is_empty v.language) language) in
+    two ((words ++ codes ": <") ++ size) (codes "k>") (two (words ++ codes ": <") size (two words (codes ": <") named (record { none = refl })) (size_clean (length v.bytes) small)) (record { none = refl })
 
 views_clean : (vs : List View) → list_any has_bad_name vs ≡ false → view_bytes vs ≤ 65536 → AllByRecursion IsClean (map view_line (map card_view vs))
 views_clean [] good small = tt
@@ -176,11 +176,11 @@ asks_lines (bodies.Moved target) good typed = no_lines
 
 -- ---- all blocks
 
-pub blocks_are_lines : (a : Address) (names : List (List ℕ)) (selector : List ℕ) (item : Item) → is_host a.host ≡ true → a.port < 2 ^ 16 → is_admin a.admin ≡ true → is_selector selector ≡ true → is_lawful_item selector item ≡ true → AreLines (item_blocks a names selector (card_of item))
+pub blocks_are_lines : (a : Address) (names : List (List ℕ)) (selector : List ℕ) (item : Item) → is_host a.host ≡ true → a.port < 2 ^ 16 → is_admin a.admin ≡ true → is_selector selector ≡ true → is_valid_item selector item ≡ true → AreLines (item_blocks a names selector (card_of item))
 unfolding item_blocks
-blocks_are_lines a names selector item host port keeper name lawful =
-    let typed = first_of (is_typed_item item) (not (is_bad_body item.body) && not (is_long_item selector item)) lawful in
-    let limits = second_of (is_typed_item item) (not (is_bad_body item.body) && not (is_long_item selector item)) lawful in
+blocks_are_lines a names selector item host port keeper name valid =
+    let typed = first_of (is_typed_item item) (not (is_bad_body item.body) && not (is_long_item selector item)) valid in
+    let limits = second_of (is_typed_item item) (not (is_bad_body item.body) && not (is_long_item selector item)) valid in
     let good : is_bad_body item.body ≡ false = unnot (is_bad_body item.body) (first_of (not (is_bad_body item.body)) (not (is_long_item selector item)) limits) in
     let short : is_long_body selector item.body ≡ false = or_second (nat_lt 400 (length item.summary)) (is_long_body selector item.body) (unnot (is_long_item selector item) (second_of (not (is_bad_body item.body)) (not (is_long_item selector item)) limits)) in
     let title : is_title item.title ≡ true = first_of (is_title item.title) (nat_le item.stamp 253402300799 && is_typed_body item.body) typed in
@@ -200,4 +200,4 @@ blocks_are_lines a names selector item host port keeper name lawful =
 pub of_site : (s : Site) (names : List (List ℕ)) (selector : List ℕ) (item : Item) → IsSite s → item_at s selector ≡ Some item → AreLines (item_blocks (address s) names selector (card_of item))
 of_site s names selector item site stands =
     let may = site.each selector item stands in
-    blocks_are_lines (address s) names selector item site.host (omega (arith, site.port_fits)) site.admin may.name may.lawful
+    blocks_are_lines (address s) names selector item site.host (omega (arith, site.port_fits)) site.admin may.name may.valid

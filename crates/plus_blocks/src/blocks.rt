@@ -6,6 +6,7 @@ ghost use Rattle.plus_blocks.specs.Date.{mod_date};
 use crate::date::push_mod_date;
 use host_types::{
     Admin, Bytes, CardView, CardViewList, ChoiceList, LineList, Question, QuestionList, Stamp,
+    lines_of,
 };
 use std::alloc::{AllocError, Global};
 
@@ -170,7 +171,7 @@ pub(crate) fn push_abstract(
     if summary.is_empty() {
         return Ok(());
     }
-    let lines = LineList::of_body(alloc, summary)?;
+    let lines = lines_of(alloc, summary)?;
     push_summary(out, &lines)
 }
 
@@ -194,7 +195,7 @@ fn push_choices(out: &mut Vec<u8>, choices: &ChoiceList) -> Result<(), AllocErro
     Ok(())
 }
 
-/// Adds the kind of a question, its prompt and its choices. The word of a secret question isn't told.
+/// Adds the kind of a question, its prompt and its choices. The word of a secret question isn't shown.
 fn push_asked(out: &mut Vec<u8>, question: &Question) -> Result<(), AllocError>
     ensures { OnOk result (out.new.items ≡ out.old.items ++ spec.question_line question.now) }
 {

@@ -21,7 +21,7 @@ fn is_among(names: &[Bytes], name: &[u8]) -> bool
     false
 }
 
-/// Whether a block is wanted: no names want all.
+/// Whether a block is requested: no names request all.
 fn is_asked(names: &LineList, name: &[u8]) -> bool
     ensures { result ≡ spec.is_asked names.now name.now }
 {

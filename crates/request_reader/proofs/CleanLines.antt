@@ -9,8 +9,8 @@ use Rattle.host_types.specs.Names as names
 use Rattle.host_types.specs.Items.{is_selector}
 use Rattle.host_types.specs.Lines.{without_cr}
 use Rattle.request_reader.specs.Lines.{Cut, NotYet, TooLate, Line, first_line, front, is_lf}
-use Rattle.request_reader.specs.RequestLine.{is_tab, is_barred}
-use Rattle.request_reader.proofs.Growing.{found, too_late, not_yet}
+use Rattle.request_reader.specs.RequestLine.{is_tab, is_forbidden}
+use Rattle.request_reader.proofs.GrowingStreams.{found, too_late, not_yet}
 
 -- a list without such bytes has none at its front
 pub lacks_take : {X : Type 0} (p : X → Bool) (n : ℕ) (xs : List X) → list_any p xs ≡ false → list_any p (take n xs) ≡ false
@@ -37,21 +37,21 @@ lacks_cr p (x ∷ []) none = elim (cases_Bool (x == 13)) [ inl e ↦ rw e refl |
 lacks_cr p (x ∷ y ∷ ys) none = rw (lacks_head p x (y ∷ ys) none) (lacks_cr p (y ∷ ys) (lacks_tail p x (y ∷ ys) none))
 
 -- no TAB, no NUL or CR and no LF
-pub alone_free : (b : ℕ) → is_tab b ≡ false → is_barred b ≡ false → is_lf b ≡ false → names.is_barred b ≡ false
-alone_free b tab barred lf =
-    let here = or_parts (b == 0) (b == 13) barred in
+pub alone_free : (b : ℕ) → is_tab b ≡ false → is_forbidden b ≡ false → is_lf b ≡ false → names.is_forbidden b ≡ false
+alone_free b tab forbidden lf =
+    let here = or_parts (b == 0) (b == 13) forbidden in
     rw (here.0, tab, lf, here.1) refl
 
-field_lacks : (xs : List ℕ) → list_any is_tab xs ≡ false → list_any is_barred xs ≡ false → list_any is_lf xs ≡ false → list_any names.is_barred xs ≡ false
-field_lacks [] tab barred lf = refl
-field_lacks (x ∷ xs) tab barred lf =
-    rw (alone_free x (lacks_head is_tab x xs tab) (lacks_head is_barred x xs barred) (lacks_head is_lf x xs lf))
-    (field_lacks xs (lacks_tail is_tab x xs tab) (lacks_tail is_barred x xs barred) (lacks_tail is_lf x xs lf))
+field_lacks : (xs : List ℕ) → list_any is_tab xs ≡ false → list_any is_forbidden xs ≡ false → list_any is_lf xs ≡ false → list_any names.is_forbidden xs ≡ false
+field_lacks [] tab forbidden lf = refl
+field_lacks (x ∷ xs) tab forbidden lf =
+    rw (alone_free x (lacks_head is_tab x xs tab) (lacks_head is_forbidden x xs forbidden) (lacks_head is_lf x xs lf))
+    (field_lacks xs (lacks_tail is_tab x xs tab) (lacks_tail is_forbidden x xs forbidden) (lacks_tail is_lf x xs lf))
 
--- the first field of a lawful line that is not too long
-pub first_lawful : (line : List ℕ) → list_any is_lf line ≡ false → list_any is_barred line ≡ false → length (before_first is_tab line) ≤ 255 → IsTrue (is_selector (before_first is_tab line))
-first_lawful line lf barred short =
-    let clean = field_lacks (before_first is_tab line) (lacks_first is_tab line) (lacks_take is_barred (position_or_len is_tab line) line barred) (lacks_take is_lf (position_or_len is_tab line) line lf) in
+-- the first field of a valid line that is not too long
+pub first_valid : (line : List ℕ) → list_any is_lf line ≡ false → list_any is_forbidden line ≡ false → length (before_first is_tab line) ≤ 255 → IsTrue (is_selector (before_first is_tab line))
+first_valid line lf forbidden short =
+    let clean = field_lacks (before_first is_tab line) (lacks_first is_tab line) (lacks_take is_forbidden (position_or_len is_tab line) line forbidden) (lacks_take is_lf (position_or_len is_tab line) line lf) in
     rw (le-leb _ _ short, clean) refl
 
 -- a line in front of the first LF has none

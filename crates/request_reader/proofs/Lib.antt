@@ -1,7 +1,7 @@
 pub mod Places
-pub mod Ends
-pub mod Growing
+pub mod LastBytes
+pub mod GrowingStreams
 pub mod CleanLines
 pub mod Cuts
 pub mod Periods
-pub mod Wholes
+pub mod WholeRequests

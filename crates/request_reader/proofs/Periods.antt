@@ -10,13 +10,13 @@ use Rattle.std.proofs.lemmas.Bool.{cases_Bool, both_ways}
 use Rattle.host_types.specs.Lines.{lines, without_cr, onto_first_line}
 use Rattle.request_reader.specs.Lines.{Cut, NotYet, TooLate, Line, first_line, is_lf, ended_parts, ended_lines}
 use Rattle.request_reader.specs.DataLines.{is_period}
-use Rattle.request_reader.specs.RequestLine.{Asked, asked_by}
+use Rattle.request_reader.specs.RequestLine.{ParsedRequest, parsed_line}
 use Rattle.request_reader.specs.DataHead.{extent_of, most_data}
-use Rattle.request_reader.specs.Looked.{HasNoPeriod, IsLookedAt, IsLookedIn, IsLooked, data_to_period, of_extent, of_head, of_asked, of_line}
+use Rattle.request_reader.specs.Scanned.{HasNoPeriod, IsScannedTo, IsScannedIn, IsScanned, data_to_period, of_extent, of_head, of_asked, of_line}
 use Rattle.request_reader.specs.declared.cause.Cause.{Cause}
 use Rattle.request_reader.specs.declared.data_head.Extent.{Extent}
 use Rattle.request_reader.specs.declared.data_head.Extent.TheVariants.{ToPeriod, ToEnd, Count}
-use Rattle.request_reader.proofs.Growing.{Grows, first_line_grows, room_grows}
+use Rattle.request_reader.proofs.GrowingStreams.{Grows, first_line_grows, room_grows}
 use Rattle.request_reader.proofs.CleanLines.{lacks_head, lacks_tail, lacks_first}
 
 -- a part that its LF ends
@@ -73,7 +73,7 @@ one_passed xs p h clean other =
 
 -- What is left of some bytes, behind lines that passed, and the place of its first LF.
 pub record Left (bytes rest : List ℕ) (at n : ℕ) : Type 0 where
-  pub looked : IsLookedAt bytes at
+  pub scanned : IsScannedTo bytes at
   pub is : rest ≡ drop at bytes
   pub place : n ≡ position_or_len is_lf rest
 
@@ -96,63 +96,63 @@ taken front rest p more is = take-append-add front rest (length p + 1) ∙ ap (�
 -- a line that is no period
 goes_past : (bytes rest : List ℕ) (at n : ℕ) → Left bytes rest at n → n < length rest → is_period (without_cr (take n rest)) ≡ false → HasNoPeriod (take (at + (n + 1)) bytes)
 goes_past bytes rest at n l less other =
-    let front : length (take at bytes) ≡ at = simp length-take (omega (arith, l.looked.within)) in
+    let front : length (take at bytes) ≡ at = simp length-take (omega (arith, l.scanned.within)) in
     let part : length (take n rest) ≡ n = simp length-take (omega arith) in
     let whole : take (at + (n + 1)) bytes ≡ take at bytes ++ (take n rest ++ 10 ∷ []) =
     ap (λ b. take (at + (n + 1)) b) (all_of bytes rest at n l)
     ∙ ap (λ k. take (k + (n + 1)) (take at bytes ++ rest)) (sym front)
     ∙ ap (λ k. take (length (take at bytes) + (k + 1)) (take at bytes ++ rest)) (sym part)
     ∙ taken (take at bytes) rest (take n rest) (drop (n + 1) rest) (parted rest n l.place less) in
-    rw whole (one_passed (take at bytes) (take n rest) l.looked.none (clean_part rest n l.place) other)
+    rw whole (one_passed (take at bytes) (take n rest) l.scanned.none (clean_part rest n l.place) other)
 
-pub looked_past : (bytes rest : List ℕ) (at n : ℕ) → Left bytes rest at n → n < length rest → is_period (without_cr (take n rest)) ≡ false → IsLookedAt bytes (at + (n + 1))
-looked_past bytes rest at n l less other =
+pub scanned_past : (bytes rest : List ℕ) (at n : ℕ) → Left bytes rest at n → n < length rest → is_period (without_cr (take n rest)) ≡ false → IsScannedTo bytes (at + (n + 1))
+scanned_past bytes rest at n l less other =
     let left : length rest ≡ length bytes - at = ap length l.is ∙ length-drop at bytes in
-    record { within = omega (arith, l.looked.within); none = goes_past bytes rest at n l less other }
+    record { within = omega (arith, l.scanned.within); none = goes_past bytes rest at n l less other }
 
 ended_here : (bytes rest : List ℕ) (at n : ℕ) → Left bytes rest at n → n < length rest → ended_lines bytes ≡ ended_lines (take at bytes) ++ without_cr (take n rest) ∷ ended_lines (drop (n + 1) rest)
 ended_here bytes rest at n l less =
     ap ended_lines (all_of bytes rest at n l)
-    ∙ l.looked.none.ended rest
+    ∙ l.scanned.none.ended rest
     ∙ ap (λ r. ended_lines (take at bytes) ++ r) (ap ended_lines (parted rest n l.place less) ∙ line_ends (take n rest) (drop (n + 1) rest) (clean_part rest n l.place))
 
 -- a line that is one period
 pub period_found : (bytes rest : List ℕ) (at n : ℕ) → Left bytes rest at n → n < length rest → is_period (without_cr (take n rest)) ≡ true → list_any is_period (ended_lines bytes) ≡ true
 period_found bytes rest at n l less is =
     ap (list_any is_period) (ended_here bytes rest at n l less)
-    ∙ any_none (ended_lines (take at bytes)) (without_cr (take n rest) ∷ ended_lines (drop (n + 1) rest)) l.looked.none.none
+    ∙ any_none (ended_lines (take at bytes)) (without_cr (take n rest) ∷ ended_lines (drop (n + 1) rest)) l.scanned.none.none
     ∙ rw is refl
 
 pub lines_before : (bytes rest : List ℕ) (at n : ℕ) → Left bytes rest at n → n < length rest → is_period (without_cr (take n rest)) ≡ true → lines (take at bytes) ≡ before_first is_period (ended_lines bytes)
 lines_before bytes rest at n l less is =
     ap lines (sym (append-nil (take at bytes)))
-    ∙ l.looked.none.whole []
+    ∙ l.scanned.none.whole []
     ∙ append-nil (ended_lines (take at bytes))
-    ∙ sym (before_none (ended_lines (take at bytes)) (without_cr (take n rest)) (ended_lines (drop (n + 1) rest)) l.looked.none.none is)
+    ∙ sym (before_none (ended_lines (take at bytes)) (without_cr (take n rest)) (ended_lines (drop (n + 1) rest)) l.scanned.none.none is)
     ∙ ap (before_first is_period) (sym (ended_here bytes rest at n l less))
 
 -- no LF is left
 pub no_period : (bytes rest : List ℕ) (at n : ℕ) → Left bytes rest at n → n ≡ length rest → list_any is_period (ended_lines bytes) ≡ false
 no_period bytes rest at n l none =
     let clean : list_any is_lf rest ≡ false = ap (list_any is_lf) (sym (take_all n rest (omega arith))) ∙ clean_part rest n l.place in
-    ap (list_any is_period) (ap ended_lines (all_of bytes rest at n l) ∙ l.looked.none.ended rest ∙ ap (λ r. ended_lines (take at bytes) ++ r) (ap (map without_cr) (none_ended rest clean)) ∙ append-nil (ended_lines (take at bytes)))
-    ∙ l.looked.none.none
+    ap (list_any is_period) (ap ended_lines (all_of bytes rest at n l) ∙ l.scanned.none.ended rest ∙ ap (λ r. ended_lines (take at bytes) ++ r) (ap (map without_cr) (none_ended rest clean)) ∙ append-nil (ended_lines (take at bytes)))
+    ∙ l.scanned.none.none
 
 -- nothing is left
-pub no_rest : (bytes : List ℕ) (at : ℕ) → length bytes ≤ at → IsLookedAt bytes at → list_any is_period (ended_lines bytes) ≡ false
+pub no_rest : (bytes : List ℕ) (at : ℕ) → length bytes ≤ at → IsScannedTo bytes at → list_any is_period (ended_lines bytes) ≡ false
 no_rest bytes at end l = ap (λ b. list_any is_period (ended_lines b)) (sym (take_all at bytes end)) ∙ l.none.none
 
 -- ---- the data of a stream
 
-pub none_looked : (bytes : List ℕ) → IsLookedAt bytes 0
-none_looked bytes = record { within = omega arith; none = nothing_passed }
+pub none_scanned : (bytes : List ℕ) → IsScannedTo bytes 0
+none_scanned bytes = record { within = omega arith; none = nothing_passed }
 
-none_looked_in : (bytes : Option (List ℕ)) → IsLookedIn bytes 0
-none_looked_in None = refl
-none_looked_in (Some bytes) = none_looked bytes
+none_scanned_in : (bytes : Option (List ℕ)) → IsScannedIn bytes 0
+none_scanned_in None = refl
+none_scanned_in (Some bytes) = none_scanned bytes
 
-pub not_looked : (stream : List ℕ) → IsLooked stream 0
-not_looked stream = none_looked_in (data_to_period stream)
+pub not_scanned : (stream : List ℕ) → IsScanned stream 0
+not_scanned stream = none_scanned_in (data_to_period stream)
 
 -- what data become where more follows
 abbrev pub Extends : Option (List ℕ) → Option (List ℕ) → Type 0
@@ -170,9 +170,9 @@ head_extends NotYet new b g = tt
 head_extends TooLate new b g = tt
 head_extends (Line line rest) new b g = rw g (extent_extends (extent_of line) rest b)
 
-asked_extends : (x : Result Asked Cause) (s b : List ℕ) → Extends (of_asked x s) (of_asked x (s ++ b))
-asked_extends (Err cause) s b = tt
-asked_extends (Ok a) s b =
+parsed_extends : (x : Result ParsedRequest Cause) (s b : List ℕ) → Extends (of_asked x s) (of_asked x (s ++ b))
+parsed_extends (Err cause) s b = tt
+parsed_extends (Ok a) s b =
     elim (cases_Bool a.has_data) [
       | inl e ↦ rw e (head_extends (first_line s) (first_line (s ++ b)) b (first_line_grows s b))
       | inr e ↦ rw e tt
@@ -181,22 +181,22 @@ asked_extends (Ok a) s b =
 line_extends : (old new : Cut) (b : List ℕ) → Grows old new b → Extends (of_line old) (of_line new)
 line_extends NotYet new b g = tt
 line_extends TooLate new b g = tt
-line_extends (Line line rest) new b g = rw g (asked_extends (asked_by line) rest b)
+line_extends (Line line rest) new b g = rw g (parsed_extends (parsed_line line) rest b)
 
 data_extends : (s b : List ℕ) → Extends (data_to_period s) (data_to_period (s ++ b))
 unfolding data_to_period
 data_extends s b = line_extends (first_line s) (first_line (s ++ b)) b (first_line_grows s b)
 
-looked_more : (bytes more : List ℕ) (n : ℕ) → IsLookedAt bytes n → IsLookedAt (bytes ++ more) n
-looked_more bytes more n l = record {
+scanned_more : (bytes more : List ℕ) (n : ℕ) → IsScannedTo bytes n → IsScannedTo (bytes ++ more) n
+scanned_more bytes more n l = record {
   within = omega (arith, l.within, length-append {A = ℕ});
   none = rw (take-append-le n bytes more l.within) l.none;
 }
 
-extends_looked : (old new : Option (List ℕ)) (n : ℕ) → Extends old new → IsLookedIn old n → IsLookedIn new n
-extends_looked None new n e l = rw l (none_looked_in new)
-extends_looked (Some bytes) new n e l = rw e.1 (looked_more bytes e.0 n l)
+extends_scanned : (old new : Option (List ℕ)) (n : ℕ) → Extends old new → IsScannedIn old n → IsScannedIn new n
+extends_scanned None new n e l = rw l (none_scanned_in new)
+extends_scanned (Some bytes) new n e l = rw e.1 (scanned_more bytes e.0 n l)
 
--- what was looked at stays so where more follows
-pub still_looked : (s b : List ℕ) (n : ℕ) → IsLooked s n → IsLooked (s ++ b) n
-still_looked s b n l = extends_looked (data_to_period s) (data_to_period (s ++ b)) n (data_extends s b) l
+-- what was examined stays so where more follows
+pub stays_scanned : (s b : List ℕ) (n : ℕ) → IsScanned s n → IsScanned (s ++ b) n
+stays_scanned s b n l = extends_scanned (data_to_period s) (data_to_period (s ++ b)) n (data_extends s b) l

@@ -1,20 +1,11 @@
 -- The head line of data. The Gopher+ paper, section 2.2: `+-1`, `+-2` or a length. The greatest length is this project's profile.
-use Rattle.std.specs.Prelude.{ℕ, Bool, List, [], ◌∷◌, ◌+◌, ◌-◌, ◌*◌, ◌==◌, ◌&&◌, if◌then◌else◌, length, nat_lt, nat_le, fold, codes, Result, Ok, Err}
-use Rattle.std.specs.Char.{is_ascii_digit}
-use Rattle.std.specs.List.{list_all}
+use Rattle.std.specs.Prelude.{ℕ, List, [], ◌∷◌, ◌==◌, if◌then◌else◌, nat_lt, codes, Result, Ok, Err}
 use Rattle.std.specs.Str.{bytes_eq}
+use Rattle.common_types.specs.Digits.{is_number, number_of}
 use Rattle.request_reader.specs.declared.cause.Cause.{Cause}
 use Rattle.request_reader.specs.declared.cause.Cause.TheVariants.{TooLong, NotUnderstood}
 use Rattle.request_reader.specs.declared.data_head.Extent.{Extent}
 use Rattle.request_reader.specs.declared.data_head.Extent.TheVariants.{ToPeriod, ToEnd, Count}
-
--- one to five decimal digits
-abbrev pub is_count : List ℕ → Bool
-is_count digits = nat_lt 0 (length digits) && nat_le (length digits) 5 && list_all is_ascii_digit digits
-
--- the number that decimal digits write
-abbrev pub number_of : List ℕ → ℕ
-number_of digits = fold (λ n b. 10 * n + (b - 48)) 0 digits
 
 -- the most bytes that may follow the head line
 unfoldable pub most_data : ℕ
@@ -22,7 +13,7 @@ most_data = 32768
 
 unfoldable pub counted : List ℕ → Result Extent Cause
 counted digits =
-    if is_count digits then (if nat_lt most_data (number_of digits) then Err TooLong else Ok (Count (number_of digits)))
+    if is_number 5 digits then (if nat_lt most_data (number_of digits) then Err TooLong else Ok (Count (number_of digits)))
     else Err NotUnderstood
 
 abbrev pub after_plus : List ℕ → Result Extent Cause

@@ -4,9 +4,9 @@ pub mod RequestLine
 pub mod DataHead
 pub mod DataLines
 pub mod Verdict
-pub mod Looked
+pub mod Scanned
 pub mod Examples
-pub mod Heard
+pub mod ReceivedInput
 pub mod Laws
 pub mod Seen
 pub mod Rests

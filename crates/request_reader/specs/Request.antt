@@ -2,13 +2,13 @@
 use Rattle.std.specs.Prelude.{ℕ, List, Option}
 
 -- A view that is asked for by its name, and its language where one is named.
-pub record Wanted : Type 0 where
+pub record RequestedView : Type 0 where
   pub name : List ℕ
   pub language : Option (List ℕ)
 
 -- The Gopher+ part: `+` fetches, `!` asks for the attributes of an item, and `$` for those of a menu's entries. No names mean all blocks.
 pub data Plus : Type 0 where
-  Fetch : Option Wanted → Plus
+  Fetch : Option RequestedView → Plus
   Attributes : List (List ℕ) → Plus
   EntryAttributes : List (List ℕ) → Plus
 

@@ -2,7 +2,7 @@
 use Rattle.std.specs.Prelude.{ℕ, Bool, true, false, List, [], ◌∷◌, ◌==◌, ◌&&◌, ◌||◌, if◌then◌else◌, length, filter, nat_lt, Option, Some, None, Result, Ok, Err}
 use Rattle.std.specs.List.{list_any, slice_split, before_first, after_first}
 use Rattle.std.specs.Str.{bytes_eq}
-use Rattle.request_reader.specs.Request.{Wanted, Plus, Fetch, Attributes, EntryAttributes}
+use Rattle.request_reader.specs.Request.{RequestedView, Plus, Fetch, Attributes, EntryAttributes}
 use Rattle.request_reader.specs.declared.cause.Cause.{Cause}
 use Rattle.request_reader.specs.declared.cause.Cause.TheVariants.{TooLong, NotUnderstood}
 
@@ -13,8 +13,8 @@ abbrev pub is_space : ℕ → Bool
 is_space b = b == 32
 
 -- NUL, or a CR that does not end the line
-abbrev pub is_barred : ℕ → Bool
-is_barred b = b == 0 || b == 13
+abbrev pub is_forbidden : ℕ → Bool
+is_forbidden b = b == 0 || b == 13
 
 -- the fields of what is left of a line, where something is left
 abbrev pub fields : Option (List ℕ) → List (List ℕ)
@@ -63,20 +63,20 @@ language_of [] = None
 language_of (b ∷ bs) = Some (b ∷ bs)
 
 -- A view's name and behind the first space its language; no bytes name none.
-abbrev pub wanted_of : List ℕ → Result (Option Wanted) Cause
-wanted_of [] = Ok None
-wanted_of (b ∷ bs) =
+abbrev pub requested_of : List ℕ → Result (Option RequestedView) Cause
+requested_of [] = Ok None
+requested_of (b ∷ bs) =
     if is_space b then Err NotUnderstood
     else Ok (Some (record { name = before_first is_space (b ∷ bs); language = language_of (after_first is_space (b ∷ bs)) }))
 
-abbrev pub fetch_of : Result (Option Wanted) Cause → Result Plus Cause
-fetch_of (Ok wanted) = Ok (Fetch wanted)
+abbrev pub fetch_of : Result (Option RequestedView) Cause → Result Plus Cause
+fetch_of (Ok requested) = Ok (Fetch requested)
 fetch_of (Err cause) = Err cause
 
 abbrev pub plus_of : List ℕ → Result Plus Cause
 plus_of [] = Err NotUnderstood
 plus_of (b ∷ bs) =
-    if b == 43 then fetch_of (wanted_of bs)
+    if b == 43 then fetch_of (requested_of bs)
     else if b == 33 then Ok (Attributes (names_of bs))
     else Ok (EntryAttributes (names_of bs))
 
@@ -96,35 +96,35 @@ data_flag plus (flag ∷ []) =
 -- ---- the line
 
 -- What a request line says.
-pub record Asked : Type 0 where
+pub record ParsedRequest : Type 0 where
   pub selector : List ℕ
   pub search : Option (List ℕ)
   pub plus : Option Plus
   pub has_data : Bool
 
-abbrev pub with_flag : List ℕ → Option (List ℕ) → Result Plus Cause → Bool → Result Asked Cause
+abbrev pub with_flag : List ℕ → Option (List ℕ) → Result Plus Cause → Bool → Result ParsedRequest Cause
 with_flag selector search (Ok plus) flag = Ok (record { selector = selector; search = search; plus = Some plus; has_data = flag })
 with_flag selector search (Err cause) flag = Err cause
 
--- the data flag is looked at before the Gopher+ part itself
-abbrev pub with_plus : List ℕ → Option (List ℕ) → List ℕ → Result Bool Cause → Result Asked Cause
+-- the data flag is examined before the Gopher+ part itself
+abbrev pub with_plus : List ℕ → Option (List ℕ) → List ℕ → Result Bool Cause → Result ParsedRequest Cause
 with_plus selector search plus (Ok flag) = with_flag selector search (plus_of plus) flag
 with_plus selector search plus (Err cause) = Err cause
 
 -- only a Gopher+ part may follow the search words
-abbrev pub behind_words : List ℕ → List ℕ → List (List ℕ) → Result Asked Cause
+abbrev pub behind_words : List ℕ → List ℕ → List (List ℕ) → Result ParsedRequest Cause
 behind_words selector words [] = Ok (record { selector = selector; search = Some words; plus = None; has_data = false })
 behind_words selector words (f ∷ others) =
     if is_plus_field f then with_plus selector (Some words) f (data_flag f others) else Err NotUnderstood
 
 -- a Gopher+ part or search words may follow the selector
-abbrev pub behind_selector : List ℕ → List (List ℕ) → Result Asked Cause
+abbrev pub behind_selector : List ℕ → List (List ℕ) → Result ParsedRequest Cause
 behind_selector selector [] = Ok (record { selector = selector; search = None; plus = None; has_data = false })
 behind_selector selector (f ∷ others) =
     if is_plus_field f then with_plus selector None f (data_flag f others) else behind_words selector f others
 
-unfoldable pub asked_by : List ℕ → Result Asked Cause
-asked_by line =
-    if list_any is_barred line then Err NotUnderstood
+unfoldable pub parsed_line : List ℕ → Result ParsedRequest Cause
+parsed_line line =
+    if list_any is_forbidden line then Err NotUnderstood
     else if nat_lt 255 (length (before_first is_tab line)) then Err TooLong
     else behind_selector (before_first is_tab line) (fields_after line)

@@ -4,7 +4,7 @@ use Rattle.std.specs.List.{list_any, before_first}
 use Rattle.host_types.specs.Lines.{lines}
 use Rattle.request_reader.specs.Request.{Request}
 use Rattle.request_reader.specs.Lines.{Cut, NotYet, TooLate, Line, first_line, ended_lines}
-use Rattle.request_reader.specs.RequestLine.{Asked, asked_by}
+use Rattle.request_reader.specs.RequestLine.{ParsedRequest, parsed_line}
 use Rattle.request_reader.specs.DataHead.{extent_of}
 use Rattle.request_reader.specs.DataLines.{is_period, unstuffed, room, is_too_much}
 use Rattle.request_reader.specs.declared.data_head.Extent.{Extent}
@@ -23,14 +23,14 @@ pub data Verdict : Type 0 where
 abbrev pub pending : Bool → Verdict
 pending ended = if ended then Early else Open
 
-abbrev pub without_data : Asked → Request
+abbrev pub without_data : ParsedRequest → Request
 without_data a = record { selector = a.selector; search = a.search; plus = a.plus; lines = None }
 
-abbrev pub with_data : Asked → List (List ℕ) → Request
+abbrev pub with_data : ParsedRequest → List (List ℕ) → Request
 with_data a given = record { selector = a.selector; search = a.search; plus = a.plus; lines = Some given }
 
 -- What the bytes behind the head line of data say.
-abbrev pub data_verdict : Asked → Extent → List ℕ → Bool → Verdict
+abbrev pub data_verdict : ParsedRequest → Extent → List ℕ → Bool → Verdict
 data_verdict a (Count n) stream ended =
     if nat_le n (length stream) then Whole (with_data a (lines (take n stream))) else pending ended
 data_verdict a ToEnd stream ended =
@@ -42,24 +42,24 @@ data_verdict a ToPeriod stream ended =
     else if is_too_much stream then Bad TooLong
     else pending ended
 
-abbrev pub extent_verdict : Asked → Result Extent Cause → List ℕ → Bool → Verdict
+abbrev pub extent_verdict : ParsedRequest → Result Extent Cause → List ℕ → Bool → Verdict
 extent_verdict a (Ok extent) rest ended = data_verdict a extent rest ended
 extent_verdict a (Err cause) rest ended = Bad cause
 
 -- What the bytes behind a request line say that data follow.
-abbrev pub head_verdict : Asked → Cut → Bool → Verdict
+abbrev pub head_verdict : ParsedRequest → Cut → Bool → Verdict
 head_verdict a NotYet ended = pending ended
 head_verdict a TooLate ended = Bad TooLong
 head_verdict a (Line line rest) ended = extent_verdict a (extent_of line) rest ended
 
-abbrev pub asked_verdict : Result Asked Cause → List ℕ → Bool → Verdict
-asked_verdict (Err cause) rest ended = Bad cause
-asked_verdict (Ok a) rest ended = if a.has_data then head_verdict a (first_line rest) ended else Whole (without_data a)
+abbrev pub parsed_verdict : Result ParsedRequest Cause → List ℕ → Bool → Verdict
+parsed_verdict (Err cause) rest ended = Bad cause
+parsed_verdict (Ok a) rest ended = if a.has_data then head_verdict a (first_line rest) ended else Whole (without_data a)
 
 abbrev pub line_verdict : Cut → Bool → Verdict
 line_verdict NotYet ended = pending ended
 line_verdict TooLate ended = Bad TooLong
-line_verdict (Line line rest) ended = asked_verdict (asked_by line) rest ended
+line_verdict (Line line rest) ended = parsed_verdict (parsed_line line) rest ended
 
 unfoldable pub verdict : List ℕ → Bool → Verdict
 verdict stream ended = line_verdict (first_line stream) ended

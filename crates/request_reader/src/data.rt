@@ -4,7 +4,7 @@ ghost use Rattle.host_types.specs.Lines.{lines};
 ghost use Rattle.request_reader.specs.DataLines as spec;
 ghost use Rattle.request_reader.specs.Seen.{lines_in};
 
-use host_types::{Bytes, LineList};
+use host_types::{Bytes, LineList, lines_of};
 use std::alloc::{AllocError, Global};
 
 /// The lines of data.
@@ -60,7 +60,7 @@ impl<'a> Data<'a> {
     pub fn lines(self, alloc: Global) -> Result<LineList, AllocError>
         ensures { IfOk result (λ list. list ≡ lines_in self.entry) }
     {
-        let lines = LineList::of_body(alloc, self.bytes)?;
+        let lines = lines_of(alloc, self.bytes)?;
         if self.stuffed {
             all_unstuffed(alloc, &lines)
         } else {

@@ -1,13 +1,15 @@
 // The head line of data.
-ghost use Rattle.std.specs.Prelude.{◌≡◌, true};
-ghost use Rattle.std.specs.Char.{is_ascii_digit};
-ghost use Rattle.std.specs.List.{list_all};
-ghost use Rattle.request_reader.specs.DataHead.{counted, extent_of, is_count, number_of};
+ghost use Rattle.std.specs.Prelude.{◌≡◌};
+ghost use Rattle.request_reader.specs.DataHead.{counted, extent_of};
 
 use crate::Cause;
+use common_types::{is_number, number_of};
 
 /// The most bytes that may follow the head line.
 pub const MOST_DATA: usize = 32_768;
+
+/// The most digits of a count of data bytes.
+const MOST_DIGITS: usize = 5;
 
 /// How far data go.
 #[derive(Clone, Copy, Debug, PartialEq, Eq)]
@@ -20,41 +22,11 @@ pub enum Extent {
     Count(usize),
 }
 
-fn is_digits(bytes: &[u8]) -> bool
-    ensures { result ≡ list_all is_ascii_digit bytes.now }
-{
-    for byte in bytes {
-        if !byte.is_ascii_digit() {
-            return false;
-        }
-    }
-    true
-}
-
-/// Whether the bytes are one to five decimal digits.
-fn is_count(bytes: &[u8]) -> bool
-    ensures { result ≡ is_count bytes.now }
-{
-    !bytes.is_empty() && bytes.len() <= 5 && is_digits(bytes)
-}
-
-/// The number that one to five decimal digits write.
-fn number_of(digits: &[u8]) -> usize
-    requires { is_count digits.now ≡ true }
-    ensures { result ≡ number_of digits.now }
-{
-    let mut number = 0;
-    for digit in digits {
-        number = 10 * number + usize::from(*digit - b'0');
-    }
-    number
-}
-
 #[tactic(auto, unfolding(crate::specs::DataHead::counted, crate::specs::DataHead::most_data))]
 fn counted(digits: &[u8]) -> Result<Extent, Cause>
     ensures { result ≡ counted digits.now }
 {
-    if !is_count(digits) {
+    if !is_number(MOST_DIGITS, digits) {
         return Err(Cause::NotUnderstood);
     }
     let count = number_of(digits);

@@ -5,19 +5,19 @@ ghost use Rattle.std.specs.Option.{option_copied};
 ghost use Rattle.host_types.specs.Items.{is_selector};
 ghost use Rattle.request_reader.specs.Lines.{is_lf};
 ghost use Rattle.request_reader.specs.RequestLine as spec;
-ghost use Rattle.request_reader.specs.RequestLine.{is_tab, fields, asked_by};
-ghost use Rattle.request_reader.specs.Seen.{asked_result};
+ghost use Rattle.request_reader.specs.RequestLine.{is_tab, fields, parsed_line};
+ghost use Rattle.request_reader.specs.Seen.{parsed_result};
 
 use crate::Cause;
-use crate::asked::Asked;
-use crate::line::{first_of, has_barred};
+use crate::line::{first_of, has_forbidden};
+use crate::parsed::ParsedRequest;
 use crate::plus::{data_flag, is_plus_field, plus_of};
 
 /// The greatest length of a selector in bytes.
 const LONGEST_SELECTOR: usize = 255;
 
 /// The first field, and what follows its TAB, where there is one.
-#[tactic(auto, using(crate::proofs::Ends::first_ends, crate::proofs::Ends::one_field))]
+#[tactic(auto, using(crate::proofs::LastBytes::first_ends, crate::proofs::LastBytes::one_field))]
 fn first_field(line: &[u8]) -> (&[u8], Option<&[u8]>)
     ensures first { result.0.now ≡ before_first is_tab line.now }
     ensures rest { unwrap_or (option_copied result.1) [] ≡ after_first is_tab line.now }
@@ -32,7 +32,7 @@ fn first_field(line: &[u8]) -> (&[u8], Option<&[u8]>)
 }
 
 /// What is left without the empty fields at its end.
-#[tactic(auto, using(crate::proofs::Ends::tab_goes, crate::proofs::Ends::fields_stay))]
+#[tactic(auto, using(crate::proofs::LastBytes::tab_goes, crate::proofs::LastBytes::fields_stay))]
 fn without_empty_end(line: &[u8]) -> Option<&[u8]>
     ensures { fields (option_copied result) ≡ spec.without_empty_end (slice_split is_tab line.now) }
 {
@@ -58,15 +58,15 @@ fn with_plus<'a>(
     search: Option<&'a [u8]>,
     plus: &'a [u8],
     left: Option<&'a [u8]>,
-) -> Result<Asked<'a>, Cause>
-    requires lawful { IsTrue (is_selector selector.now) }
-    ensures { asked_result result
+) -> Result<ParsedRequest<'a>, Cause>
+    requires valid { IsTrue (is_selector selector.now) }
+    ensures { parsed_result result
         ≡ spec.with_plus selector.now (option_copied search.entry) plus.now
         (spec.data_flag plus.now (fields (option_copied left.entry))) }
 {
     let has_data = data_flag(plus, left)?;
     let plus = plus_of(plus)?;
-    Ok(Asked {
+    Ok(ParsedRequest {
         selector,
         search,
         plus: Some(plus),
@@ -79,12 +79,12 @@ fn behind_words<'a>(
     selector: &'a [u8],
     words: &'a [u8],
     left: Option<&'a [u8]>,
-) -> Result<Asked<'a>, Cause>
-    requires lawful { IsTrue (is_selector selector.now) }
-    ensures { asked_result result ≡ spec.behind_words selector.now words.now (fields (option_copied left.entry)) }
+) -> Result<ParsedRequest<'a>, Cause>
+    requires valid { IsTrue (is_selector selector.now) }
+    ensures { parsed_result result ≡ spec.behind_words selector.now words.now (fields (option_copied left.entry)) }
 {
     let Some(line) = left else {
-        return Ok(Asked {
+        return Ok(ParsedRequest {
             selector,
             search: Some(words),
             plus: None,
@@ -99,12 +99,15 @@ fn behind_words<'a>(
 }
 
 /// What is asked for by a selector and what is left behind it.
-fn behind_selector<'a>(selector: &'a [u8], left: Option<&'a [u8]>) -> Result<Asked<'a>, Cause>
-    requires lawful { IsTrue (is_selector selector.now) }
-    ensures { asked_result result ≡ spec.behind_selector selector.now (fields (option_copied left.entry)) }
+fn behind_selector<'a>(
+    selector: &'a [u8],
+    left: Option<&'a [u8]>,
+) -> Result<ParsedRequest<'a>, Cause>
+    requires valid { IsTrue (is_selector selector.now) }
+    ensures { parsed_result result ≡ spec.behind_selector selector.now (fields (option_copied left.entry)) }
 {
     let Some(line) = left else {
-        return Ok(Asked {
+        return Ok(ParsedRequest {
             selector,
             search: None,
             plus: None,
@@ -120,12 +123,12 @@ fn behind_selector<'a>(selector: &'a [u8], left: Option<&'a [u8]>) -> Result<Ask
 }
 
 /// What a request line says, without its LF and the CR before it.
-#[tactic(auto, using(crate::proofs::CleanLines::first_lawful), unfolding(crate::specs::RequestLine::asked_by))]
-pub fn asked_by(line: &[u8]) -> Result<Asked<'_>, Cause>
+#[tactic(auto, using(crate::proofs::CleanLines::first_valid), unfolding(crate::specs::RequestLine::parsed_line))]
+pub fn parsed_line(line: &[u8]) -> Result<ParsedRequest<'_>, Cause>
     requires line { list_any is_lf line.now ≡ false }
-    ensures { asked_result result ≡ asked_by line.now }
+    ensures { parsed_result result ≡ parsed_line line.now }
 {
-    if has_barred(line) {
+    if has_forbidden(line) {
         return Err(Cause::NotUnderstood);
     }
     let (selector, rest) = first_field(line);

@@ -1,10 +1,10 @@
 // What those who feed a reader rest on, as laws of the definitions.
 ghost use Rattle.request_reader.specs.Examples.{RequestLines, PlusParts, DataOfRequests, MuchData};
-ghost use Rattle.request_reader.specs.Laws.{IsSettled, IsDecided, IsLawful, HasLines, HasNames, SaysTheWhole, SaysTheEnd};
+ghost use Rattle.request_reader.specs.Laws.{CrashStatesDoRepresent, IsDecided, IsValid, HasLines, HasNames, SaysTheWhole, SaysTheEnd};
 
 /// What a stream says is said whatever follows.
-pub fn settled()
-    ensures { IsSettled }
+pub fn closed_verdict_stays()
+    ensures { CrashStatesDoRepresent }
 {}
 
 /// At the end of input nothing is open.
@@ -14,8 +14,8 @@ pub fn decided()
 
 /// The selector of a whole request may name an item, its lines of data are lines, and what it names
 /// can stand in a field.
-pub fn lawful()
-    ensures selector { IsLawful }
+pub fn valid()
+    ensures selector { IsValid }
     ensures lines { HasLines }
     ensures names { HasNames }
 {}

@@ -1,7 +1,6 @@
 //! Requests of RFC 1436, RFC 1738 and Gopher+ from the pieces of a stream.
 #![tactic(auto)]
 
-mod asked;
 mod cause;
 mod data;
 mod data_head;
@@ -9,6 +8,7 @@ mod fields;
 mod laws;
 mod line;
 mod names;
+mod parsed;
 mod period;
 mod plus;
 mod reader;
@@ -17,8 +17,8 @@ mod stream;
 
 pub use cause::Cause;
 pub use data::Data;
-pub use laws::{any_cuts, decided, lawful, settled, worked_examples};
+pub use laws::{any_cuts, closed_verdict_stays, decided, valid, worked_examples};
 pub use names::Names;
 pub use reader::Reader;
-pub use request::{Answer, Plus, Request, Wanted};
+pub use request::{Answer, Plus, Request, RequestedView};
 pub use stream::answer_to;

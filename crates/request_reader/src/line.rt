@@ -1,11 +1,11 @@
 // Lines of a stream.
 ghost use Rattle.std.specs.Prelude.{◌≡◌, ◌≤◌, ◌==◌, length};
 ghost use Rattle.std.specs.List.{position_or_len, list_any};
-ghost use Rattle.host_types.specs.Lines as body;
 ghost use Rattle.request_reader.specs.Lines as lines;
-ghost use Rattle.request_reader.specs.RequestLine.{is_barred};
+ghost use Rattle.request_reader.specs.RequestLine.{is_forbidden};
 ghost use Rattle.request_reader.specs.Seen.{cut_of};
 
+use host_types::without_cr;
 use memchr::{memchr, memchr2};
 
 /// The greatest length of a line in bytes, a CR counted and the LF not.
@@ -36,8 +36,8 @@ pub fn first_of(byte: u8, bytes: &[u8]) -> usize
 
 /// Whether a NUL or a CR stands in the line.
 #[tactic(auto, using(crate::proofs::Places::any_of_none))]
-pub fn has_barred(line: &[u8]) -> bool
-    ensures { result ≡ list_any is_barred line.now }
+pub fn has_forbidden(line: &[u8]) -> bool
+    ensures { result ≡ list_any is_forbidden line.now }
 {
     match memchr2(0, b'\r', line) {
         Some(_) => true,
@@ -45,19 +45,8 @@ pub fn has_barred(line: &[u8]) -> bool
     }
 }
 
-/// The line without one CR at its end.
-#[tactic(auto, using(crate::proofs::Ends::without_cr_at, crate::proofs::Ends::without_cr_none))]
-pub fn without_cr(line: &[u8]) -> &[u8]
-    ensures { result.now ≡ body.without_cr line.now }
-{
-    match line {
-        [front @ .., b'\r'] => front,
-        _ => line,
-    }
-}
-
 /// The bytes among which the LF of the first line has to be.
-#[tactic(auto, using(crate::proofs::Growing::front_whole), unfolding(crate::specs::Lines::front))]
+#[tactic(auto, using(crate::proofs::GrowingStreams::front_whole), unfolding(crate::specs::Lines::front))]
 fn front(stream: &[u8]) -> &[u8]
     ensures bytes { result.now ≡ lines.front stream.now }
     ensures within { length result.now ≤ length stream.now }

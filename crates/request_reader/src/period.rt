@@ -4,13 +4,14 @@ ghost use Rattle.std.specs.List.{list_any, before_first};
 ghost use Rattle.host_types.specs.Lines.{lines};
 ghost use Rattle.request_reader.specs.Lines.{ended_lines};
 ghost use Rattle.request_reader.specs.DataLines.{is_period};
-ghost use Rattle.request_reader.specs.Looked.{IsLookedAt};
+ghost use Rattle.request_reader.specs.Scanned.{IsScannedTo};
 
-use crate::line::{first_of, without_cr};
+use crate::line::first_of;
+use host_types::without_cr;
 
-/// How far data were looked at.
+/// How far data were scanned.
 #[derive(Clone, Copy, Debug)]
-pub struct Looked {
+pub struct Scanned {
     /// Where the line that is one period begins, or else the first line whose LF has not come.
     pub at: usize,
     /// Whether a line that is one period begins there.
@@ -23,31 +24,31 @@ fn is_period(line: &[u8]) -> bool
     line == b".".as_slice()
 }
 
-/// Looks for a line that is one period, behind the bytes that were looked at already.
+/// Looks for a line that is one period, behind the bytes that were scanned already.
 #[tactic(auto, using(crate::proofs::Periods::no_rest))]
-pub fn look(bytes: &[u8], looked: usize) -> Looked
-    requires { IsLookedAt bytes.now looked }
-    ensures at { IsLookedAt bytes.now result.at }
+pub fn scan(bytes: &[u8], scanned: usize) -> Scanned
+    requires { IsScannedTo bytes.now scanned }
+    ensures at { IsScannedTo bytes.now result.at }
     ensures found { result.is_found ≡ list_any is_period (ended_lines bytes.now) }
     ensures lines { result.is_found ≡ true
         → lines (take result.at bytes.now) ≡ before_first is_period (ended_lines bytes.now) }
 {
-    let mut at = looked;
+    let mut at = scanned;
     while at < bytes.len() {
         let rest = &bytes[at..];
         let end = first_of(b'\n', rest);
         if end == rest.len() {
-            return Looked {
+            return Scanned {
                 at,
                 is_found: false,
             };
         }
         if is_period(without_cr(&rest[..end])) {
-            return Looked { at, is_found: true };
+            return Scanned { at, is_found: true };
         }
         at += end + 1;
     }
-    Looked {
+    Scanned {
         at,
         is_found: false,
     }

@@ -3,10 +3,10 @@ ghost use Rattle.std.specs.Prelude.{◌≡◌};
 ghost use Rattle.std.specs.Option.{option_copied};
 ghost use Rattle.request_reader.specs.RequestLine as spec;
 ghost use Rattle.request_reader.specs.RequestLine.{fields};
-ghost use Rattle.request_reader.specs.Seen.{plus_result, wanted_result};
+ghost use Rattle.request_reader.specs.Seen.{plus_result, requested_result};
 
 use crate::line::first_of;
-use crate::{Cause, Names, Plus, Wanted};
+use crate::{Cause, Names, Plus, RequestedView};
 
 /// Whether the field begins as a Gopher+ part does.
 pub fn is_plus_field(field: &[u8]) -> bool
@@ -26,8 +26,8 @@ fn language_of(bytes: &[u8]) -> Option<&[u8]>
 }
 
 /// The view that is named behind a `+`, where one is.
-fn wanted_of(bytes: &[u8]) -> Result<Option<Wanted<'_>>, Cause>
-    ensures { wanted_result result ≡ spec.wanted_of bytes.now }
+fn requested_of(bytes: &[u8]) -> Result<Option<RequestedView<'_>>, Cause>
+    ensures { requested_result result ≡ spec.requested_of bytes.now }
 {
     if bytes.is_empty() {
         return Ok(None);
@@ -41,7 +41,7 @@ fn wanted_of(bytes: &[u8]) -> Result<Option<Wanted<'_>>, Cause>
     } else {
         None
     };
-    Ok(Some(Wanted {
+    Ok(Some(RequestedView {
         name: &bytes[..space],
         language,
     }))
@@ -53,7 +53,7 @@ pub fn plus_of(field: &[u8]) -> Result<Plus<'_>, Cause>
 {
     match field {
         [] => Err(Cause::NotUnderstood),
-        [b'+', bytes @ ..] => Ok(Plus::Fetch(wanted_of(bytes)?)),
+        [b'+', bytes @ ..] => Ok(Plus::Fetch(requested_of(bytes)?)),
         [b'!', bytes @ ..] => Ok(Plus::Attributes(Names::of(bytes))),
         [_, bytes @ ..] => Ok(Plus::EntryAttributes(Names::of(bytes))),
     }
@@ -69,7 +69,7 @@ fn is_fetch(plus: &[u8]) -> bool
 }
 
 /// Whether data follow, by what is left behind the Gopher+ part.
-#[tactic(auto, using(crate::proofs::Ends::no_data_flag, crate::proofs::Ends::data_flag_set, crate::proofs::Ends::other_flag))]
+#[tactic(auto, using(crate::proofs::LastBytes::no_data_flag, crate::proofs::LastBytes::data_flag_set, crate::proofs::LastBytes::other_flag))]
 pub fn data_flag(plus: &[u8], left: Option<&[u8]>) -> Result<bool, Cause>
     ensures { result ≡ spec.data_flag plus.now (fields (option_copied left.entry)) }
 {

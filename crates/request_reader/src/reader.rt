@@ -2,12 +2,12 @@
 ghost use Rattle.std.specs.Prelude.{◌≡◌, ◌≤◌, true, false, IfOk, IsOk, IfSome, take, vec_len};
 ghost use Rattle.std.specs.Option.{option_map};
 ghost use Rattle.request_reader.specs.Verdict.{is_open};
-ghost use Rattle.request_reader.specs.Looked.{IsLooked};
-ghost use Rattle.request_reader.specs.Heard.{Heard, said_by, silence, fed, finished, undone, unmarked};
+ghost use Rattle.request_reader.specs.Scanned.{IsScanned};
+ghost use Rattle.request_reader.specs.ReceivedInput.{ReceivedInput, verdict_by, silence, fed, finished, undone, unmarked};
 ghost use Rattle.request_reader.specs.Seen.{seen};
 
 use crate::Answer;
-use crate::stream::{answer_from, look_at_data};
+use crate::stream::{answer_from, scan_data};
 use std::alloc::{AllocError, Global};
 use std::marker::Model;
 
@@ -22,20 +22,20 @@ struct Before {
 /// and the answer stays.
 #[derive(Drop)]
 pub struct Reader {
-    heard: Vec<u8>,
+    received: Vec<u8>,
     ended: bool,
     before: Option<Before>,
-    /// How many bytes of the data were looked at, so that no line is looked at twice.
-    looked: usize,
+    /// How many bytes of the data were scanned, so that no line is scanned twice.
+    scanned: usize,
 }
 
 impl Model for Reader {
-    ghost Value = { Heard };
+    ghost Value = { ReceivedInput };
 
-    ghost view = { λ r. record { input = record { bytes = r.heard.items; ended = r.ended }; before = option_map (λ b. record { bytes = take b.length r.heard.items; ended = b.ended }) r.before } };
+    ghost view = { λ r. record { input = record { bytes = r.received.items; ended = r.ended }; before = option_map (λ b. record { bytes = take b.length r.received.items; ended = b.ended }) r.before } };
 
-    ghost invariant = { λ r. IfSome r.before (λ b. b.length ≤ vec_len r.heard)
-        × IsLooked r.heard.items r.looked };
+    ghost invariant = { λ r. IfSome r.before (λ b. b.length ≤ vec_len r.received)
+        × IsScanned r.received.items r.scanned };
 }
 
 impl Reader {
@@ -43,29 +43,29 @@ impl Reader {
     ghost use Rattle.request_reader.specs.Rests.{RestsFed, RestsFinished};
 
     /// A reader that heard nothing. Takes no memory.
-    #[tactic(auto, using(crate::proofs::Periods::not_looked), unfolding(crate::specs::Verdict::verdict, crate::specs::Lines::first_line, crate::specs::Lines::front))]
+    #[tactic(auto, using(crate::proofs::Periods::not_scanned), unfolding(crate::specs::Verdict::verdict, crate::specs::Lines::first_line, crate::specs::Lines::front))]
     pub fn new(alloc: Global) -> Self
         ensures silent { result ≡ silence }
-        ensures open { is_open (said_by result.input) ≡ true }
+        ensures open { is_open (verdict_by result.input) ≡ true }
     {
         Reader {
-            heard: Vec::new(alloc),
+            received: Vec::new(alloc),
             ended: false,
             before: None,
-            looked: 0,
+            scanned: 0,
         }
     }
 
     /// What the stream so far says.
     pub fn answer(&self) -> Answer<'_>
-        ensures { seen result ≡ said_by self.now.input }
+        ensures { seen result ≡ verdict_by self.now.input }
     {
-        answer_from(&self.heard, self.ended, self.looked)
+        answer_from(&self.received, self.ended, self.scanned)
     }
 
     /// Whether the stream so far says nothing yet.
     pub fn is_open(&self) -> bool
-        ensures { result ≡ is_open (said_by self.now.input) }
+        ensures { result ≡ is_open (verdict_by self.now.input) }
     {
         match self.answer() {
             Answer::More => true,
@@ -77,8 +77,8 @@ impl Reader {
     /// Without memory nothing is taken. A piece that is ignored takes no memory.
     pub fn feed(&mut self, piece: &[u8]) -> Result<Answer<'_>, AllocError>
         ensures* after { sem 𝓛 (RestsFed self.entry piece.now result) }
-        ensures said { IfOk result (λ a. seen a ≡ said_by (fed self.old piece.now).input) }
-        ensures ignored { is_open (said_by self.old.input) ≡ false → IsOk result }
+        ensures said { IfOk result (λ a. seen a ≡ verdict_by (fed self.old piece.now).input) }
+        ensures ignored { is_open (verdict_by self.old.input) ≡ false → IsOk result }
     {
         self.take_piece(piece)?;
         Ok(self.answer())
@@ -88,21 +88,21 @@ impl Reader {
     /// Takes no memory.
     pub fn finish(&mut self) -> Answer<'_>
         ensures* after { sem 𝓛 (RestsFinished self.entry) }
-        ensures said { seen result ≡ said_by (finished self.old).input }
+        ensures said { seen result ≡ verdict_by (finished self.old).input }
     {
         self.take_end();
         self.answer()
     }
 
     /// Takes back what the call just before took. Takes no memory.
-    #[tactic(auto, using(crate::proofs::Periods::not_looked))]
+    #[tactic(auto, using(crate::proofs::Periods::not_scanned))]
     pub fn undo(&mut self)
         ensures { self.new ≡ undone self.old }
     {
         if let Some(before) = self.before.take() {
-            self.heard.truncate(before.length);
+            self.received.truncate(before.length);
             self.ended = before.ended;
-            self.looked = 0;
+            self.scanned = 0;
         }
     }
 }
@@ -110,20 +110,20 @@ impl Reader {
 impl Reader {
     ghost use Rattle.std.specs.Prelude.{OnOk, OnErr};
 
-    #[tactic(auto, using(crate::proofs::Periods::still_looked))]
+    #[tactic(auto, using(crate::proofs::Periods::stays_scanned))]
     fn take_piece(&mut self, piece: &[u8]) -> Result<(), AllocError>
         ensures ok { OnOk result (self.new ≡ fed self.old piece.now) }
         ensures err { OnErr result (self.new ≡ unmarked self.old) }
-        ensures ignored { is_open (said_by self.old.input) ≡ false → IsOk result }
+        ensures ignored { is_open (verdict_by self.old.input) ≡ false → IsOk result }
     {
         let open = self.is_open();
         self.before = None;
         if !open {
             return Ok(());
         }
-        let length = self.heard.len();
-        self.heard.extend_from_slice(piece)?;
-        self.looked = look_at_data(&self.heard, self.looked);
+        let length = self.received.len();
+        self.received.extend_from_slice(piece)?;
+        self.scanned = scan_data(&self.received, self.scanned);
         self.before = Some(Before {
             length,
             ended: self.ended,
@@ -138,7 +138,7 @@ impl Reader {
         self.before = None;
         if open {
             self.before = Some(Before {
-                length: self.heard.len(),
+                length: self.received.len(),
                 ended: self.ended,
             });
             self.ended = true;

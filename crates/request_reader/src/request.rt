@@ -6,7 +6,7 @@ use crate::{Cause, Data, Names};
 
 /// A view that is asked for by its name.
 #[derive(Clone, Copy, Debug)]
-pub struct Wanted<'a> {
+pub struct RequestedView<'a> {
     /// At least one byte, as `Text/plain`.
     pub name: &'a [u8],
     /// At least one byte, as `En_US`, where a language is named.
@@ -17,7 +17,7 @@ pub struct Wanted<'a> {
 #[derive(Clone, Copy, Debug)]
 pub enum Plus<'a> {
     /// `+`: the item itself, in its first view where none is named.
-    Fetch(Option<Wanted<'a>>),
+    Fetch(Option<RequestedView<'a>>),
     /// `!`: the attributes of the item, by the blocks with these names, or by all where there are no names.
     Attributes(Names<'a>),
     /// `$`: the same for each entry of a menu.
@@ -35,7 +35,7 @@ pub struct Request<'a> {
     pub plus: Option<Plus<'a>>,
     /// The data that were sent along, which only a fetch has.
     pub data: Option<Data<'a>>,
-    pub ghost lawful: { IsTrue (is_selector selector.now) },
+    pub ghost valid: { IsTrue (is_selector selector.now) },
 }
 
 /// What a stream says so far.

@@ -4,16 +4,16 @@ ghost use Rattle.std.specs.Option.{option_copied};
 ghost use Rattle.request_reader.specs.Lines.{first_line};
 ghost use Rattle.request_reader.specs.DataLines as spec;
 ghost use Rattle.request_reader.specs.DataLines.{is_too_much};
-ghost use Rattle.request_reader.specs.Looked.{IsLooked, IsLookedAt, IsLookedIn, data_to_period, of_extent, of_head};
+ghost use Rattle.request_reader.specs.Scanned.{IsScanned, IsScannedTo, IsScannedIn, data_to_period, of_extent, of_head};
 ghost use Rattle.request_reader.specs.Verdict.{verdict, pending, data_verdict, head_verdict};
-ghost use Rattle.request_reader.specs.Seen.{asked_of, seen};
+ghost use Rattle.request_reader.specs.Seen.{parsed_of, seen};
 ghost use Rattle.request_reader.specs.declared.data_head.Extent.TheVariants.{ToPeriod};
 
-use crate::asked::Asked;
 use crate::data_head::{Extent, MOST_DATA, extent_of};
-use crate::fields::asked_by;
+use crate::fields::parsed_line;
 use crate::line::{Cut, first_line};
-use crate::period::look;
+use crate::parsed::ParsedRequest;
+use crate::period::scan;
 use crate::{Answer, Cause, Data};
 
 /// What is not whole yet.
@@ -24,7 +24,7 @@ fn pending<'a>(ended: bool) -> Answer<'a>
 }
 
 /// All that may follow the head line of data.
-#[tactic(auto, using(crate::proofs::Growing::room_whole), unfolding(crate::specs::DataLines::room, crate::specs::DataHead::most_data))]
+#[tactic(auto, using(crate::proofs::GrowingStreams::room_whole), unfolding(crate::specs::DataLines::room, crate::specs::DataHead::most_data))]
 fn room(stream: &[u8]) -> &[u8]
     ensures { result.now ≡ spec.room stream.now }
 {
@@ -43,14 +43,19 @@ fn is_too_much(stream: &[u8]) -> bool
 }
 
 /// What data say that end with a line that is one period.
-fn period_answer<'a>(asked: Asked<'a>, stream: &'a [u8], ended: bool, looked: usize) -> Answer<'a>
-    requires { IsLookedAt (spec.room stream.now) looked }
-    ensures { seen result ≡ data_verdict (asked_of asked.entry) ToPeriod stream.now ended }
+fn period_answer<'a>(
+    parsed: ParsedRequest<'a>,
+    stream: &'a [u8],
+    ended: bool,
+    scanned: usize,
+) -> Answer<'a>
+    requires { IsScannedTo (spec.room stream.now) scanned }
+    ensures { seen result ≡ data_verdict (parsed_of parsed.entry) ToPeriod stream.now ended }
 {
     let bytes = room(stream);
-    let period = look(bytes, looked);
+    let period = scan(bytes, scanned);
     if period.is_found {
-        return Answer::Whole(asked.with_data(Data::stuffed(&bytes[..period.at])));
+        return Answer::Whole(parsed.with_data(Data::stuffed(&bytes[..period.at])));
     }
     if is_too_much(stream) {
         Answer::Bad(Cause::TooLong)
@@ -61,29 +66,29 @@ fn period_answer<'a>(asked: Asked<'a>, stream: &'a [u8], ended: bool, looked: us
 
 /// What the bytes behind the head line of data say.
 fn data_answer<'a>(
-    asked: Asked<'a>,
+    parsed: ParsedRequest<'a>,
     extent: Extent,
     stream: &'a [u8],
     ended: bool,
-    looked: usize,
+    scanned: usize,
 ) -> Answer<'a>
-    requires { IsLookedIn (of_extent (Ok extent) stream.now) looked }
-    ensures { seen result ≡ data_verdict (asked_of asked.entry) extent stream.now ended }
+    requires { IsScannedIn (of_extent (Ok extent) stream.now) scanned }
+    ensures { seen result ≡ data_verdict (parsed_of parsed.entry) extent stream.now ended }
 {
     match extent {
-        Extent::ToPeriod => period_answer(asked, stream, ended, looked),
+        Extent::ToPeriod => period_answer(parsed, stream, ended, scanned),
         Extent::ToEnd => {
             if is_too_much(stream) {
                 Answer::Bad(Cause::TooLong)
             } else if ended {
-                Answer::Whole(asked.with_data(Data::plain(stream)))
+                Answer::Whole(parsed.with_data(Data::plain(stream)))
             } else {
                 Answer::More
             }
         }
         Extent::Count(count) => {
             if count <= stream.len() {
-                Answer::Whole(asked.with_data(Data::plain(&stream[..count])))
+                Answer::Whole(parsed.with_data(Data::plain(&stream[..count])))
             } else {
                 pending(ended)
             }
@@ -92,40 +97,45 @@ fn data_answer<'a>(
 }
 
 /// What the bytes behind a request line that data follow say.
-fn head_answer<'a>(asked: Asked<'a>, stream: &'a [u8], ended: bool, looked: usize) -> Answer<'a>
-    requires { IsLookedIn (of_head (first_line stream.now)) looked }
-    ensures { seen result ≡ head_verdict (asked_of asked.entry) (first_line stream.now) ended }
+fn head_answer<'a>(
+    parsed: ParsedRequest<'a>,
+    stream: &'a [u8],
+    ended: bool,
+    scanned: usize,
+) -> Answer<'a>
+    requires { IsScannedIn (of_head (first_line stream.now)) scanned }
+    ensures { seen result ≡ head_verdict (parsed_of parsed.entry) (first_line stream.now) ended }
 {
     match first_line(stream) {
         Cut::NotYet => pending(ended),
         Cut::TooLate => Answer::Bad(Cause::TooLong),
         Cut::Line(line, rest) => match extent_of(line) {
-            Ok(extent) => data_answer(asked, extent, rest, ended, looked),
+            Ok(extent) => data_answer(parsed, extent, rest, ended, scanned),
             Err(cause) => Answer::Bad(cause),
         },
     }
 }
 
 /// What a stream says, with a mark whether the input ended there, where so many bytes of its data
-/// were looked at already.
-#[tactic(auto, using(crate::proofs::CleanLines::clean_line), unfolding(crate::specs::Verdict::verdict, crate::specs::Looked::data_to_period))]
-pub fn answer_from(stream: &[u8], ended: bool, looked: usize) -> Answer<'_>
-    requires { IsLooked stream.now looked }
+/// were scanned already.
+#[tactic(auto, using(crate::proofs::CleanLines::clean_line), unfolding(crate::specs::Verdict::verdict, crate::specs::Scanned::data_to_period))]
+pub fn answer_from(stream: &[u8], ended: bool, scanned: usize) -> Answer<'_>
+    requires { IsScanned stream.now scanned }
     ensures { seen result ≡ verdict stream.now ended }
 {
     match first_line(stream) {
         Cut::NotYet => pending(ended),
         Cut::TooLate => Answer::Bad(Cause::TooLong),
-        Cut::Line(line, rest) => match asked_by(line) {
-            Ok(asked) if asked.has_data => head_answer(asked, rest, ended, looked),
-            Ok(asked) => Answer::Whole(asked.without_data()),
+        Cut::Line(line, rest) => match parsed_line(line) {
+            Ok(parsed) if parsed.has_data => head_answer(parsed, rest, ended, scanned),
+            Ok(parsed) => Answer::Whole(parsed.without_data()),
             Err(cause) => Answer::Bad(cause),
         },
     }
 }
 
 /// What a stream says, with a mark whether the input ended there.
-#[tactic(auto, using(crate::proofs::Periods::not_looked))]
+#[tactic(auto, using(crate::proofs::Periods::not_scanned))]
 pub fn answer_to(stream: &[u8], ended: bool) -> Answer<'_>
     ensures { seen result ≡ verdict stream.now ended }
 {
@@ -133,15 +143,15 @@ pub fn answer_to(stream: &[u8], ended: bool) -> Answer<'_>
 }
 
 /// The data that a line with one period is to end, where their head line has come.
-#[tactic(auto, using(crate::proofs::CleanLines::clean_line), unfolding(crate::specs::Looked::data_to_period))]
+#[tactic(auto, using(crate::proofs::CleanLines::clean_line), unfolding(crate::specs::Scanned::data_to_period))]
 fn data_to_period(stream: &[u8]) -> Option<&[u8]>
     ensures { option_copied result ≡ data_to_period stream.now }
 {
     let Cut::Line(line, rest) = first_line(stream) else {
         return None;
     };
-    let asked = asked_by(line).ok()?;
-    if !asked.has_data {
+    let parsed = parsed_line(line).ok()?;
+    if !parsed.has_data {
         return None;
     }
     let Cut::Line(head, bytes) = first_line(rest) else {
@@ -153,13 +163,13 @@ fn data_to_period(stream: &[u8]) -> Option<&[u8]>
     }
 }
 
-/// How many bytes of the stream's data are looked at once each is.
-pub fn look_at_data(stream: &[u8], looked: usize) -> usize
-    requires { IsLooked stream.now looked }
-    ensures { IsLooked stream.now result }
+/// How many bytes of the stream's data are scanned once each is.
+pub fn scan_data(stream: &[u8], scanned: usize) -> usize
+    requires { IsScanned stream.now scanned }
+    ensures { IsScanned stream.now result }
 {
     match data_to_period(stream) {
-        Some(bytes) => look(bytes, looked).at,
-        None => looked,
+        Some(bytes) => scan(bytes, scanned).at,
+        None => scanned,
     }
 }

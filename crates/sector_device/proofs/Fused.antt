@@ -1,8 +1,8 @@
 -- Counts of a fuse and of the device inside.
 use Rattle.std.proofs.Common.{◌≡◌, ◌+◌, ◌-◌, ◌^◌, ℕ, Result, Ok, Err, inl, inr, ap, ◌∙◌, arith}
 use Rattle.std.proofs.lemmas.Bool.{cases_lt}
-use Rattle.sector_device.specs.Device.{counted, Counts}
-use Rattle.sector_device.specs.Counting.{counted_below, counted_end}
+use Rattle.common_types.specs.Counts.{counted, Counts}
+use Rattle.common_types.specs.Counts.{counted_below, counted_end}
 use Rattle.sector_device.specs.Fuse.{at_most_greatest}
 
 -- a failure of the fuse itself is one more of both together

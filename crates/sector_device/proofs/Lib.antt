@@ -1,5 +1,5 @@
 pub mod EachImage
 pub mod Fused
-pub mod Kept
+pub mod ReadBack
 pub mod Picks
 pub mod Time

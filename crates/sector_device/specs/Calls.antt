@@ -40,6 +40,6 @@ writes_of [] = []
 writes_of (Write n bytes ∷ calls) = (n, bytes) ∷ writes_of calls
 writes_of (Sync ∷ calls) = writes_of calls
 
--- a stop after some number of calls, at least t, leaves an image of the disk as it was then
-abbrev pub LeftSince : List (List ℕ) → List Call → ℕ → List (List ℕ) → Type 0
-LeftSince first calls t image = (k : ℕ) × (t ≤ k) × (k ≤ length calls) × IsImage (replay (fresh first) (take k calls)) image
+-- a crash after some number of calls, at least t, leaves an image of the disk as it was then
+abbrev pub PossibleSince : List (List ℕ) → List Call → ℕ → List (List ℕ) → Type 0
+PossibleSince first calls t image = (k : ℕ) × (t ≤ k) × (k ≤ length calls) × IsImage (replay (fresh first) (take k calls)) image

@@ -1,23 +1,16 @@
 -- What the calls of a device have in common.
-use Rattle.std.specs.Prelude.{◌≡◌, ◌⊎◌, ◌≤◌, ◌-◌, ◌^◌, ℕ, suc, Bool, nat_lt, if◌then◌else◌, Result, Ok, Err}
+use Rattle.std.specs.Prelude.{◌≡◌, ◌⊎◌, ℕ, Bool, Result, Ok, Err}
+use Rattle.common_types.specs.Counts.{counted}
+use Rattle.common_types.specs.CrashStates.{AddsOnly}
 use Rattle.sector_device.specs.Disk.{Disk}
 
--- What a device is, but for what a stop may leave of it. `honest`: it keeps its written meaning. The counts are of failed reads, and of failed writes and syncs.
+-- What a device is, but for what a crash may leave of it. `honest`: it keeps its written meaning. The counts are of failed reads, and of failed writes and syncs.
 pub record State : Type 0 where
   pub disk : Disk
   pub size : ℕ
   pub honest : Bool
   pub failed_reads : ℕ
   pub failed_writes : ℕ
-
--- one more, but at its end, the greatest u64, a count stays
-unfoldable pub counted : ℕ → ℕ
-counted count = if nat_lt count (2 ^ 64 - 1) then suc count else count
-
--- A call that fails is counted, and one that succeeds leaves the count.
-abbrev pub Counts : {T E : Type 0} → Result T E → ℕ → ℕ → Type 0
-Counts (Ok _) before now = now ≡ before
-Counts (Err _) before now = now ≡ counted before
 
 -- no call failed
 pub record NothingCounted (old new : State) : Type 0 where
@@ -35,8 +28,6 @@ abbrev pub CountsFirst : {T E : Type 0} → Result T E → State → State → T
 CountsFirst (Ok _) old new = NothingCounted old new
 CountsFirst (Err _) old new = OneCounted old new
 
--- Time goes on: a stop since t might have left what it might have left before, or what it may leave now.
-pub record Elapses {L : Type 0} (before now : ℕ) (past since : ℕ → L → Type 0) : Type 0 where
-  pub later : before ≤ now
-  pub nothing_else : (t : ℕ) (c : L) → t ≤ before → since t c → past t c ⊎ since now c
-  pub keeps : (t : ℕ) (c : L) → t ≤ before → past t c → since t c
+-- Time goes on: a crash since t might have left what it might have left before, or what it may leave now.
+abbrev pub Elapses : {L : Type 0} → ℕ → ℕ → (ℕ → L → Type 0) → (ℕ → L → Type 0) → Type 0
+Elapses before now past since = AddsOnly (record { moment = before; possible_since = past }) (record { moment = now; possible_since = since }) (since now)

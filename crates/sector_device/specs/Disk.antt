@@ -1,4 +1,4 @@
--- The disk model of this project: what a sync has made sure of, what was written since, what reads give, and what a stop may leave.
+-- The disk model of this project: what a sync has made sure of, what was written since, what reads give, and what a crash may leave.
 use Rattle.std.specs.Prelude.{◌≡◌, ◌⊎◌, ℕ, List, [], ◌∷◌, ◌++◌, length, Some, slice_get, slice_set}
 
 -- the bytes of each sector
@@ -20,7 +20,7 @@ abbrev pub WasWritten : ℕ → List ℕ → List (ℕ × List ℕ) → Type 0
 WasWritten n bytes [] = ⊥
 WasWritten n bytes (w ∷ writes) = ((w.0 ≡ n) × (w.1 ≡ bytes)) ⊎ WasWritten n bytes writes
 
--- What a stop may leave: each sector is that of the base or of a listed write to it, each by itself.
+-- What a crash may leave: each sector is that of the base or of a listed write to it, each by itself.
 pub record IsImage (disk : Disk) (image : List (List ℕ)) : Type 0 where
   pub size : length image ≡ length disk.base
   pub each : (n : ℕ) (bytes : List ℕ) → slice_get image n ≡ Some bytes → (slice_get disk.base n ≡ Some bytes) ⊎ WasWritten n bytes disk.writes

@@ -8,7 +8,7 @@ use Rattle.sector_device.specs.declared.fuse_disk.FuseDisk.{FuseDisk}
 abbrev pub inside : {D : Type 0} → FuseDisk D → D
 inside fuse = fuse.inner
 
--- how many calls are still passed on
+-- how many more calls are passed on
 abbrev pub calls_left : {D : Type 0} → FuseDisk D → ℕ
 calls_left fuse = fuse.calls_left
 

@@ -1,9 +1,9 @@
 pub mod AfterStop
 pub mod Calls
-pub mod Counting
 pub mod Device
 pub mod Disk
-pub mod Examples
+pub mod Effects
+pub mod CrashExamples
 pub mod Fuse
 pub mod FuseState
 pub mod Images

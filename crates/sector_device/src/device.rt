@@ -3,7 +3,9 @@ ghost use Rattle.std.specs.Prelude.{◌≡◌, ◌<◌, List, ℕ, IfOk, OnOk, O
 ghost use Rattle.sector_device.specs.declared.device.DeviceFault.{DeviceFault as Fault};
 ghost use Rattle.sector_device.specs.declared.device.DeviceFault.TheVariants.{Device as Failing};
 ghost use Rattle.sector_device.specs.Disk.{Sectors, Disk, IsImage, written, synced, WriteFailed, SyncFailed};
-ghost use Rattle.sector_device.specs.Device.{State, counted, Counts, Elapses};
+ghost use Rattle.common_types.specs.Counts.{counted, Counts};
+ghost use Rattle.sector_device.specs.Device.{State, Elapses};
+ghost use Rattle.sector_device.specs.Effects.{ReadOutcome, WriteOutcome};
 
 use thiserror::Error;
 
@@ -16,13 +18,13 @@ pub enum DeviceFault {
     /// A file can't be opened as a device.
     #[error("NoFile")]
     NoFile,
-    /// Memory is wanting. No call of the trait answers it.
+    /// Out of memory. No call of the trait answers it.
     #[error("Memory")]
     Memory,
 }
 
 /// Counts a call that fails, and gives its fault.
-#[tactic(auto, unfolding(crate::specs::Device::counted))]
+#[tactic(auto, unfolding(common_types::specs::Counts::counted))]
 pub(crate) fn counted(failed: &mut u64) -> DeviceFault
     ensures next { failed.new ≡ counted failed.old }
     ensures fault { result ≡ Failing }
@@ -33,7 +35,7 @@ pub(crate) fn counted(failed: &mut u64) -> DeviceFault
 
 /// A disk of sectors of 512 bytes.
 ///
-/// Whatever speaks of sectors, or of what a stop may leave, holds where the device is honest, that is, keeps its written meaning. No call
+/// Whatever speaks of sectors, or of what a crash may leave, holds where the device is honest, that is, keeps its written meaning. No call
 /// makes an honest device dishonest, or the other way round. Sizes, counts and the kind of a fault hold on every device.
 pub trait Device {
     /// The disk, its size in sectors, whether the device is honest, and the counts of failed calls.
@@ -42,8 +44,8 @@ pub trait Device {
     /// The moment, as a number that doesn't fall.
     ghost moment: { Self → ℕ };
 
-    /// What a stop at some moment from that one on might have left.
-    ghost left_since: { Self → ℕ → Sectors → Type 0 };
+    /// What a crash at some moment from that one on might have left.
+    ghost possible_since: { Self → ℕ → Sectors → Type 0 };
 
     /// How many sectors there are. It takes no memory.
     fn sectors(&self) -> u64
@@ -54,42 +56,29 @@ pub trait Device {
         requires { n < (state self.old).size }
         ensures read { IsTrue (state self.old).honest → OnOk result (slice_get (state self.old).disk.view n ≡ Some buffer.new) }
         ensures untouched { IfErr result (λ e. buffer.new ≡ buffer.old) }
-        ensures disk { IsTrue (state self.old).honest → (state self.new).disk ≡ (state self.old).disk }
-        ensures size { (state self.new).size ≡ (state self.old).size }
-        ensures honest { (state self.new).honest ≡ (state self.old).honest }
-        ensures reads { Counts result (state self.old).failed_reads (state self.new).failed_reads }
-        ensures writes { (state self.new).failed_writes ≡ (state self.old).failed_writes }
-        ensures fault { IfErr result (λ e. e ≡ Failing) }
-        ensures time { IsTrue (state self.old).honest → Elapses (moment self.old) (moment self.new) (left_since self.old) (left_since self.new) };
+        ensures outcome { ReadOutcome result (state self.old) (state self.new) }
+        ensures time { IsTrue (state self.old).honest → Elapses (moment self.old) (moment self.new) (possible_since self.old) (possible_since self.new) };
 
-    /// Writes sector n. Reads show it at once; a stop may leave it or not until a sync succeeds.
+    /// Writes sector n. Reads show it at once; a crash may leave it or not until a sync succeeds.
     fn write(&mut self, n: u64, bytes: &[u8; 512]) -> Result<(), DeviceFault>
         requires { n < (state self.old).size }
         ensures written { IsTrue (state self.old).honest → OnOk result ((state self.new).disk ≡ written n bytes.now (state self.old).disk) }
         ensures failed { IsTrue (state self.old).honest → OnErr result (WriteFailed n bytes.now (state self.old).disk (state self.new).disk) }
-        ensures size { (state self.new).size ≡ (state self.old).size }
-        ensures honest { (state self.new).honest ≡ (state self.old).honest }
-        ensures reads { (state self.new).failed_reads ≡ (state self.old).failed_reads }
-        ensures writes { Counts result (state self.old).failed_writes (state self.new).failed_writes }
-        ensures fault { IfErr result (λ e. e ≡ Failing) }
-        ensures time { IsTrue (state self.old).honest → Elapses (moment self.old) (moment self.new) (left_since self.old) (left_since self.new) };
+        ensures outcome { WriteOutcome result (state self.old) (state self.new) }
+        ensures time { IsTrue (state self.old).honest → Elapses (moment self.old) (moment self.new) (possible_since self.old) (possible_since self.new) };
 
     /// Makes sure of all that reads give.
     fn sync(&mut self) -> Result<(), DeviceFault>
         ensures synced { IsTrue (state self.old).honest → OnOk result ((state self.new).disk ≡ synced (state self.old).disk) }
         ensures failed { IsTrue (state self.old).honest → OnErr result (SyncFailed (state self.old).disk (state self.new).disk) }
-        ensures size { (state self.new).size ≡ (state self.old).size }
-        ensures honest { (state self.new).honest ≡ (state self.old).honest }
-        ensures reads { (state self.new).failed_reads ≡ (state self.old).failed_reads }
-        ensures writes { Counts result (state self.old).failed_writes (state self.new).failed_writes }
-        ensures fault { IfErr result (λ e. e ≡ Failing) }
-        ensures time { IsTrue (state self.old).honest → Elapses (moment self.old) (moment self.new) (left_since self.old) (left_since self.new) };
+        ensures outcome { WriteOutcome result (state self.old) (state self.new) }
+        ensures time { IsTrue (state self.old).honest → Elapses (moment self.old) (moment self.new) (possible_since self.old) (possible_since self.new) };
 
-    /// A stop at this moment leaves an image.
-    ghost leaves_images: { (d : Self) (c : Sectors) → IsTrue (state d).honest → left_since d (moment d) c → IsImage (state d).disk c };
+    /// A crash at this moment leaves an image.
+    ghost crash_states_are_images: { (d : Self) (c : Sectors) → IsTrue (state d).honest → possible_since d (moment d) c → IsImage (state d).disk c };
 
-    /// Each image may be left by a stop at this moment.
-    ghost each_may_be_left: { (d : Self) (c : Sectors) → IsTrue (state d).honest → IsImage (state d).disk c → left_since d (moment d) c };
+    /// Each image may be left by a crash at this moment.
+    ghost each_image_is_a_crash_state: { (d : Self) (c : Sectors) → IsTrue (state d).honest → IsImage (state d).disk c → possible_since d (moment d) c };
 
     /// What reads give is an image.
     ghost view_is_image: { (d : Self) → IsTrue (state d).honest → IsImage (state d).disk (state d).disk.view };

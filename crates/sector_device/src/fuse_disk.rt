@@ -1,8 +1,9 @@
 // A device that passes so many calls on, and then fails each.
 ghost use Rattle.std.specs.Prelude.{◌≡◌, ◌≤◌, ◌<◌, ◌-◌, ◌+◌, ◌^◌, ◌↔◌, ℕ, IfOk, OnOk, OnErr, IfErr, IsErr, IsTrue, length, slice_get, Some};
-ghost use Rattle.sector_device.specs.declared.device.DeviceFault.TheVariants.{Device as Failing};
 ghost use Rattle.sector_device.specs.Disk.{Sectors, Disk, IsImage, written, synced, WriteFailed, SyncFailed};
-ghost use Rattle.sector_device.specs.Device.{State, counted, Counts, Elapses};
+ghost use Rattle.common_types.specs.Counts.{counted, Counts};
+ghost use Rattle.sector_device.specs.Device.{State, Elapses};
+ghost use Rattle.sector_device.specs.Effects.{ReadOutcome, WriteOutcome};
 
 use crate::device::counted;
 use crate::{Device, DeviceFault};
@@ -81,11 +82,11 @@ impl<D: Device> Device for FuseDisk<D> {
 
     ghost moment = { λ d. D.moment d.inner };
 
-    ghost left_since = { λ d. D.left_since d.inner };
+    ghost possible_since = { λ d. D.possible_since d.inner };
 
-    ghost leaves_images = { λ d c h left. D.leaves_images d.inner c h left };
+    ghost crash_states_are_images = { λ d c h left. D.crash_states_are_images d.inner c h left };
 
-    ghost each_may_be_left = { λ d c h image. D.each_may_be_left d.inner c h image };
+    ghost each_image_is_a_crash_state = { λ d c h image. D.each_image_is_a_crash_state d.inner c h image };
 
     ghost view_is_image = { λ d h. D.view_is_image d.inner h };
 
@@ -99,13 +100,8 @@ impl<D: Device> Device for FuseDisk<D> {
         requires { n < (fuse_state D.state self.old).size }
         ensures read { IsTrue (fuse_state D.state self.old).honest → OnOk result (slice_get (fuse_state D.state self.old).disk.view n ≡ Some buffer.new) }
         ensures untouched { IfErr result (λ e. buffer.new ≡ buffer.old) }
-        ensures disk { IsTrue (fuse_state D.state self.old).honest → (fuse_state D.state self.new).disk ≡ (fuse_state D.state self.old).disk }
-        ensures size { (fuse_state D.state self.new).size ≡ (fuse_state D.state self.old).size }
-        ensures honest { (fuse_state D.state self.new).honest ≡ (fuse_state D.state self.old).honest }
-        ensures reads { Counts result (fuse_state D.state self.old).failed_reads (fuse_state D.state self.new).failed_reads }
-        ensures writes { (fuse_state D.state self.new).failed_writes ≡ (fuse_state D.state self.old).failed_writes }
-        ensures fault { IfErr result (λ e. e ≡ Failing) }
-        ensures time { IsTrue (fuse_state D.state self.old).honest → Elapses (D.moment (inside self.old)) (D.moment (inside self.new)) (D.left_since (inside self.old)) (D.left_since (inside self.new)) }
+        ensures outcome { ReadOutcome result (fuse_state D.state self.old) (fuse_state D.state self.new) }
+        ensures time { IsTrue (fuse_state D.state self.old).honest → Elapses (D.moment (inside self.old)) (D.moment (inside self.new)) (D.possible_since (inside self.old)) (D.possible_since (inside self.new)) }
         ensures burns { calls_left self.new ≡ calls_left self.old - 1 }
         ensures blown { calls_left self.old ≡ 0 → IsErr result × (inside self.new ≡ inside self.old) }
         ensures refuses { calls_left self.old ≡ 0 → refused_reads self.new ≡ counted (refused_reads self.old) }
@@ -123,12 +119,8 @@ impl<D: Device> Device for FuseDisk<D> {
         requires { n < (fuse_state D.state self.old).size }
         ensures written { IsTrue (fuse_state D.state self.old).honest → OnOk result ((fuse_state D.state self.new).disk ≡ written n bytes.now (fuse_state D.state self.old).disk) }
         ensures failed { IsTrue (fuse_state D.state self.old).honest → OnErr result (WriteFailed n bytes.now (fuse_state D.state self.old).disk (fuse_state D.state self.new).disk) }
-        ensures size { (fuse_state D.state self.new).size ≡ (fuse_state D.state self.old).size }
-        ensures honest { (fuse_state D.state self.new).honest ≡ (fuse_state D.state self.old).honest }
-        ensures reads { (fuse_state D.state self.new).failed_reads ≡ (fuse_state D.state self.old).failed_reads }
-        ensures writes { Counts result (fuse_state D.state self.old).failed_writes (fuse_state D.state self.new).failed_writes }
-        ensures fault { IfErr result (λ e. e ≡ Failing) }
-        ensures time { IsTrue (fuse_state D.state self.old).honest → Elapses (D.moment (inside self.old)) (D.moment (inside self.new)) (D.left_since (inside self.old)) (D.left_since (inside self.new)) }
+        ensures outcome { WriteOutcome result (fuse_state D.state self.old) (fuse_state D.state self.new) }
+        ensures time { IsTrue (fuse_state D.state self.old).honest → Elapses (D.moment (inside self.old)) (D.moment (inside self.new)) (D.possible_since (inside self.old)) (D.possible_since (inside self.new)) }
         ensures burns { calls_left self.new ≡ calls_left self.old - 1 }
         ensures blown { calls_left self.old ≡ 0 → IsErr result × (inside self.new ≡ inside self.old) }
         ensures refuses { calls_left self.old ≡ 0 → refused_writes self.new ≡ counted (refused_writes self.old) }
@@ -145,12 +137,8 @@ impl<D: Device> Device for FuseDisk<D> {
     fn sync(&mut self) -> Result<(), DeviceFault>
         ensures synced { IsTrue (fuse_state D.state self.old).honest → OnOk result ((fuse_state D.state self.new).disk ≡ synced (fuse_state D.state self.old).disk) }
         ensures failed { IsTrue (fuse_state D.state self.old).honest → OnErr result (SyncFailed (fuse_state D.state self.old).disk (fuse_state D.state self.new).disk) }
-        ensures size { (fuse_state D.state self.new).size ≡ (fuse_state D.state self.old).size }
-        ensures honest { (fuse_state D.state self.new).honest ≡ (fuse_state D.state self.old).honest }
-        ensures reads { (fuse_state D.state self.new).failed_reads ≡ (fuse_state D.state self.old).failed_reads }
-        ensures writes { Counts result (fuse_state D.state self.old).failed_writes (fuse_state D.state self.new).failed_writes }
-        ensures fault { IfErr result (λ e. e ≡ Failing) }
-        ensures time { IsTrue (fuse_state D.state self.old).honest → Elapses (D.moment (inside self.old)) (D.moment (inside self.new)) (D.left_since (inside self.old)) (D.left_since (inside self.new)) }
+        ensures outcome { WriteOutcome result (fuse_state D.state self.old) (fuse_state D.state self.new) }
+        ensures time { IsTrue (fuse_state D.state self.old).honest → Elapses (D.moment (inside self.old)) (D.moment (inside self.new)) (D.possible_since (inside self.old)) (D.possible_since (inside self.new)) }
         ensures burns { calls_left self.new ≡ calls_left self.old - 1 }
         ensures blown { calls_left self.old ≡ 0 → IsErr result × (inside self.new ≡ inside self.old) }
         ensures refuses { calls_left self.old ≡ 0 → refused_writes self.new ≡ counted (refused_writes self.old) }

@@ -2,15 +2,16 @@
 ghost use Rattle.std.specs.Prelude.{◌≡◌, ◌<◌, ℕ, List, Some, IfOk, IfErr, IsTrue, slice_get};
 ghost use Rattle.sector_device.specs.Disk.{Sectors, Disk, IsImage};
 ghost use Rattle.sector_device.specs.Device.{CountsFirst};
+ghost use Rattle.sector_device.specs.Effects.{IsSameDevice};
 ghost use Rattle.sector_device.specs.declared.device.DeviceFault.TheVariants.{Device as Failing};
 ghost use Rattle.sector_device.specs.AfterStop.{after_stop};
-ghost use Rattle.sector_device.specs.Examples.{Examples};
+ghost use Rattle.sector_device.specs.CrashExamples.{CrashExamples};
 
 use crate::{Device, DeviceFault};
 
-/// Worked examples of what a stop leaves.
+/// Worked examples of what a crash leaves.
 pub fn worked_examples()
-    ensures { Examples }
+    ensures { CrashExamples }
 {}
 
 /// Whatever places are picked, what is left is an image.
@@ -26,12 +27,11 @@ pub fn each_image_is_picked()
 /// Writes a sector, makes sure of it, and reads it again, up to the first call that fails.
 pub fn store<D: Device>(device: &mut D, n: u64, bytes: &[u8; 512]) -> Result<[u8; 512], DeviceFault>
     requires { n < (D.state device.old).size }
-    ensures size { (D.state device.new).size ≡ (D.state device.old).size }
-    ensures honest { (D.state device.new).honest ≡ (D.state device.old).honest }
+    ensures same { IsSameDevice (D.state device.old) (D.state device.new) }
     ensures read { IsTrue (D.state device.old).honest → IfOk result (λ read. read ≡ bytes.now) }
     ensures counts { CountsFirst result (D.state device.old) (D.state device.new) }
     ensures fault { IfErr result (λ e. e ≡ Failing) }
-    ensures stays { IsTrue (D.state device.old).honest → IfOk result (λ _. (image : Sectors) → D.left_since device.new (D.moment device.new) image → slice_get image n ≡ Some bytes.now) }
+    ensures stays { IsTrue (D.state device.old).honest → IfOk result (λ _. (image : Sectors) → D.possible_since device.new (D.moment device.new) image → slice_get image n ≡ Some bytes.now) }
 {
     device.write(n, bytes)?;
     device.sync()?;

@@ -1,4 +1,4 @@
-//! A disk of sectors: what its calls mean, what a stop may leave of it, and disks for tests.
+//! A disk of sectors: what its calls mean, what a crash may leave of it, and disks for tests.
 #![tactic(auto)]
 
 mod call;

@@ -1,8 +1,8 @@
-// A disk in memory. It keeps all its writes and syncs, so a stop may leave all that is allowed.
+// A disk in memory. It keeps all its writes and syncs, so a crash may leave all that is allowed.
 ghost use Rattle.std.specs.Prelude.{◌≡◌, ◌≤◌, ◌+◌, ℕ, length, true, IfOk, [], slice_set};
 ghost use Rattle.sector_device.specs.Disk.{IsImage};
 ghost use Rattle.sector_device.specs.AfterStop.{done, done_where, after_stop};
-ghost use Rattle.sector_device.specs.Calls.{fresh, replay, disk_of, writes_of, unused, zeros, LeftSince};
+ghost use Rattle.sector_device.specs.Calls.{fresh, replay, disk_of, writes_of, unused, zeros, PossibleSince};
 ghost use Rattle.sector_device.specs.Images.{good, only_images, all_images};
 
 use crate::call::Call;
@@ -24,13 +24,13 @@ pub struct MemDisk {
 
 impl Model for MemDisk {
     ghost use Rattle.sector_device.specs.Calls.{History};
-    ghost use Rattle.sector_device.specs.MemDisk.{IsKept};
+    ghost use Rattle.sector_device.specs.MemDisk.{IsReadBack};
 
     ghost Value = { History };
 
     ghost view = { λ m. record { first = m.first.items; calls = m.calls.items; failed_writes = m.failed_writes } };
 
-    ghost invariant = { λ m. IsKept m.first.items m.calls.items m.synced m.view.items };
+    ghost invariant = { λ m. IsReadBack m.first.items m.calls.items m.synced m.view.items };
 }
 
 fn copied(alloc: Global, sectors: &[[u8; 512]]) -> Result<Vec<[u8; 512]>, AllocError>
@@ -99,7 +99,7 @@ impl MemDisk {
         MemDisk::of(alloc, zeros(alloc, sectors)?)
     }
 
-    /// A disk of these sectors, as a stop may have left them, of which nothing was asked yet.
+    /// A disk of these sectors, as a crash may have left them, of which nothing was asked yet.
     pub fn of(alloc: Global, sectors: Vec<[u8; 512]>) -> Result<MemDisk, AllocError>
         ensures { IfOk result (λ disk. disk ≡ unused sectors.items) }
     {
@@ -138,11 +138,11 @@ impl MemDisk {
     }
 
     /// The sectors at the last sync with those writes since then done, in the order in which they were made, whose places are picked. Places
-    /// count from 0 after that sync, and one outside is passed over. Each of these is an image, which a stop now may leave.
+    /// count from 0 after that sync, and one outside is passed over. Each of these is an image, which a crash now may leave.
     pub fn after_stop(&self, alloc: Global, picks: &[usize]) -> Result<Vec<[u8; 512]>, AllocError>
         ensures sectors { IfOk result (λ left. left.items ≡ after_stop picks.now (disk_of self.now)) }
         ensures image { IfOk result (λ left. IsImage (⟦<MemDisk as Device>⟧.state self.now).disk left.items) }
-        ensures left { IfOk result (λ left. ⟦<MemDisk as Device>⟧.left_since self.now (⟦<MemDisk as Device>⟧.moment self.now) left.items) }
+        ensures left { IfOk result (λ left. ⟦<MemDisk as Device>⟧.possible_since self.now (⟦<MemDisk as Device>⟧.moment self.now) left.items) }
     {
         self.picked(alloc, picks)
     }
@@ -153,11 +153,11 @@ impl Device for MemDisk {
 
     ghost moment = { λ m. length m.calls };
 
-    ghost left_since = { λ m. LeftSince m.first m.calls };
+    ghost possible_since = { λ m. PossibleSince m.first m.calls };
 
-    ghost leaves_images = { λ m c h left. only_images m.first m.calls c left };
+    ghost crash_states_are_images = { λ m c h left. only_images m.first m.calls c left };
 
-    ghost each_may_be_left = { λ m c h image. all_images m.first m.calls c image };
+    ghost each_image_is_a_crash_state = { λ m c h image. all_images m.first m.calls c image };
 
     ghost view_is_image = { λ m h. (good m.first m.calls).view };
 

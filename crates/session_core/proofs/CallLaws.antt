@@ -1,28 +1,29 @@
--- Runs of calls: they join and part, and what a stop leaves of them.
+-- Runs of calls: they join and part, and what a crash leaves of them.
 use Rattle.std.proofs.Common.{◌≡◌, ℕ, ◌≤◌, List, [], ◌∷◌, ◌++◌, length, refl, sym, ap, ◌∙◌, subst, arith, length-append}
+use Rattle.std.proofs.lemmas.Bool.{not-false}
 use Rattle.std.proofs.lemmas.List.{append-nil, append_assoc}
 use Rattle.std.specs.Prelude.{IsTrue, true}
 use Rattle.host_types.specs.Site.{Site}
-use Rattle.host_types.specs.Keeping.{Keeping}
-use Rattle.host_types.specs.Stops.{Stops, may_leave}
+use Rattle.host_types.specs.SiteState.{SiteState}
+use Rattle.host_types.specs.CrashStates.{CrashStates, may_crash_to}
 use Rattle.host_types.specs.declared.change.Change.{Change}
 use Rattle.host_types.specs.declared.site_fault.SiteFault.{SiteFault}
 use Rattle.session_core.specs.World.{World}
 use Rattle.session_core.specs.Run.{Run}
-use Rattle.session_core.specs.Stopped.{StandsFrom, IsStopped}
+use Rattle.session_core.specs.RunCrashStates.{RepresentsFrom, HasCrashStates}
 use Rattle.session_core.specs.Calls.{Call, Calls, HubCalls, HubRun}
 use Rattle.session_core.specs.Hub.{keeper_of, world_of}
 use Rattle.session_core.specs.declared.hub.Hub.{Hub}
 use Rattle.session_core.specs.declared.event.Event.{Event}
 use Rattle.session_core.specs.declared.event.Outcome.{Outcome}
-use Rattle.session_core.proofs.MoreEvents.{starts, goes_on_with, unnot}
+use Rattle.session_core.proofs.MoreEvents.{starts, goes_on_with}
 
-module _ {S L : Type 0} (keeping : S → Keeping) (lacks : S → Change → ℕ → SiteFault → Type 0) (stops : S → Stops L) (stands : L → Site → Type 0) where
+module _ {S L : Type 0} (site_state : S → SiteState) (lacks : S → Change → ℕ → SiteFault → Type 0) (crash_states : S → CrashStates L) (stands : L → Site → Type 0) where
   abbrev One : World → S → Event → Outcome → World → S → Type 0
-  One w k e o v l = Call keeping lacks stops stands w k e o v l
+  One w k e o v l = Call site_state lacks crash_states stands w k e o v l
 
   abbrev All : World → S → List Event → List Outcome → World → S → Type 0
-  All w k es os v l = Calls keeping lacks stops stands w k es os v l
+  All w k es os v l = Calls site_state lacks crash_states stands w k es os v l
 
   -- two runs, one after the other, are a run
   pub calls_join : (w m v : World) (k j l : S) (es fs : List Event) (os ps : List Outcome) → All w k es os m j → All m j fs ps v l → All w k (es ++ fs) (os ++ ps) v l
@@ -51,65 +52,65 @@ module _ {S L : Type 0} (keeping : S → Keeping) (lacks : S → Change → ℕ 
   calls_each w v k l [] (o ∷ os) run = absurd run
   calls_each w v k l (e ∷ es) [] run = absurd run
 
-  pub calls_honest : (w v : World) (k l : S) (es : List Event) (os : List Outcome) → All w k es os v l → (keeping l).honest ≡ (keeping k).honest
-  calls_honest w v k l [] [] run = ap (λ x. (keeping x).honest) run.1
+  pub calls_honest : (w v : World) (k l : S) (es : List Event) (os : List Outcome) → All w k es os v l → (site_state l).honest ≡ (site_state k).honest
+  calls_honest w v k l [] [] run = ap (λ x. (site_state x).honest) run.1
   calls_honest w v k l (e ∷ es) (o ∷ os) run = calls_honest run.0 v run.1 l es os run.3 ∙ run.2.honest
   calls_honest w v k l [] (o ∷ os) run = absurd run
   calls_honest w v k l (e ∷ es) [] run = absurd run
 
   -- over an honest device they are a run of the world
-  pub calls_run : (w v : World) (k l : S) (es : List Event) (os : List Outcome) → IsTrue (keeping k).honest → All w k es os v l → Run w es os v
+  pub calls_run : (w v : World) (k l : S) (es : List Event) (os : List Outcome) → IsTrue (site_state k).honest → All w k es os v l → Run w es os v
   calls_run w v k l [] [] honest run = run.0
   calls_run w v k l (e ∷ es) (o ∷ os) honest run = (run.0, run.2.step honest, calls_run run.0 v run.1 l es os (subst IsTrue (sym run.2.honest) honest) run.3)
   calls_run w v k l [] (o ∷ os) honest run = absurd run
   calls_run w v k l (e ∷ es) [] honest run = absurd run
 
-  -- of a keeper where a stop between two calls leaves what stands for its site
-  module _ (settled : (k : S) (c : L) → IsTrue (keeping k).honest → (keeping k).usable ≡ true → may_leave (stops k) c → stands c (keeping k).site) where
+  -- of a keeper where a crash between two calls leaves what represents its site
+  module _ (crash_states_represent : (k : S) (c : L) → IsTrue (site_state k).honest → (site_state k).usable ≡ true → may_crash_to (crash_states k) c → stands c (site_state k).site) where
     -- further calls keep what is known of the moments so far
-    further : (w m v : World) (k j l : S) (es fs : List Event) (os ps : List Outcome) (n t : ℕ) (r : IsStopped stands w m (stops k) (stops j) es os) → n ≤ length es → r.at n ≡ t → IsTrue (keeping j).honest →
-        All m j fs ps v l → (f : IsStopped stands w v (stops k) (stops l) (es ++ fs) (os ++ ps)) × (f.at n ≡ t)
+    further : (w m v : World) (k j l : S) (es fs : List Event) (os ps : List Outcome) (n t : ℕ) (r : HasCrashStates stands w m (crash_states k) (crash_states j) es os) → n ≤ length es → r.at n ≡ t → IsTrue (site_state j).honest →
+        All m j fs ps v l → (f : HasCrashStates stands w v (crash_states k) (crash_states l) (es ++ fs) (os ++ ps)) × (f.at n ≡ t)
     further w m v k j l es [] os [] n t r within at honest run =
-        subst (λ (x : List Event). (f : IsStopped stands w v (stops k) (stops l) x (os ++ [])) × (f.at n ≡ t)) (sym (append-nil es))
-        (subst (λ (x : List Outcome). (f : IsStopped stands w v (stops k) (stops l) es x) × (f.at n ≡ t)) (sym (append-nil os))
-        (subst (λ (x : S). (f : IsStopped stands w v (stops k) (stops x) es os) × (f.at n ≡ t)) (sym run.1)
-        (subst (λ (x : World). (f : IsStopped stands w x (stops k) (stops j) es os) × (f.at n ≡ t)) (sym run.0) (r, at))))
+        subst (λ (x : List Event). (f : HasCrashStates stands w v (crash_states k) (crash_states l) x (os ++ [])) × (f.at n ≡ t)) (sym (append-nil es))
+        (subst (λ (x : List Outcome). (f : HasCrashStates stands w v (crash_states k) (crash_states l) es x) × (f.at n ≡ t)) (sym (append-nil os))
+        (subst (λ (x : S). (f : HasCrashStates stands w v (crash_states k) (crash_states x) es os) × (f.at n ≡ t)) (sym run.1)
+        (subst (λ (x : World). (f : HasCrashStates stands w x (crash_states k) (crash_states j) es os) × (f.at n ≡ t)) (sym run.0) (r, at))))
     further w m v k j l es (e ∷ fs) os (o ∷ ps) n t r within at honest run =
         let call = run.2 in
-        let still : IsTrue (keeping run.1).honest = subst IsTrue (sym call.honest) honest in
-        let more = goes_on_with stands w m run.0 (stops k) (stops j) (stops run.1) es os e o r (call.step honest) (call.leaves honest)
-        (λ up c left. subst (stands c) (sym call.site) (settled run.1 c still (unnot _ (sym call.flag ∙ up)) left)) in
-        subst (λ (x : List Event). (f : IsStopped stands w v (stops k) (stops l) x (os ++ o ∷ ps)) × (f.at n ≡ t)) (append_assoc es (e ∷ []) fs)
-        (subst (λ (x : List Outcome). (f : IsStopped stands w v (stops k) (stops l) (es ++ e ∷ [] ++ fs) x) × (f.at n ≡ t)) (append_assoc os (o ∷ []) ps)
-        (further w run.0 v k run.1 l (es ++ e ∷ []) fs (os ++ o ∷ []) ps n t more.0 (omega (arith, within, length-append es (e ∷ []))) (more.1 n within ∙ at) still run.3))
+        let unchanged : IsTrue (site_state run.1).honest = subst IsTrue (sym call.honest) honest in
+        let more = goes_on_with stands w m run.0 (crash_states k) (crash_states j) (crash_states run.1) es os e o r (call.step honest) (call.leaves honest)
+        (λ up c left. subst (stands c) (sym call.site) (crash_states_represent run.1 c unchanged (not-false _ (sym call.flag ∙ up)) left)) in
+        subst (λ (x : List Event). (f : HasCrashStates stands w v (crash_states k) (crash_states l) x (os ++ o ∷ ps)) × (f.at n ≡ t)) (append_assoc es (e ∷ []) fs)
+        (subst (λ (x : List Outcome). (f : HasCrashStates stands w v (crash_states k) (crash_states l) (es ++ e ∷ [] ++ fs) x) × (f.at n ≡ t)) (append_assoc os (o ∷ []) ps)
+        (further w run.0 v k run.1 l (es ++ e ∷ []) fs (os ++ o ∷ []) ps n t more.0 (omega (arith, within, length-append es (e ∷ []))) (more.1 n within ∙ at) unchanged run.3))
     further w m v k j l es [] os (o ∷ ps) n t r within at honest run = absurd run
     further w m v k j l es (e ∷ fs) os [] n t r within at honest run = absurd run
 
     -- a run, by its moments
-    pub calls_stopped : (w v : World) (k l : S) (es : List Event) (os : List Outcome) → IsTrue (keeping k).honest → (keeping k).usable ≡ true → w.site ≡ (keeping k).site → All w k es os v l → IsStopped stands w v (stops k) (stops l) es os
-    calls_stopped w v k l es os honest usable site run =
-        let start = starts stands w (stops k) (λ c left. subst (stands c) (sym site) (settled k c honest usable left)) in
-        (further w w v k k l [] es [] os 0 (stops k).moment start (omega arith) start.begins honest run).0
+    pub calls_have_crash_states : (w v : World) (k l : S) (es : List Event) (os : List Outcome) → IsTrue (site_state k).honest → (site_state k).usable ≡ true → w.site ≡ (site_state k).site → All w k es os v l → HasCrashStates stands w v (crash_states k) (crash_states l) es os
+    calls_have_crash_states w v k l es os honest usable site run =
+        let start = starts stands w (crash_states k) (λ c left. subst (stands c) (sym site) (crash_states_represent k c honest usable left)) in
+        (further w w v k k l [] es [] os 0 (crash_states k).moment start (omega arith) start.begins honest run).0
 
-    -- What is left since the moment at which some events were answered stands for the site after at least these events, or for the one with the change that nobody was told of.
-    pub calls_since : (w m v : World) (k j l : S) (es fs : List Event) (os ps : List Outcome) (c : L) → IsTrue (keeping k).honest → (keeping k).usable ≡ true → w.site ≡ (keeping k).site → All w k es os m j → All m j fs ps v l →
-        (stops l).left_since (stops j).moment c → StandsFrom stands w (es ++ fs) (os ++ ps) (length es) c
+    -- What is left since the moment at which some events were answered represents the site after at least these events, or the one with the change in flight, unacknowledged.
+    pub calls_since : (w m v : World) (k j l : S) (es fs : List Event) (os ps : List Outcome) (c : L) → IsTrue (site_state k).honest → (site_state k).usable ≡ true → w.site ≡ (site_state k).site → All w k es os m j → All m j fs ps v l →
+        (crash_states l).possible_since (crash_states j).moment c → RepresentsFrom stands w (es ++ fs) (os ++ ps) (length es) c
     calls_since w m v k j l es fs os ps c honest usable site first second left =
-        let r = calls_stopped w m k j es os honest usable site first in
-        let all = further w m v k j l es fs os ps (length es) (stops j).moment r (omega arith) r.is_now (subst IsTrue (sym (calls_honest w m k j es os first)) honest) second in
-        all.0.each (length es) c (omega (arith, length-append es fs)) (subst (λ t. (stops l).left_since t c) (sym all.1) left)
+        let r = calls_have_crash_states w m k j es os honest usable site first in
+        let all = further w m v k j l es fs os ps (length es) (crash_states j).moment r (omega arith) r.is_now (subst IsTrue (sym (calls_honest w m k j es os first)) honest) second in
+        all.0.each (length es) c (omega (arith, length-append es fs)) (subst (λ t. (crash_states l).possible_since t c) (sym all.1) left)
 
     -- ---- of hubs
 
-    pub hub_run : {bound : _} (old new : Hub S bound) (es : List Event) (os : List Outcome) → HubCalls keeping lacks stops stands old es os new → HubRun keeping lacks stops stands old es os new
+    pub hub_run : {bound : _} (old new : Hub S bound) (es : List Event) (os : List Outcome) → HubCalls site_state lacks crash_states stands old es os new → HubRun site_state lacks crash_states stands old es os new
     hub_run old new es os calls = record {
       calls = calls;
-      stop = λ honest usable. calls_stopped (world_of keeping old) (world_of keeping new) (keeper_of old) (keeper_of new) es os honest usable refl calls;
+      at_crash = λ honest usable. calls_have_crash_states (world_of site_state old) (world_of site_state new) (keeper_of old) (keeper_of new) es os honest usable refl calls;
     }
 
-    pub hub_rests : {bound : _} (hub : Hub S bound) → HubRun keeping lacks stops stands hub [] [] hub
+    pub hub_rests : {bound : _} (hub : Hub S bound) → HubRun site_state lacks crash_states stands hub [] [] hub
     hub_rests hub = hub_run hub hub [] [] (refl, refl)
 
-    pub hub_goes_on : {bound : _} (old mid new : Hub S bound) (es fs : List Event) (os ps : List Outcome) → HubRun keeping lacks stops stands old es os mid → HubRun keeping lacks stops stands mid fs ps new → HubRun keeping lacks stops stands old (es ++ fs) (os ++ ps) new
+    pub hub_goes_on : {bound : _} (old mid new : Hub S bound) (es fs : List Event) (os ps : List Outcome) → HubRun site_state lacks crash_states stands old es os mid → HubRun site_state lacks crash_states stands mid fs ps new → HubRun site_state lacks crash_states stands old (es ++ fs) (os ++ ps) new
     hub_goes_on old mid new es fs os ps first second =
-        hub_run old new (es ++ fs) (os ++ ps) (calls_join (world_of keeping old) (world_of keeping mid) (world_of keeping new) (keeper_of old) (keeper_of mid) (keeper_of new) es fs os ps first.calls second.calls)
+        hub_run old new (es ++ fs) (os ++ ps) (calls_join (world_of site_state old) (world_of site_state mid) (world_of site_state new) (keeper_of old) (keeper_of mid) (keeper_of new) es fs os ps first.calls second.calls)

@@ -4,10 +4,10 @@ use Rattle.std.specs.Prelude.{Option, Some, None, Result, Ok, Err, IfErr}
 use Rattle.std.proofs.lemmas.Bool.{cases_Bool}
 use Rattle.host_types.specs.Site.{Site}
 use Rattle.host_types.specs.Change.{apply}
-use Rattle.host_types.specs.declared.refused.Refused.{Refused}
+use Rattle.common_types.specs.declared.refused.Refused.{Refused}
 use Rattle.request_reader.specs.Verdict.{Verdict, Open, Early as EndedEarly, Whole, Bad, verdict}
 use Rattle.session_core.specs.World.{World, Phase, Heard, Reply, Early, phase_in, phase_of, moved_in}
-use Rattle.session_core.specs.Step.{Said, Next, understood, listens, ends, draws, at_session, at_hearing, joined, left, changed, answer, failed_answer}
+use Rattle.session_core.specs.Step.{StepResult, Next, understood, listens, ends, draws, at_session, at_hearing, joined, left, changed, answer, failed_answer}
 use Rattle.session_core.specs.Run.{Step, StepBy, IsAnswer, IsFaulty}
 use Rattle.session_core.specs.Causes.{IsAsBefore}
 use Rattle.session_core.specs.declared.event.Event.{Event}
@@ -68,11 +68,11 @@ draws_keeps room Early fault is = refl
 draws_keeps room (Reply []) fault is = refl
 draws_keeps room (Reply (b ∷ rest)) fault is = absurd (cc is)
 
-at_keeps : (w : World) (id : ℕ) (f : Phase → Said) (o : Option Phase) → phase_of w id ≡ o → ((p : Phase) (fault : HubFault) → Fault fault ≡ (f p).outcome → (f p).phase ≡ p) → KeepsOnFault w (at_session w id f o)
+at_keeps : (w : World) (id : ℕ) (f : Phase → StepResult) (o : Option Phase) → phase_of w id ≡ o → ((p : Phase) (fault : HubFault) → Fault fault ≡ (f p).outcome → (f p).phase ≡ p) → KeepsOnFault w (at_session w id f o)
 at_keeps w id f None at keeps fault is = refl
 at_keeps w id f (Some p) at keeps fault is = ap (λ (ss : List (ℕ × Phase)). let v : World = record w { sessions = ss } in v) (ap (moved_in w.sessions id) (keeps p fault is) ∙ stays_in w.sessions id p at)
 
-hearing_keeps : (w : World) (id now : ℕ) (f : Phase → Said) (o : Option Phase) → ((p : Phase) (fault : HubFault) → Fault fault ≡ (f p).outcome → ⊥) → KeepsOnFault w (at_hearing w id now f o)
+hearing_keeps : (w : World) (id now : ℕ) (f : Phase → StepResult) (o : Option Phase) → ((p : Phase) (fault : HubFault) → Fault fault ≡ (f p).outcome → ⊥) → KeepsOnFault w (at_hearing w id now f o)
 hearing_keeps w id now f None none fault is = refl
 hearing_keeps w id now f (Some p) none fault is = absurd (none p fault is)
 

@@ -1,17 +1,17 @@
--- What a stop leaves of a run that goes on by one event.
-use Rattle.std.proofs.Common.{◌≡◌, ◌⊎◌, inl, inr, ⊎_elim, ℕ, ◌≤◌, ◌<◌, List, [], ◌∷◌, ◌++◌, length, take, refl, sym, ◌∙◌, ap, subst, arith, length-append, Option, Some, None, Bool, true, false, not, if◌then◌else◌}
+-- What a crash leaves of a run that goes on by one event.
+use Rattle.std.proofs.Common.{◌≡◌, ◌⊎◌, inl, inr, ⊎_elim, ℕ, ◌≤◌, ◌<◌, List, [], ◌∷◌, ◌++◌, length, take, refl, sym, ◌∙◌, ap, subst, arith, length-append, Option, Some, None, Bool, true, false, if◌then◌else◌}
 use Rattle.std.proofs.lemmas.List.{take-append-le, take_all}
 use Rattle.std.proofs.lemmas.Bool.{cases_lt, cases_Bool}
 use Rattle.host_types.specs.Site.{Site}
-use Rattle.host_types.specs.Stops.{Stops, LeavesOnly, may_leave}
+use Rattle.host_types.specs.CrashStates.{CrashStates, AddsOnly, may_crash_to}
 use Rattle.session_core.specs.World.{World}
 use Rattle.session_core.specs.Run.{Step, site_after}
-use Rattle.session_core.specs.Stopped.{after, after_all, unsure, first_of_two, unacknowledged, StandsBy, StandsFrom, IsStopped}
+use Rattle.session_core.specs.RunCrashStates.{after, after_all, unsure, first_of_two, unacknowledged, RepresentsBy, RepresentsFrom, HasCrashStates}
 use Rattle.session_core.specs.declared.event.Event.{Event}
 use Rattle.session_core.specs.declared.event.Outcome.{Outcome}
 use Rattle.session_core.specs.declared.event.Outcome.TheVariants as outcomes
 use Rattle.session_core.specs.declared.fault.HubFault.TheVariants as hub
-use Rattle.session_core.proofs.After.{step_after, failed_site, stays_failed}
+use Rattle.session_core.proofs.StepOutcomes.{step_after, failed_site, stays_failed}
 
 after-push : (w : World) (es : List Event) (os : List Outcome) (e : Event) (o : Outcome) → length os ≡ length es → after_all w (es ++ e ∷ []) (os ++ o ∷ []) ≡ after (after_all w es os) e o
 after-push w [] [] e o n = refl
@@ -67,20 +67,20 @@ choose_gt n k a b (inl _) lt = refl
 choose_gt n k a b (inr le) lt = absurd (omega arith)
 
 module _ {L : Type 0} (stands : L → Site → Type 0) (w0 : World) where
-  pub starts : (first : Stops L) → ((c : L) → may_leave first c → stands c w0.site) → IsStopped stands w0 w0 first first [] []
-  starts first settled = record {
+  pub starts : (first : CrashStates L) → ((c : L) → may_crash_to first c → stands c w0.site) → HasCrashStates stands w0 w0 first first [] []
+  starts first crash_states_represent = record {
     world = refl;
     count = refl;
     at = λ k. first.moment;
     begins = refl;
     is_now = refl;
     rises = λ j k le within. omega arith;
-    each = λ k c le left. inl (0, le, omega arith, settled c left);
+    each = λ k c le left. inl (0, le, omega arith, crash_states_represent c left);
     keeps = λ t c le left. left;
     since = λ t c le left. inl left;
   }
 
-  lift : (es : List Event) (os : List Outcome) (e : Event) (o : Outcome) (k m : ℕ) (c : L) → length os ≡ length es → k ≤ m → StandsFrom stands w0 es os m c → StandsFrom stands w0 (es ++ e ∷ []) (os ++ o ∷ []) k c
+  lift : (es : List Event) (os : List Outcome) (e : Event) (o : Outcome) (k m : ℕ) (c : L) → length os ≡ length es → k ≤ m → RepresentsFrom stands w0 es os m c → RepresentsFrom stands w0 (es ++ e ∷ []) (os ++ o ∷ []) k c
   lift es os e o k m c n le (inl h) =
       inl (
         h.0,
@@ -92,12 +92,12 @@ module _ {L : Type 0} (stands : L → Site → Type 0) (w0 : World) where
   lift es os e o k m c n le (inr h) = inr (h.0, unacknowledged-kept w0 es os e o h.0 n h.1, h.2)
 
   -- a run of one event more, with the same moments so far
-  pub goes_on_with : (w w' : World) (first mid last : Stops L) (es : List Event) (os : List Outcome) (e : Event) (o : Outcome)
-      → (r : IsStopped stands w0 w first mid es os) → Step w e o w'
-      → LeavesOnly mid last (λ c. may_leave mid c ⊎ StandsBy stands w e o w' c)
-      → (w'.failed ≡ false → (c : L) → may_leave last c → stands c w'.site)
-      → (further : IsStopped stands w0 w' first last (es ++ e ∷ []) (os ++ o ∷ [])) × ((k : ℕ) → k ≤ length es → further.at k ≡ r.at k)
-  goes_on_with w w' first mid last es os e o r step lv settled = (further, at_le)
+  pub goes_on_with : (w w' : World) (first mid last : CrashStates L) (es : List Event) (os : List Outcome) (e : Event) (o : Outcome)
+      → (r : HasCrashStates stands w0 w first mid es os) → Step w e o w'
+      → AddsOnly mid last (λ c. may_crash_to mid c ⊎ RepresentsBy stands w e o w' c)
+      → (w'.failed ≡ false → (c : L) → may_crash_to last c → stands c w'.site)
+      → (further : HasCrashStates stands w0 w' first last (es ++ e ∷ []) (os ++ o ∷ [])) × ((k : ℕ) → k ≤ length es → further.at k ≡ r.at k)
+  goes_on_with w w' first mid last es os e o r step lv crash_states_represent = (further, at_le)
     where
       n : ℕ
       n = length es
@@ -120,8 +120,8 @@ module _ {L : Type 0} (stands : L → Site → Type 0) (w0 : World) where
       world_is : w' ≡ after_all w0 (es ++ e ∷ []) (os ++ o ∷ [])
       world_is = step_after w w' e o step ∙ ap (λ (x : World). after x e o) r.world ∙ sym (after-push w0 es os e o r.count)
 
-      -- what stands for the site after all stands for the last
-      at_end : (k : ℕ) (c : L) → k ≤ length (es ++ e ∷ []) → stands c w'.site → StandsFrom stands w0 (es ++ e ∷ []) (os ++ o ∷ []) k c
+      -- what represents the site after all represents the last
+      at_end : (k : ℕ) (c : L) → k ≤ length (es ++ e ∷ []) → stands c w'.site → RepresentsFrom stands w0 (es ++ e ∷ []) (os ++ o ∷ []) k c
       at_end k c le here =
           inl (
             length (es ++ e ∷ []),
@@ -132,8 +132,8 @@ module _ {L : Type 0} (stands : L → Site → Type 0) (w0 : World) where
                 (subst (λ (x : World). stands c x.site) world_is here)),
           )
 
-      -- and what stands for the one before it
-      at_mid : (k : ℕ) (c : L) → k ≤ n → stands c w.site → StandsFrom stands w0 (es ++ e ∷ []) (os ++ o ∷ []) k c
+      -- and what represents the one before it
+      at_mid : (k : ℕ) (c : L) → k ≤ n → stands c w.site → RepresentsFrom stands w0 (es ++ e ∷ []) (os ++ o ∷ []) k c
       at_mid k c le here =
           lift es os e o k n c r.count le
           (inl (
@@ -145,13 +145,13 @@ module _ {L : Type 0} (stands : L → Site → Type 0) (w0 : World) where
                 (subst (λ (x : World). stands c x.site) r.world here)),
           ))
 
-      from_unsure : (k : ℕ) (c : L) → ((s : Site) × (unsure w e o ≡ Some s) × stands c s) → StandsFrom stands w0 (es ++ e ∷ []) (os ++ o ∷ []) k c
+      from_unsure : (k : ℕ) (c : L) → ((s : Site) × (unsure w e o ≡ Some s) × stands c s) → RepresentsFrom stands w0 (es ++ e ∷ []) (os ++ o ∷ []) k c
       from_unsure k c h = inr (h.0, unacknowledged-new w0 es os e o h.0 r.count (ap (λ (x : World). unsure x e o) (sym r.world) ∙ h.1), h.2)
 
-      mid_each : (c : L) → may_leave mid c → StandsFrom stands w0 es os n c
-      mid_each c left = r.each n c (omega arith) (subst (λ (t : ℕ). mid.left_since t c) (sym r.is_now) left)
+      mid_each : (c : L) → may_crash_to mid c → RepresentsFrom stands w0 es os n c
+      mid_each c left = r.each n c (omega arith) (subst (λ (t : ℕ). mid.possible_since t c) (sym r.is_now) left)
 
-      from_p : (k : ℕ) (c : L) → k ≤ n → (may_leave mid c ⊎ StandsBy stands w e o w' c) → StandsFrom stands w0 (es ++ e ∷ []) (os ++ o ∷ []) k c
+      from_p : (k : ℕ) (c : L) → k ≤ n → (may_crash_to mid c ⊎ RepresentsBy stands w e o w' c) → RepresentsFrom stands w0 (es ++ e ∷ []) (os ++ o ∷ []) k c
       from_p k c le (inl left) = lift es os e o k n c r.count le (mid_each c left)
       from_p k c le (inr (inl old)) = at_mid k c le old
       from_p k c le (inr (inr (inl new))) = at_end k c (omega (arith, length-append es (e ∷ []))) new
@@ -161,8 +161,8 @@ module _ {L : Type 0} (stands : L → Site → Type 0) (w0 : World) where
       same_site : w'.failed ≡ true → w'.site ≡ w.site
       same_site failed = failed_site w w' e o step failed
 
-      -- what stood for the last site stands for it still, where the hub has failed
-      kept : (k : ℕ) (c : L) → k ≤ length (es ++ e ∷ []) → w'.failed ≡ true → StandsFrom stands w0 es os n c → StandsFrom stands w0 (es ++ e ∷ []) (os ++ o ∷ []) k c
+      -- what represented the last site represents it now too, where the hub has failed
+      kept : (k : ℕ) (c : L) → k ≤ length (es ++ e ∷ []) → w'.failed ≡ true → RepresentsFrom stands w0 es os n c → RepresentsFrom stands w0 (es ++ e ∷ []) (os ++ o ∷ []) k c
       kept k c le f (inl h) =
           let j_is : h.0 ≡ n = omega (arith, h.1, h.2) in
           let here : stands c w.site = subst (λ (x : World). stands c x.site) (sym r.world)
@@ -171,25 +171,25 @@ module _ {L : Type 0} (stands : L → Site → Type 0) (w0 : World) where
           at_end k c le (subst (stands c) (sym (same_site f)) here)
       kept k c le f (inr h) = inr (h.0, unacknowledged-kept w0 es os e o h.0 r.count h.1, h.2)
 
-      failed_one : (k : ℕ) (c : L) → k ≤ length (es ++ e ∷ []) → w'.failed ≡ true → (may_leave mid c ⊎ StandsBy stands w e o w' c) → StandsFrom stands w0 (es ++ e ∷ []) (os ++ o ∷ []) k c
+      failed_one : (k : ℕ) (c : L) → k ≤ length (es ++ e ∷ []) → w'.failed ≡ true → (may_crash_to mid c ⊎ RepresentsBy stands w e o w' c) → RepresentsFrom stands w0 (es ++ e ∷ []) (os ++ o ∷ []) k c
       failed_one k c le f (inl was) = kept k c le f (mid_each c was)
       failed_one k c le f (inr (inl old)) = at_end k c le (subst (stands c) (sym (same_site f)) old)
       failed_one k c le f (inr (inr (inl new))) = at_end k c le new
       failed_one k c le f (inr (inr (inr h))) = from_unsure k c h
 
-      last_one : (k : ℕ) (c : L) → k ≤ length (es ++ e ∷ []) → may_leave last c → StandsFrom stands w0 (es ++ e ∷ []) (os ++ o ∷ []) k c
-      last_one k c le left = ⊎_elim (λ f. failed_one k c le f (lv.now c left)) (λ up. at_end k c le (settled up c left)) (cases_Bool w'.failed)
+      last_one : (k : ℕ) (c : L) → k ≤ length (es ++ e ∷ []) → may_crash_to last c → RepresentsFrom stands w0 (es ++ e ∷ []) (os ++ o ∷ []) k c
+      last_one k c le left = ⊎_elim (λ f. failed_one k c le f (lv.now c left)) (λ up. at_end k c le (crash_states_represent up c left)) (cases_Bool w'.failed)
 
       before : first.moment ≤ mid.moment
       before = omega (arith, r.rises 0 n (omega arith) (omega arith), r.begins, r.is_now)
 
       -- what was left before the run, seen from its end
-      since : (t : ℕ) (c : L) → t ≤ first.moment → last.left_since t c → first.left_since t c ⊎ StandsFrom stands w0 (es ++ e ∷ []) (os ++ o ∷ []) 0 c
+      since : (t : ℕ) (c : L) → t ≤ first.moment → last.possible_since t c → first.possible_since t c ⊎ RepresentsFrom stands w0 (es ++ e ∷ []) (os ++ o ∷ []) 0 c
       since t c le left =
           ⊎_elim (λ old. ⊎_elim (λ past. inl past) (λ from. inr (lift es os e o 0 0 c r.count (omega arith) from)) (r.since t c le old)) (λ p. inr (from_p 0 c (omega arith) p))
           (lv.nothing_else t c (omega (arith, le, before)) left)
 
-      further : IsStopped stands w0 w' first last (es ++ e ∷ []) (os ++ o ∷ [])
+      further : HasCrashStates stands w0 w' first last (es ++ e ∷ []) (os ++ o ∷ [])
       further = record {
         keeps = λ t c le left. lv.keeps t c (omega (arith, le, before)) (r.keeps t c le left);
         since = since;
@@ -201,10 +201,6 @@ module _ {L : Type 0} (stands : L → Site → Type 0) (w0 : World) where
         rises = λ j k le within.
             ⊎_elim (λ lt. ⊎_elim (λ lt2. omega (arith, at_gt k lt, at_gt j lt2)) (λ small. omega (arith, at_gt k lt, at_le j small, past j small, lv.later)) (cases_lt n j))
             (λ small. omega (arith, at_le k small, at_le j (omega (arith, le, small)), r.rises j k le small)) (cases_lt n k);
-        each = λ k c le left. ⊎_elim (λ lt. last_one k c le (subst (λ (t : ℕ). last.left_since t c) (at_gt k lt) left))
-            (λ small. ⊎_elim (λ old. lift es os e o k k c r.count (omega arith) (r.each k c small old)) (λ p. from_p k c small p) (lv.nothing_else (r.at k) c (past k small) (subst (λ (t : ℕ). last.left_since t c) (at_le k small) left))) (cases_lt n k);
+        each = λ k c le left. ⊎_elim (λ lt. last_one k c le (subst (λ (t : ℕ). last.possible_since t c) (at_gt k lt) left))
+            (λ small. ⊎_elim (λ old. lift es os e o k k c r.count (omega arith) (r.each k c small old)) (λ p. from_p k c small p) (lv.nothing_else (r.at k) c (past k small) (subst (λ (t : ℕ). last.possible_since t c) (at_le k small) left))) (cases_lt n k);
       }
-
-pub unnot : (b : Bool) → not b ≡ false → b ≡ true
-unnot true e = refl
-unnot false e = absurd (cc e)

@@ -5,14 +5,14 @@ use Rattle.std.specs.List.{position}
 use Rattle.std.proofs.lemmas.Bool.{cases_Bool, le-leb, lt-leb, ne_eqb, eq-eqb}
 use Rattle.std.proofs.lemmas.List.{length-map, map-append}
 use Rattle.host_types.specs.Site.{Site}
-use Rattle.host_types.specs.Keeping.{Keeping}
+use Rattle.host_types.specs.SiteState.{SiteState}
 use Rattle.host_types.specs.declared.change.Change.{Change}
 use Rattle.host_types.specs.declared.site_fault.SiteFault.{SiteFault}
 use Rattle.host_types.specs.declared.site_fault.SiteFault.TheVariants as faults
 use Rattle.session_core.specs.World as world
 use Rattle.session_core.specs.World.{World, phase_in}
-use Rattle.session_core.specs.Step.{Said, Next, then_is, at_session, at_hearing, with_change, draws, joined, left, answer, failed_answer, step}
-use Rattle.session_core.specs.Run.{Step, StepBy, IsAnswer, IsFaulty, is_hearing, may_work, change_in, post_in}
+use Rattle.session_core.specs.Step.{StepResult, Next, then_is, at_session, at_hearing, with_change, draws, joined, left, answer, failed_answer, step}
+use Rattle.session_core.specs.Run.{Step, StepBy, IsAnswer, IsFaulty, is_hearing, may_work, has_change, change_in, post_in}
 use Rattle.session_core.specs.Causes.{IsLacking}
 use Rattle.session_core.specs.Understood.{IsPostFault, IsHearFault}
 use Rattle.session_core.specs.Outcomes.{heard_outcome, bytes_outcome, draw_outcome}
@@ -23,7 +23,7 @@ use Rattle.session_core.specs.declared.event.Outcome.{Outcome}
 use Rattle.session_core.specs.declared.event.Outcome.TheVariants.{Joined, Gone, Fault}
 use Rattle.session_core.specs.declared.fault.HubFault.{HubFault}
 use Rattle.session_core.specs.declared.fault.HubFault.TheVariants as hub
-use Rattle.session_core.specs.declared.answer.Heard.{Heard}
+use Rattle.session_core.specs.declared.answer.InputStatus.{InputStatus}
 use Rattle.session_core.specs.declared.answer.Drawn.{Drawn}
 use Rattle.session_core.specs.declared.session.Session.{Session}
 use Rattle.session_core.specs.declared.session.Phase.{Phase}
@@ -31,7 +31,7 @@ use Rattle.session_core.proofs.SeatPlaces.{seat, nobody}
 
 -- ---- answers and faults as steps
 
-answered_by : (b : Bool) (old : World) (e : Event) (o : Outcome) (new : World) → IsAnswer old e o new → StepBy b old e o new
+pub answered_by : (b : Bool) (old : World) (e : Event) (o : Outcome) (new : World) → IsAnswer old e o new → StepBy b old e o new
 answered_by true old e o new a = a
 answered_by false old e o new a = inl a
 
@@ -73,10 +73,10 @@ joined_well w room less = rw (lt-leb 32 (length w.sessions) room, ne_eqb w.next 
 
 -- ---- the world of a keeper and sessions
 
-abbrev pub world_at : Keeping → ℕ → List (ℕ × world.Phase) → World
+abbrev pub world_at : SiteState → ℕ → List (ℕ × world.Phase) → World
 world_at k next sessions = record { site = k.site; next = next; failed = not k.usable; sessions = sessions }
 
-pub is_open : (k : Keeping) (next : ℕ) (sessions : List (ℕ × world.Phase)) → k.usable ≡ true → (world_at k next sessions).failed ≡ false
+pub is_open : (k : SiteState) (next : ℕ) (sessions : List (ℕ × world.Phase)) → k.usable ≡ true → (world_at k next sessions).failed ≡ false
 is_open k next sessions usable = ap not usable
 
 -- a world by its parts
@@ -87,7 +87,7 @@ same_parts : (s t : Site) (u v : Bool) (next : ℕ) (ss ts : List (ℕ × world.
 same_parts s t u v next ss ts site flags seats = cc (site, flags, seats)
 
 -- a fault that leaves the site and the sessions, or marks a first failure
-post_fault : (a b : Keeping) (lacking : Option Change → ℕ → SiteFault → Type 0) (next : ℕ) (old new : List (ℕ × world.Phase)) (now : ℕ) (e : Event) (post : Option Change) (fault : HubFault) →
+post_fault : (a b : SiteState) (lacking : Option Change → ℕ → SiteFault → Type 0) (next : ℕ) (old new : List (ℕ × world.Phase)) (now : ℕ) (e : Event) (post : Option Change) (fault : HubFault) →
     ((post : Option Change) (what : SiteFault) → lacking post now what → is_some post ≡ true)
     → IsTrue a.honest → a.usable ≡ true → may_work (world_at a next old) e ≡ true → change_in (world_at a next old) e ≡ post → new ≡ old → IsPostFault lacking post now a b fault
     → IsFaulty (world_at a next old) e (Fault fault) (world_at b next new)
@@ -112,7 +112,7 @@ only_changes lacks now (Some change) what is = refl
 -- ---- sessions
 
 -- no session has the number
-pub unknown : (k : Keeping) (next : ℕ) (items : List Session) (id : ℕ) (e : Event) (f : world.Phase → Said) → k.usable ≡ true → position (λ s. s.id == id) items ≡ None
+pub unknown : (k : SiteState) (next : ℕ) (items : List Session) (id : ℕ) (e : Event) (f : world.Phase → StepResult) → k.usable ≡ true → position (λ s. s.id == id) items ≡ None
     → answer (world_at k next (sessions_of items)) e ≡ at_session (world_at k next (sessions_of items)) id f (phase_in (sessions_of items) id)
     → Step (world_at k next (sessions_of items)) e (Fault hub.Unknown) (world_at k next (sessions_of items))
 unknown k next items id e f usable found asks =
@@ -120,7 +120,7 @@ unknown k next items id e f usable found asks =
     is_answer w e (then_is (Fault hub.Unknown) w) (Fault hub.Unknown) w (is_open k next (sessions_of items) usable) (asks ∙ ap (at_session w id f) (nobody items id found)) refl refl
 
 -- the same of a session that should hear something
-pub unheard : (k : Keeping) (next : ℕ) (items : List Session) (id now : ℕ) (e : Event) (f : world.Phase → Said) → k.usable ≡ true → position (λ s. s.id == id) items ≡ None
+pub unheard : (k : SiteState) (next : ℕ) (items : List Session) (id now : ℕ) (e : Event) (f : world.Phase → StepResult) → k.usable ≡ true → position (λ s. s.id == id) items ≡ None
     → answer (world_at k next (sessions_of items)) e ≡ at_hearing (world_at k next (sessions_of items)) id now f (phase_in (sessions_of items) id)
     → Step (world_at k next (sessions_of items)) e (Fault hub.Unknown) (world_at k next (sessions_of items))
 unheard k next items id now e f usable found asks =
@@ -128,20 +128,20 @@ unheard k next items id now e f usable found asks =
     is_answer w e (then_is (Fault hub.Unknown) w) (Fault hub.Unknown) w (is_open k next (sessions_of items) usable) (asks ∙ ap (at_hearing w id now f) (nobody items id found)) refl refl
 
 -- a session says what it says, is in its new phase, and the site has the change that it makes
-heard_well : (a b : Keeping) (next : ℕ) (items : List Session) (id at now : ℕ) (x : Session) (phase : Phase) (e : Event) (f : world.Phase → Said) (o : Outcome) →
+heard_well : (a b : SiteState) (next : ℕ) (items : List Session) (id at now : ℕ) (x : Session) (phase : Phase) (e : Event) (f : world.Phase → StepResult) (o : Outcome) →
     a.usable ≡ true → b.usable ≡ true → b.site ≡ with_change a.site now (f (phase_of x.phase)).post → position (λ s. s.id == id) items ≡ Some at → x ≡ get_or items at x
     → answer (world_at a next (sessions_of items)) e ≡ at_hearing (world_at a next (sessions_of items)) id now f (phase_in (sessions_of items) id)
     → o ≡ (f (phase_of x.phase)).outcome → phase_of phase ≡ (f (phase_of x.phase)).phase
     → Step (world_at a next (sessions_of items)) e o (world_at b next (sessions_of (set items at (record { id = x.id; phase = phase }))))
-heard_well a b next items id at now x phase e f o usable still site found read asks outcome moved =
+heard_well a b next items id at now x phase e f o usable unchanged site found read asks outcome moved =
     let w = world_at a next (sessions_of items) in
     let s = seat items id at x found read in
     let seats : sessions_of (set items at (record { id = x.id; phase = phase })) ≡ world.moved_in (sessions_of items) id (f (phase_of x.phase)).phase = s.moved phase ∙ ap (world.moved_in (sessions_of items) id) moved in
-    let flags : b.usable ≡ a.usable = still ∙ sym usable in
+    let flags : b.usable ≡ a.usable = unchanged ∙ sym usable in
     is_answer w e _ o _ (is_open a next (sessions_of items) usable) (asks ∙ ap (at_hearing w id now f) s.there) outcome (same_parts b.site _ b.usable a.usable next _ _ site flags seats)
 
 -- a session that could not be answered is as it was
-not_heard : (a b : Keeping) (lacking : Option Change → ℕ → SiteFault → Type 0) (next : ℕ) (items : List Session) (id at now : ℕ) (x : Session) (phase : Phase) (e : Event) (f : world.Phase → Said) (fault : HubFault) →
+not_heard : (a b : SiteState) (lacking : Option Change → ℕ → SiteFault → Type 0) (next : ℕ) (items : List Session) (id at now : ℕ) (x : Session) (phase : Phase) (e : Event) (f : world.Phase → StepResult) (fault : HubFault) →
     ((post : Option Change) (what : SiteFault) → lacking post now what → is_some post ≡ true)
     → IsTrue a.honest → a.usable ≡ true → position (λ s. s.id == id) items ≡ Some at → x ≡ get_or items at x
     → may_work (world_at a next (sessions_of items)) e ≡ is_hearing (phase_in (sessions_of items) id)
@@ -158,7 +158,7 @@ not_heard a b lacking next items id at now x phase e f fault only honest usable 
     (post_fault a b lacking next (sessions_of items) _ now e (f (phase_of x.phase)).post fault only honest usable hears change seats cause.1)
 
 -- a session hears a piece or the end of its input
-pub hears : (a b : Keeping) (lacking : Option Change → ℕ → SiteFault → Type 0) (next : ℕ) (items : List Session) (id at now : ℕ) (x : Session) (phase : Phase) (e : Event) (f : world.Phase → Said) (result : Result Heard HubFault) →
+pub hears : (a b : SiteState) (lacking : Option Change → ℕ → SiteFault → Type 0) (next : ℕ) (items : List Session) (id at now : ℕ) (x : Session) (phase : Phase) (e : Event) (f : world.Phase → StepResult) (result : Result InputStatus HubFault) →
     ((post : Option Change) (what : SiteFault) → lacking post now what → is_some post ≡ true)
     → IsTrue a.honest → a.usable ≡ true → position (λ s. s.id == id) items ≡ Some at → x ≡ get_or items at x
     → answer (world_at a next (sessions_of items)) e ≡ at_hearing (world_at a next (sessions_of items)) id now f (phase_in (sessions_of items) id)
@@ -168,13 +168,13 @@ pub hears : (a b : Keeping) (lacking : Option Change → ℕ → SiteFault → T
     → OnOk result (b.site ≡ with_change a.site now (f (phase_of x.phase)).post) → OnOk result (b.usable ≡ true)
     → OnErr result (phase_of phase ≡ phase_of x.phase) → IfErr result (IsHearFault lacking (phase_of x.phase) (f (phase_of x.phase)).post now a b)
     → Step (world_at a next (sessions_of items)) e (bytes_outcome result) (world_at b next (sessions_of (set items at (record { id = x.id; phase = phase }))))
-hears a b lacking next items id at now x phase e f (Ok h) only honest usable found read asks works changes outcome moved site still same cause =
-    heard_well a b next items id at now x phase e f (heard_outcome h) usable still site found read asks outcome moved
-hears a b lacking next items id at now x phase e f (Err fault) only honest usable found read asks works changes outcome moved site still same cause =
+hears a b lacking next items id at now x phase e f (Ok h) only honest usable found read asks works changes outcome moved site unchanged same cause =
+    heard_well a b next items id at now x phase e f (heard_outcome h) usable unchanged site found read asks outcome moved
+hears a b lacking next items id at now x phase e f (Err fault) only honest usable found read asks works changes outcome moved site unchanged same cause =
     not_heard a b lacking next items id at now x phase e f fault only honest usable found read works changes same cause
 
 -- a session draws
-pub draws_so : (k : Keeping) (next : ℕ) (items : List Session) (id at : ℕ) (x : Session) (phase : Phase) (room : ℕ) (o : Outcome) → k.usable ≡ true → position (λ s. s.id == id) items ≡ Some at → x ≡ get_or items at x
+pub draws_so : (k : SiteState) (next : ℕ) (items : List Session) (id at : ℕ) (x : Session) (phase : Phase) (room : ℕ) (o : Outcome) → k.usable ≡ true → position (λ s. s.id == id) items ≡ Some at → x ≡ get_or items at x
     → o ≡ (draws room (phase_of x.phase)).outcome → phase_of phase ≡ (draws room (phase_of x.phase)).phase
     → Step (world_at k next (sessions_of items)) (Draw id room) o (world_at k next (sessions_of (set items at (record { id = x.id; phase = phase }))))
 draws_so k next items id at x phase room o usable found read outcome moved =
@@ -192,7 +192,7 @@ seats_stay items id at x phase (Err _) found read same = let s = seat items id a
 
 -- ---- joining and leaving
 
-pub leaves : (k : Keeping) (next : ℕ) (items after : List Session) (id at : ℕ) (x : Session) → position (λ s. s.id == id) items ≡ Some at → x ≡ get_or items at x → after ≡ remove items at
+pub leaves : (k : SiteState) (next : ℕ) (items after : List Session) (id at : ℕ) (x : Session) → position (λ s. s.id == id) items ≡ Some at → x ≡ get_or items at x → after ≡ remove items at
     → Step (world_at k next (sessions_of items)) (Leave id) Gone (world_at k next (sessions_of after))
 leaves k next items after id at x found read removed =
     let w = world_at k next (sessions_of items) in
@@ -202,26 +202,26 @@ leaves k next items after id at x found read removed =
     let gone : world_at k next (sessions_of after) ≡ world.without_session w id = ap (λ (ss : List Session). world_at k next (sessions_of ss)) removed ∙ ap (world_at k next) s.gone in
     either_way w (Leave id) next_is Gone _ asks asks refl gone
 
-pub nobody_leaves : (k : Keeping) (next : ℕ) (items : List Session) (id : ℕ) → position (λ s. s.id == id) items ≡ None
+pub nobody_leaves : (k : SiteState) (next : ℕ) (items : List Session) (id : ℕ) → position (λ s. s.id == id) items ≡ None
     → Step (world_at k next (sessions_of items)) (Leave id) (Fault hub.Unknown) (world_at k next (sessions_of items))
 nobody_leaves k next items id found =
     let w = world_at k next (sessions_of items) in
     let asks : left w id (phase_in (sessions_of items) id) ≡ then_is (Fault hub.Unknown) w = ap (left w id) (nobody items id found) in
     either_way w (Leave id) (then_is (Fault hub.Unknown) w) (Fault hub.Unknown) w asks asks refl refl
 
-pub crowded : (k : Keeping) (next : ℕ) (items : List Session) → k.usable ≡ true → 32 ≤ length items
+pub crowded : (k : SiteState) (next : ℕ) (items : List Session) → k.usable ≡ true → 32 ≤ length items
     → Step (world_at k next (sessions_of items)) Join (Fault hub.Crowded) (world_at k next (sessions_of items))
 crowded k next items usable full =
     let w = world_at k next (sessions_of items) in
     is_answer w Join (then_is (Fault hub.Crowded) w) (Fault hub.Crowded) w (is_open k next (sessions_of items) usable) (joined_crowded w (omega (arith, length-map items session_of))) refl refl
 
-pub spent : (k : Keeping) (next : ℕ) (items : List Session) → k.usable ≡ true → length items < 32 → next ≡ 2 ^ 64 - 1
+pub spent : (k : SiteState) (next : ℕ) (items : List Session) → k.usable ≡ true → length items < 32 → next ≡ 2 ^ 64 - 1
     → Step (world_at k next (sessions_of items)) Join (Fault hub.Spent) (world_at k next (sessions_of items))
 spent k next items usable room is =
     let w = world_at k next (sessions_of items) in
     is_answer w Join (then_is (Fault hub.Spent) w) (Fault hub.Spent) w (is_open k next (sessions_of items) usable) (joined_spent w (omega (arith, length-map items session_of)) is) refl refl
 
-pub joins : (k : Keeping) (next : ℕ) (items after : List Session) (phase : Phase) → k.usable ≡ true → length items < 32 → (next ≡ 2 ^ 64 - 1 → ⊥) → phase_of phase ≡ world.Heard [] → after ≡ items ++ record { id = next; phase = phase } ∷ []
+pub joins : (k : SiteState) (next : ℕ) (items after : List Session) (phase : Phase) → k.usable ≡ true → length items < 32 → (next ≡ 2 ^ 64 - 1 → ⊥) → phase_of phase ≡ world.Heard [] → after ≡ items ++ record { id = next; phase = phase } ∷ []
     → Step (world_at k next (sessions_of items)) Join (Joined next) (world_at k (next + 1) (sessions_of after))
 joins k next items after phase usable room less silent pushed =
     let w = world_at k next (sessions_of items) in
@@ -235,16 +235,21 @@ draws_no_fault : (room : ℕ) (rest : List ℕ) (fault : HubFault) → Fault fau
 draws_no_fault room [] fault is = absurd (cc is)
 draws_no_fault room (b ∷ bs) fault is = absurd (cc is)
 
-no_draw_fault : (w new : World) (id room : ℕ) (fault : HubFault) → IsFaulty w (Draw id room) (Fault fault) new → ⊥
-no_draw_fault w new id room hub.Unknown is = absurd (cc is.0)
-no_draw_fault w new id room hub.Crowded is = absurd (cc is.0)
-no_draw_fault w new id room hub.Spent is = absurd (cc is.0)
-no_draw_fault w new id room (hub.Refused r) is = absurd (cc is.0)
-no_draw_fault w new id room hub.Broken is = absurd (cc is.0)
-no_draw_fault w new id room hub.Failed is = absurd (cc is.0)
-no_draw_fault w new id room hub.Memory is = absurd (cc is.0)
-no_draw_fault w new id room hub.NotReady is = absurd (cc is.0)
-no_draw_fault w new id room (hub.Full need free) is = absurd (cc is.0)
+never : (b : Bool) → b ≡ false → b ≡ true → ⊥
+never b is_false is_true = let e : false ≡ true = sym is_false ∙ is_true in cc e
+
+-- no fault of a keeper comes of an event that doesn't ask it
+pub no_fault : (w v : World) (e : Event) (o : Outcome) → may_work w e ≡ false → has_change w e ≡ false → IsFaulty w e o v → ⊥
+no_fault w v e (Fault hub.Memory) works change is = never (may_work w e) works is.0
+no_fault w v e (Fault hub.Broken) works change is = never (may_work w e) works is.0
+no_fault w v e (Fault (hub.Full need free)) works change is = never (has_change w e) change is.0
+no_fault w v e (Fault hub.Spent) works change is = never (has_change w e) change is.0
+no_fault w v e (Fault hub.Failed) works change is = never (has_change w e) change is.0
+no_fault w v e (Fault hub.Unknown) works change is = absurd (cc is.0)
+no_fault w v e (Fault hub.Crowded) works change is = absurd (cc is.0)
+no_fault w v e (Fault (hub.Refused r)) works change is = absurd (cc is.0)
+no_fault w v e (Fault hub.NotReady) works change is = absurd (cc is.0)
+no_fault w v e o works change is = absurd is
 
 no_fault_by : (b : Bool) (w new : World) (id room : ℕ) (rest : List ℕ) (fault : HubFault) → w.failed ≡ b → b ≡ false → world.phase_of w id ≡ Some (world.Reply rest) → StepBy b w (Draw id room) (Fault fault) new → ⊥
 no_fault_by true w new id room rest fault failed usable has is = absurd (cc usable)
@@ -252,7 +257,7 @@ no_fault_by false w new id room rest fault failed usable has (inl is) =
     let steps : step w (Draw id room) ≡ at_session w id (draws room) (Some (world.Reply rest)) =
     ap (λ (b : Bool). if b then failed_answer w (Draw id room) else answer w (Draw id room)) failed ∙ ap (at_session w id (draws room)) has in
     draws_no_fault room rest fault (is.0 ∙ ap (λ (n : Next). n.outcome) steps)
-no_fault_by false w new id room rest fault failed usable has (inr is) = no_draw_fault w new id room fault is
+no_fault_by false w new id room rest fault failed usable has (inr is) = no_fault w new (Draw id room) (Fault fault) refl refl is
 
 -- a draw of a reply is answered
 pub draw_answers : (w new : World) (id room : ℕ) (buffer rest : List ℕ) (result : Result Drawn HubFault) → Step w (Draw id room) (draw_outcome result buffer) new → world.phase_of w id ≡ Some (world.Reply rest) → w.failed ≡ false → IsOk result

@@ -6,8 +6,8 @@ use Rattle.session_core.specs.declared.event.Outcome.{Outcome}
 use Rattle.session_core.specs.declared.event.Outcome.TheVariants as outcomes
 use Rattle.session_core.specs.declared.fault.HubFault.{HubFault}
 use Rattle.session_core.specs.declared.fault.HubFault.TheVariants as hub
-use Rattle.session_core.specs.declared.answer.Heard.{Heard}
-use Rattle.session_core.specs.declared.answer.Heard.TheVariants as heard
+use Rattle.session_core.specs.declared.answer.InputStatus.{InputStatus}
+use Rattle.session_core.specs.declared.answer.InputStatus.TheVariants as heard
 use Rattle.session_core.specs.declared.answer.Drawn.{Drawn}
 use Rattle.session_core.specs.declared.answer.Drawn.TheVariants as drawn
 
@@ -15,12 +15,12 @@ abbrev pub join_outcome : Result ℕ HubFault → Outcome
 join_outcome (Ok id) = outcomes.Joined id
 join_outcome (Err fault) = outcomes.Fault fault
 
-abbrev pub heard_outcome : Heard → Outcome
+abbrev pub heard_outcome : InputStatus → Outcome
 heard_outcome heard.More = outcomes.More
 heard_outcome heard.Ready = outcomes.Ready
 heard_outcome heard.Finished = outcomes.Finished
 
-abbrev pub bytes_outcome : Result Heard HubFault → Outcome
+abbrev pub bytes_outcome : Result InputStatus HubFault → Outcome
 bytes_outcome (Ok h) = heard_outcome h
 bytes_outcome (Err fault) = outcomes.Fault fault
 

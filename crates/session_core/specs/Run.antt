@@ -3,9 +3,9 @@ use Rattle.std.specs.Prelude.{◌≡◌, ◌⊎◌, Bool, true, false, List, [],
 use Rattle.host_types.specs.Site.{Site}
 use Rattle.host_types.specs.Change.{apply}
 use Rattle.host_types.specs.declared.change.Change.{Change}
-use Rattle.host_types.specs.declared.refused.Refused.{Refused}
+use Rattle.common_types.specs.declared.refused.Refused.{Refused}
 use Rattle.session_core.specs.World.{World, Phase, Heard, phase_of}
-use Rattle.session_core.specs.Step.{Said, listens, ends, with_change, step}
+use Rattle.session_core.specs.Step.{StepResult, listens, ends, with_change, step}
 use Rattle.session_core.specs.declared.event.Event.{Event}
 use Rattle.session_core.specs.declared.event.Event.TheVariants.{Bytes, End, Admin}
 use Rattle.session_core.specs.declared.event.Outcome.{Outcome}
@@ -17,20 +17,20 @@ abbrev pub is_hearing : Option Phase → Bool
 is_hearing (Some (Heard stream)) = true
 is_hearing phase = false
 
--- The event may want memory, and may read what is stored: while a session hears, or where the administrator changes the site.
+-- The event may lack memory, and may read what is stored: while a session hears, or where the administrator changes the site.
 abbrev pub may_work : World → Event → Bool
 may_work w (Bytes id piece now) = is_hearing (phase_of w id)
 may_work w (End id now) = is_hearing (phase_of w id)
 may_work w (Admin change now) = true
 may_work w e = false
 
--- the change, where it is lawful
-abbrev pub lawful_one : Change → Result Site Refused → Option Change
-lawful_one change (Ok after) = Some change
-lawful_one change (Err refused) = None
+-- the change, where it is valid
+abbrev pub valid_one : Change → Result Site Refused → Option Change
+valid_one change (Ok after) = Some change
+valid_one change (Err refused) = None
 
 -- the post that a session makes
-abbrev pub post_in : Option Phase → (Phase → Said) → Option Change
+abbrev pub post_in : Option Phase → (Phase → StepResult) → Option Change
 post_in None f = None
 post_in (Some phase) f = (f phase).post
 
@@ -38,7 +38,7 @@ post_in (Some phase) f = (f phase).post
 abbrev pub change_in : World → Event → Option Change
 change_in w (Bytes id piece now) = post_in (phase_of w id) (listens w.site now piece)
 change_in w (End id now) = post_in (phase_of w id) (ends w.site now)
-change_in w (Admin change now) = lawful_one change (apply w.site change now)
+change_in w (Admin change now) = valid_one change (apply w.site change now)
 change_in w e = None
 
 abbrev pub has_change : World → Event → Bool

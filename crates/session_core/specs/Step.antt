@@ -3,10 +3,10 @@ use Rattle.std.specs.Prelude.{ℕ, ◌+◌, ◌-◌, ◌^◌, true, false, List,
 use Rattle.host_types.specs.Site.{Site}
 use Rattle.host_types.specs.Change.{apply}
 use Rattle.host_types.specs.declared.change.Change.{Change}
-use Rattle.host_types.specs.declared.refused.Refused.{Refused}
+use Rattle.common_types.specs.declared.refused.Refused.{Refused}
 use Rattle.request_reader.specs.Verdict.{Verdict, Open, Early as EndedEarly, Whole, Bad, verdict}
-use Rattle.session_core.specs.Reply.{reply, bad_reply}
-use Rattle.session_core.specs.declared.answered.Answered.{Answered}
+use Rattle.site_replies.specs.Reply.{reply, bad_reply}
+use Rattle.site_replies.specs.declared.answered.Answered.{Answered}
 use Rattle.session_core.specs.World.{World, Phase, Heard, Reply, Early, phase_of, with_phase, with_site, without_session}
 use Rattle.session_core.specs.declared.event.Event.{Event}
 use Rattle.session_core.specs.declared.event.Event.TheVariants.{Join, Bytes, End, Draw, Leave, Admin}
@@ -17,38 +17,38 @@ use Rattle.session_core.specs.declared.fault.HubFault.TheVariants.{Unknown, Crow
 -- ---- one session
 
 -- What a session answers, the phase that it is in then, and the post that it makes.
-pub record Said : Type 0 where
+pub record StepResult : Type 0 where
   pub outcome : Outcome
   pub phase : Phase
   pub post : Option Change
 
-abbrev pub says : Outcome → Phase → Said
+abbrev pub says : Outcome → Phase → StepResult
 says outcome phase = record { outcome = outcome; phase = phase; post = None }
 
-abbrev pub replies : Answered → Said
+abbrev pub replies : Answered → StepResult
 replies answered = record { outcome = Ready; phase = Reply answered.bytes; post = answered.post }
 
 -- by what its input so far says
-abbrev pub understood : Site → ℕ → List ℕ → Verdict → Said
+abbrev pub understood : Site → ℕ → List ℕ → Verdict → StepResult
 understood site now stream Open = says More (Heard stream)
 understood site now stream EndedEarly = says Finished Early
 understood site now stream (Whole request) = replies (reply site request now)
 understood site now stream (Bad cause) = says Ready (Reply (bad_reply cause))
 
 -- a piece of input, at a moment
-abbrev pub listens : Site → ℕ → List ℕ → Phase → Said
+abbrev pub listens : Site → ℕ → List ℕ → Phase → StepResult
 listens site now piece (Heard stream) = understood site now (stream ++ piece) (verdict (stream ++ piece) false)
 listens site now piece (Reply rest) = says Ready (Reply rest)
 listens site now piece Early = says Finished Early
 
 -- the end of input
-abbrev pub ends : Site → ℕ → Phase → Said
+abbrev pub ends : Site → ℕ → Phase → StepResult
 ends site now (Heard stream) = understood site now stream (verdict stream true)
 ends site now (Reply rest) = says Ready (Reply rest)
 ends site now Early = says Finished Early
 
 -- the next bytes of a reply, as many as there are and fit
-abbrev pub draws : ℕ → Phase → Said
+abbrev pub draws : ℕ → Phase → StepResult
 draws room (Heard stream) = says (Fault NotReady) (Heard stream)
 draws room Early = says Finished Early
 draws room (Reply []) = says Finished (Reply [])
@@ -72,11 +72,11 @@ joined w =
     else then_is (Joined w.next) (record w { next = w.next + 1; sessions = w.sessions ++ (w.next, Heard []) ∷ [] })
 
 -- what a session says, where there is one
-abbrev pub at_session : World → ℕ → (Phase → Said) → Option Phase → Next
+abbrev pub at_session : World → ℕ → (Phase → StepResult) → Option Phase → Next
 at_session w id f None = then_is (Fault Unknown) w
 at_session w id f (Some phase) = then_is (f phase).outcome (with_phase w id (f phase).phase)
 
--- A change that isn't lawful leaves the site as it is.
+-- A change that isn't valid leaves the site as it is.
 abbrev pub made_or : Site → Result Site Refused → Site
 made_or site (Ok after) = after
 made_or site (Err refused) = site
@@ -87,7 +87,7 @@ with_change site now None = site
 with_change site now (Some change) = made_or site (apply site change now)
 
 -- a session hears something, and may make a post
-abbrev pub at_hearing : World → ℕ → ℕ → (Phase → Said) → Option Phase → Next
+abbrev pub at_hearing : World → ℕ → ℕ → (Phase → StepResult) → Option Phase → Next
 at_hearing w id now f None = then_is (Fault Unknown) w
 at_hearing w id now f (Some phase) = then_is (f phase).outcome (with_site (with_phase w id (f phase).phase) (with_change w.site now (f phase).post))
 

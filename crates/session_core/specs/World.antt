@@ -1,4 +1,4 @@
--- The world of a hub: a site, and for each session what it has heard or what it has still to be given.
+-- The world of a hub: a site, and for each session what it has heard or what it is yet to be given.
 use Rattle.std.specs.Prelude.{ℕ, Bool, false, List, [], ◌∷◌, Option, Some, None, if◌then◌else◌, ◌==◌}
 use Rattle.host_types.specs.Site.{Site}
 

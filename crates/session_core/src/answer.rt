@@ -2,7 +2,7 @@
 
 /// What a piece of input, or its end, comes to.
 #[derive(Clone, Copy, Debug, PartialEq, Eq)]
-pub enum Heard {
+pub enum InputStatus {
     /// The request isn't whole yet.
     More,
     /// A reply stands, and further pieces are ignored.

@@ -17,7 +17,7 @@ pub enum HubFault {
     /// The greatest number would be next: of a session, or of a change of what the site is kept on.
     #[error("Spent")]
     Spent,
-    /// The change is not lawful on the site as it stands.
+    /// The change is not valid on the site as it stands.
     #[error("{0}")]
     Refused(Refused),
     /// The change needs more than is free.

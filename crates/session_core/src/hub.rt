@@ -4,7 +4,7 @@ ghost use Rattle.std.specs.List.{position};
 
 use crate::phase::{draw, hear, hear_end, new_phase};
 use crate::session::Session;
-use crate::{Drawn, Heard, HubFault};
+use crate::{Drawn, HubFault, InputStatus};
 use host_types::{Change, Stamp};
 use std::alloc::Global;
 use word_index::SearchKeeper;
@@ -35,10 +35,10 @@ fn place_in(sessions: &[Session], id: u64) -> Option<usize>
 impl<S: SearchKeeper> Hub<S> {
     ghost use Rattle.session_core.specs.World.{Reply, started, phase_of};
     ghost use Rattle.std.specs.Prelude.{◌⊎◌, false};
-    ghost use Rattle.host_types.specs.Keeping.{IsBehindKept};
-    ghost use Rattle.host_types.specs.Stops.{LeavesOnly, may_leave};
+    ghost use Rattle.host_types.specs.SiteState.{IsUnchangedBehind};
+    ghost use Rattle.host_types.specs.CrashStates.{AddsOnly, may_crash_to};
     ghost use Rattle.session_core.specs.Run.{Step, change_in};
-    ghost use Rattle.session_core.specs.Stopped.{StandsBy};
+    ghost use Rattle.session_core.specs.RunCrashStates.{RepresentsBy};
     ghost use Rattle.session_core.specs.Outcomes.{join_outcome, bytes_outcome, draw_outcome, drawn_length, leave_outcome, admin_outcome};
     ghost use Rattle.session_core.specs.Hub.{keeper_of, seats_of, world_of};
     ghost use Rattle.session_core.specs.Calls.{HubCall};
@@ -48,9 +48,9 @@ impl<S: SearchKeeper> Hub<S> {
 
     /// A hub without sessions, whose first has this number. It makes room for all sessions, or hands the site back with `Memory`.
     pub fn new(alloc: Global, site: S, first: u64) -> Result<Hub<S>, (HubFault, S)>
-        requires { (S.keeping site).usable ≡ true }
+        requires { (S.site_state site).usable ≡ true }
         ensures keeper { IfOk result (λ hub. keeper_of hub ≡ site) }
-        ensures world { IfOk result (λ hub. world_of S.keeping hub ≡ started (S.keeping site).site first) }
+        ensures world { IfOk result (λ hub. world_of S.site_state hub ≡ started (S.site_state site).site first) }
         ensures err { IfErr result (λ e. (e.0 ≡ Memory) × (e.1 ≡ site)) }
     {
         match Vec::with_capacity(alloc, MOST_SESSIONS) {
@@ -66,10 +66,10 @@ impl<S: SearchKeeper> Hub<S> {
 
     /// A new session's number. It takes no memory.
     pub fn join(&mut self) -> Result<u64, HubFault>
-        ensures step { Step (world_of S.keeping self.old) Join (join_outcome result) (world_of S.keeping self.new) }
-        ensures as_before { IfErr result (λ e. IsAsBefore e (world_of S.keeping self.old) (world_of S.keeping self.new)) }
+        ensures step { Step (world_of S.site_state self.old) Join (join_outcome result) (world_of S.site_state self.new) }
+        ensures as_before { IfErr result (λ e. IsAsBefore e (world_of S.site_state self.old) (world_of S.site_state self.new)) }
         ensures keeper { keeper_of self.new ≡ keeper_of self.old }
-        ensures call { HubCall S.keeping S.lacks S.stops S.stands_for self.old Join (join_outcome result) self.new }
+        ensures call { HubCall S.site_state S.lacks S.crash_states S.represents self.old Join (join_outcome result) self.new }
     {
         if !self.site.is_usable() {
             return Err(HubFault::Failed);
@@ -88,19 +88,19 @@ impl<S: SearchKeeper> Hub<S> {
     }
 
     /// A piece of a session's input.
-    pub fn bytes(&mut self, id: u64, piece: &[u8], now: Stamp) -> Result<Heard, HubFault>
-        ensures step { IsTrue (S.keeping (keeper_of self.old)).honest → Step (world_of S.keeping self.old) (Bytes id piece.now now) (bytes_outcome result) (world_of S.keeping self.new) }
-        ensures as_before { IsTrue (S.keeping (keeper_of self.old)).honest → IfErr result (λ e. IsAsBefore e (world_of S.keeping self.old) (world_of S.keeping self.new)) }
-        ensures cause { IfErr result (IsHeardCause (IsLacking (S.lacks (keeper_of self.old))) (change_in (world_of S.keeping self.old) (Bytes id piece.now now)) now (S.keeping (keeper_of self.old)) (S.keeping (keeper_of self.new))) }
+    pub fn bytes(&mut self, id: u64, piece: &[u8], now: Stamp) -> Result<InputStatus, HubFault>
+        ensures step { IsTrue (S.site_state (keeper_of self.old)).honest → Step (world_of S.site_state self.old) (Bytes id piece.now now) (bytes_outcome result) (world_of S.site_state self.new) }
+        ensures as_before { IsTrue (S.site_state (keeper_of self.old)).honest → IfErr result (λ e. IsAsBefore e (world_of S.site_state self.old) (world_of S.site_state self.new)) }
+        ensures cause { IfErr result (IsHeardCause (IsLacking (S.lacks (keeper_of self.old))) (change_in (world_of S.site_state self.old) (Bytes id piece.now now)) now (S.site_state (keeper_of self.old)) (S.site_state (keeper_of self.new))) }
         ensures kept { OnErr result (seats_of self.new ≡ seats_of self.old) }
-        ensures honest { (S.keeping (keeper_of self.new)).honest ≡ (S.keeping (keeper_of self.old)).honest }
+        ensures honest { (S.site_state (keeper_of self.new)).honest ≡ (S.site_state (keeper_of self.old)).honest }
 
-        // A stop within the call leaves what one before it might have left, or what stands for the site from before or from after it, or with a change that nobody is told of.
-        ensures stop { IsTrue (S.keeping (keeper_of self.old)).honest → LeavesOnly (S.stops (keeper_of self.old)) (S.stops (keeper_of self.new))
-            (λ c. may_leave (S.stops (keeper_of self.old)) c ⊎ StandsBy S.stands_for (world_of S.keeping self.old) (Bytes id piece.now now) (bytes_outcome result) (world_of S.keeping self.new) c) }
-        ensures closed { (S.keeping (keeper_of self.old)).usable ≡ false → keeper_of self.new ≡ keeper_of self.old }
-        ensures call { HubCall S.keeping S.lacks S.stops S.stands_for self.old (Bytes id piece.now now) (bytes_outcome result) self.new }
-        ensures told { IsTrue (S.keeping (keeper_of self.old)).honest → OnOk result ((c : S.Left) → may_leave (S.stops (keeper_of self.new)) c → S.stands_for c (world_of S.keeping self.new).site) }
+        // A crash within the call leaves what one before it might have left, or what represents the site from before or from after it, or with a change in flight, unacknowledged.
+        ensures at_crash { IsTrue (S.site_state (keeper_of self.old)).honest → AddsOnly (S.crash_states (keeper_of self.old)) (S.crash_states (keeper_of self.new))
+            (λ c. may_crash_to (S.crash_states (keeper_of self.old)) c ⊎ RepresentsBy S.represents (world_of S.site_state self.old) (Bytes id piece.now now) (bytes_outcome result) (world_of S.site_state self.new) c) }
+        ensures closed { (S.site_state (keeper_of self.old)).usable ≡ false → keeper_of self.new ≡ keeper_of self.old }
+        ensures call { HubCall S.site_state S.lacks S.crash_states S.represents self.old (Bytes id piece.now now) (bytes_outcome result) self.new }
+        ensures acknowledged { IsTrue (S.site_state (keeper_of self.old)).honest → OnOk result ((c : S.CrashState) → may_crash_to (S.crash_states (keeper_of self.new)) c → S.represents c (world_of S.site_state self.new).site) }
     {
         if !self.site.is_usable() {
             return Err(HubFault::Failed);
@@ -113,19 +113,19 @@ impl<S: SearchKeeper> Hub<S> {
     }
 
     /// The end of a session's input.
-    pub fn end(&mut self, id: u64, now: Stamp) -> Result<Heard, HubFault>
-        ensures step { IsTrue (S.keeping (keeper_of self.old)).honest → Step (world_of S.keeping self.old) (End id now) (bytes_outcome result) (world_of S.keeping self.new) }
-        ensures as_before { IsTrue (S.keeping (keeper_of self.old)).honest → IfErr result (λ e. IsAsBefore e (world_of S.keeping self.old) (world_of S.keeping self.new)) }
-        ensures cause { IfErr result (IsHeardCause (IsLacking (S.lacks (keeper_of self.old))) (change_in (world_of S.keeping self.old) (End id now)) now (S.keeping (keeper_of self.old)) (S.keeping (keeper_of self.new))) }
+    pub fn end(&mut self, id: u64, now: Stamp) -> Result<InputStatus, HubFault>
+        ensures step { IsTrue (S.site_state (keeper_of self.old)).honest → Step (world_of S.site_state self.old) (End id now) (bytes_outcome result) (world_of S.site_state self.new) }
+        ensures as_before { IsTrue (S.site_state (keeper_of self.old)).honest → IfErr result (λ e. IsAsBefore e (world_of S.site_state self.old) (world_of S.site_state self.new)) }
+        ensures cause { IfErr result (IsHeardCause (IsLacking (S.lacks (keeper_of self.old))) (change_in (world_of S.site_state self.old) (End id now)) now (S.site_state (keeper_of self.old)) (S.site_state (keeper_of self.new))) }
         ensures kept { OnErr result (seats_of self.new ≡ seats_of self.old) }
-        ensures honest { (S.keeping (keeper_of self.new)).honest ≡ (S.keeping (keeper_of self.old)).honest }
+        ensures honest { (S.site_state (keeper_of self.new)).honest ≡ (S.site_state (keeper_of self.old)).honest }
 
-        // A stop within the call leaves what one before it might have left, or what stands for the site from before or from after it, or with a change that nobody is told of.
-        ensures stop { IsTrue (S.keeping (keeper_of self.old)).honest → LeavesOnly (S.stops (keeper_of self.old)) (S.stops (keeper_of self.new))
-            (λ c. may_leave (S.stops (keeper_of self.old)) c ⊎ StandsBy S.stands_for (world_of S.keeping self.old) (End id now) (bytes_outcome result) (world_of S.keeping self.new) c) }
-        ensures closed { (S.keeping (keeper_of self.old)).usable ≡ false → keeper_of self.new ≡ keeper_of self.old }
-        ensures call { HubCall S.keeping S.lacks S.stops S.stands_for self.old (End id now) (bytes_outcome result) self.new }
-        ensures told { IsTrue (S.keeping (keeper_of self.old)).honest → OnOk result ((c : S.Left) → may_leave (S.stops (keeper_of self.new)) c → S.stands_for c (world_of S.keeping self.new).site) }
+        // A crash within the call leaves what one before it might have left, or what represents the site from before or from after it, or with a change in flight, unacknowledged.
+        ensures at_crash { IsTrue (S.site_state (keeper_of self.old)).honest → AddsOnly (S.crash_states (keeper_of self.old)) (S.crash_states (keeper_of self.new))
+            (λ c. may_crash_to (S.crash_states (keeper_of self.old)) c ⊎ RepresentsBy S.represents (world_of S.site_state self.old) (End id now) (bytes_outcome result) (world_of S.site_state self.new) c) }
+        ensures closed { (S.site_state (keeper_of self.old)).usable ≡ false → keeper_of self.new ≡ keeper_of self.old }
+        ensures call { HubCall S.site_state S.lacks S.crash_states S.represents self.old (End id now) (bytes_outcome result) self.new }
+        ensures acknowledged { IsTrue (S.site_state (keeper_of self.old)).honest → OnOk result ((c : S.CrashState) → may_crash_to (S.crash_states (keeper_of self.new)) c → S.represents c (world_of S.site_state self.new).site) }
     {
         if !self.site.is_usable() {
             return Err(HubFault::Failed);
@@ -139,13 +139,13 @@ impl<S: SearchKeeper> Hub<S> {
 
     /// Puts the next bytes of a session's reply into the front of the buffer, as many as there are and fit. What stands behind them stays, and after a fault the whole buffer does. It takes no memory.
     pub fn draw(&mut self, id: u64, out: &mut [u8]) -> Result<Drawn, HubFault>
-        ensures step { Step (world_of S.keeping self.old) (Draw id (length out.old)) (draw_outcome result out.new) (world_of S.keeping self.new) }
-        ensures reply { (rest : List ℕ) → phase_of (world_of S.keeping self.old) id ≡ Some (Reply rest) → (S.keeping (keeper_of self.old)).usable ≡ true → IsOk result }
-        ensures as_before { IfErr result (λ e. IsAsBefore e (world_of S.keeping self.old) (world_of S.keeping self.new)) }
+        ensures step { Step (world_of S.site_state self.old) (Draw id (length out.old)) (draw_outcome result out.new) (world_of S.site_state self.new) }
+        ensures reply { (rest : List ℕ) → phase_of (world_of S.site_state self.old) id ≡ Some (Reply rest) → (S.site_state (keeper_of self.old)).usable ≡ true → IsOk result }
+        ensures as_before { IfErr result (λ e. IsAsBefore e (world_of S.site_state self.old) (world_of S.site_state self.new)) }
         ensures keeper { keeper_of self.new ≡ keeper_of self.old }
-        ensures behind { IfOk result (λ drawn. IsBehindKept (drawn_length drawn) out.old out.new) }
+        ensures behind { IfOk result (λ drawn. IsUnchangedBehind (drawn_length drawn) out.old out.new) }
         ensures untouched { IfErr result (λ e. out.new ≡ out.old) }
-        ensures call { HubCall S.keeping S.lacks S.stops S.stands_for self.old (Draw id (length out.old)) (draw_outcome result out.new) self.new }
+        ensures call { HubCall S.site_state S.lacks S.crash_states S.represents self.old (Draw id (length out.old)) (draw_outcome result out.new) self.new }
     {
         if !self.site.is_usable() {
             return Err(HubFault::Failed);
@@ -159,10 +159,10 @@ impl<S: SearchKeeper> Hub<S> {
 
     /// The session is gone. It takes no memory, and answers in a hub that has failed too.
     pub fn leave(&mut self, id: u64) -> Result<(), HubFault>
-        ensures step { Step (world_of S.keeping self.old) (Leave id) (leave_outcome result) (world_of S.keeping self.new) }
-        ensures as_before { IfErr result (λ e. IsAsBefore e (world_of S.keeping self.old) (world_of S.keeping self.new)) }
+        ensures step { Step (world_of S.site_state self.old) (Leave id) (leave_outcome result) (world_of S.site_state self.new) }
+        ensures as_before { IfErr result (λ e. IsAsBefore e (world_of S.site_state self.old) (world_of S.site_state self.new)) }
         ensures keeper { keeper_of self.new ≡ keeper_of self.old }
-        ensures call { HubCall S.keeping S.lacks S.stops S.stands_for self.old (Leave id) (leave_outcome result) self.new }
+        ensures call { HubCall S.site_state S.lacks S.crash_states S.represents self.old (Leave id) (leave_outcome result) self.new }
     {
         let Some(at) = place_in(&self.sessions, id) else {
             return Err(HubFault::Unknown);
@@ -173,18 +173,18 @@ impl<S: SearchKeeper> Hub<S> {
 
     /// A change that the administrator asks for.
     pub fn admin(&mut self, change: Change, now: Stamp) -> Result<(), HubFault>
-        ensures step { IsTrue (S.keeping (keeper_of self.old)).honest → Step (world_of S.keeping self.old) (Admin change now) (admin_outcome result) (world_of S.keeping self.new) }
-        ensures as_before { IsTrue (S.keeping (keeper_of self.old)).honest → IfErr result (λ e. IsAsBefore e (world_of S.keeping self.old) (world_of S.keeping self.new)) }
-        ensures cause { IfErr result (IsAdminCause (IsLacking (S.lacks (keeper_of self.old))) (change_in (world_of S.keeping self.old) (Admin change now)) now (S.keeping (keeper_of self.old)) (S.keeping (keeper_of self.new))) }
+        ensures step { IsTrue (S.site_state (keeper_of self.old)).honest → Step (world_of S.site_state self.old) (Admin change now) (admin_outcome result) (world_of S.site_state self.new) }
+        ensures as_before { IsTrue (S.site_state (keeper_of self.old)).honest → IfErr result (λ e. IsAsBefore e (world_of S.site_state self.old) (world_of S.site_state self.new)) }
+        ensures cause { IfErr result (IsAdminCause (IsLacking (S.lacks (keeper_of self.old))) (change_in (world_of S.site_state self.old) (Admin change now)) now (S.site_state (keeper_of self.old)) (S.site_state (keeper_of self.new))) }
         ensures kept { seats_of self.new ≡ seats_of self.old }
-        ensures honest { (S.keeping (keeper_of self.new)).honest ≡ (S.keeping (keeper_of self.old)).honest }
+        ensures honest { (S.site_state (keeper_of self.new)).honest ≡ (S.site_state (keeper_of self.old)).honest }
 
-        // A stop within the call leaves what one before it might have left, or what stands for the site from before or from after it, or with a change that nobody is told of.
-        ensures stop { IsTrue (S.keeping (keeper_of self.old)).honest → LeavesOnly (S.stops (keeper_of self.old)) (S.stops (keeper_of self.new))
-            (λ c. may_leave (S.stops (keeper_of self.old)) c ⊎ StandsBy S.stands_for (world_of S.keeping self.old) (Admin change now) (admin_outcome result) (world_of S.keeping self.new) c) }
-        ensures closed { (S.keeping (keeper_of self.old)).usable ≡ false → keeper_of self.new ≡ keeper_of self.old }
-        ensures call { HubCall S.keeping S.lacks S.stops S.stands_for self.old (Admin change now) (admin_outcome result) self.new }
-        ensures told { IsTrue (S.keeping (keeper_of self.old)).honest → OnOk result ((c : S.Left) → may_leave (S.stops (keeper_of self.new)) c → S.stands_for c (world_of S.keeping self.new).site) }
+        // A crash within the call leaves what one before it might have left, or what represents the site from before or from after it, or with a change in flight, unacknowledged.
+        ensures at_crash { IsTrue (S.site_state (keeper_of self.old)).honest → AddsOnly (S.crash_states (keeper_of self.old)) (S.crash_states (keeper_of self.new))
+            (λ c. may_crash_to (S.crash_states (keeper_of self.old)) c ⊎ RepresentsBy S.represents (world_of S.site_state self.old) (Admin change now) (admin_outcome result) (world_of S.site_state self.new) c) }
+        ensures closed { (S.site_state (keeper_of self.old)).usable ≡ false → keeper_of self.new ≡ keeper_of self.old }
+        ensures call { HubCall S.site_state S.lacks S.crash_states S.represents self.old (Admin change now) (admin_outcome result) self.new }
+        ensures acknowledged { IsTrue (S.site_state (keeper_of self.old)).honest → OnOk result ((c : S.CrashState) → may_crash_to (S.crash_states (keeper_of self.new)) c → S.represents c (world_of S.site_state self.new).site) }
     {
         if !self.site.is_usable() {
             return Err(HubFault::Failed);
@@ -197,7 +197,7 @@ impl<S: SearchKeeper> Hub<S> {
 
     /// Whether no write or sync has failed.
     pub(crate) fn is_usable(&self) -> bool
-        ensures { result ≡ (S.keeping (keeper_of self.now)).usable }
+        ensures { result ≡ (S.site_state (keeper_of self.now)).usable }
     {
         self.site.is_usable()
     }

@@ -1,7 +1,7 @@
 // What sessions rest on, as laws of the definitions.
-ghost use Rattle.session_core.specs.Examples.{Examples};
+ghost use Rattle.session_core.specs.SessionExamples.{SessionExamples};
 ghost use Rattle.session_core.specs.Laws.{Continues, ContinuesWhatWasFound};
-ghost use Rattle.session_core.specs.Calls.{CallsJoin, CallsPart, CallsLeave, CallsStop};
+ghost use Rattle.session_core.specs.Calls.{CallsJoin, CallsPart, CallsMoments, CallsCrash};
 
 use word_index::SearchKeeper;
 
@@ -13,13 +13,13 @@ pub fn continues()
 
 /// Worked examples of what sessions are answered.
 pub fn worked_examples()
-    ensures { Examples }
+    ensures { SessionExamples }
 {}
 
-/// Runs over any site join and part, and what a stop leaves of them has each change that was acknowledged by then.
+/// Runs over any site join and part, and what a crash leaves of them has each change that was acknowledged by then.
 pub fn runs_join<S: SearchKeeper>()
-    ensures join { CallsJoin S.keeping S.lacks S.stops S.stands_for }
-    ensures part { CallsPart S.keeping S.lacks S.stops S.stands_for }
-    ensures leave { CallsLeave S.keeping S.lacks S.stops S.stands_for }
-    ensures stop { CallsStop S.keeping S.lacks S.stops S.stands_for }
+    ensures join { CallsJoin S.site_state S.lacks S.crash_states S.represents }
+    ensures part { CallsPart S.site_state S.lacks S.crash_states S.represents }
+    ensures leave { CallsMoments S.site_state S.lacks S.crash_states S.represents }
+    ensures at_crash { CallsCrash S.site_state S.lacks S.crash_states S.represents }
 {}

@@ -1,23 +1,23 @@
 // What moves one session.
 ghost use Rattle.std.specs.Prelude.{◌≡◌, ◌⊎◌, true, [], length, OnErr, OnOk, IfOk, IfErr, IsTrue, option_map};
-ghost use Rattle.host_types.specs.Keeping.{HasRead, LacksTheSame, IsBehindKept, HasTried, IsReadFault};
-ghost use Rattle.host_types.specs.Stops.{IsQuiet, LeavesOnly};
+ghost use Rattle.host_types.specs.SiteState.{HasRead, LacksTheSame, IsUnchangedBehind, HasTried, IsReadFault};
+ghost use Rattle.host_types.specs.CrashStates.{AddsNone, AddsOnly};
 ghost use Rattle.session_core.specs.World as world;
 ghost use Rattle.session_core.specs.Step.{listens, ends, draws, with_change};
 ghost use Rattle.session_core.specs.Run.{is_hearing};
 ghost use Rattle.session_core.specs.Causes.{IsLacking};
-ghost use Rattle.session_core.specs.Understood.{reply_by, answered, post_of, IsRight, IsPostFault, IsHearFault};
+ghost use Rattle.session_core.specs.Understood.{reply_by, answered, post_of, IsPostFault, IsHearFault};
+ghost use Rattle.site_replies.specs.PostReply.{IsRight};
 ghost use Rattle.session_core.specs.Outcomes.{heard_outcome, draw_outcome, drawn_length};
 ghost use Rattle.session_core.specs.Sessions.{phase_of};
-ghost use Rattle.session_core.specs.declared.fault.HubFault.TheVariants.{Memory as Wanting};
+ghost use Rattle.session_core.specs.declared.fault.HubFault.TheVariants.{Memory as OutOfMemory};
 ghost use Rattle.request_reader.specs.Seen.{seen};
 
-use crate::answered::{Answered, said};
-use crate::reply::{bad_reply, reply};
 use crate::session::{Hearing, Phase, Replying};
-use crate::{Drawn, Heard, HubFault};
+use crate::{Drawn, HubFault, InputStatus};
 use host_types::{Change, SiteFault, Stamp};
 use request_reader::{Answer, Reader};
+use site_replies::{Answered, bad_reply, reply};
 use std::alloc::Global;
 use word_index::SearchKeeper;
 
@@ -37,30 +37,33 @@ fn reply_to<S: SearchKeeper>(
     answer: Answer<'_>,
     now: Stamp,
 ) -> Result<Option<Answered>, SiteFault>
-    ensures reply { IsTrue (S.keeping site.old).honest → IfOk result (λ made. made ≡ reply_by (S.keeping site.old).site now (seen answer.entry)) }
-    ensures kept { HasRead (S.keeping site.old) (S.keeping site.new) }
+    ensures reply { IsTrue (S.site_state site.old).honest → IfOk result (λ made. made ≡ reply_by (S.site_state site.old).site now (seen answer.entry)) }
+    ensures kept { HasRead (S.site_state site.old) (S.site_state site.new) }
     ensures lacking { LacksTheSame (S.lacks site.old) (S.lacks site.new) }
-    ensures quiet { IsTrue (S.keeping site.old).honest → IsQuiet (S.stops site.old) (S.stops site.new) }
-    ensures fault { IfErr result (IsReadFault true (S.keeping site.old) (S.keeping site.new)) }
+    ensures no_new_crash_state { IsTrue (S.site_state site.old).honest → AddsNone (S.crash_states site.old) (S.crash_states site.new) }
+    ensures fault { IfErr result (IsReadFault true (S.site_state site.old) (S.site_state site.new)) }
 {
     match answer {
         Answer::Whole(request) => Ok(Some(reply(alloc, site, request, now)?)),
-        Answer::Bad(cause) => Ok(Some(said(bad_reply(alloc, cause)?))),
+        Answer::Bad(cause) => {
+            let bytes = bad_reply(alloc, cause)?;
+            Ok(Some(Answered { bytes, post: None }))
+        }
         Answer::More | Answer::Early => Ok(None),
     }
 }
 
 /// Makes a post that the site takes, where there is one.
 fn store<S: SearchKeeper>(site: &mut S, post: Option<Change>, now: Stamp) -> Result<(), HubFault>
-    requires usable { (S.keeping site.old).usable ≡ true }
-    requires right { IsTrue (S.keeping site.old).honest → IsRight (S.keeping site.old).site now post }
-    ensures done { IsTrue (S.keeping site.old).honest → OnOk result ((S.keeping site.new).site ≡ with_change (S.keeping site.old).site now post) }
-    ensures still_usable { OnOk result ((S.keeping site.new).usable ≡ true) }
-    ensures fault { IfErr result (IsPostFault (IsLacking (S.lacks site.old)) post now (S.keeping site.old) (S.keeping site.new)) }
-    ensures tried { HasTried (S.keeping site.old) (S.keeping site.new) }
-    ensures still { IsTrue (S.keeping site.old).honest → IfErr result (λ e. (S.keeping site.new).usable ≡ true → IsQuiet (S.stops site.old) (S.stops site.new)) }
-    ensures stop { IsTrue (S.keeping site.old).honest → LeavesOnly (S.stops site.old) (S.stops site.new)
-        (λ c. S.stands_for c (S.keeping site.old).site ⊎ S.stands_for c (with_change (S.keeping site.old).site now post)) }
+    requires usable { (S.site_state site.old).usable ≡ true }
+    requires right { IsTrue (S.site_state site.old).honest → IsRight (S.site_state site.old).site now post }
+    ensures done { IsTrue (S.site_state site.old).honest → OnOk result ((S.site_state site.new).site ≡ with_change (S.site_state site.old).site now post) }
+    ensures still_usable { OnOk result ((S.site_state site.new).usable ≡ true) }
+    ensures fault { IfErr result (IsPostFault (IsLacking (S.lacks site.old)) post now (S.site_state site.old) (S.site_state site.new)) }
+    ensures tried { HasTried (S.site_state site.old) (S.site_state site.new) }
+    ensures unchanged { IsTrue (S.site_state site.old).honest → IfErr result (λ e. (S.site_state site.new).usable ≡ true → AddsNone (S.crash_states site.old) (S.crash_states site.new)) }
+    ensures at_crash { IsTrue (S.site_state site.old).honest → AddsOnly (S.crash_states site.old) (S.crash_states site.new)
+        (λ c. S.represents c (S.site_state site.old).site ⊎ S.represents c (with_change (S.site_state site.old).site now post)) }
 {
     let Some(change) = post else {
         return Ok(());
@@ -78,24 +81,27 @@ fn settle<S: SearchKeeper>(
     site: &mut S,
     made: Option<Answered>,
     now: Stamp,
-) -> Result<(Heard, Phase), HubFault>
-    requires usable { (S.keeping site.old).usable ≡ true }
-    requires right { IsTrue (S.keeping site.old).honest → IsRight (S.keeping site.old).site now (post_of made) }
+) -> Result<(InputStatus, Phase), HubFault>
+    requires usable { (S.site_state site.old).usable ≡ true }
+    requires right { IsTrue (S.site_state site.old).honest → IsRight (S.site_state site.old).site now (post_of made) }
     ensures heard { IfOk result (λ r. heard_outcome r.0 ≡ (answered made).outcome) }
     ensures phase { IfOk result (λ r. phase_of r.1 ≡ (answered made).phase) }
-    ensures done { IsTrue (S.keeping site.old).honest → OnOk result ((S.keeping site.new).site ≡ with_change (S.keeping site.old).site now (post_of made)) }
-    ensures still_usable { OnOk result ((S.keeping site.new).usable ≡ true) }
-    ensures fault { IfErr result (IsPostFault (IsLacking (S.lacks site.old)) (post_of made) now (S.keeping site.old) (S.keeping site.new)) }
-    ensures tried { HasTried (S.keeping site.old) (S.keeping site.new) }
-    ensures still { IsTrue (S.keeping site.old).honest → IfErr result (λ e. (S.keeping site.new).usable ≡ true → IsQuiet (S.stops site.old) (S.stops site.new)) }
-    ensures stop { IsTrue (S.keeping site.old).honest → LeavesOnly (S.stops site.old) (S.stops site.new)
-        (λ c. S.stands_for c (S.keeping site.old).site ⊎ S.stands_for c (with_change (S.keeping site.old).site now (post_of made))) }
+    ensures done { IsTrue (S.site_state site.old).honest → OnOk result ((S.site_state site.new).site ≡ with_change (S.site_state site.old).site now (post_of made)) }
+    ensures still_usable { OnOk result ((S.site_state site.new).usable ≡ true) }
+    ensures fault { IfErr result (IsPostFault (IsLacking (S.lacks site.old)) (post_of made) now (S.site_state site.old) (S.site_state site.new)) }
+    ensures tried { HasTried (S.site_state site.old) (S.site_state site.new) }
+    ensures unchanged { IsTrue (S.site_state site.old).honest → IfErr result (λ e. (S.site_state site.new).usable ≡ true → AddsNone (S.crash_states site.old) (S.crash_states site.new)) }
+    ensures at_crash { IsTrue (S.site_state site.old).honest → AddsOnly (S.crash_states site.old) (S.crash_states site.new)
+        (λ c. S.represents c (S.site_state site.old).site ⊎ S.represents c (with_change (S.site_state site.old).site now (post_of made))) }
 {
     let Some(Answered { bytes, post }) = made else {
-        return Ok((Heard::Finished, Phase::Early));
+        return Ok((InputStatus::Finished, Phase::Early));
     };
     store(site, post, now)?;
-    Ok((Heard::Ready, Phase::Replying(Replying { bytes, drawn: 0 })))
+    Ok((
+        InputStatus::Ready,
+        Phase::Replying(Replying { bytes, drawn: 0 }),
+    ))
 }
 
 /// Answers what has been heard to its end, and makes the post that it comes to.
@@ -104,17 +110,17 @@ fn conclude<S: SearchKeeper>(
     site: &mut S,
     answer: Answer<'_>,
     now: Stamp,
-) -> Result<(Heard, Phase), HubFault>
-    requires usable { (S.keeping site.old).usable ≡ true }
-    ensures heard { IsTrue (S.keeping site.old).honest → IfOk result (λ r. heard_outcome r.0 ≡ (answered (reply_by (S.keeping site.old).site now (seen answer.entry))).outcome) }
-    ensures phase { IsTrue (S.keeping site.old).honest → IfOk result (λ r. phase_of r.1 ≡ (answered (reply_by (S.keeping site.old).site now (seen answer.entry))).phase) }
-    ensures done { IsTrue (S.keeping site.old).honest → OnOk result ((S.keeping site.new).site ≡ with_change (S.keeping site.old).site now (answered (reply_by (S.keeping site.old).site now (seen answer.entry))).post) }
-    ensures still_usable { OnOk result ((S.keeping site.new).usable ≡ true) }
-    ensures fault { IfErr result (IsPostFault (IsLacking (S.lacks site.old)) (answered (reply_by (S.keeping site.old).site now (seen answer.entry))).post now (S.keeping site.old) (S.keeping site.new)) }
-    ensures tried { HasTried (S.keeping site.old) (S.keeping site.new) }
-    ensures still { IsTrue (S.keeping site.old).honest → IfErr result (λ e. (S.keeping site.new).usable ≡ true → IsQuiet (S.stops site.old) (S.stops site.new)) }
-    ensures stop { IsTrue (S.keeping site.old).honest → LeavesOnly (S.stops site.old) (S.stops site.new)
-        (λ c. S.stands_for c (S.keeping site.old).site ⊎ S.stands_for c (with_change (S.keeping site.old).site now (answered (reply_by (S.keeping site.old).site now (seen answer.entry))).post)) }
+) -> Result<(InputStatus, Phase), HubFault>
+    requires usable { (S.site_state site.old).usable ≡ true }
+    ensures heard { IsTrue (S.site_state site.old).honest → IfOk result (λ r. heard_outcome r.0 ≡ (answered (reply_by (S.site_state site.old).site now (seen answer.entry))).outcome) }
+    ensures phase { IsTrue (S.site_state site.old).honest → IfOk result (λ r. phase_of r.1 ≡ (answered (reply_by (S.site_state site.old).site now (seen answer.entry))).phase) }
+    ensures done { IsTrue (S.site_state site.old).honest → OnOk result ((S.site_state site.new).site ≡ with_change (S.site_state site.old).site now (answered (reply_by (S.site_state site.old).site now (seen answer.entry))).post) }
+    ensures still_usable { OnOk result ((S.site_state site.new).usable ≡ true) }
+    ensures fault { IfErr result (IsPostFault (IsLacking (S.lacks site.old)) (answered (reply_by (S.site_state site.old).site now (seen answer.entry))).post now (S.site_state site.old) (S.site_state site.new)) }
+    ensures tried { HasTried (S.site_state site.old) (S.site_state site.new) }
+    ensures unchanged { IsTrue (S.site_state site.old).honest → IfErr result (λ e. (S.site_state site.new).usable ≡ true → AddsNone (S.crash_states site.old) (S.crash_states site.new)) }
+    ensures at_crash { IsTrue (S.site_state site.old).honest → AddsOnly (S.crash_states site.old) (S.crash_states site.new)
+        (λ c. S.represents c (S.site_state site.old).site ⊎ S.represents c (with_change (S.site_state site.old).site now (answered (reply_by (S.site_state site.old).site now (seen answer.entry))).post)) }
 {
     match reply_to(alloc, site, answer, now) {
         Ok(made) => settle(site, made, now),
@@ -129,29 +135,29 @@ pub fn hear<S: SearchKeeper>(
     phase: &mut Phase,
     piece: &[u8],
     now: Stamp,
-) -> Result<Heard, HubFault>
-    requires usable { (S.keeping site.old).usable ≡ true }
-    ensures said { IsTrue (S.keeping site.old).honest → IfOk result (λ h. heard_outcome h ≡ (listens (S.keeping site.old).site now piece.now (phase_of phase.old)).outcome) }
-    ensures phase { IsTrue (S.keeping site.old).honest → OnOk result (phase_of phase.new ≡ (listens (S.keeping site.old).site now piece.now (phase_of phase.old)).phase) }
+) -> Result<InputStatus, HubFault>
+    requires usable { (S.site_state site.old).usable ≡ true }
+    ensures gives { IsTrue (S.site_state site.old).honest → IfOk result (λ h. heard_outcome h ≡ (listens (S.site_state site.old).site now piece.now (phase_of phase.old)).outcome) }
+    ensures phase { IsTrue (S.site_state site.old).honest → OnOk result (phase_of phase.new ≡ (listens (S.site_state site.old).site now piece.now (phase_of phase.old)).phase) }
     ensures err { OnErr result (phase_of phase.new ≡ phase_of phase.old) }
-    ensures done { IsTrue (S.keeping site.old).honest → OnOk result ((S.keeping site.new).site ≡ with_change (S.keeping site.old).site now (listens (S.keeping site.old).site now piece.now (phase_of phase.old)).post) }
-    ensures still_usable { OnOk result ((S.keeping site.new).usable ≡ true) }
-    ensures fault { IfErr result (IsHearFault (IsLacking (S.lacks site.old)) (phase_of phase.old) (listens (S.keeping site.old).site now piece.now (phase_of phase.old)).post now (S.keeping site.old) (S.keeping site.new)) }
-    ensures tried { HasTried (S.keeping site.old) (S.keeping site.new) }
-    ensures still { IsTrue (S.keeping site.old).honest → IfErr result (λ e. (S.keeping site.new).usable ≡ true → IsQuiet (S.stops site.old) (S.stops site.new)) }
-    ensures stop { IsTrue (S.keeping site.old).honest → LeavesOnly (S.stops site.old) (S.stops site.new)
-        (λ c. S.stands_for c (S.keeping site.old).site ⊎ S.stands_for c (with_change (S.keeping site.old).site now (listens (S.keeping site.old).site now piece.now (phase_of phase.old)).post)) }
+    ensures done { IsTrue (S.site_state site.old).honest → OnOk result ((S.site_state site.new).site ≡ with_change (S.site_state site.old).site now (listens (S.site_state site.old).site now piece.now (phase_of phase.old)).post) }
+    ensures still_usable { OnOk result ((S.site_state site.new).usable ≡ true) }
+    ensures fault { IfErr result (IsHearFault (IsLacking (S.lacks site.old)) (phase_of phase.old) (listens (S.site_state site.old).site now piece.now (phase_of phase.old)).post now (S.site_state site.old) (S.site_state site.new)) }
+    ensures tried { HasTried (S.site_state site.old) (S.site_state site.new) }
+    ensures unchanged { IsTrue (S.site_state site.old).honest → IfErr result (λ e. (S.site_state site.new).usable ≡ true → AddsNone (S.crash_states site.old) (S.crash_states site.new)) }
+    ensures at_crash { IsTrue (S.site_state site.old).honest → AddsOnly (S.crash_states site.old) (S.crash_states site.new)
+        (λ c. S.represents c (S.site_state site.old).site ⊎ S.represents c (with_change (S.site_state site.old).site now (listens (S.site_state site.old).site now piece.now (phase_of phase.old)).post)) }
 {
     let hearing = match phase {
         Phase::Hearing(hearing) => hearing,
-        Phase::Replying(_) => return Ok(Heard::Ready),
-        Phase::Early => return Ok(Heard::Finished),
+        Phase::Replying(_) => return Ok(InputStatus::Ready),
+        Phase::Early => return Ok(InputStatus::Finished),
     };
     let Ok(answer) = hearing.reader.feed(piece) else {
         return Err(HubFault::Memory);
     };
     if let Answer::More = answer {
-        return Ok(Heard::More);
+        return Ok(InputStatus::More);
     }
     let concluded = conclude(alloc, site, answer, now);
     hearing.reader.undo();
@@ -166,28 +172,28 @@ pub fn hear_end<S: SearchKeeper>(
     site: &mut S,
     phase: &mut Phase,
     now: Stamp,
-) -> Result<Heard, HubFault>
-    requires usable { (S.keeping site.old).usable ≡ true }
-    ensures said { IsTrue (S.keeping site.old).honest → IfOk result (λ h. heard_outcome h ≡ (ends (S.keeping site.old).site now (phase_of phase.old)).outcome) }
-    ensures phase { IsTrue (S.keeping site.old).honest → OnOk result (phase_of phase.new ≡ (ends (S.keeping site.old).site now (phase_of phase.old)).phase) }
+) -> Result<InputStatus, HubFault>
+    requires usable { (S.site_state site.old).usable ≡ true }
+    ensures gives { IsTrue (S.site_state site.old).honest → IfOk result (λ h. heard_outcome h ≡ (ends (S.site_state site.old).site now (phase_of phase.old)).outcome) }
+    ensures phase { IsTrue (S.site_state site.old).honest → OnOk result (phase_of phase.new ≡ (ends (S.site_state site.old).site now (phase_of phase.old)).phase) }
     ensures err { OnErr result (phase_of phase.new ≡ phase_of phase.old) }
-    ensures done { IsTrue (S.keeping site.old).honest → OnOk result ((S.keeping site.new).site ≡ with_change (S.keeping site.old).site now (ends (S.keeping site.old).site now (phase_of phase.old)).post) }
-    ensures still_usable { OnOk result ((S.keeping site.new).usable ≡ true) }
-    ensures fault { IfErr result (IsHearFault (IsLacking (S.lacks site.old)) (phase_of phase.old) (ends (S.keeping site.old).site now (phase_of phase.old)).post now (S.keeping site.old) (S.keeping site.new)) }
-    ensures tried { HasTried (S.keeping site.old) (S.keeping site.new) }
-    ensures still { IsTrue (S.keeping site.old).honest → IfErr result (λ e. (S.keeping site.new).usable ≡ true → IsQuiet (S.stops site.old) (S.stops site.new)) }
-    ensures stop { IsTrue (S.keeping site.old).honest → LeavesOnly (S.stops site.old) (S.stops site.new)
-        (λ c. S.stands_for c (S.keeping site.old).site ⊎ S.stands_for c (with_change (S.keeping site.old).site now (ends (S.keeping site.old).site now (phase_of phase.old)).post)) }
+    ensures done { IsTrue (S.site_state site.old).honest → OnOk result ((S.site_state site.new).site ≡ with_change (S.site_state site.old).site now (ends (S.site_state site.old).site now (phase_of phase.old)).post) }
+    ensures still_usable { OnOk result ((S.site_state site.new).usable ≡ true) }
+    ensures fault { IfErr result (IsHearFault (IsLacking (S.lacks site.old)) (phase_of phase.old) (ends (S.site_state site.old).site now (phase_of phase.old)).post now (S.site_state site.old) (S.site_state site.new)) }
+    ensures tried { HasTried (S.site_state site.old) (S.site_state site.new) }
+    ensures unchanged { IsTrue (S.site_state site.old).honest → IfErr result (λ e. (S.site_state site.new).usable ≡ true → AddsNone (S.crash_states site.old) (S.crash_states site.new)) }
+    ensures at_crash { IsTrue (S.site_state site.old).honest → AddsOnly (S.crash_states site.old) (S.crash_states site.new)
+        (λ c. S.represents c (S.site_state site.old).site ⊎ S.represents c (with_change (S.site_state site.old).site now (ends (S.site_state site.old).site now (phase_of phase.old)).post)) }
 {
     let hearing = match phase {
         Phase::Hearing(hearing) => hearing,
-        Phase::Replying(_) => return Ok(Heard::Ready),
-        Phase::Early => return Ok(Heard::Finished),
+        Phase::Replying(_) => return Ok(InputStatus::Ready),
+        Phase::Early => return Ok(InputStatus::Finished),
     };
     let answer = hearing.reader.finish();
     if let Answer::More = answer {
         hearing.reader.undo();
-        return Ok(Heard::More);
+        return Ok(InputStatus::More);
     }
     let concluded = conclude(alloc, site, answer, now);
     hearing.reader.undo();
@@ -198,9 +204,9 @@ pub fn hear_end<S: SearchKeeper>(
 
 /// The next bytes of a reply, as many as there are and fit.
 pub fn draw(phase: &mut Phase, out: &mut [u8]) -> Result<Drawn, HubFault>
-    ensures said { draw_outcome result out.new ≡ (draws (length out.old) (phase_of phase.old)).outcome }
+    ensures gives { draw_outcome result out.new ≡ (draws (length out.old) (phase_of phase.old)).outcome }
     ensures phase { phase_of phase.new ≡ (draws (length out.old) (phase_of phase.old)).phase }
-    ensures behind { IfOk result (λ drawn. IsBehindKept (drawn_length drawn) out.old out.new) }
+    ensures behind { IfOk result (λ drawn. IsUnchangedBehind (drawn_length drawn) out.old out.new) }
     ensures untouched { IfErr result (λ e. out.new ≡ out.old) }
 {
     let replying = match phase {

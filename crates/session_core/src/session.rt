@@ -1,7 +1,7 @@
 // A session and where it is.
 ghost use Rattle.std.specs.Prelude.{◌≡◌, ◌≤◌, true, false, length};
 ghost use Rattle.request_reader.specs.Verdict.{is_open};
-ghost use Rattle.request_reader.specs.Heard.{said_by};
+ghost use Rattle.request_reader.specs.ReceivedInput.{verdict_by};
 
 use host_types::Bytes;
 use request_reader::Reader;
@@ -10,8 +10,8 @@ use request_reader::Reader;
 #[derive(Drop)]
 pub struct Hearing {
     pub reader: Reader,
-    ghost open: { is_open (said_by reader.input) ≡ true },
-    ghost goes_on: { reader.input.ended ≡ false },
+    ghost open: { is_open (verdict_by reader.input) ≡ true },
+    ghost adds_both: { reader.input.ended ≡ false },
 }
 
 /// A reply, of which some is drawn.

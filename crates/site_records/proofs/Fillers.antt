@@ -4,8 +4,8 @@ use Rattle.std.specs.Prelude.{IsTrue, nat_le, nat_lt, not, ◌&&◌, ◌||◌, r
 use Rattle.std.specs.List.{list_all, list_any, AllByRecursion}
 use Rattle.std.proofs.lemmas.Bool.{cases_lt, eqb-true, le-leb, leb-true, leb-false, lt-ltb, le-ltb, ltb-true, ne_eqb}
 use Rattle.std.proofs.lemmas.List.{length-append, length-map, length-replicate}
-use Rattle.host_types.specs.Names.{is_field, is_barred, is_word, is_visible}
-use Rattle.host_types.specs.Items.{is_selector, is_title, is_host, is_typed_entry, is_bad_entry, is_bad_word, is_bad_question, prompt_of, has_bad_name, is_long_view, has_twins, view_bytes, most_view_bytes, is_bad_body, is_typed_item, is_lawful_item}
+use Rattle.host_types.specs.Names.{is_field, is_forbidden, is_word, is_visible}
+use Rattle.host_types.specs.Items.{is_selector, is_title, is_host, is_typed_entry, is_bad_entry, is_bad_word, is_bad_question, prompt_of, has_bad_name, is_long_view, has_twins, view_bytes, most_view_bytes, is_bad_body, is_typed_item, is_valid_item}
 use Rattle.host_types.specs.Card.{card_view}
 use Rattle.host_types.specs.declared.view.View.{View}
 use Rattle.host_types.specs.declared.card.CardView.{CardView}
@@ -24,7 +24,7 @@ use Rattle.site_records.specs.declared.record.RecordBody.{RecordBody}
 use Rattle.site_records.specs.declared.record.RecordBody.TheVariants as kept
 use Rattle.site_records.proofs.Formats.{and_first, and_second, and_both}
 use Rattle.site_records.proofs.QuestionLaws.{or_false, short_questions}
-use Rattle.site_records.proofs.Sizes.{not_true, IsLawful, twins, lengths}
+use Rattle.site_records.proofs.Sizes.{not_true, IsValid, twins, lengths}
 
 -- ---- a number as a sum of a few numbers between two bounds
 
@@ -85,7 +85,7 @@ letters n = replicate n 97
 letters_long : (n : ℕ) → length (letters n) ≡ n
 letters_long n = length-replicate n 97
 
-letters_plain : (n : ℕ) → list_any is_barred (letters n) ≡ false
+letters_plain : (n : ℕ) → list_any is_forbidden (letters n) ≡ false
 letters_plain zero = refl
 letters_plain (suc n) = letters_plain n
 
@@ -265,7 +265,7 @@ a_form : (n : ℕ) → IsTrue (is_form_size n) → AForm n
 unfolding is_form_size
 a_form n h = filled_form n (leb-true 3 n (and_first (nat_le 3 n) _ h)) (leb-true n 7712 (and_second (nat_le 3 n) _ h))
 
--- ---- lawful parts, as changes test them
+-- ---- valid parts, as changes test them
 
 typed_entries : (es : List Entry) → list_all is_entry es ≡ true → (list_all is_typed_entry es ≡ true) × (list_any is_bad_entry es ≡ false)
 typed_entries [] h = (refl, refl)
@@ -333,7 +333,7 @@ good_views (c ∷ cs) h =
 -- ---- bodies and items
 
 abbrev ABody : RecordBody → Type 0
-ABody b = (body : Body) × IsLawful body × (recorded_body body ≡ b)
+ABody b = (body : Body) × IsValid body × (recorded_body body ≡ b)
 
 a_body : (b : RecordBody) → IsTrue (is_body b) → ABody b
 unfolding go_together most_view_bytes
@@ -386,7 +386,7 @@ a_body (kept.Form board size) h =
 a_body (kept.Search scope) h = (Search scope, record { typed = h; not_bad = refl; not_long = refl }, refl)
 a_body (kept.Moved target) h = (Moved target, record { typed = h; not_bad = refl; not_long = refl }, refl)
 
-pub an_item : (r : Record) → IsTrue (is_record r) → (item : Item) × IsTrue (is_lawful_item [] item) × (recorded item ≡ r)
+pub an_item : (r : Record) → IsTrue (is_record r) → (item : Item) × IsTrue (is_valid_item [] item) × (recorded item ≡ r)
 an_item r h =
     let stamp = and_first (is_stamp r.stamp) _ h in
     let titled = and_second (is_stamp r.stamp) _ h in

@@ -4,8 +4,8 @@ pub mod Fillers
 pub mod Formats
 pub mod Lengths
 pub mod Loops
-pub mod Named
+pub mod NameTests
 pub mod QuestionLaws
 pub mod RecordLaws
 pub mod Sizes
-pub mod Tells
+pub mod LayoutTells

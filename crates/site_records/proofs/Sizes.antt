@@ -7,7 +7,7 @@ use Rattle.std.proofs.lemmas.Bool.{ltb-false, ltb-true, lt-ltb, leb-true, le-leb
 use Rattle.std.proofs.lemmas.List.{length-append, length-map}
 use Rattle.std.proofs.lemmas.List.Sums.{sum_by-cons}
 use Rattle.host_types.specs.Names.{is_field, is_word, is_visible, is_url}
-use Rattle.host_types.specs.Items.{is_selector, is_title, is_host, is_link, is_typed_entry, is_bad_entry, is_bad_word, is_bad_question, is_long_question, is_long_word, prompt_of, has_bad_name, is_long_view, is_same_view, has_twins, view_bytes, most_view_bytes, is_typed_body, is_bad_body, is_long_body, is_typed_item, is_long_item, is_lawful_item}
+use Rattle.host_types.specs.Items.{is_selector, is_title, is_host, is_link, is_typed_entry, is_bad_entry, is_bad_word, is_bad_question, is_long_question, is_long_word, prompt_of, has_bad_name, is_long_view, is_same_view, has_twins, view_bytes, most_view_bytes, is_typed_body, is_bad_body, is_long_body, is_typed_item, is_long_item, is_valid_item}
 use Rattle.host_types.specs.Card.{card_view}
 use Rattle.host_types.specs.declared.view.View.{View}
 use Rattle.host_types.specs.declared.card.CardView.{CardView}
@@ -91,11 +91,11 @@ menu_size (e ∷ es) h =
     let least : 2 ≤ length (entries_bytes (e ∷ es)) = omega (arith, length-append (entry_bytes e) (entries_bytes es), entry_least e) in
     or_true_second (eqb (length (entries_bytes (e ∷ es))) 0) _ (and_both (nat_le 2 _) _ (le-leb 2 _ least) (le-leb _ 43100 (entries_size (e ∷ es) h)))
 
-pub lawful_entries : (es : List Entry) → list_all is_typed_entry es ≡ true → list_any is_bad_entry es ≡ false → list_all is_entry es ≡ true
-lawful_entries [] h g = refl
-lawful_entries (e ∷ es) h g =
+pub valid_entries : (es : List Entry) → list_all is_typed_entry es ≡ true → list_any is_bad_entry es ≡ false → list_all is_entry es ≡ true
+valid_entries [] h g = refl
+valid_entries (e ∷ es) h g =
     and_both (is_entry e) _ (and_both (is_typed_entry e) _ (and_first (is_typed_entry e) _ h) (not_false (is_bad_entry e) (or_first (is_bad_entry e) _ g)))
-    (lawful_entries es (and_second (is_typed_entry e) _ h) (or_second (is_bad_entry e) _ g))
+    (valid_entries es (and_second (is_typed_entry e) _ h) (or_second (is_bad_entry e) _ g))
 
 -- ---- questions
 
@@ -146,8 +146,8 @@ above_zero : (n : ℕ) → eqb n 0 ≡ false → nat_lt 0 n ≡ true
 above_zero zero h = absurd cc
 above_zero (suc n) h = lt-ltb 0 (suc n) (omega arith)
 
-lawful_word : (w : List ℕ) → is_bad_word w ≡ false → is_long_word w ≡ false → is_answer w ≡ true
-lawful_word w bad long =
+valid_word : (w : List ℕ) → is_bad_word w ≡ false → is_long_word w ≡ false → is_answer w ≡ true
+valid_word w bad long =
     and_both (nat_lt 0 (length w)) _ (above_zero (length w) (or_first (eqb (length w) 0) _ bad))
     (and_both (nat_le (length w) 40) _ (le-leb (length w) 40 (ltb-false 40 (length w) long)) (not_not (is_field w) (or_second (eqb (length w) 0) _ bad)))
   where
@@ -155,30 +155,30 @@ lawful_word w bad long =
     not_not true h = refl
     not_not false h = absurd cc
 
-lawful_words : (ws : List (List ℕ)) → list_any is_bad_word ws ≡ false → list_any is_long_word ws ≡ false → list_all is_answer ws ≡ true
-lawful_words [] bad long = refl
-lawful_words (w ∷ ws) bad long = and_both (is_answer w) _ (lawful_word w (or_first (is_bad_word w) _ bad) (or_first (is_long_word w) _ long)) (lawful_words ws (or_second (is_bad_word w) _ bad) (or_second (is_long_word w) _ long))
+valid_words : (ws : List (List ℕ)) → list_any is_bad_word ws ≡ false → list_any is_long_word ws ≡ false → list_all is_answer ws ≡ true
+valid_words [] bad long = refl
+valid_words (w ∷ ws) bad long = and_both (is_answer w) _ (valid_word w (or_first (is_bad_word w) _ bad) (or_first (is_long_word w) _ long)) (valid_words ws (or_second (is_bad_word w) _ bad) (or_second (is_long_word w) _ long))
 
-lawful_prompt : (t : List ℕ) → eqb (length t) 0 ≡ false → is_title t ≡ true → is_prompt t ≡ true
-lawful_prompt t some h = and_both (nat_lt 0 (length t)) _ (above_zero (length t) some) h
+valid_prompt : (t : List ℕ) → eqb (length t) 0 ≡ false → is_title t ≡ true → is_prompt t ≡ true
+valid_prompt t some h = and_both (nat_lt 0 (length t)) _ (above_zero (length t) some) h
 
-lawful_question : (q : Question) → is_title (prompt_of q) ≡ true → is_bad_question q ≡ false → is_long_question q ≡ false → is_question q ≡ true
-lawful_question (Ask prompt) t bad long = lawful_prompt prompt bad t
-lawful_question (AskL prompt) t bad long = lawful_prompt prompt bad t
-lawful_question (AskP prompt word) t bad long =
-    and_both (is_prompt prompt) _ (lawful_prompt prompt (or_first (eqb (length prompt) 0) _ bad) t) (lawful_word word (or_second (eqb (length prompt) 0) _ bad) long)
-lawful_question (Choose prompt choices) t bad long =
+valid_question : (q : Question) → is_title (prompt_of q) ≡ true → is_bad_question q ≡ false → is_long_question q ≡ false → is_question q ≡ true
+valid_question (Ask prompt) t bad long = valid_prompt prompt bad t
+valid_question (AskL prompt) t bad long = valid_prompt prompt bad t
+valid_question (AskP prompt word) t bad long =
+    and_both (is_prompt prompt) _ (valid_prompt prompt (or_first (eqb (length prompt) 0) _ bad) t) (valid_word word (or_second (eqb (length prompt) 0) _ bad) long)
+valid_question (Choose prompt choices) t bad long =
     let more = or_second (eqb (length prompt) 0) _ bad in
     let some : nat_le 1 (length choices) ≡ true = above_zero (length choices) (or_first (eqb (length choices) 0) _ more) in
     let few = le-leb (length choices) 10 (ltb-false 10 (length choices) (or_first (nat_lt 10 (length choices)) _ long)) in
-    and_both (is_prompt prompt) _ (lawful_prompt prompt (or_first (eqb (length prompt) 0) _ bad) t)
-    (and_both (is_choice_count (length choices)) _ (and_both (nat_le 1 (length choices)) _ some few) (lawful_words choices (or_second (eqb (length choices) 0) _ more) (or_second (nat_lt 10 (length choices)) _ long)))
+    and_both (is_prompt prompt) _ (valid_prompt prompt (or_first (eqb (length prompt) 0) _ bad) t)
+    (and_both (is_choice_count (length choices)) _ (and_both (nat_le 1 (length choices)) _ some few) (valid_words choices (or_second (eqb (length choices) 0) _ more) (or_second (nat_lt 10 (length choices)) _ long)))
 
-lawful_questions : (qs : List Question) → list_all (λ q. is_title (prompt_of q)) qs ≡ true → list_any is_bad_question qs ≡ false → list_any is_long_question qs ≡ false → list_all is_question qs ≡ true
-lawful_questions [] t bad long = refl
-lawful_questions (q ∷ qs) t bad long =
-    and_both (is_question q) _ (lawful_question q (and_first (is_title (prompt_of q)) _ t) (or_first (is_bad_question q) _ bad) (or_first (is_long_question q) _ long))
-    (lawful_questions qs (and_second (is_title (prompt_of q)) _ t) (or_second (is_bad_question q) _ bad) (or_second (is_long_question q) _ long))
+valid_questions : (qs : List Question) → list_all (λ q. is_title (prompt_of q)) qs ≡ true → list_any is_bad_question qs ≡ false → list_any is_long_question qs ≡ false → list_all is_question qs ≡ true
+valid_questions [] t bad long = refl
+valid_questions (q ∷ qs) t bad long =
+    and_both (is_question q) _ (valid_question q (and_first (is_title (prompt_of q)) _ t) (or_first (is_bad_question q) _ bad) (or_first (is_long_question q) _ long))
+    (valid_questions qs (and_second (is_title (prompt_of q)) _ t) (or_second (is_bad_question q) _ bad) (or_second (is_long_question q) _ long))
 
 -- ---- views
 
@@ -186,20 +186,20 @@ not_not : (b : Bool) → not b ≡ false → b ≡ true
 not_not true h = refl
 not_not false h = absurd cc
 
-lawful_view : (v : View) → has_bad_name v ≡ false → is_long_view v ≡ false → length v.bytes ≤ 65536 → is_view (card_view v) ≡ true
-lawful_view v bad long fits =
+valid_view : (v : View) → has_bad_name v ≡ false → is_long_view v ≡ false → length v.bytes ≤ 65536 → is_view (card_view v) ≡ true
+valid_view v bad long fits =
     and_both (is_view_name v.name) _
     (and_both (nat_le (length v.name) 40) _ (le-leb (length v.name) 40 (ltb-false 40 (length v.name) (or_first _ (nat_lt 10 (length v.language)) long))) (not_not (is_word v.name) (or_first (not (is_word v.name)) _ bad)))
     (and_both (is_language v.language) _
     (and_both (nat_le (length v.language) 10) _ (le-leb (length v.language) 10 (ltb-false 10 (length v.language) (or_second (nat_lt 40 (length v.name)) _ long))) (not_not (list_all is_visible v.language) (or_second (not (is_word v.name)) _ bad)))
     (lt-ltb (length v.bytes) (2 ^ 32) (omega (arith, fits))))
 
-lawful_views : (vs : List View) → list_any has_bad_name vs ≡ false → list_any is_long_view vs ≡ false → view_bytes vs ≤ 65536 → list_all is_view (map card_view vs) ≡ true
-lawful_views [] bad long fits = refl
-lawful_views (v ∷ vs) bad long fits =
+valid_views : (vs : List View) → list_any has_bad_name vs ≡ false → list_any is_long_view vs ≡ false → view_bytes vs ≤ 65536 → list_all is_view (map card_view vs) ≡ true
+valid_views [] bad long fits = refl
+valid_views (v ∷ vs) bad long fits =
     let sum = sum_by-cons (λ (w : View). length w.bytes) v vs in
-    and_both (is_view (card_view v)) _ (lawful_view v (or_first (has_bad_name v) _ bad) (or_first (is_long_view v) _ long) (omega (arith, fits, sum)))
-    (lawful_views vs (or_second (has_bad_name v) _ bad) (or_second (is_long_view v) _ long) (omega (arith, fits, sum)))
+    and_both (is_view (card_view v)) _ (valid_view v (or_first (has_bad_name v) _ bad) (or_first (is_long_view v) _ long) (omega (arith, fits, sum)))
+    (valid_views vs (or_second (has_bad_name v) _ bad) (or_second (is_long_view v) _ long) (omega (arith, fits, sum)))
 
 same_faces : (v : View) (vs : List View) → list_any (is_same_face (card_view v)) (map card_view vs) ≡ list_any (is_same_view v) vs
 same_faces v [] = refl
@@ -216,13 +216,13 @@ lengths (v ∷ vs) = sum_by-cons (λ (w : CardView). w.length) (card_view v) (ma
 -- ---- bodies
 
 pub menu_entries : (es : List Entry) → IsTrue (is_typed_body (Menu es)) → is_bad_body (Menu es) ≡ false → is_long_body [] (Menu es) ≡ false → IsTrue (are_entries es)
-menu_entries es typed bad long = and_both (nat_le (length es) 100) _ (le-leb (length es) 100 (ltb-false 100 (length es) long)) (lawful_entries es typed bad)
+menu_entries es typed bad long = and_both (nat_le (length es) 100) _ (le-leb (length es) 100 (ltb-false 100 (length es) long)) (valid_entries es typed bad)
 
 pub form_questions : (board : List ℕ) (qs : List Question) → IsTrue (is_typed_body (Form board qs)) → is_bad_body (Form board qs) ≡ false → is_long_body [] (Form board qs) ≡ false → IsTrue (are_questions qs)
 form_questions board qs typed bad long =
     and_both (nat_lt 0 (length qs)) _ (above_zero (length qs) (or_first (eqb (length qs) 0) _ bad))
     (and_both (nat_le (length qs) 16) _ (le-leb (length qs) 16 (ltb-false 16 (length qs) (or_first (nat_lt 16 (length qs)) _ long)))
-    (lawful_questions qs (and_second (is_selector board) _ typed) (or_second (eqb (length qs) 0) _ bad) (or_second (nat_lt 16 (length qs)) _ long)))
+    (valid_questions qs (and_second (is_selector board) _ typed) (or_second (eqb (length qs) 0) _ bad) (or_second (nat_lt 16 (length qs)) _ long)))
 
 body_record : (body : Body) → IsTrue (is_typed_body body) → is_bad_body body ≡ false → is_long_body [] body ≡ false → IsTrue (is_body (recorded_body body))
 unfolding go_together most_view_bytes
@@ -235,7 +235,7 @@ body_record (Views kind vs) typed bad long =
     let large = or_first (nat_lt 65536 (view_bytes vs)) _ sizes in
     let fits : view_bytes vs ≤ 65536 = ltb-false 65536 (view_bytes vs) large in
     and_both _ _
-    (and_both (is_view_count (length (map card_view vs))) _ (and_both (nat_le 1 (length (map card_view vs))) _ (le-leb 1 _ some) (le-leb _ 8 few)) (lawful_views vs (or_first (list_any has_bad_name vs) _ names) (or_second (nat_lt 65536 (view_bytes vs)) _ sizes) fits))
+    (and_both (is_view_count (length (map card_view vs))) _ (and_both (nat_le 1 (length (map card_view vs))) _ (le-leb 1 _ some) (le-leb _ 8 few)) (valid_views vs (or_first (list_any has_bad_name vs) _ names) (or_second (nat_lt 65536 (view_bytes vs)) _ sizes) fits))
     (and_both (not (have_twins (map card_view vs))) _ (not_false _ (twins vs ∙ or_second (list_any has_bad_name vs) _ names)) (not_false _ (ap (nat_lt 65536) (lengths vs) ∙ large)))
 body_record (Menu es) typed bad long = menu_size es (menu_entries es typed bad long)
 body_record (Board many next) typed bad long =
@@ -253,13 +253,13 @@ short_anywhere selector (Search scope) h = h
 short_anywhere selector (Moved target) h = h
 
 -- the body of an item that keeps all limits
-pub record IsLawful (body : Body) : Type 0 where
+pub record IsValid (body : Body) : Type 0 where
   pub typed : IsTrue (is_typed_body body)
   pub not_bad : is_bad_body body ≡ false
   pub not_long : is_long_body [] body ≡ false
 
-pub lawful_body : (selector : List ℕ) (item : Item) → IsTrue (is_lawful_item selector item) → IsLawful item.body
-lawful_body selector item h =
+pub valid_body : (selector : List ℕ) (item : Item) → IsTrue (is_valid_item selector item) → IsValid item.body
+valid_body selector item h =
     let rest = and_second (is_typed_item item) _ h in
     let long = not_true (is_long_item selector item) (and_second (not (is_bad_body item.body)) _ rest) in
     record {
@@ -268,7 +268,7 @@ lawful_body selector item h =
       not_long = short_anywhere selector item.body (or_second (nat_lt 400 (length item.summary)) _ long);
     }
 
-pub item_record : (selector : List ℕ) (item : Item) → IsTrue (is_lawful_item selector item) → IsTrue (is_record (recorded item))
+pub item_record : (selector : List ℕ) (item : Item) → IsTrue (is_valid_item selector item) → IsTrue (is_record (recorded item))
 item_record selector item h =
     let typed = and_first (is_typed_item item) _ h in
     let rest = and_second (is_typed_item item) _ h in

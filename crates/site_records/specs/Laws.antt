@@ -5,16 +5,16 @@ use Rattle.std.specs.List.{AllByRecursion}
 use Rattle.std.specs.List.Sorted.{IsStrictlySortedBy}
 use Rattle.std.specs.FinMap.{is_sorted}
 use Rattle.std.specs.BTreeMap.{is_at}
-use Rattle.host_types.specs.Items.{is_lawful_item}
+use Rattle.host_types.specs.Items.{is_valid_item}
 use Rattle.host_types.specs.Site.{Site, IsSite, byte_cmp, item_at, with_item, without_item}
-use Rattle.host_types.specs.Change.{apply}
+use Rattle.host_types.specs.Change.{apply, touched}
 use Rattle.host_types.specs.Words.{is_among}
 use Rattle.host_types.specs.declared.item.Item.{Item}
 use Rattle.host_types.specs.declared.change.Change.{Change}
 use Rattle.site_records.specs.Keys.{item_key, chunk_key, word_key, owner}
 use Rattle.site_records.specs.Records.{recorded, record_bytes, item_bytes}
 use Rattle.site_records.specs.Limits.{is_record}
-use Rattle.site_records.specs.Layout.{Pairs, item_pairs, layout, value_at, kept_chunk, has_word, touched, keys_in, keys_after, keys_of}
+use Rattle.site_records.specs.Layout.{Pairs, item_pairs, layout, value_at, kept_chunk, has_word, keys_in, keys_after, keys_of}
 use Rattle.site_records.specs.declared.record.Record.{Record}
 
 -- a site's items stand in byte order of their selectors
@@ -27,7 +27,7 @@ ItemsShareNoKey = (a b : List ℕ) (x y : Item) (key : List ℕ) → IsSome (val
 
 -- Each pair of an item is what stands at its key, so no key stands twice with another value.
 abbrev pub PairsStand : Type 0
-PairsStand = (selector : List ℕ) (item : Item) → IsTrue (is_lawful_item selector item) → AllByRecursion (λ p. value_at (item_pairs selector item) p.0 ≡ Some p.1) (item_pairs selector item)
+PairsStand = (selector : List ℕ) (item : Item) → IsTrue (is_valid_item selector item) → AllByRecursion (λ p. value_at (item_pairs selector item) p.0 ≡ Some p.1) (item_pairs selector item)
 
 abbrev pub LayoutIsInOrder : Type 0
 LayoutIsInOrder = (s : Site) → IsTrue (is_sorted byte_cmp (layout s))
@@ -67,11 +67,11 @@ RecordsTell = (r s : Record) → IsTrue (is_record r) → IsTrue (is_record s) �
 
 -- an item that keeps all limits has a record
 abbrev pub ItemsHaveRecords : Type 0
-ItemsHaveRecords = (selector : List ℕ) (item : Item) → IsTrue (is_lawful_item selector item) → IsTrue (is_record (recorded item))
+ItemsHaveRecords = (selector : List ℕ) (item : Item) → IsTrue (is_valid_item selector item) → IsTrue (is_record (recorded item))
 
 -- a record that keeps the limits is that of an item that keeps all limits, at some selector
 abbrev pub RecordsHaveItems : Type 0
-RecordsHaveItems = (r : Record) → IsTrue (is_record r) → (item : Item) × IsTrue (is_lawful_item [] item) × (recorded item ≡ r)
+RecordsHaveItems = (r : Record) → IsTrue (is_record r) → (item : Item) × IsTrue (is_valid_item [] item) × (recorded item ≡ r)
 
 -- Equal layouts of sites with the same address are those of one site.
 abbrev pub LayoutTells : Type 0

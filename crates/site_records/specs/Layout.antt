@@ -1,18 +1,17 @@
--- The layout of a site: the pairs of keys and values that stand for it. docs/IMAGE.md, 'Layout of a site'.
-use Rattle.std.specs.Prelude.{ℕ, zero, suc, ◌+◌, ◌*◌, ◌/◌, Bool, false, List, [], ◌∷◌, ◌++◌, length, map, flat_map, nat_lt, slice_get, if◌then◌else◌, Option, Some, None, Result, Ok, Err, option_to_list}
+-- The layout of a site: the pairs of keys and values that represent it. docs/IMAGE.md, 'Layout of a site'.
+use Rattle.std.specs.Prelude.{ℕ, zero, suc, ◌+◌, ◌*◌, ◌/◌, Bool, false, List, [], ◌∷◌, ◌++◌, length, map, flat_map, nat_lt, slice_get, if◌then◌else◌, Option, Some, None, Result, Ok, Err}
 use Rattle.std.specs.Map.{lookup}
 use Rattle.std.specs.BTreeMap.{insert_entry, is_at}
 use Rattle.std.specs.BTreeSet.{insert_key}
-use Rattle.host_types.specs.Site.{Site, byte_cmp, item_at, board_at, post_selector}
-use Rattle.host_types.specs.Change.{apply, oldest_post}
-use Rattle.host_types.specs.declared.refused.Refused.{Refused}
+use Rattle.host_types.specs.Site.{Site, byte_cmp, item_at}
+use Rattle.host_types.specs.Change.{apply, touched}
+use Rattle.common_types.specs.declared.refused.Refused.{Refused}
 use Rattle.host_types.specs.Card.{chunk_of}
 use Rattle.host_types.specs.Words.{words_of, is_among}
 use Rattle.site_records.specs.Keys.{item_key, chunk_key, word_key}
 use Rattle.site_records.specs.Records.{item_bytes, parts_of}
 use Rattle.host_types.specs.declared.item.Item.{Item}
 use Rattle.host_types.specs.declared.change.Change.{Change}
-use Rattle.host_types.specs.declared.change.Change.TheVariants as changes
 
 -- a key and its value
 abbrev pub Pair : Type 0
@@ -79,7 +78,7 @@ abbrev pub has_word : Option Item → List ℕ → Bool
 has_word None word = false
 has_word (Some item) word = is_among (words_of item) word
 
--- ---- what a change touches
+-- ---- the keys that a change touches
 
 abbrev pub keys_at : Option Item → List ℕ → List (List ℕ)
 keys_at None selector = []
@@ -89,20 +88,6 @@ keys_at (Some item) selector = map (λ p. p.0) (item_pairs selector item)
 abbrev pub keys_in : Site → List (List ℕ) → List (List ℕ)
 keys_in s [] = []
 keys_in s (selector ∷ selectors) = keys_at (item_at s selector) selector ++ keys_in s selectors
-
--- the selectors of a board's post n: the board, the post, and the post that it pushes out
-abbrev pub touched_by_post : List ℕ → Option (ℕ × ℕ) → List (List ℕ)
-touched_by_post board None = []
-touched_by_post board (Some b) = board ∷ post_selector board b.1 ∷ option_to_list (oldest_post board b.0 b.1)
-
--- the selectors at which a change changes something
-abbrev pub touched : Site → Change → List (List ℕ)
-touched s (changes.Put selector item) = selector ∷ []
-touched s (changes.Remove selector) = selector ∷ []
-touched s (changes.Move from to) = from ∷ to ∷ []
-touched s (changes.SetHost host port) = []
-touched s (changes.SetAdmin admin) = []
-touched s (changes.Post board title text) = touched_by_post board (board_at s board)
 
 abbrev pub keys_after : Result Site Refused → List (List ℕ) → List (List ℕ)
 keys_after (Ok t) selectors = keys_in t selectors

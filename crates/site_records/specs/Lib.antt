@@ -7,4 +7,4 @@ pub mod Layout
 pub mod LayoutLaws
 pub mod KeyLaws
 pub mod Laws
-pub mod Examples
+pub mod RecordExamples

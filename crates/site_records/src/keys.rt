@@ -12,7 +12,7 @@ pub const LONGEST_KEY: usize = 289;
 /// The greatest length of a word in a key.
 pub const LONGEST_WORD: usize = 32;
 
-/// A key of the pairs that stand for a site, of 1 to 289 bytes.
+/// A key of the pairs that represent a site, of 1 to 289 bytes.
 #[derive(Debug, PartialEq, Eq, PartialOrd, Ord, Drop)]
 pub struct Key {
     bytes: ArrayVec<u8, 289>,
@@ -44,7 +44,7 @@ fn append(key: &mut ArrayVec<u8, 289>, bytes: &[u8])
 impl Key {
     /// The bytes of the key.
     pub fn as_bytes(&self) -> &[u8]
-        ensures bytes { result.now ≡ self.now }
+        ensures key { result.now ≡ self.now }
         ensures length { length result.now ≤ LONGEST_KEY }
         ensures some { 0 < length result.now }
     {

@@ -1,11 +1,11 @@
 // What holds of keys, records and the layout.
 ghost use Rattle.site_records.specs.Keys.{KeysAreOneToOne};
-ghost use Rattle.site_records.specs.Examples.{Examples};
+ghost use Rattle.site_records.specs.RecordExamples.{RecordExamples};
 ghost use Rattle.site_records.specs.Laws.{ItemsShareNoKey, PairsStand, LayoutIsInOrder, LayoutsHold, LayoutsChange, ChangesHaveKeys, ValuesTell, RecordsTell, ItemsHaveRecords, RecordsHaveItems, LayoutTells};
 
 /// The layout of a sample site, byte for byte, and other worked examples.
 pub fn worked_examples()
-    ensures { Examples }
+    ensures { RecordExamples }
 {}
 
 /// Each key has bytes of its own, across the three sorts too.

@@ -1,4 +1,4 @@
-//! Keys and records: the pairs that stand for a site.
+//! Keys and records: the pairs that represent a site.
 #![tactic(auto)]
 
 mod entry_reading;

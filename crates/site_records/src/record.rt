@@ -12,7 +12,7 @@ pub enum RecordFault {
     /// The bytes are not what is written of any item that keeps the limits.
     #[error("BadRecord")]
     BadRecord,
-    /// Memory is wanting.
+    /// Out of memory.
     #[error("Memory")]
     Memory,
 }

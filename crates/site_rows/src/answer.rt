@@ -4,7 +4,7 @@ use crate::changes::change;
 use crate::fault::Fault;
 use crate::fields::{bytes, number};
 use crate::turns::by_turns;
-use host_script::{Asked, LineFault, ask, fault_line, line_of, parse};
+use host_script::{LineFault, ParsedLine, ask, fault_line, line_of, parse};
 use host_types::Stamp;
 use session_core::{Event, Hub};
 use std::alloc::Global;
@@ -21,9 +21,9 @@ fn scripted(alloc: Global, line: &str, now: Stamp) -> Result<Event, Fault> {
         Err(LineFault::Memory) => return Err(Fault::Memory),
     };
     match ask(alloc, command, now)? {
-        Asked::Event(event) => Ok(event),
-        Asked::Refused(refused) => Err(Fault::from(refused)),
-        Asked::Moment(_) => Err(Fault::Line),
+        ParsedLine::Event(event) => Ok(event),
+        ParsedLine::Refused(refused) => Err(Fault::from(refused)),
+        ParsedLine::Moment(_) => Err(Fault::Line),
     }
 }
 

@@ -1,8 +1,8 @@
-// Sessions that ask, and what they are told.
+// Sessions that ask, and what they are answered.
 use crate::fault::Fault;
 use host_script::{escaped, line_of};
 use host_types::{Bytes, Stamp};
-use session_core::{Drawn, Event, Heard, Hub, Outcome};
+use session_core::{Drawn, Event, Hub, InputStatus, Outcome};
 use std::alloc::Global;
 use word_index::SearchKeeper;
 
@@ -27,14 +27,14 @@ pub struct Cut {
 }
 
 /// A whole reply, as its line tells it.
-pub fn told(alloc: Global, reply: &[u8]) -> Result<String, Fault> {
+pub fn reply_text(alloc: Global, reply: &[u8]) -> Result<String, Fault> {
     let mut line = String::from_str(alloc, "drawn ")?;
     line.push_str(&escaped(alloc, reply)?)?;
     Ok(line)
 }
 
 /// What some draws gave together.
-fn told_of_draws(alloc: Global, draws: &[Outcome]) -> Result<String, Fault> {
+fn text_of_draws(alloc: Global, draws: &[Outcome]) -> Result<String, Fault> {
     let mut reply = Vec::new(alloc);
     for outcome in draws {
         match outcome {
@@ -43,13 +43,13 @@ fn told_of_draws(alloc: Global, draws: &[Outcome]) -> Result<String, Fault> {
             other => return Ok(line_of(alloc, other)?),
         }
     }
-    told(alloc, &reply)
+    reply_text(alloc, &reply)
 }
 
 /// What the last piece of a run, its draws and the leave come to.
-fn told_of_run(alloc: Global, outcomes: &[Outcome]) -> Result<String, Fault> {
+fn text_of_run(alloc: Global, outcomes: &[Outcome]) -> Result<String, Fault> {
     match outcomes {
-        [Outcome::Ready, draws @ .., Outcome::Finished, Outcome::Gone] => told_of_draws(
+        [Outcome::Ready, draws @ .., Outcome::Finished, Outcome::Gone] => text_of_draws(
             alloc, draws,
         ),
         [heard, ..] => Ok(line_of(alloc, heard)?),
@@ -77,7 +77,7 @@ pub fn by_run<S: SearchKeeper>(
     }
     events.push(Event::Leave { id })?;
     let outcomes = hub.run(&events)?;
-    told_of_run(alloc, outcomes.as_slice().get(last..).unwrap_or(&[]))
+    text_of_run(alloc, outcomes.as_slice().get(last..).unwrap_or(&[]))
 }
 
 /// All that is left of a session's reply.
@@ -92,7 +92,7 @@ fn draw_all<S: SearchKeeper>(
     for _ in 0..MOST_DRAWS {
         match hub.draw(id, &mut out)? {
             Drawn::Bytes(count) => reply.extend_from_slice(out.get(..count).unwrap_or(&[]))?,
-            Drawn::Finished => return told(alloc, &reply),
+            Drawn::Finished => return reply_text(alloc, &reply),
         }
     }
     Err(Fault::Line)
@@ -107,7 +107,7 @@ pub fn by_calls<S: SearchKeeper>(
     now: Stamp,
 ) -> Result<String, Fault> {
     let id = hub.join()?;
-    let mut heard = Heard::More;
+    let mut heard = InputStatus::More;
     for piece in request.chunks(cut.piece.max(1)) {
         heard = hub.bytes(id, piece, now)?;
     }
@@ -115,9 +115,9 @@ pub fn by_calls<S: SearchKeeper>(
         heard = hub.end(id, now)?;
     }
     let line = match heard {
-        Heard::More => String::from_str(alloc, "more")?,
-        Heard::Ready => draw_all(alloc, hub, id, cut.room)?,
-        Heard::Finished => String::from_str(alloc, "finished")?,
+        InputStatus::More => String::from_str(alloc, "more")?,
+        InputStatus::Ready => draw_all(alloc, hub, id, cut.room)?,
+        InputStatus::Finished => String::from_str(alloc, "finished")?,
     };
     hub.leave(id)?;
     Ok(line)

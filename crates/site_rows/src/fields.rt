@@ -1,4 +1,4 @@
-// Fields of a line, and what they stand for.
+// Fields of a line, and what they represent.
 use crate::fault::Fault;
 use bstr::ByteVec;
 use host_types::{Bytes, Kind, LinkKind, Selector, Title};

@@ -13,7 +13,7 @@
 //! - `remove SELECTOR`, `move FROM TO`, `host HOST PORT`, `admin TEXT`, `post BOARD TITLE TEXT..`: the administrator's other changes.
 //! - `now`, `text`, `join`, `bytes`, `end`, `draw`, `leave`: lines of the script of sessions, with its answers.
 //! - `ask REQUEST..`: a session sends a request whole, draws its reply and leaves, in one run. `runs SIZE REQUEST..`: by pieces of so many bytes.
-//! - `pieces SIZE REQUEST..`: the same call by call, with pieces and draws of so many bytes. `asked REQUEST..`: whole, and then the input ends.
+//! - `pieces SIZE REQUEST..`: the same call by call, with pieces and draws of so many bytes. `parsed REQUEST..`: whole, and then the input ends.
 //! - `turns COUNT REQUEST..`: so many sessions send these requests, and draw their replies, by turns of one byte; a line for each reply.
 #![tactic(auto)]
 

@@ -1,5 +1,5 @@
 // Sessions that ask by turns.
-use crate::asking::told;
+use crate::asking::reply_text;
 use crate::fault::Fault;
 use crate::fields::bytes;
 use host_types::{Bytes, Stamp};
@@ -10,7 +10,7 @@ use word_index::SearchKeeper;
 /// How many turns a request or a reply takes at most.
 const MOST_TURNS: usize = 4096;
 
-/// A session, what it asks, and what it was told so far.
+/// A session, what it asks, and what it was given so far.
 #[derive(Drop)]
 struct Asker {
     id: u64,
@@ -65,7 +65,7 @@ fn draw<S: SearchKeeper>(hub: &mut Hub<S>, askers: &mut [Asker]) -> Result<bool,
 }
 
 /// The sessions leave; their replies, one line each.
-fn told_of_all<S: SearchKeeper>(
+fn text_of_all<S: SearchKeeper>(
     alloc: Global,
     hub: &mut Hub<S>,
     askers: &[Asker],
@@ -76,7 +76,7 @@ fn told_of_all<S: SearchKeeper>(
         if !lines.is_empty() {
             lines.push('\n')?;
         }
-        lines.push_str(&told(alloc, &asker.reply)?)?;
+        lines.push_str(&reply_text(alloc, &asker.reply)?)?;
     }
     Ok(lines)
 }
@@ -98,5 +98,5 @@ pub fn by_turns<S: SearchKeeper>(
             break;
         }
     }
-    told_of_all(alloc, hub, &askers)
+    text_of_all(alloc, hub, &askers)
 }

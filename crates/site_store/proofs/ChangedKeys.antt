@@ -8,21 +8,21 @@ use Rattle.std.proofs.lemmas.Slice.Eq.{bytes_eq-Decides}
 use Rattle.std.proofs.lemmas.Map.Text.{is_eq-slice_cmp}
 use Rattle.host_types.specs.Site.{Site, byte_cmp, item_at}
 use Rattle.host_types.specs.SiteLaws.{lookup-insert_entry, item_at-with_item, item_at-without_item}
-use Rattle.host_types.specs.Change.{apply}
+use Rattle.host_types.specs.Change.{apply, touched}
 use Rattle.host_types.specs.Words.{is_among}
 use Rattle.host_types.specs.declared.change.Change.{Change}
 use Rattle.host_types.specs.declared.item.Item.{Item}
-use Rattle.host_types.specs.declared.refused.Refused.{Refused}
+use Rattle.common_types.specs.declared.refused.Refused.{Refused}
 use Rattle.page_store.specs.Batch.{edit_key}
 use Rattle.page_store.specs.declared.banner.Banner.{Banner}
 use Rattle.site_records.specs.Keys.{owner}
-use Rattle.site_records.specs.Layout.{Pairs, touched, keys_in, keys_after, keys_of}
+use Rattle.site_records.specs.Layout.{Pairs, keys_in, keys_after, keys_of}
 use Rattle.site_records.specs.KeyLaws.{entry_keys, has_key, has_value, keys_once, not_its_own, keys_in-among, among-append}
-use Rattle.site_store.specs.Edits.{Edits, with_all, without_all, pairs_at, with_stroke, edits_of, batch_of}
-use Rattle.site_store.specs.Plan.{named}
-use Rattle.site_store.specs.Strokes.{stroke_at, stroked, made_of, selectors_of, AreStrokes, AreApart, AreStrokesAt}
-use Rattle.site_store.specs.declared.stroke.Stroke.{Stroke}
-use Rattle.site_store.proofs.Makes.{sorted_stroke, sorted_strokes}
+use Rattle.site_pairs.specs.Edits.{Edits, with_all, without_all, pairs_at, with_replacement, edits_of, batch_of}
+use Rattle.site_store.specs.Planned.{named}
+use Rattle.change_plan.specs.Replacements.{replaced_at, replaced, all_replaced, selectors_of, AreReplacements, AreApart, AreReplacementsAt}
+use Rattle.change_plan.specs.declared.replacement.Replacement.{Replacement}
+use Rattle.site_store.proofs.EditsMakeLayouts.{sorted_replacement, sorted_replacements}
 
 clash : false ≡ true → ⊥
 clash h = cc h
@@ -51,33 +51,33 @@ pairs_have : (selector : List ℕ) (item : Option Item) (q : List ℕ) → has_k
 pairs_have selector None q = refl
 pairs_have selector (Some item) q = refl
 
-stroke_keys : (edits : Edits) (stroke : Stroke) (q : List ℕ) → has_key (with_stroke edits stroke) q ≡ (has_value stroke.selector stroke.new q || (has_value stroke.selector stroke.old q || has_key edits q))
-stroke_keys edits stroke q =
-    put_keys (without_all edits (pairs_at stroke.selector stroke.old)) (pairs_at stroke.selector stroke.new) q
-    ∙ ap (λ b. b || has_key (without_all edits (pairs_at stroke.selector stroke.old)) q) (pairs_have stroke.selector stroke.new q)
-    ∙ ap (λ b. has_value stroke.selector stroke.new q || b) (gone_keys edits (pairs_at stroke.selector stroke.old) q)
-    ∙ ap (λ b. has_value stroke.selector stroke.new q || (b || has_key edits q)) (pairs_have stroke.selector stroke.old q)
+replacement_keys : (edits : Edits) (replacement : Replacement) (q : List ℕ) → has_key (with_replacement edits replacement) q ≡ (has_value replacement.selector replacement.after q || (has_value replacement.selector replacement.before q || has_key edits q))
+replacement_keys edits replacement q =
+    put_keys (without_all edits (pairs_at replacement.selector replacement.before)) (pairs_at replacement.selector replacement.after) q
+    ∙ ap (λ b. b || has_key (without_all edits (pairs_at replacement.selector replacement.before)) q) (pairs_have replacement.selector replacement.after q)
+    ∙ ap (λ b. has_value replacement.selector replacement.after q || b) (gone_keys edits (pairs_at replacement.selector replacement.before) q)
+    ∙ ap (λ b. has_value replacement.selector replacement.after q || (b || has_key edits q)) (pairs_have replacement.selector replacement.before q)
 
--- ---- what stands at a selector once strokes are made
+-- ---- what stands at a selector once replacements are made
 
-stroke_stands : (s : Site) (stroke : Stroke) (k : List ℕ) → IsTrue (is_sorted byte_cmp s.items) → item_at (stroked s stroke) k ≡ cond (bytes_eq k stroke.selector) stroke.new (item_at s k)
-stroke_stands s stroke k sorted = at stroke.new ∙ ap (λ (b : Bool). cond b stroke.new (item_at s k)) (is_eq-slice_cmp k stroke.selector)
+replaced_stands : (s : Site) (replacement : Replacement) (k : List ℕ) → IsTrue (is_sorted byte_cmp s.items) → item_at (replaced s replacement) k ≡ cond (bytes_eq k replacement.selector) replacement.after (item_at s k)
+replaced_stands s replacement k sorted = at replacement.after ∙ ap (λ (b : Bool). cond b replacement.after (item_at s k)) (is_eq-slice_cmp k replacement.selector)
   where
-    at : (new : Option Item) → item_at (stroke_at s stroke.selector new) k ≡ cond (is_at (byte_cmp k) stroke.selector) new (item_at s k)
-    at None = item_at-without_item s stroke.selector k sorted
-    at (Some item) = item_at-with_item s stroke.selector item k
+    at : (new : Option Item) → item_at (replaced_at s replacement.selector new) k ≡ cond (is_at (byte_cmp k) replacement.selector) new (item_at s k)
+    at None = item_at-without_item s replacement.selector k sorted
+    at (Some item) = item_at-with_item s replacement.selector item k
 
 not_first : (a b : Bool) → (a || b) ≡ false → (a ≡ false) × (b ≡ false)
 not_first true b h = absurd (clash (sym h))
 not_first false b h = (refl, h)
 
 -- elsewhere all stands as before
-made_elsewhere : (strokes : List Stroke) (s : Site) (k : List ℕ) → IsTrue (is_sorted byte_cmp s.items) → is_among (selectors_of strokes) k ≡ false → item_at (made_of s strokes) k ≡ item_at s k
+made_elsewhere : (replacements : List Replacement) (s : Site) (k : List ℕ) → IsTrue (is_sorted byte_cmp s.items) → is_among (selectors_of replacements) k ≡ false → item_at (all_replaced s replacements) k ≡ item_at s k
 made_elsewhere [] s k sorted apart = refl
-made_elsewhere (stroke ∷ strokes) s k sorted apart =
-    let parts = not_first (bytes_eq k stroke.selector) (is_among (selectors_of strokes) k) apart in
-    made_elsewhere strokes (stroked s stroke) k (sorted_stroke s stroke.selector stroke.new sorted) parts.1
-    ∙ stroke_stands s stroke k sorted ∙ ap (λ (b : Bool). cond b stroke.new (item_at s k)) parts.0
+made_elsewhere (replacement ∷ replacements) s k sorted apart =
+    let parts = not_first (bytes_eq k replacement.selector) (is_among (selectors_of replacements) k) apart in
+    made_elsewhere replacements (replaced s replacement) k (sorted_replacement s replacement.selector replacement.after sorted) parts.1
+    ∙ replaced_stands s replacement k sorted ∙ ap (λ (b : Bool). cond b replacement.after (item_at s k)) parts.0
 
 -- a key of what stands at its selector
 abbrev stands_at : Site → List ℕ → Bool
@@ -92,36 +92,36 @@ here false false edit = refl
 abbrev all_keys : Bool → Bool → Bool → Bool → Bool
 all_keys among before after edit = (among && (before || after)) || edit
 
-made_keys : (strokes : List Stroke) (edits : Edits) (s : Site) (q : List ℕ) → IsTrue (is_sorted byte_cmp s.items) → AreStrokes s strokes → AreApart strokes
-    → has_key (fold with_stroke edits strokes) q ≡ all_keys (is_among (selectors_of strokes) (owner q)) (stands_at s q) (stands_at (made_of s strokes) q) (has_key edits q)
+made_keys : (replacements : List Replacement) (edits : Edits) (s : Site) (q : List ℕ) → IsTrue (is_sorted byte_cmp s.items) → AreReplacements s replacements → AreApart replacements
+    → has_key (fold with_replacement edits replacements) q ≡ all_keys (is_among (selectors_of replacements) (owner q)) (stands_at s q) (stands_at (all_replaced s replacements) q) (has_key edits q)
 made_keys [] edits s q sorted know apart = refl
-made_keys (stroke ∷ strokes) edits s q sorted know apart =
+made_keys (replacement ∷ replacements) edits s q sorted know apart =
     let k = owner q in
-    let s1 = stroked s stroke in
-    let t = made_of s1 strokes in
-    let sorted1 = sorted_stroke s stroke.selector stroke.new sorted in
-    let rest = made_keys strokes (with_stroke edits stroke) s1 q sorted1 know.1 apart.1 in
-    let among = is_among (selectors_of strokes) k in
-    rest ∙ elim (bytes_eq k stroke.selector) as (λ b. bytes_eq k stroke.selector ≡ b → all_keys among (stands_at s1 q) (stands_at t q) (has_key (with_stroke edits stroke) q) ≡ all_keys (b || among) (stands_at s q) (stands_at t q) (has_key edits q)) [
+    let s1 = replaced s replacement in
+    let t = all_replaced s1 replacements in
+    let sorted1 = sorted_replacement s replacement.selector replacement.after sorted in
+    let rest = made_keys replacements (with_replacement edits replacement) s1 q sorted1 know.1 apart.1 in
+    let among = is_among (selectors_of replacements) k in
+    rest ∙ elim (bytes_eq k replacement.selector) as (λ b. bytes_eq k replacement.selector ≡ b → all_keys among (stands_at s1 q) (stands_at t q) (has_key (with_replacement edits replacement) q) ≡ all_keys (b || among) (stands_at s q) (stands_at t q) (has_key edits q)) [
       | true ↦ λ is.
-          let own : k ≡ stroke.selector = (bytes_eq-Decides k stroke.selector).0 is in
-          let none : among ≡ false = ap (is_among (selectors_of strokes)) own ∙ apart.0 in
-          let was : has_value stroke.selector stroke.old q ≡ stands_at s q = ap (λ (o : Option Item). has_value stroke.selector o q) know.0 ∙ ap (λ (x : List ℕ). has_value x (item_at s x) q) (sym own) in
-          let stands : item_at t k ≡ stroke.new = made_elsewhere strokes s1 k sorted1 none ∙ stroke_stands s stroke k sorted ∙ ap (λ (b : Bool). cond b stroke.new (item_at s k)) is in
-          let comes : has_value stroke.selector stroke.new q ≡ stands_at t q = ap (λ (x : List ℕ). has_value x stroke.new q) (sym own) ∙ ap (λ (o : Option Item). has_value k o q) (sym stands) in
-          ap (λ (b : Bool). all_keys b (stands_at s1 q) (stands_at t q) (has_key (with_stroke edits stroke) q)) none
-          ∙ stroke_keys edits stroke q
-          ∙ ap (λ (b : Bool). b || (has_value stroke.selector stroke.old q || has_key edits q)) comes
+          let own : k ≡ replacement.selector = (bytes_eq-Decides k replacement.selector).0 is in
+          let none : among ≡ false = ap (is_among (selectors_of replacements)) own ∙ apart.0 in
+          let was : has_value replacement.selector replacement.before q ≡ stands_at s q = ap (λ (o : Option Item). has_value replacement.selector o q) know.0 ∙ ap (λ (x : List ℕ). has_value x (item_at s x) q) (sym own) in
+          let stands : item_at t k ≡ replacement.after = made_elsewhere replacements s1 k sorted1 none ∙ replaced_stands s replacement k sorted ∙ ap (λ (b : Bool). cond b replacement.after (item_at s k)) is in
+          let comes : has_value replacement.selector replacement.after q ≡ stands_at t q = ap (λ (x : List ℕ). has_value x replacement.after q) (sym own) ∙ ap (λ (o : Option Item). has_value k o q) (sym stands) in
+          ap (λ (b : Bool). all_keys b (stands_at s1 q) (stands_at t q) (has_key (with_replacement edits replacement) q)) none
+          ∙ replacement_keys edits replacement q
+          ∙ ap (λ (b : Bool). b || (has_value replacement.selector replacement.before q || has_key edits q)) comes
           ∙ ap (λ (b : Bool). stands_at t q || (b || has_key edits q)) was
           ∙ here (stands_at t q) (stands_at s q) (has_key edits q)
       | false ↦ λ is.
-          let apart1 : k ≢ stroke.selector = λ same. clash (sym is ∙ (bytes_eq-Decides k stroke.selector).1 same) in
-          let stands : item_at s1 k ≡ item_at s k = stroke_stands s stroke k sorted ∙ ap (λ (b : Bool). cond b stroke.new (item_at s k)) is in
-          ap (λ (o : Option Item). all_keys among (has_value k o q) (stands_at t q) (has_key (with_stroke edits stroke) q)) stands
+          let apart1 : k ≢ replacement.selector = λ same. clash (sym is ∙ (bytes_eq-Decides k replacement.selector).1 same) in
+          let stands : item_at s1 k ≡ item_at s k = replaced_stands s replacement k sorted ∙ ap (λ (b : Bool). cond b replacement.after (item_at s k)) is in
+          ap (λ (o : Option Item). all_keys among (has_value k o q) (stands_at t q) (has_key (with_replacement edits replacement) q)) stands
           ∙ ap (all_keys among (stands_at s q) (stands_at t q)) (
-          stroke_keys edits stroke q
-          ∙ ap (λ (b : Bool). b || (has_value stroke.selector stroke.old q || has_key edits q)) (not_its_own stroke.new stroke.selector q apart1)
-          ∙ ap (λ (b : Bool). b || has_key edits q) (not_its_own stroke.old stroke.selector q apart1)
+          replacement_keys edits replacement q
+          ∙ ap (λ (b : Bool). b || (has_value replacement.selector replacement.before q || has_key edits q)) (not_its_own replacement.after replacement.selector q apart1)
+          ∙ ap (λ (b : Bool). b || has_key edits q) (not_its_own replacement.before replacement.selector q apart1)
           )
     ] refl
 
@@ -137,17 +137,17 @@ spread true false true = refl
 spread true false false = refl
 spread false before after = refl
 
--- The batch of the strokes of a change has just the keys of the change, in order.
-pub changed_keys : (s : Site) (change : Change) (now : ℕ) (strokes : List Stroke) (banner : Banner) → IsTrue (is_sorted byte_cmp s.items) → AreStrokesAt s (touched s change) strokes → apply s change now ≡ Ok (named (made_of s strokes) banner)
-    → map edit_key (batch_of (edits_of strokes)) ≡ keys_of s change now
+-- The batch of the replacements of a change has just the keys of the change, in order.
+pub changed_keys : (s : Site) (change : Change) (now : ℕ) (replacements : List Replacement) (banner : Banner) → IsTrue (is_sorted byte_cmp s.items) → AreReplacementsAt s (touched s change) replacements → apply s change now ≡ Ok (named (all_replaced s replacements) banner)
+    → map edit_key (batch_of (edits_of replacements)) ≡ keys_of s change now
 unfolding keys_of
-changed_keys s change now strokes banner sorted made applied =
+changed_keys s change now replacements banner sorted made applied =
     let selectors = touched s change in
-    let t = named (made_of s strokes) banner in
+    let t = named (all_replaced s replacements) banner in
     let all = keys_in s selectors ++ keys_after (apply s change now) selectors in
-    batch_keys (edits_of strokes)
-    ∙ keys_once (edits_of strokes) all (sorted_strokes strokes [] refl) (λ q.
-    made_keys strokes [] s q sorted made.know made.apart
+    batch_keys (edits_of replacements)
+    ∙ keys_once (edits_of replacements) all (sorted_replacements replacements [] refl) (λ q.
+    made_keys replacements [] s q sorted made.know made.apart
     ∙ ap (λ (b : Bool). all_keys b (stands_at s q) (stands_at t q) false) (made.at (owner q))
     ∙ spread (is_among selectors (owner q)) (stands_at s q) (stands_at t q)
     ∙ ap (λ (b : Bool). b || (is_among selectors (owner q) && stands_at t q)) (sym (keys_in-among s selectors q))

@@ -18,15 +18,15 @@ use Rattle.host_types.specs.declared.item.Item.{Item}
 use Rattle.host_types.specs.declared.item.Body.{Body}
 use Rattle.host_types.specs.declared.item.Body.TheVariants as bodies
 use Rattle.page_store.specs.Batch.{value_at}
-use Rattle.page_store.specs.Holding.{Holding}
+use Rattle.page_store.specs.StoreState.{StoreState}
 use Rattle.site_records.specs.Keys.{item_key, chunk_key}
 use Rattle.site_records.specs.Layout.{chunk_in}
 use Rattle.site_records.specs.Records.{recorded, recorded_body, record_bytes, tag_of, item_bytes, parts_of}
 use Rattle.site_records.specs.declared.record.Record.{Record}
-use Rattle.site_store.specs.Kept.{IsKept}
-use Rattle.site_store.specs.Looking.{is_views, is_document}
-use Rattle.site_store.proofs.Found.{kept_record}
-use Rattle.site_store.proofs.Viewing.{kept_parts}
+use Rattle.site_store.specs.Represented.{RepresentedBy}
+use Rattle.site_store.specs.StoreReads.{is_views, is_document}
+use Rattle.site_store.proofs.FoundItems.{kept_record}
+use Rattle.site_store.proofs.DecodedViews.{kept_parts}
 
 pub whole_card : (s : Site) (selector : List ℕ) (r : Record) (body : CardBody) (item : Item) → item_at s selector ≡ Some item → r ≡ recorded item → body ≡ card_body item.body → Some (record { title = r.title; stamp = r.stamp; summary = r.summary; body = body }) ≡ card_at s selector
 whole_card s selector r body item stands is body_is =
@@ -52,14 +52,14 @@ tag_tells item (suc n) (x ∷ xs) e = by_body item.body (first_byte _ x (take n 
     by_body (bodies.Search scope) h = rw (lt-ltb 0 (suc n) (omega arith), h) refl
     by_body (bodies.Moved target) h = rw (lt-ltb 0 (suc n) (omega arith), h) refl
 
-pub document_found : (h : Holding) (s : Site) (selector key : List ℕ) (n : ℕ) (buffer : List ℕ) → IsKept h s → key ≡ item_key selector → Some (take n buffer) ≡ value_at h.pairs key → (nat_lt 0 n && (slice_index buffer 0 == 86)) ≡ is_document (item_at s selector)
+pub document_found : (h : StoreState) (s : Site) (selector key : List ℕ) (n : ℕ) (buffer : List ℕ) → RepresentedBy h s → key ≡ item_key selector → Some (take n buffer) ≡ value_at h.pairs key → (nat_lt 0 n && (slice_index buffer 0 == 86)) ≡ is_document (item_at s selector)
 document_found h s selector key n buffer kept is value = by_item (item_at s selector) (value ∙ ap (value_at h.pairs) is ∙ kept_record h s selector kept)
   where
     by_item : (o : Option Item) → Some (take n buffer) ≡ option_map item_bytes o → (nat_lt 0 n && (slice_index buffer 0 == 86)) ≡ is_document o
     by_item None e = absurd (cc e)
     by_item (Some item) e = tag_tells item n buffer (cc e)
 
-pub no_document : (h : Holding) (s : Site) (selector key : List ℕ) → IsKept h s → key ≡ item_key selector → None ≡ value_at h.pairs key → false ≡ is_document (item_at s selector)
+pub no_document : (h : StoreState) (s : Site) (selector key : List ℕ) → RepresentedBy h s → key ≡ item_key selector → None ≡ value_at h.pairs key → false ≡ is_document (item_at s selector)
 no_document h s selector key kept is value = by_item (item_at s selector) (value ∙ ap (value_at h.pairs) is ∙ kept_record h s selector kept)
   where
     by_item : (o : Option Item) → None ≡ option_map item_bytes o → false ≡ is_document o
@@ -110,7 +110,7 @@ in_view (Some v) k = elim (cases_lt (1000 * k) (length v.bytes)) [
 ]
 
 -- a document's chunk is what stands at its key
-pub one_chunk : (h : Holding) (s : Site) (selector key : List ℕ) (view k : ℕ) (value : Option (List ℕ)) → IsKept h s → is_document (item_at s selector) ≡ true → key ≡ chunk_key selector view k → k < 2 ^ 16 → value ≡ value_at h.pairs key → value_of value ≡ chunk_of (viewed_at s selector view) k
+pub one_chunk : (h : StoreState) (s : Site) (selector key : List ℕ) (view k : ℕ) (value : Option (List ℕ)) → RepresentedBy h s → is_document (item_at s selector) ≡ true → key ≡ chunk_key selector view k → k < 2 ^ 16 → value ≡ value_at h.pairs key → value_of value ≡ chunk_of (viewed_at s selector view) k
 one_chunk h s selector key view k value kept document is fits found =
     elim (item_at s selector) as (λ o. item_at s selector ≡ o → is_document o ≡ true → value_of value ≡ chunk_of (viewed_in o view) k) [
       | None ↦ λ e d. absurd (cc d)

@@ -6,7 +6,7 @@ use Rattle.host_types.specs.Card.{chunk_of}
 use Rattle.page_store.specs.Pages.{Pair}
 use Rattle.page_store.specs.Batch.{value_at}
 use Rattle.site_records.specs.Keys.{chunk_key}
-use Rattle.site_store.specs.Looking.{HasPart, chunk_size}
+use Rattle.site_store.specs.StoreReads.{HasPart, chunk_size}
 
 two_parts : (n m : ℕ) (xs : List ℕ) → take n xs ++ take m (drop n xs) ≡ take (n + m) xs
 two_parts n m xs =

@@ -1,48 +1,52 @@
--- The strokes of each change.
-use Rattle.std.proofs.Common.{◌≡◌, ℕ, false, List, [], ◌∷◌, Option, Some, None, Result, Ok, Err, refl, sym, ap, subst, ◌∙◌}
-use Rattle.std.specs.Prelude.{IsTrue, IfOk, ◌==◌, ◌||◌, bytes_eq}
-use Rattle.host_types.specs.Site.{Site, item_at}
-use Rattle.host_types.specs.Change.{apply}
-use Rattle.host_types.specs.declared.refused.Refused.{Refused}
-use Rattle.host_types.specs.declared.site_fault.SiteFault.{SiteFault}
+-- A plan as a key-value store makes it.
+use Rattle.std.proofs.Common.{◌≡◌, ℕ, List, [], ◌∷◌, Option, Some, None, Ok, refl, sym, ap, ◌∙◌}
+use Rattle.host_types.specs.Site.{Site}
+use Rattle.host_types.specs.Change.{apply, touched}
 use Rattle.host_types.specs.declared.item.Item.{Item}
-use Rattle.host_types.specs.declared.change.Change.TheVariants.{SetHost, SetAdmin}
-use Rattle.page_store.specs.Holding.{Holding}
+use Rattle.host_types.specs.declared.change.Change.{Change}
+use Rattle.page_store.specs.StoreState.{StoreState}
 use Rattle.page_store.specs.declared.banner.Banner.{Banner}
-use Rattle.site_store.specs.Kept.{IsKept}
-use Rattle.site_store.specs.Strokes.{stroke_at, stroked, made_of, AreStrokesAt}
-use Rattle.site_store.specs.Plan.{IsPlan, IsPlanned, named, banner_after}
-use Rattle.site_store.specs.declared.stroke.Stroke.{Stroke}
+use Rattle.change_plan.specs.Plans as plans
+use Rattle.change_plan.specs.Replacements.{replaced_at, replaced, all_replaced}
+use Rattle.change_plan.specs.declared.plan.Plan.{Plan}
+use Rattle.change_plan.specs.declared.replacement.Replacement.{Replacement}
+use Rattle.site_store.specs.Represented.{RepresentedBy}
+use Rattle.site_store.specs.Planned.{IsPlanned, named, banner_after}
 
-same_host : (s : Site) (q : List ℕ) (o : Option Item) → (stroke_at s q o).host ≡ s.host
-same_host s q None = refl
-same_host s q (Some item) = refl
+one_host : (s : Site) (q : List ℕ) (o : Option Item) → (replaced_at s q o).host ≡ s.host
+one_host s q None = refl
+one_host s q (Some item) = refl
 
-same_port : (s : Site) (q : List ℕ) (o : Option Item) → (stroke_at s q o).port ≡ s.port
-same_port s q None = refl
-same_port s q (Some item) = refl
+one_port : (s : Site) (q : List ℕ) (o : Option Item) → (replaced_at s q o).port ≡ s.port
+one_port s q None = refl
+one_port s q (Some item) = refl
 
-same_admin : (s : Site) (q : List ℕ) (o : Option Item) → (stroke_at s q o).admin ≡ s.admin
-same_admin s q None = refl
-same_admin s q (Some item) = refl
+one_admin : (s : Site) (q : List ℕ) (o : Option Item) → (replaced_at s q o).admin ≡ s.admin
+one_admin s q None = refl
+one_admin s q (Some item) = refl
 
--- strokes don't change under which name clients find the site
-same_name : (l : List Stroke) (s : Site) (banner : Banner) → banner.host ≡ s.host → banner.port ≡ s.port → banner.admin ≡ s.admin → named (made_of s l) banner ≡ made_of s l
-same_name [] s banner h p a = λ i. record s { host = h i; port = p i; admin = a i }
-same_name (x ∷ l) s banner h p a =
-    same_name l (stroked s x) banner (h ∙ sym (same_host s x.selector x.new)) (p ∙ sym (same_port s x.selector x.new)) (a ∙ sym (same_admin s x.selector x.new))
+-- replacements don't change under which name clients find the site
+all_host : (l : List Replacement) (s : Site) → (all_replaced s l).host ≡ s.host
+all_host [] s = refl
+all_host (x ∷ l) s = all_host l (replaced s x) ∙ one_host s x.selector x.after
 
-pub planned : {T : Type 0} → (r : Result T SiteFault) (items : T → List Stroke) (h : Holding) (s : Site) (applied : Site → Result Site Refused) (touched : Site → List (List ℕ)) → IsTrue h.honest → IsKept h s → IfOk r (λ l. IsPlan h applied touched (items l)) → IfOk r (λ l. IsPlanned s (applied s) (touched s) (items l) h.banner)
-planned (Ok x) items h s applied touched honest kept plan =
-    let p = plan honest s kept in
-    (p.0 ∙ ap (λ (t : Site). Ok t) (sym (same_name (items x) s h.banner kept.host kept.port kept.admin)), p.1)
-planned (Err e) items h s applied touched honest kept plan = tt
+all_port : (l : List Replacement) (s : Site) → (all_replaced s l).port ≡ s.port
+all_port [] s = refl
+all_port (x ∷ l) s = all_port l (replaced s x) ∙ one_port s x.selector x.after
 
-no_strokes : (s : Site) → AreStrokesAt s [] []
-no_strokes s = record { know = tt; apart = tt; at = λ selector. refl }
+all_admin : (l : List Replacement) (s : Site) → (all_replaced s l).admin ≡ s.admin
+all_admin [] s = refl
+all_admin (x ∷ l) s = all_admin l (replaced s x) ∙ one_admin s x.selector x.after
 
-pub host_planned : (h : Holding) (s : Site) (host : List ℕ) (port now : ℕ) → IsKept h s → (port == 0) ≡ false → IsPlanned s (apply s (SetHost host port) now) [] [] (banner_after h.banner (SetHost host port))
-host_planned h s host port now kept given = (rw given (λ i. Ok (record s { host = host; port = port; admin = sym kept.admin i })), no_strokes s)
+-- a site is named by the banner as by the plan
+same_name : (t : Site) (b : Banner) (host : Option (List ℕ × ℕ)) (admin : Option (List ℕ)) → b.host ≡ t.host → b.port ≡ t.port → b.admin ≡ t.admin → plans.with_admin (plans.with_host t host) admin ≡ named t (banner_after b host admin)
+same_name t b None None h p a = λ i. record t { host = sym h i; port = sym p i; admin = sym a i }
+same_name t b (Some name) None h p a = λ i. record t { host = name.0; port = name.1; admin = sym a i }
+same_name t b None (Some admin) h p a = λ i. record t { host = sym h i; port = sym p i; admin = admin }
+same_name t b (Some name) (Some admin) h p a = refl
 
-pub admin_planned : (h : Holding) (s : Site) (admin : List ℕ) (now : ℕ) → IsKept h s → IsPlanned s (apply s (SetAdmin admin) now) [] [] (banner_after h.banner (SetAdmin admin))
-admin_planned h s admin now kept = ((λ i. Ok (record s { host = sym kept.host i; port = sym kept.port i; admin = admin })), no_strokes s)
+pub planned : (h : StoreState) (s : Site) (change : Change) (now : ℕ) (p : Plan) → RepresentedBy h s → plans.IsPlan s change now p → IsPlanned s (apply s change now) (touched s change) p.replacements.items (banner_after h.banner p.host p.admin)
+planned h s change now p kept plan =
+    let l = p.replacements.items in
+    let name = same_name (all_replaced s l) h.banner p.host p.admin (kept.host ∙ sym (all_host l s)) (kept.port ∙ sym (all_port l s)) (kept.admin ∙ sym (all_admin l s)) in
+    (plan.makes ∙ ap (λ (t : Site). Ok t) name, plan.at kept.valid)

@@ -1,15 +1,15 @@
 -- Reading a whole site from its pairs.
 use Rattle.std.specs.Prelude.{◌≡◌, ℕ, ◌-◌, ◌==◌, true, false, length, take, slice_get, List, [], ◌∷◌, Option, Some, None, IsTrue, if◌then◌else◌}
-use Rattle.sector_device.specs.Device.{counted}
+use Rattle.common_types.specs.Counts.{counted}
 use Rattle.host_types.specs.Site.{Site, IsSite, item_at, with_item}
 use Rattle.host_types.specs.declared.item.Item.{Item}
 use Rattle.page_store.specs.Pages.{Pair}
 use Rattle.site_records.specs.Layout.{layout}
-use Rattle.page_store.specs.Holding.{Holding}
+use Rattle.page_store.specs.StoreState.{StoreState}
 use Rattle.page_store.specs.declared.banner.Banner.{Banner}
 use Rattle.page_store.specs.declared.fault.KeeperFault.TheVariants as kinds
-use Rattle.site_store.specs.Kept.{IsKept}
-use Rattle.site_store.specs.Looking.{NoneFailed}
+use Rattle.site_store.specs.Represented.{RepresentedBy}
+use Rattle.site_store.specs.StoreReads.{NoneFailed}
 use Rattle.site_store.specs.declared.fault.SiteOpenFault.{SiteOpenFault}
 use Rattle.site_store.specs.declared.fault.SiteOpenFault.TheVariants.{BadRecord, Keeper, Memory}
 
@@ -49,8 +49,8 @@ pub record HasAddress (s : Site) (b : Banner) : Type 0 where
   pub port : s.port ≡ b.port
   pub admin : s.admin ≡ b.admin
 
--- Why a keeper was not opened as a site, and what the reading of it counted: each fault has its own cause. `BadRecord` of an honest keeper says that what it holds stands for no lawful site.
-abbrev pub IsOpenFault : Holding → Holding → SiteOpenFault → Type 0
+-- Why a keeper was not opened as a site, and what the reading of it counted: each fault has its own cause. `BadRecord` of an honest keeper says that what it holds represents no valid site.
+abbrev pub IsOpenFault : StoreState → StoreState → SiteOpenFault → Type 0
 IsOpenFault old new (Keeper kinds.Failed) = (old.usable ≡ false) × NoneFailed old new
 IsOpenFault old new (Keeper kinds.Device) = (old.usable ≡ true) × (new.failed_reads ≡ counted old.failed_reads)
 IsOpenFault old new (Keeper (kinds.Damaged page)) = (old.usable ≡ true) × NoneFailed old new × (old.honest ≡ false)
@@ -60,7 +60,7 @@ IsOpenFault old new (Keeper kinds.Small) = ⊥
 IsOpenFault old new (Keeper kinds.Spent) = ⊥
 IsOpenFault old new (Keeper (kinds.Full need free)) = ⊥
 IsOpenFault old new (Keeper kinds.Memory) = ⊥
-IsOpenFault old new BadRecord = (old.usable ≡ true) × NoneFailed old new × (IsTrue old.honest → (s : Site) → IsKept old s → ⊥)
+IsOpenFault old new BadRecord = (old.usable ≡ true) × NoneFailed old new × (IsTrue old.honest → (s : Site) → RepresentedBy old s → ⊥)
 IsOpenFault old new Memory = (old.usable ≡ true) × NoneFailed old new
 
 -- These pairs are the layout of a site that keeps all rules.

@@ -33,6 +33,6 @@ recorded_by [] = None
 recorded_by (tag ∷ rest) = if tag == 73 then Some rest else None
 
 -- a name stands there, and it is no selector's
-abbrev pub IsUnlawful : Option (List ℕ) → Type 0
-IsUnlawful None = ⊥
-IsUnlawful (Some name) = is_selector name ≡ false
+abbrev pub IsInvalid : Option (List ℕ) → Type 0
+IsInvalid None = ⊥
+IsInvalid (Some name) = is_selector name ≡ false

@@ -1,15 +1,13 @@
 // Cards, and chunks of views.
-ghost use Rattle.std.specs.Prelude.{◌≡◌, ◌≤◌, false, Option, IfOk, OnOk, IfErr, IsErrOf, IsTrue, take};
+ghost use Rattle.std.specs.Prelude.{◌≡◌, ◌≤◌, Option, IfOk, IfErr, IsTrue, take};
 ghost use Rattle.std.specs.Prelude as list;
 ghost use Rattle.host_types.specs.Site.{Site, item_at};
 ghost use Rattle.host_types.specs.Card.{card_at, card_body, viewed_at, chunk_of};
-ghost use Rattle.host_types.specs.Keeping.{IsBehindKept};
-ghost use Rattle.host_types.specs.declared.item.Body.{Body as BodyValue};
-ghost use Rattle.page_store.specs.declared.fault.KeeperFault.TheVariants.{Failed};
+ghost use Rattle.host_types.specs.SiteState.{IsUnchangedBehind};
 ghost use Rattle.site_records.specs.Limits.{is_body};
-ghost use Rattle.site_store.specs.Kept.{IsKept};
-ghost use Rattle.site_store.specs.Looking.{HasLooked, IsFaultUnless, IsLookFault, IsQuickFault, KeepsBody, is_document};
-ghost use Rattle.site_store.specs.declared.fault.SiteOpenFault.TheVariants.{Keeper as Told};
+ghost use Rattle.site_store.specs.Represented.{RepresentedBy};
+ghost use Rattle.site_store.specs.StoreReads.{IsQuickFault, HasBody, is_document};
+ghost use Rattle.site_store.specs.Reads.{AlwaysReads, ReadsKnown, AlwaysReadsKnown};
 
 use crate::SiteOpenFault;
 use crate::items::{read_form, read_menu};
@@ -29,10 +27,7 @@ fn card_body<K: Keeper>(
     kept: RecordBody,
 ) -> Result<CardBody, SiteOpenFault>
     requires { IsTrue (is_body kept) }
-    ensures body { IsTrue (K.holding keeper.old).honest → (b : BodyValue) → KeepsBody (K.holding keeper.old) selector.now kept b → IfOk result (λ x. x ≡ card_body b) }
-    ensures looked { HasLooked K.holding K.may_need K.stops keeper.old keeper.new }
-    ensures reads { OnOk result ((K.holding keeper.new).failed_reads ≡ (K.holding keeper.old).failed_reads) }
-    ensures fault { IfErr result (IsFaultUnless ((b : BodyValue) × KeepsBody (K.holding keeper.old) selector.now kept b) (K.holding keeper.old) (K.holding keeper.new)) }
+    ensures body { ReadsKnown K.store_state K.may_need K.crash_states keeper.old keeper.new result (λ h b. HasBody h selector.now kept b) (λ b x. x ≡ card_body b) }
 {
     match kept {
         RecordBody::Views(kind, cards) => Ok(CardBody::Views(kind, cards)),
@@ -56,11 +51,7 @@ pub fn card_in<K: Keeper>(
     keeper: &mut K,
     selector: &Selector,
 ) -> Result<Option<Card>, SiteOpenFault>
-    ensures card { IsTrue (K.holding keeper.old).honest → (s : Site) → IsKept (K.holding keeper.old) s → IfOk result (λ o. o ≡ card_at s selector.now) }
-    ensures looked { HasLooked K.holding K.may_need K.stops keeper.old keeper.new }
-    ensures reads { OnOk result ((K.holding keeper.new).failed_reads ≡ (K.holding keeper.old).failed_reads) }
-    ensures fault { IfErr result (IsLookFault (K.holding keeper.old) (K.holding keeper.new)) }
-    ensures closed { (K.holding keeper.old).usable ≡ false → IsErrOf result (Told Failed) }
+    ensures card { AlwaysReadsKnown K.store_state K.may_need K.crash_states keeper.old keeper.new result RepresentedBy (λ s o. o ≡ card_at s selector.now) }
 {
     let record = match record_at(alloc, keeper, selector) {
         Ok(Some(record)) => record,
@@ -86,11 +77,7 @@ pub fn card_in<K: Keeper>(
 
 /// Whether a document stands at a selector.
 fn has_document<K: Keeper>(keeper: &mut K, selector: &Selector) -> Result<bool, SiteOpenFault>
-    ensures document { IsTrue (K.holding keeper.old).honest → (s : Site) → IsKept (K.holding keeper.old) s → IfOk result (λ document. document ≡ is_document (item_at s selector.now)) }
-    ensures looked { HasLooked K.holding K.may_need K.stops keeper.old keeper.new }
-    ensures reads { OnOk result ((K.holding keeper.new).failed_reads ≡ (K.holding keeper.old).failed_reads) }
-    ensures fault { IfErr result (IsQuickFault (K.holding keeper.old) (K.holding keeper.new)) }
-    ensures closed { (K.holding keeper.old).usable ≡ false → IsErrOf result (Told Failed) }
+    ensures document { AlwaysReads K.store_state K.may_need K.crash_states keeper.old keeper.new result IsQuickFault (λ h yes. (s : Site) → RepresentedBy h s → yes ≡ is_document (item_at s selector.now)) }
 {
     let mut buffer = [0; 1024];
     match look_up(keeper, &item_key(selector), &mut buffer) {
@@ -104,7 +91,7 @@ fn has_document<K: Keeper>(keeper: &mut K, selector: &Selector) -> Result<bool, 
 fn copy_front(bytes: &[u8], buffer: &mut [u8; 1000])
     requires { list.length bytes.now ≤ 1000 }
     ensures front { take (list.length bytes.now) buffer.new ≡ bytes.now }
-    ensures behind { IsBehindKept (list.length bytes.now) buffer.old buffer.new }
+    ensures behind { IsUnchangedBehind (list.length bytes.now) buffer.old buffer.new }
     ensures length { list.length buffer.new ≡ 1000 }
 {
     buffer[..bytes.len()].copy_from_slice(bytes);
@@ -119,13 +106,9 @@ pub fn chunk_in<K: Keeper>(
     buffer: &mut [u8; 1000],
 ) -> Result<usize, SiteOpenFault>
     ensures within { IfOk result (λ n. n ≤ list.length buffer.new) }
-    ensures chunk { IsTrue (K.holding keeper.old).honest → (s : Site) → IsKept (K.holding keeper.old) s → IfOk result (λ n. take n buffer.new ≡ chunk_of (viewed_at s selector.now view) k) }
-    ensures behind { IfOk result (λ n. IsBehindKept n buffer.old buffer.new) }
+    ensures chunk { AlwaysReads K.store_state K.may_need K.crash_states keeper.old keeper.new result IsQuickFault (λ h n. (s : Site) → RepresentedBy h s → take n buffer.new ≡ chunk_of (viewed_at s selector.now view) k) }
+    ensures behind { IfOk result (λ n. IsUnchangedBehind n buffer.old buffer.new) }
     ensures untouched { IfErr result (λ e. buffer.new ≡ buffer.old) }
-    ensures looked { HasLooked K.holding K.may_need K.stops keeper.old keeper.new }
-    ensures reads { OnOk result ((K.holding keeper.new).failed_reads ≡ (K.holding keeper.old).failed_reads) }
-    ensures fault { IfErr result (IsQuickFault (K.holding keeper.old) (K.holding keeper.new)) }
-    ensures closed { (K.holding keeper.old).usable ≡ false → IsErrOf result (Told Failed) }
 {
     match has_document(keeper, selector) {
         Ok(true) => {}

@@ -9,13 +9,13 @@ use thiserror::Error;
 /// Why a site isn't opened.
 #[derive(Clone, Copy, Debug, PartialEq, Eq, Error)]
 pub enum SiteOpenFault {
-    /// What is kept stands for no site.
+    /// What is kept represents no site.
     #[error("BadRecord")]
     BadRecord,
-    /// The keeper of the pairs answered this fault.
+    /// The key-value store answered this fault.
     #[error("{0}")]
     Keeper(KeeperFault),
-    /// Memory is wanting.
+    /// Out of memory.
     #[error("Memory")]
     Memory,
 }

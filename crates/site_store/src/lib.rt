@@ -1,33 +1,23 @@
-//! A site over any keeper of pairs.
+//! A site over any key-value store.
 #![tactic(auto)]
 
 mod cards;
-mod changing;
 mod disk_site;
-mod edits;
 mod fault;
-mod first_site;
-mod item_pairs;
 mod items;
 mod looking;
+mod lookup;
 mod opening;
 mod parts;
-mod piece;
-mod plan;
-mod plan_move;
-mod plan_post;
-mod posts;
 mod records;
 mod search_calls;
 mod searching;
 mod site_calls;
 mod site_walk;
-mod stroke;
-mod told;
+mod to_site_fault;
 mod walking;
-mod whole_layout;
 mod writing;
 
 pub use disk_site::DiskSite;
 pub use fault::SiteOpenFault;
-pub use first_site::first_pairs;
+pub use site_pairs::first_pairs;

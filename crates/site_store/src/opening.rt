@@ -1,21 +1,22 @@
 // Opening a site: all of it is read, and its layout compared with what is kept.
-ghost use Rattle.std.specs.Prelude.{◌≡◌, ◌<◌, true, false, IfOk, IfErr, OnOk, IsErrOf, IsErrAnd, IsTrue, Decides, map};
-ghost use Rattle.host_types.specs.Site.{Site, IsSite};
+ghost use Rattle.std.specs.Prelude.{◌≡◌, ◌<◌, true, false, IfOk, IfErr, OnOk, IsErrAnd, IsTrue, Decides, map};
+ghost use Rattle.host_types.specs.Site.{Site};
 ghost use Rattle.page_store.specs.Batch.{pair_after};
 ghost use Rattle.page_store.specs.declared.fault.KeeperFault.TheVariants.{Failed};
 ghost use Rattle.site_records.specs.Layout.{layout};
-ghost use Rattle.site_store.specs.Kept.{IsKept, KeepsSite};
-ghost use Rattle.site_store.specs.Looking.{HasLooked, NoneFailed, IsLookFault, IsReadOrMemory};
+ghost use Rattle.site_store.specs.Represented.{RepresentedBy};
+ghost use Rattle.site_store.specs.StoreReads.{ReadsOnly, NoneFailed, IsSiteReadFault, IsReadOrMemory};
+ghost use Rattle.site_store.specs.Reads.{AlwaysReads, ReadsKnown};
 ghost use Rattle.site_store.specs.Opening.{IsOpenFault, last_key, site_under, with_named, with_all_named, HasAddress, IsLayoutOf};
 ghost use Rattle.site_store.specs.Seen.{keeper_of, seen_site};
-ghost use Rattle.site_store.specs.declared.fault.SiteOpenFault.TheVariants.{Keeper as Told};
+ghost use Rattle.site_store.specs.declared.fault.SiteOpenFault.TheVariants.{Keeper as StoreFault};
 
 use crate::items::item_in;
-use crate::piece::Piece;
-use crate::whole_layout::{entries_in, layout_of};
 use crate::{DiskSite, SiteOpenFault};
-use host_types::{MemSite, Selector};
+use host_types::Selector;
+use mem_site::MemSite;
 use page_store::{Keeper, Pair};
+use site_pairs::{Piece, entries_in, layout_of};
 use site_records::Key;
 use std::alloc::{AllocError, Global};
 
@@ -25,11 +26,7 @@ fn pair_behind<K: Keeper>(
     keeper: &mut K,
     pairs: &[Pair],
 ) -> Result<Option<Pair>, SiteOpenFault>
-    ensures pair { IsTrue (K.holding keeper.old).honest → IfOk result (λ found. found ≡ pair_after (K.holding keeper.old).pairs (last_key pairs.now)) }
-    ensures looked { HasLooked K.holding K.may_need K.stops keeper.old keeper.new }
-    ensures reads { OnOk result ((K.holding keeper.new).failed_reads ≡ (K.holding keeper.old).failed_reads) }
-    ensures fault { IfErr result (IsReadOrMemory (K.holding keeper.old) (K.holding keeper.new)) }
-    ensures closed { (K.holding keeper.old).usable ≡ false → IsErrOf result (Told Failed) }
+    ensures pair { AlwaysReads K.store_state K.may_need K.crash_states keeper.old keeper.new result IsReadOrMemory (λ h found. found ≡ pair_after h.pairs (last_key pairs.now)) }
 {
     let (mut key, mut value) = ([0; 300], [0; 1024]);
     let found = match pairs.last() {
@@ -48,11 +45,7 @@ fn pair_behind<K: Keeper>(
 
 /// All pairs of a keeper.
 fn pairs_of<K: Keeper>(alloc: Global, keeper: &mut K) -> Result<Vec<Pair>, SiteOpenFault>
-    ensures pairs { IsTrue (K.holding keeper.old).honest → IfOk result (λ all. all.items ≡ (K.holding keeper.old).pairs) }
-    ensures looked { HasLooked K.holding K.may_need K.stops keeper.old keeper.new }
-    ensures reads { OnOk result ((K.holding keeper.new).failed_reads ≡ (K.holding keeper.old).failed_reads) }
-    ensures fault { IfErr result (IsReadOrMemory (K.holding keeper.old) (K.holding keeper.new)) }
-    ensures closed { (K.holding keeper.old).usable ≡ false → IsErrOf result (Told Failed) }
+    ensures pairs { AlwaysReads K.store_state K.may_need K.crash_states keeper.old keeper.new result IsReadOrMemory (λ h all. all.items ≡ h.pairs) }
 {
     let mut pairs = Vec::new(alloc);
     for _ in 0..u64::MAX {
@@ -72,13 +65,10 @@ fn put_named<K: Keeper>(
     site: &mut MemSite,
     key: &[u8],
 ) -> Result<(), SiteOpenFault>
-    ensures named { IsTrue (K.holding keeper.old).honest → (s : Site) → IsKept (K.holding keeper.old) s → OnOk result (site.new ≡ with_named s site.old key.now) }
+    ensures named { ReadsKnown K.store_state K.may_need K.crash_states keeper.old keeper.new result RepresentedBy (λ s _. site.new ≡ with_named s site.old key.now) }
     ensures host { OnOk result (site.new.host ≡ site.old.host) }
     ensures port { OnOk result (site.new.port ≡ site.old.port) }
     ensures admin { OnOk result (site.new.admin ≡ site.old.admin) }
-    ensures looked { HasLooked K.holding K.may_need K.stops keeper.old keeper.new }
-    ensures reads { OnOk result ((K.holding keeper.new).failed_reads ≡ (K.holding keeper.old).failed_reads) }
-    ensures fault { IfErr result (IsLookFault (K.holding keeper.old) (K.holding keeper.new)) }
 {
     let [b'I', name @ ..] = key else {
         return Ok(());
@@ -102,11 +92,8 @@ fn site_of<K: Keeper>(
     keeper: &mut K,
     pairs: &[Pair],
 ) -> Result<MemSite, SiteOpenFault>
-    ensures named { IsTrue (K.holding keeper.old).honest → (s : Site) → IsKept (K.holding keeper.old) s → IfOk result (λ m. m ≡ with_all_named s (site_under (K.holding keeper.old).banner) pairs.now) }
-    ensures address { IfOk result (λ m. HasAddress m (K.holding keeper.old).banner) }
-    ensures looked { HasLooked K.holding K.may_need K.stops keeper.old keeper.new }
-    ensures reads { OnOk result ((K.holding keeper.new).failed_reads ≡ (K.holding keeper.old).failed_reads) }
-    ensures fault { IfErr result (IsLookFault (K.holding keeper.old) (K.holding keeper.new)) }
+    ensures named { ReadsKnown K.store_state K.may_need K.crash_states keeper.old keeper.new result RepresentedBy (λ s m. m ≡ with_all_named s (site_under (K.store_state keeper.old).banner) pairs.now) }
+    ensures address { IfOk result (λ m. HasAddress m (K.store_state keeper.old).banner) }
 {
     let banner = keeper.banner();
     let mut site = MemSite::empty(
@@ -151,7 +138,7 @@ fn are_same(pairs: &[Pair], entries: &[(&Key, &Piece)]) -> bool
 fn has_layout(alloc: Global, site: &MemSite, pairs: &[Pair]) -> Result<bool, AllocError>
     ensures { IfOk result (λ yes. Decides yes (IsLayoutOf pairs.now site.now)) }
 {
-    if !site.is_lawful(alloc)? {
+    if !site.is_valid(alloc)? {
         return Ok(false);
     }
     let layout = layout_of(alloc, site)?;
@@ -159,14 +146,10 @@ fn has_layout(alloc: Global, site: &MemSite, pairs: &[Pair]) -> Result<bool, All
     Ok(are_same(pairs, &entries))
 }
 
-/// Reads all that is kept; it ends well where that is the layout of a lawful site.
+/// Reads all that is kept; it ends well where that is the layout of a valid site.
 fn check<K: Keeper>(alloc: Global, keeper: &mut K) -> Result<(), SiteOpenFault>
-    ensures kept { OnOk result (KeepsSite (K.holding keeper.old)) }
-    ensures port { OnOk result (0 < (K.holding keeper.old).banner.port) }
-    ensures looked { HasLooked K.holding K.may_need K.stops keeper.old keeper.new }
-    ensures reads { OnOk result ((K.holding keeper.new).failed_reads ≡ (K.holding keeper.old).failed_reads) }
-    ensures fault { IfErr result (IsLookFault (K.holding keeper.old) (K.holding keeper.new)) }
-    ensures closed { (K.holding keeper.old).usable ≡ false → IsErrOf result (Told Failed) }
+    ensures kept { AlwaysReads K.store_state K.may_need K.crash_states keeper.old keeper.new result IsSiteReadFault (λ h _. (s : Site) × RepresentedBy h s) }
+    ensures port { OnOk result (0 < (K.store_state keeper.old).banner.port) }
 {
     let pairs = pairs_of(alloc, keeper)?;
     let site = site_of(alloc, keeper, &pairs)?;
@@ -180,15 +163,15 @@ fn check<K: Keeper>(alloc: Global, keeper: &mut K) -> Result<(), SiteOpenFault>
 impl<K: Keeper> DiskSite<K> {
     /// Opens the site whose layout a keeper holds, and reads all of it. A refusal hands the keeper back; nothing is written.
     ///
-    /// A keeper that isn't usable is `Failed`, and gets no other answer. `BadRecord` where what is kept is no lawful site's layout, else the keeper's fault. `Memory` may stand in place of `BadRecord` and of success.
+    /// A keeper that isn't usable is `Failed`, and gets no other answer. `BadRecord` where what is kept is no valid site's layout, else the keeper's fault. `Memory` may stand in place of `BadRecord` and of success.
     pub fn open(alloc: Global, keeper: K) -> Result<DiskSite<K>, (SiteOpenFault, K)>
-        ensures site { IsTrue (K.holding keeper).honest → IfOk result (λ d. IsKept (K.holding keeper) (seen_site d)) }
-        ensures looked { IfOk result (λ d. HasLooked K.holding K.may_need K.stops keeper (keeper_of d)) }
-        ensures reads { IfOk result (λ d. NoneFailed (K.holding keeper) (K.holding (keeper_of d))) }
-        ensures usable { IfOk result (λ d. (K.holding (keeper_of d)).usable ≡ true) }
-        ensures fault { IfErr result (λ e. IsOpenFault (K.holding keeper) (K.holding e.1) e.0) }
-        ensures handed_back { IfErr result (λ e. HasLooked K.holding K.may_need K.stops keeper e.1) }
-        ensures closed { (K.holding keeper).usable ≡ false → IsErrAnd result (λ e. e.0 ≡ Told Failed) }
+        ensures site { IsTrue (K.store_state keeper).honest → IfOk result (λ d. RepresentedBy (K.store_state keeper) (seen_site d)) }
+        ensures reads_only { IfOk result (λ d. ReadsOnly K.store_state K.may_need K.crash_states keeper (keeper_of d)) }
+        ensures reads { IfOk result (λ d. NoneFailed (K.store_state keeper) (K.store_state (keeper_of d))) }
+        ensures usable { IfOk result (λ d. (K.store_state (keeper_of d)).usable ≡ true) }
+        ensures fault { IfErr result (λ e. IsOpenFault (K.store_state keeper) (K.store_state e.1) e.0) }
+        ensures handed_back { IfErr result (λ e. ReadsOnly K.store_state K.may_need K.crash_states keeper e.1) }
+        ensures closed { (K.store_state keeper).usable ≡ false → IsErrAnd result (λ e. e.0 ≡ StoreFault Failed) }
     {
         let mut keeper = keeper;
         match check(alloc, &mut keeper) {

@@ -1,14 +1,13 @@
 // Reading the record of an item.
-ghost use Rattle.std.specs.Prelude.{◌≡◌, ◌⊎◌, false, IfOk, OnOk, IfErr, IfSome, IsErrOf, IsTrue};
+ghost use Rattle.std.specs.Prelude.{◌≡◌, ◌⊎◌, IfOk, IfErr, IfSome, IsTrue};
 ghost use Rattle.std.specs.Option.{option_map};
-ghost use Rattle.host_types.specs.Site.{Site, item_at};
-ghost use Rattle.page_store.specs.declared.fault.KeeperFault.TheVariants.{Failed};
+ghost use Rattle.host_types.specs.Site.{item_at};
 ghost use Rattle.site_records.specs.Records.{recorded, record_bytes};
 ghost use Rattle.site_records.specs.Limits.{is_record};
 ghost use Rattle.site_records.specs.declared.record.Record.{Record as RecordValue};
-ghost use Rattle.site_store.specs.Kept.{IsKept};
-ghost use Rattle.site_store.specs.Looking.{HasLooked, IsLookFault};
-ghost use Rattle.site_store.specs.declared.fault.SiteOpenFault.TheVariants.{BadRecord, Memory, Keeper as Told};
+ghost use Rattle.site_store.specs.Represented.{RepresentedBy};
+ghost use Rattle.site_store.specs.Reads.{AlwaysReadsKnown};
+ghost use Rattle.site_store.specs.declared.fault.SiteOpenFault.TheVariants.{BadRecord, Memory};
 
 use crate::SiteOpenFault;
 use crate::looking::look_up;
@@ -36,12 +35,8 @@ pub fn record_at<K: Keeper>(
     keeper: &mut K,
     selector: &Selector,
 ) -> Result<Option<Record>, SiteOpenFault>
-    ensures record { IsTrue (K.holding keeper.old).honest → (s : Site) → IsKept (K.holding keeper.old) s → IfOk result (λ r. r ≡ option_map recorded (item_at s selector.now)) }
-    ensures lawful { IfOk result (λ r. IfSome r (λ r. IsTrue (is_record r))) }
-    ensures looked { HasLooked K.holding K.may_need K.stops keeper.old keeper.new }
-    ensures reads { OnOk result ((K.holding keeper.new).failed_reads ≡ (K.holding keeper.old).failed_reads) }
-    ensures fault { IfErr result (IsLookFault (K.holding keeper.old) (K.holding keeper.new)) }
-    ensures closed { (K.holding keeper.old).usable ≡ false → IsErrOf result (Told Failed) }
+    ensures record { AlwaysReadsKnown K.store_state K.may_need K.crash_states keeper.old keeper.new result RepresentedBy (λ s r. r ≡ option_map recorded (item_at s selector.now)) }
+    ensures valid { IfOk result (λ r. IfSome r (λ r. IsTrue (is_record r))) }
 {
     items_have_records();
     let mut buffer = [0; 1024];

@@ -1,7 +1,7 @@
-// A site over a keeper of pairs is searched.
+// A site over a key-value store is searched.
 use crate::DiskSite;
 use crate::searching::search_all;
-use crate::told::told;
+use crate::to_site_fault::to_site_fault;
 use host_types::{Selector, SiteFault};
 use page_store::Keeper;
 use word_index::{SearchKeeper, SelectorList};
@@ -13,7 +13,7 @@ impl<K: Keeper> SearchKeeper for DiskSite<K> {
         }
         match search_all(self.alloc, &mut self.keeper, scope, query) {
             Ok(found) => Ok(found),
-            Err(fault) => Err(told(fault)),
+            Err(fault) => Err(to_site_fault(fault)),
         }
     }
 }

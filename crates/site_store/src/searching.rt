@@ -1,11 +1,10 @@
-// Searching a site: each item is looked at, one after another.
-ghost use Rattle.std.specs.Prelude.{◌≡◌, OnOk, OnErr, IfOk, IfErr, IsTrue};
-ghost use Rattle.host_types.specs.Site.{Site, item_at};
-ghost use Rattle.host_types.specs.declared.item.Item.{Item as ItemValue};
-ghost use Rattle.site_store.specs.Kept.{IsKept};
-ghost use Rattle.site_store.specs.Looking.{HasLooked, IsFaultUnless, IsLookFault};
+// Searching a site: each item is examined, one after another.
+ghost use Rattle.std.specs.Prelude.{◌≡◌};
+ghost use Rattle.site_store.specs.Represented.{RepresentedBy};
+ghost use Rattle.site_store.specs.StoreReads.{StandsAt};
+ghost use Rattle.site_store.specs.Reads.{ReadsKnown};
 ghost use Rattle.site_store.specs.Searching as spec;
-ghost use Rattle.word_index.specs.Gathered.{looked_at};
+ghost use Rattle.word_index.specs.Gathered.{searched_at};
 ghost use Rattle.word_index.specs.Search.{search_of};
 ghost use Rattle.host_types.specs.Words as words;
 
@@ -27,10 +26,7 @@ fn look_in<K: Keeper>(
     asked: &LineList,
     selector: &Selector,
 ) -> Result<(), SiteOpenFault>
-    ensures found { IsTrue (K.holding keeper.old).honest → (s : Site) → IsKept (K.holding keeper.old) s → (item : ItemValue) → item_at s selector.now ≡ Some item → OnOk result (found.new ≡ looked_at scope.now asked.now found.old (selector.now, item)) }
-    ensures looked { HasLooked K.holding K.may_need K.stops keeper.old keeper.new }
-    ensures reads { OnOk result ((K.holding keeper.new).failed_reads ≡ (K.holding keeper.old).failed_reads) }
-    ensures fault { IfErr result (IsFaultUnless ((s : Site) × IsKept (K.holding keeper.old) s × ((item : ItemValue) × (item_at s selector.now ≡ Some item))) (K.holding keeper.old) (K.holding keeper.new)) }
+    ensures found { ReadsKnown K.store_state K.may_need K.crash_states keeper.old keeper.new result (StandsAt selector.now) (λ item _. found.new ≡ searched_at scope.now asked.now found.old (selector.now, item)) }
 {
     if !selector.as_bytes().starts_with(scope.as_bytes()) {
         return Ok(());
@@ -54,10 +50,7 @@ fn step<K: Keeper>(
     asked: &LineList,
     selector: &mut Selector,
 ) -> Result<bool, SiteOpenFault>
-    ensures further { IsTrue (K.holding keeper.old).honest → (s : Site) → IsKept (K.holding keeper.old) s → spec.IsLeft s scope.now asked.now found.old selector.old → IfOk result (λ more. spec.IsFurther s scope.now asked.now more found.new selector.new) }
-    ensures looked { HasLooked K.holding K.may_need K.stops keeper.old keeper.new }
-    ensures reads { OnOk result ((K.holding keeper.new).failed_reads ≡ (K.holding keeper.old).failed_reads) }
-    ensures fault { IfErr result (IsFaultUnless ((s : Site) × IsKept (K.holding keeper.old) s × spec.IsLeft s scope.now asked.now found.old selector.old) (K.holding keeper.old) (K.holding keeper.new)) }
+    ensures further { ReadsKnown K.store_state K.may_need K.crash_states keeper.old keeper.new result (λ h s. RepresentedBy h s × spec.IsLeft s scope.now asked.now found.old selector.old) (λ s more. spec.IsFurther s scope.now asked.now more found.new selector.new) }
 {
     match look_in(alloc, keeper, found, scope, asked, selector) {
         Ok(()) => {}
@@ -83,10 +76,7 @@ fn search_in<K: Keeper>(
     scope: &Selector,
     asked: &LineList,
 ) -> Result<SelectorList, SiteOpenFault>
-    ensures found { IsTrue (K.holding keeper.old).honest → (s : Site) → IsKept (K.holding keeper.old) s → IfOk result (λ found. found ≡ spec.all_found s scope.now asked.now) }
-    ensures looked { HasLooked K.holding K.may_need K.stops keeper.old keeper.new }
-    ensures reads { OnOk result ((K.holding keeper.new).failed_reads ≡ (K.holding keeper.old).failed_reads) }
-    ensures fault { IfErr result (IsLookFault (K.holding keeper.old) (K.holding keeper.new)) }
+    ensures found { ReadsKnown K.store_state K.may_need K.crash_states keeper.old keeper.new result RepresentedBy (λ s found. found ≡ spec.all_found s scope.now asked.now) }
 {
     let mut found = SelectorList::new(alloc);
     let mut selector = Selector::root();
@@ -109,10 +99,7 @@ pub fn search_all<K: Keeper>(
     scope: &Selector,
     query: &[u8],
 ) -> Result<SelectorList, SiteOpenFault>
-    ensures found { IsTrue (K.holding keeper.old).honest → (s : Site) → IsKept (K.holding keeper.old) s → IfOk result (λ found. found ≡ search_of s scope.now query.now) }
-    ensures looked { HasLooked K.holding K.may_need K.stops keeper.old keeper.new }
-    ensures reads { OnOk result ((K.holding keeper.new).failed_reads ≡ (K.holding keeper.old).failed_reads) }
-    ensures fault { IfErr result (IsLookFault (K.holding keeper.old) (K.holding keeper.new)) }
+    ensures found { ReadsKnown K.store_state K.may_need K.crash_states keeper.old keeper.new result RepresentedBy (λ s found. found ≡ search_of s scope.now query.now) }
 {
     let asked = words_in(alloc, query)?;
     search_in(alloc, keeper, scope, &asked)

@@ -1,30 +1,30 @@
-// The calls of a site over a keeper of pairs.
-ghost use Rattle.site_store.specs.Kept.{keeping_of, site_of, StandsFor};
+// The calls of a site over a key-value store.
+ghost use Rattle.site_store.specs.Represented.{site_state_of, site_of, Represents};
 ghost use Rattle.site_store.specs.Lacking.{IsLacking};
-ghost use Rattle.site_store.specs.Settled.{settled_site};
+ghost use Rattle.site_store.specs.CrashStatesRepresent.{crash_states_represent_site};
 
 use crate::DiskSite;
 use crate::cards::{card_in, chunk_in};
-use crate::changing::{banner_after, is_without_port, plan_change};
-use crate::told::{told, told_keeper};
-use crate::writing::write_strokes;
+use crate::to_site_fault::{store_fault_comes, to_site_fault};
+use crate::writing::{banner_after, write_replacements};
+use change_plan::plan_change;
 use host_types::{
-    Card, Change, Front, Refused, Selector, SiteFault, SiteKeeper, Stamp, changes_keep_sites_lawful,
+    Card, Change, Front, Selector, SiteFault, SiteKeeper, Stamp, changes_keep_sites_valid,
 };
 use page_store::Keeper;
 
 impl<K: Keeper> SiteKeeper for DiskSite<K> {
-    ghost keeping = { λ d. keeping_of (K.holding d.keeper) d.kept };
+    ghost site_state = { λ d. site_state_of (K.store_state d.keeper) d.kept };
 
-    ghost lacks = { λ d. IsLacking K.holding K.may_need d.keeper (site_of (K.holding d.keeper) d.kept) };
+    ghost lacks = { λ d. IsLacking K.store_state K.may_need d.keeper (site_of (K.store_state d.keeper) d.kept) };
 
-    ghost Left = { K.Left };
+    ghost CrashState = { K.CrashState };
 
-    ghost stands_for = { StandsFor K.has_content };
+    ghost represents = { Represents K.has_content };
 
-    ghost stops = { λ d. K.stops d.keeper };
+    ghost crash_states = { λ d. K.crash_states d.keeper };
 
-    ghost settled = { λ d c honest usable left. settled_site K.has_content (K.holding d.keeper) d.kept c honest (K.settled d.keeper c honest usable left) };
+    ghost crash_states_represent = { λ d c honest usable left. crash_states_represent_site K.has_content (K.store_state d.keeper) d.kept c honest (K.crash_states_represent d.keeper c honest usable left) };
 
     fn front(&self) -> Front<'_> {
         let banner = self.keeper.banner();
@@ -42,7 +42,7 @@ impl<K: Keeper> SiteKeeper for DiskSite<K> {
     fn card(&mut self, selector: &Selector) -> Result<Option<Card>, SiteFault> {
         match card_in(self.alloc, &mut self.keeper, selector) {
             Ok(card) => Ok(card),
-            Err(fault) => Err(told(fault)),
+            Err(fault) => Err(to_site_fault(fault)),
         }
     }
 
@@ -55,7 +55,7 @@ impl<K: Keeper> SiteKeeper for DiskSite<K> {
     ) -> Result<usize, SiteFault> {
         match chunk_in(&mut self.keeper, selector, view, k, buffer) {
             Ok(length) => Ok(length),
-            Err(fault) => Err(told(fault)),
+            Err(fault) => Err(to_site_fault(fault)),
         }
     }
 
@@ -63,20 +63,18 @@ impl<K: Keeper> SiteKeeper for DiskSite<K> {
         if !self.keeper.is_usable() {
             return Err(SiteFault::Failed);
         }
-        if is_without_port(&change) {
-            return Err(SiteFault::Refused(Refused::BadName));
-        }
-        changes_keep_sites_lawful();
-        change.lawful_names();
+        changes_keep_sites_valid();
+        change.valid_names();
         let _ = now.seconds();
-        let banner = banner_after(self.keeper.banner(), &change)?;
-        let strokes = match plan_change(self.alloc, &mut self.keeper, change, now) {
-            Ok(strokes) => strokes,
+        let alloc = self.alloc;
+        let plan = match plan_change(alloc, self, change, now) {
+            Ok(plan) => plan,
             Err(fault) => return Err(fault),
         };
-        match write_strokes(self.alloc, &mut self.keeper, &strokes, banner) {
+        let banner = banner_after(self.keeper.banner(), &plan)?;
+        match write_replacements(alloc, &mut self.keeper, &plan.replacements, banner) {
             Ok(()) => Ok(()),
-            Err(fault) => Err(told_keeper(fault)),
+            Err(fault) => Err(store_fault_comes(fault)),
         }
     }
 }

@@ -1,13 +1,12 @@
 // The items of a site, one after another.
-ghost use Rattle.std.specs.Prelude.{◌≡◌, false, Ok, Some, Option, List, ℕ, IfOk, OnOk, IfErr, IsErrOf, IsTrue, option_map};
+ghost use Rattle.std.specs.Prelude.{◌≡◌, Ok, Some, Option, IfOk, IfErr, option_map};
 ghost use Rattle.host_types.specs.Card.{card_of};
-ghost use Rattle.host_types.specs.Site.{Site, item_at};
-ghost use Rattle.host_types.specs.declared.item.Item.{Item as ItemValue};
-ghost use Rattle.page_store.specs.declared.fault.KeeperFault.TheVariants.{Failed};
-ghost use Rattle.site_store.specs.Kept.{IsKept};
-ghost use Rattle.site_store.specs.Looking.{HasLooked, IsFaultUnless, IsLookFault, IsQuickFault};
+ghost use Rattle.host_types.specs.Site.{Site};
+ghost use Rattle.site_store.specs.Represented.{RepresentedBy};
+ghost use Rattle.site_store.specs.StoreReads.{IsQuickFault, StandsAt};
+ghost use Rattle.site_store.specs.Reads.{AlwaysReads, AlwaysReadsKnown};
 ghost use Rattle.site_store.specs.Walking as spec;
-ghost use Rattle.site_store.specs.declared.fault.SiteOpenFault.TheVariants.{BadRecord, Keeper as Told};
+ghost use Rattle.site_store.specs.declared.fault.SiteOpenFault.TheVariants.{BadRecord};
 
 use crate::SiteOpenFault;
 use crate::cards::card_in;
@@ -17,10 +16,10 @@ use site_records::item_key;
 use std::alloc::Global;
 
 /// The selector of which a key is that of the record; other keys are of none.
-#[tactic(auto, using(crate::proofs::Walks::refused_name))]
+#[tactic(auto, using(crate::proofs::ItemWalks::refused_name))]
 fn selector_in(key: &[u8]) -> Result<Option<Selector>, SiteOpenFault>
     ensures selector { IfOk result (λ found. found ≡ spec.recorded_by key.now) }
-    ensures fault { IfErr result (λ e. (e ≡ BadRecord) × spec.IsUnlawful (spec.recorded_by key.now)) }
+    ensures fault { IfErr result (λ e. (e ≡ BadRecord) × spec.IsInvalid (spec.recorded_by key.now)) }
 {
     match key {
         [b'I', name @ ..] => match Selector::new(name) {
@@ -36,11 +35,7 @@ pub fn selector_after<K: Keeper>(
     keeper: &mut K,
     after: &Selector,
 ) -> Result<Option<Selector>, SiteOpenFault>
-    ensures next { IsTrue (K.holding keeper.old).honest → (s : Site) → IsKept (K.holding keeper.old) s → IfOk result (λ next. next ≡ spec.selector_after s after.now) }
-    ensures looked { HasLooked K.holding K.may_need K.stops keeper.old keeper.new }
-    ensures reads { OnOk result ((K.holding keeper.new).failed_reads ≡ (K.holding keeper.old).failed_reads) }
-    ensures fault { IfErr result (IsQuickFault (K.holding keeper.old) (K.holding keeper.new)) }
-    ensures closed { (K.holding keeper.old).usable ≡ false → IsErrOf result (Told Failed) }
+    ensures next { AlwaysReads K.store_state K.may_need K.crash_states keeper.old keeper.new result IsQuickFault (λ h next. (s : Site) → RepresentedBy h s → next ≡ spec.selector_after s after.now) }
 {
     let mut key = [0; 300];
     let mut value = [0; 1024];
@@ -57,11 +52,7 @@ fn carded<K: Keeper>(
     keeper: &mut K,
     selector: Selector,
 ) -> Result<Option<(Selector, Card)>, SiteOpenFault>
-    ensures card { IsTrue (K.holding keeper.old).honest → (s : Site) → IsKept (K.holding keeper.old) s → (item : ItemValue) → item_at s selector ≡ Some item → IfOk result (λ found. found ≡ Some (selector, card_of item)) }
-    ensures looked { HasLooked K.holding K.may_need K.stops keeper.old keeper.new }
-    ensures reads { OnOk result ((K.holding keeper.new).failed_reads ≡ (K.holding keeper.old).failed_reads) }
-    ensures fault { IfErr result (IsFaultUnless ((s : Site) × IsKept (K.holding keeper.old) s × ((item : ItemValue) × (item_at s selector ≡ Some item))) (K.holding keeper.old) (K.holding keeper.new)) }
-    ensures closed { (K.holding keeper.old).usable ≡ false → IsErrOf result (Told Failed) }
+    ensures card { AlwaysReadsKnown K.store_state K.may_need K.crash_states keeper.old keeper.new result (StandsAt selector) (λ item found. found ≡ Some (selector, card_of item)) }
 {
     match card_in(alloc, keeper, &selector) {
         Ok(Some(card)) => Ok(Some((selector, card))),
@@ -71,17 +62,12 @@ fn carded<K: Keeper>(
 }
 
 /// The first item above a selector with its card; with no selector, the first of all.
-#[tactic(auto, using(crate::proofs::Looks::looks_later))]
 pub fn next_in<K: Keeper>(
     alloc: Global,
     keeper: &mut K,
     after: Option<&Selector>,
 ) -> Result<Option<(Selector, Card)>, SiteOpenFault>
-    ensures next { IsTrue (K.holding keeper.old).honest → (s : Site) → IsKept (K.holding keeper.old) s → IfOk result (λ next. next ≡ spec.card_after s (option_map (λ selector. selector.now) after.entry)) }
-    ensures looked { HasLooked K.holding K.may_need K.stops keeper.old keeper.new }
-    ensures reads { OnOk result ((K.holding keeper.new).failed_reads ≡ (K.holding keeper.old).failed_reads) }
-    ensures fault { IfErr result (IsLookFault (K.holding keeper.old) (K.holding keeper.new)) }
-    ensures closed { (K.holding keeper.old).usable ≡ false → IsErrOf result (Told Failed) }
+    ensures next { AlwaysReadsKnown K.store_state K.may_need K.crash_states keeper.old keeper.new result RepresentedBy (λ s next. next ≡ spec.card_after s (option_map (λ selector. selector.now) after.entry)) }
 {
     match after {
         None => carded(alloc, keeper, Selector::root()),

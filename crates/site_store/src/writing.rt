@@ -1,39 +1,66 @@
 // Writing what a change makes.
-ghost use Rattle.std.specs.Prelude.{◌≡◌, ◌⊎◌, ◌<◌, true, IfErr, OnOk, IsTrue};
-ghost use Rattle.host_types.specs.Stops.{LeavesOnly, IsQuiet};
+ghost use Rattle.std.specs.Prelude.{◌≡◌, ◌⊎◌, ◌<◌, true, IfOk, IfErr, OnOk, IsTrue};
+ghost use Rattle.host_types.specs.CrashStates.{AddsOnly, AddsNone};
 ghost use Rattle.page_store.specs.Batch.{updated};
-ghost use Rattle.page_store.specs.Holding.{HasTried, IsCommitFault};
-ghost use Rattle.site_store.specs.Edits.{batch_of, edits_of};
+ghost use Rattle.page_store.specs.StoreState.{HasTried, IsCommitFault};
+ghost use Rattle.site_pairs.specs.Edits.{batch_of, edits_of};
 ghost use Rattle.site_store.specs.Lacking.{MayNeed};
-ghost use Rattle.site_store.specs.Strokes.{AreShort};
+ghost use Rattle.site_store.specs.Planned.{banner_after};
+ghost use Rattle.site_pairs.specs.ShortReplacements.{AreShort};
 
-use crate::edits::batch_of;
-use crate::stroke::Stroke;
+use change_plan::{Plan, Replacement};
 use page_store::{Banner, Keeper, KeeperFault};
-use std::alloc::Global;
+use site_pairs::batch_of;
+use std::alloc::{AllocError, Global};
 
-/// Makes some strokes, and sets the banner, in one step.
-#[tactic(auto, using(crate::proofs::Makes::is_batch_of))]
-pub fn write_strokes<K: Keeper>(
+/// The banner after a plan.
+pub fn banner_after(old: &Banner, plan: &Plan) -> Result<Banner, AllocError>
+    ensures { IfOk result (λ b. b ≡ banner_after old.now plan.now.host plan.now.admin) }
+{
+    let Banner {
+        version,
+        host,
+        port,
+        admin,
+    } = old.clone()?;
+    let (host, port) = match &plan.host {
+        Some((host, port)) => (host.clone()?, *port),
+        None => (host, port),
+    };
+    let admin = match &plan.admin {
+        Some(admin) => admin.clone()?,
+        None => admin,
+    };
+    Ok(Banner {
+        version,
+        host,
+        port,
+        admin,
+    })
+}
+
+/// Makes some replacements, and sets the banner, in one step.
+#[tactic(auto, using(crate::proofs::EditsMakeLayouts::is_batch_of))]
+pub fn write_replacements<K: Keeper>(
     alloc: Global,
     keeper: &mut K,
-    strokes: &[Stroke],
+    replacements: &[Replacement],
     banner: Banner,
 ) -> Result<(), KeeperFault>
-    requires short { AreShort strokes.now }
+    requires short { AreShort replacements.now }
     requires port { 0 < banner.port }
     requires version { IsTrue (K.holds_version banner.version) }
-    requires usable { (K.holding keeper.old).usable ≡ true }
-    ensures done { IsTrue (K.holding keeper.old).honest → OnOk result ((K.holding keeper.new).pairs ≡ updated (K.holding keeper.old).pairs (batch_of (edits_of strokes.now))) }
-    ensures banner { OnOk result ((K.holding keeper.new).banner ≡ banner) }
-    ensures still_usable { OnOk result ((K.holding keeper.new).usable ≡ true) }
-    ensures fault { IfErr result (IsCommitFault (K.holding keeper.old) (K.holding keeper.new) (MayNeed K.may_need keeper.old (batch_of (edits_of strokes.now)))) }
-    ensures tried { HasTried (K.holding keeper.old) (K.holding keeper.new) }
-    ensures stop { IsTrue (K.holding keeper.old).honest →
-        LeavesOnly (K.stops keeper.old) (K.stops keeper.new) (λ c. K.has_content c (K.holding keeper.old).pairs (K.holding keeper.old).banner ⊎ K.has_content c (updated (K.holding keeper.old).pairs (batch_of (edits_of strokes.now))) banner) }
-    ensures quiet { IsTrue (K.holding keeper.old).honest → IfErr result (λ e. (K.holding keeper.new).usable ≡ true → IsQuiet (K.stops keeper.old) (K.stops keeper.new)) }
+    requires usable { (K.store_state keeper.old).usable ≡ true }
+    ensures done { IsTrue (K.store_state keeper.old).honest → OnOk result ((K.store_state keeper.new).pairs ≡ updated (K.store_state keeper.old).pairs (batch_of (edits_of replacements.now))) }
+    ensures banner { OnOk result ((K.store_state keeper.new).banner ≡ banner) }
+    ensures still_usable { OnOk result ((K.store_state keeper.new).usable ≡ true) }
+    ensures fault { IfErr result (IsCommitFault (K.store_state keeper.old) (K.store_state keeper.new) (MayNeed K.may_need keeper.old (batch_of (edits_of replacements.now)))) }
+    ensures tried { HasTried (K.store_state keeper.old) (K.store_state keeper.new) }
+    ensures at_crash { IsTrue (K.store_state keeper.old).honest →
+        AddsOnly (K.crash_states keeper.old) (K.crash_states keeper.new) (λ c. K.has_content c (K.store_state keeper.old).pairs (K.store_state keeper.old).banner ⊎ K.has_content c (updated (K.store_state keeper.old).pairs (batch_of (edits_of replacements.now))) banner) }
+    ensures no_new_crash_state { IsTrue (K.store_state keeper.old).honest → IfErr result (λ e. (K.store_state keeper.new).usable ≡ true → AddsNone (K.crash_states keeper.old) (K.crash_states keeper.new)) }
 {
-    match batch_of(alloc, strokes) {
+    match batch_of(alloc, replacements) {
         Ok(batch) => keeper.commit(&batch, banner),
         Err(_) => Err(KeeperFault::Memory),
     }

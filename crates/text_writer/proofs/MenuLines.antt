@@ -9,7 +9,7 @@ use Rattle.std.proofs.lemmas.List.{append_assoc}
 use Rattle.std.proofs.lemmas.List.Folds.{list_any-append}
 use Rattle.std.specs.Prelude.{nat_le, nat_lt}
 use Rattle.std.specs.Option.{option_map}
-use Rattle.host_types.specs.Names.{is_barred, is_field, is_visible, is_word, is_url, has_scheme}
+use Rattle.host_types.specs.Names.{is_forbidden, is_field, is_visible, is_word, is_url, has_scheme}
 use Rattle.host_types.specs.Items.{kind_letter, link_letter, is_typed_entry, is_typed_body, is_typed_item, is_bad_body, is_long_item, is_selector, is_title, is_host, is_link}
 use Rattle.host_types.specs.Site.{Site, IsSite, item_at}
 use Rattle.host_types.specs.Card.{card_of, card_body}
@@ -45,16 +45,16 @@ unnot : (b : Bool) → not b ≡ true → b ≡ false
 unnot true h = absurd cc
 unnot false h = refl
 
-lf_is_barred : (bs : List ℕ) → list_any is_barred bs ≡ false → list_any is_lf bs ≡ false
-lf_is_barred [] none = refl
-lf_is_barred (b ∷ bs) none =
+lf_is_forbidden : (bs : List ℕ) → list_any is_forbidden bs ≡ false → list_any is_lf bs ≡ false
+lf_is_forbidden [] none = refl
+lf_is_forbidden (b ∷ bs) none =
     elim (cases_Bool (b == 10)) [
-      | inl lf ↦ (let k : is_barred b || list_any is_barred bs ≡ false = none in grind (arith, nat_tests, k, lf))
-      | inr other ↦ rw other (lf_is_barred bs (grind (arith, nat_tests, none)))
+      | inl lf ↦ (let k : is_forbidden b || list_any is_forbidden bs ≡ false = none in grind (arith, nat_tests, k, lf))
+      | inr other ↦ rw other (lf_is_forbidden bs (grind (arith, nat_tests, none)))
     ]
 
 pub field_has_none : (bs : List ℕ) → is_field bs ≡ true → list_any is_lf bs ≡ false
-field_has_none bs field = lf_is_barred bs (unnot (list_any is_barred bs) field)
+field_has_none bs field = lf_is_forbidden bs (unnot (list_any is_forbidden bs) field)
 
 visible_has_none : (bs : List ℕ) → list_all is_visible bs ≡ true → list_any is_lf bs ≡ false
 visible_has_none [] all = refl
@@ -175,7 +175,7 @@ link_has_none bytes h = word_has_none bytes (first_of (is_word bytes) (has_schem
 pub of_item : (s : Site) (selector : List ℕ) (item : Item) → IsSite s → item_at s selector ≡ Some item → IsMenuLine (item_line (address s) selector (card_of item))
 of_item s selector item site stands =
     let may = site.each selector item stands in
-    let typed : IsTrue (is_typed_item item) = first_of (is_typed_item item) (not (is_bad_body item.body) && not (is_long_item selector item)) may.lawful in
+    let typed : IsTrue (is_typed_item item) = first_of (is_typed_item item) (not (is_bad_body item.body) && not (is_long_item selector item)) may.valid in
     let title : IsTrue (is_title item.title) = first_of (is_title item.title) (nat_le item.stamp 253402300799 && is_typed_body item.body) typed in
     let body = card_body item.body in
     five_line (type_letter body) item.title selector s.host (plus_sign body) s.port (type_is_no_lf body).0 (type_is_no_lf body).1

@@ -6,11 +6,11 @@ use Rattle.text_writer.specs.declared.error.ErrorText.TheVariants as errors
 
 -- a menu of one line of type 3
 unfoldable pub plain_error : List ℕ → List ℕ
-plain_error told = codes "3" ++ told ++ codes "\t\terror.host\t1\r\n.\r\n"
+plain_error reason = codes "3" ++ reason ++ codes "\t\terror.host\t1\r\n.\r\n"
 
 -- the lines are those of a new place, or none
 unfoldable pub plus_error : ℕ → List ℕ → List ℕ → List ℕ
-plus_error code told place = codes "--1\r\n" ++ decimal code ++ codes " " ++ told ++ line_end ++ place ++ text_end
+plus_error code reason place = codes "--1\r\n" ++ decimal code ++ codes " " ++ reason ++ line_end ++ place ++ text_end
 
 unfoldable pub words_of : ErrorText → List ℕ
 words_of errors.ItemNotFound = codes "Item not found"
@@ -43,6 +43,6 @@ code_of errors.RequestNotUnderstood = 1
 code_of errors.TryAgainLater = 2
 code_of errors.ItemHasMoved = 3
 
--- A client that asked by Gopher+ is told by Gopher+, with the line of a new place where there is one.
+-- A client that asked by Gopher+ gets its error by Gopher+, with the line of a new place where there is one.
 abbrev pub error_reply : Bool → ErrorText → List ℕ → List ℕ
 error_reply is_plus error place = if is_plus then plus_error (code_of error) (words_of error) place else plain_error (words_of error)

@@ -6,7 +6,7 @@ ghost use Rattle.text_writer.specs.Errors.{words_of, code_of};
 use host_types::Bytes;
 use std::alloc::{AllocError, Global};
 
-/// What a client is told where it gets no item.
+/// What a client gets in place of an item.
 #[derive(Clone, Copy, Debug, PartialEq, Eq)]
 pub enum ErrorText {
     ItemNotFound,

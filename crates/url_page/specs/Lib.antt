@@ -1,3 +1,3 @@
 pub mod Page
 pub mod Faults
-pub mod Examples
+pub mod UrlExamples

@@ -11,7 +11,7 @@ pub enum UrlFault {
     /// It is none that a browser is led to.
     #[error("NotAllowed")]
     NotAllowed,
-    /// Memory is wanting.
+    /// Out of memory.
     #[error("Memory")]
     Memory,
 }

@@ -1,6 +1,6 @@
 // What holds of names in HTML, for each byte string.
 ghost use Rattle.std.specs.Prelude.{◌≡◌, ℕ, List};
-ghost use Rattle.url_page.specs.Examples.{Examples};
+ghost use Rattle.url_page.specs.UrlExamples.{UrlExamples};
 ghost use Rattle.url_page.specs.Page.{escape, unescape};
 
 /// What was escaped is read back.
@@ -10,5 +10,5 @@ pub fn reads_back()
 
 /// Worked examples of redirect pages.
 pub fn worked_examples()
-    ensures { Examples }
+    ensures { UrlExamples }
 {}

@@ -1,4 +1,4 @@
 pub mod Distinct
 pub mod Runs
 pub mod Changes
-pub mod Found
+pub mod FoundEntries

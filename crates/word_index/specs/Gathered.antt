@@ -12,5 +12,5 @@ abbrev pub gathered : List (List ℕ) → List (List ℕ) → List (List ℕ)
 gathered words more = fold added words more
 
 -- the selector of an item that is found, while there is room
-unfoldable pub looked_at : List ℕ → List (List ℕ) → List (List ℕ) → List ℕ × Item → List (List ℕ)
-looked_at scope asked found e = if nat_lt (length found) 100 && is_found scope asked e then found ++ e.0 ∷ [] else found
+unfoldable pub searched_at : List ℕ → List (List ℕ) → List (List ℕ) → List ℕ × Item → List (List ℕ)
+searched_at scope asked found e = if nat_lt (length found) 100 && is_found scope asked e then found ++ e.0 ∷ [] else found

@@ -1,4 +1,4 @@
 pub mod Search
 pub mod IndexChange
 pub mod Gathered
-pub mod Examples
+pub mod SearchExamples

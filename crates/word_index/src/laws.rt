@@ -1,7 +1,7 @@
 // Worked examples.
-ghost use Rattle.word_index.specs.Examples.{Examples};
+ghost use Rattle.word_index.specs.SearchExamples.{SearchExamples};
 
 /// Worked examples of words and searches.
 pub fn worked_examples()
-    ensures { Examples }
+    ensures { SearchExamples }
 {}

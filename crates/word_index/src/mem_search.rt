@@ -1,15 +1,16 @@
 // A site in memory is searched by looking at each item.
 ghost use Rattle.std.specs.Prelude.{◌≡◌, OnOk, IfOk, map, filter, take};
 ghost use Rattle.std.specs.List.{list_all, starts_with};
-ghost use Rattle.host_types.specs.Stops.{quiet, nothing};
-ghost use Rattle.word_index.specs.Gathered.{looked_at};
+ghost use Rattle.host_types.specs.CrashStates.{no_new_crash_state, nothing};
+ghost use Rattle.word_index.specs.Gathered.{searched_at};
 ghost use Rattle.word_index.specs.Search as spec;
 ghost use Rattle.host_types.specs.Words as words;
 
 use crate::word::words_in;
 use crate::word_list::{is_among, words};
 use crate::{SearchKeeper, SelectorList};
-use host_types::{Item, LineList, MemSite, Selector, SiteFault};
+use host_types::{Item, LineList, Selector, SiteFault};
+use mem_site::MemSite;
 use std::alloc::{AllocError, Global};
 
 /// How many items a search finds at most.
@@ -51,7 +52,7 @@ fn entries(alloc: Global, site: &MemSite) -> Result<Vec<(&Selector, &Item)>, All
 }
 
 /// Adds the selector of an item that is found, while there is room.
-#[tactic(auto, unfolding(crate::specs::Gathered::looked_at))]
+#[tactic(auto, unfolding(crate::specs::Gathered::searched_at))]
 pub fn look_at(
     alloc: Global,
     found: &mut SelectorList,
@@ -59,7 +60,7 @@ pub fn look_at(
     asked: &LineList,
     entry: (&Selector, &Item),
 ) -> Result<(), AllocError>
-    ensures { OnOk result (found.new ≡ looked_at scope.now asked.now found.old (entry.entry.0.now, entry.entry.1.now)) }
+    ensures { OnOk result (found.new ≡ searched_at scope.now asked.now found.old (entry.entry.0.now, entry.entry.1.now)) }
 {
     if found.as_slice().len() < MOST_FOUND && is_found(alloc, scope, asked, entry.0, entry.1)? {
         found.push(entry.0.clone()?)?;
@@ -68,7 +69,7 @@ pub fn look_at(
 }
 
 /// The first of these items that are found.
-#[tactic(auto, using(crate::proofs::Found::found_all))]
+#[tactic(auto, using(crate::proofs::FoundEntries::found_all))]
 fn search_in(
     alloc: Global,
     entries: &[(&Selector, &Item)],

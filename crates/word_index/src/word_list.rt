@@ -81,7 +81,7 @@ pub fn words(alloc: Global, item: &Item) -> Result<LineList, AllocError>
     first_words(alloc, item.title.as_bytes(), item.summary.as_slice(), text)
 }
 
-/// The words of an item by its card and the bytes of its first view, which are looked at where it is a text.
+/// The words of an item by its card and the bytes of its first view, which are examined where it is a text.
 
 pub fn card_words(alloc: Global, card: &Card, bytes: &[u8]) -> Result<LineList, AllocError>
     ensures { IfOk result (λ words. words ≡ spec.card_words card.now bytes.now) }

@@ -1,4 +1,4 @@
-use Rattle.ask_forms.proofs.Both.{both}
+use Rattle.ask_forms.proofs.AnswersRelated.{both}
 use Rattle.ask_forms.proofs.laws.reads_answers.Goals as goal
 
 pub returns : goal.returns

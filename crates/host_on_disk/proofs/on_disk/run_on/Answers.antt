@@ -1,6 +1,6 @@
 use Rattle.std.proofs.Common.{sym, subst, ap, ◌∙◌, IsTrue}
 use Rattle.page_store.specs.FlatSeen.{device_of}
-use Rattle.page_store.specs.Steps.{stops_of}
+use Rattle.page_store.specs.Steps.{crash_states_of}
 use Rattle.site_store.specs.Seen.{keeper_of, seen_site}
 use Rattle.host_on_disk.proofs.Openings.{no_memory}
 use Rattle.host_on_disk.proofs.Runs.{survives}
@@ -10,9 +10,9 @@ pub returns-in-Ok-run_over-clause-survives : goal.returns-in-Ok-run_over-clause-
 returns-in-Ok-run_over-clause-survives g c = λ honest.
     let opened = c.in-Ok.ensures in
     let back = c.into_device.ensures ∙ ap (λ k. device_of k) c.into_keeper.ensures in
-    let still : IsTrue (g.D.Device.state c.in-Ok.site.keeper.device).honest = subst IsTrue (sym opened.honest) honest in
-    survives g.D.Device.state (stops_of g.D.Device.moment g.D.Device.left_since) c.args.device c.in-Ok.site.keeper.device c.in-Ok-run_over.site.keeper.device c.into_device.result c.args.first c.args.events.now c.in-Ok-run_over.outcomes (seen_site c.in-Ok.site)
-    (opened.site honest) (opened.alone honest) (opened.stop honest) (c.in-Ok-run_over.ensures.run still) back
+    let unchanged : IsTrue (g.D.Device.state c.in-Ok.site.keeper.device).honest = subst IsTrue (sym opened.honest) honest in
+    survives g.D.Device.state (crash_states_of g.D.Device.moment g.D.Device.possible_since) c.args.device c.in-Ok.site.keeper.device c.in-Ok-run_over.site.keeper.device c.into_device.result c.args.first c.args.events.now c.in-Ok-run_over.outcomes (seen_site c.in-Ok.site)
+    (opened.site honest) (opened.alone honest) (opened.at_crash honest) (c.in-Ok-run_over.ensures.run unchanged) back
 
 pub returns-in-Err-run_over-clause-fault : goal.returns-in-Err-run_over-clause-fault
 returns-in-Err-run_over-clause-fault g c =

@@ -11,7 +11,7 @@ invariant-loop g l =
     let contents = g.W.Write.contents in
     let remaining = g.R.Read.remaining in
     record {
-      ran : RanSo (HubRun s.keeping s.lacks s.stops s.stands_for) l.fn.hub l.hub;
+      ran : RanSo (HubRun s.site_state s.lacks s.crash_states s.represents) l.fn.hub l.hub;
       room : length l.buffer ≡ 4096;
-      run : IsReadTo (HubRun s.keeping s.lacks s.stops s.stands_for) l.fn.hub l.hub (place_of l.place) (contents l.fn.writer) (contents l.writer) (remaining l.fn.reader) (remaining l.reader) l.place.line.items;
+      run : IsReadTo (HubRun s.site_state s.lacks s.crash_states s.represents) l.fn.hub l.hub (place_of l.place) (contents l.fn.writer) (contents l.writer) (remaining l.fn.reader) (remaining l.reader) l.place.line.items;
     }

@@ -5,18 +5,21 @@ use Rattle.host_script.proofs.Replays.{so_none, run_none, run_one, plain_more}
 use Rattle.host_script.proofs.replaying.run_byte.Goals as goal
 
 pub returns-in-Ok-clause-run : goal.returns-in-Ok-clause-run
-returns-in-Ok-clause-run g c =
-    λ plain. rw c.in-Ok.ensures.items (run_none _ (λ w. hub_rests g.S.SiteKeeper.keeping g.S.SiteKeeper.lacks g.S.SiteKeeper.stops g.S.SiteKeeper.stands_for g.met.S.SiteKeeper.settled w) (λ a b c e f o p. hub_goes_on g.S.SiteKeeper.keeping g.S.SiteKeeper.lacks g.S.SiteKeeper.stops g.S.SiteKeeper.stands_for g.met.S.SiteKeeper.settled a b c e f o p) _ _ _ (c.args.place.now.line.items ++ c.args.byte ∷ []) (plain_more c.args.place.now.line.items c.args.byte plain (ne_eqb c.args.byte 10 c.if-byte-ne10.true)))
+returns-in-Ok-clause-run g c = record {
+  holds = λ plain. rw c.in-Ok.ensures.items (run_none _ (λ w. hub_rests g.S.SiteKeeper.site_state g.S.SiteKeeper.lacks g.S.SiteKeeper.crash_states g.S.SiteKeeper.represents g.met.S.SiteKeeper.crash_states_represent w) (λ a b c e f o p. hub_goes_on g.S.SiteKeeper.site_state g.S.SiteKeeper.lacks g.S.SiteKeeper.crash_states g.S.SiteKeeper.represents g.met.S.SiteKeeper.crash_states_represent a b c e f o p) _ _ _ (c.args.place.now.line.items ++ c.args.byte ∷ []) (plain_more c.args.place.now.line.items c.args.byte plain (ne_eqb c.args.byte 10 c.if-byte-ne10.true)));
+  led = so_none _ (λ w. hub_rests g.S.SiteKeeper.site_state g.S.SiteKeeper.lacks g.S.SiteKeeper.crash_states g.S.SiteKeeper.represents g.met.S.SiteKeeper.crash_states_represent w) (λ a b c e f o p. hub_goes_on g.S.SiteKeeper.site_state g.S.SiteKeeper.lacks g.S.SiteKeeper.crash_states g.S.SiteKeeper.represents g.met.S.SiteKeeper.crash_states_represent a b c e f o p) _;
+}
+
+pub returns-in-Err-clause-run : goal.returns-in-Err-clause-run
+returns-in-Err-clause-run g c = record { holds = tt; led = so_none _ (λ w. hub_rests g.S.SiteKeeper.site_state g.S.SiteKeeper.lacks g.S.SiteKeeper.crash_states g.S.SiteKeeper.represents g.met.S.SiteKeeper.crash_states_represent w) (λ a b c e f o p. hub_goes_on g.S.SiteKeeper.site_state g.S.SiteKeeper.lacks g.S.SiteKeeper.crash_states g.S.SiteKeeper.represents g.met.S.SiteKeeper.crash_states_represent a b c e f o p) _ }
 
 pub returns-clause-run : goal.returns-clause-run
 returns-clause-run g c =
-    λ plain.
-    let ran = c.in_ok-place.ensures.line in
-    rw (c.clear.ensures.items, c.if-byte-ne10.false)
-    (run_one _ (λ w. hub_rests g.S.SiteKeeper.keeping g.S.SiteKeeper.lacks g.S.SiteKeeper.stops g.S.SiteKeeper.stands_for g.met.S.SiteKeeper.settled w) (λ a b c e f o p. hub_goes_on g.S.SiteKeeper.keeping g.S.SiteKeeper.lacks g.S.SiteKeeper.stops g.S.SiteKeeper.stands_for g.met.S.SiteKeeper.settled a b c e f o p) _ _ _ _ _ _ c.args.place.now.line.items ran.0 ran.1.0 ran.1.1 plain (search rules) (rw (← c.deref.ensures.value) ran.1.2) ran.1.3 ran.2)
-
-pub returns-in-Ok-clause-ran : goal.returns-in-Ok-clause-ran
-returns-in-Ok-clause-ran g c = so_none _ (λ w. hub_rests g.S.SiteKeeper.keeping g.S.SiteKeeper.lacks g.S.SiteKeeper.stops g.S.SiteKeeper.stands_for g.met.S.SiteKeeper.settled w) (λ a b c e f o p. hub_goes_on g.S.SiteKeeper.keeping g.S.SiteKeeper.lacks g.S.SiteKeeper.stops g.S.SiteKeeper.stands_for g.met.S.SiteKeeper.settled a b c e f o p) _
-
-pub returns-in-Err-clause-ran : goal.returns-in-Err-clause-ran
-returns-in-Err-clause-ran g c = so_none _ (λ w. hub_rests g.S.SiteKeeper.keeping g.S.SiteKeeper.lacks g.S.SiteKeeper.stops g.S.SiteKeeper.stands_for g.met.S.SiteKeeper.settled w) (λ a b c e f o p. hub_goes_on g.S.SiteKeeper.keeping g.S.SiteKeeper.lacks g.S.SiteKeeper.stops g.S.SiteKeeper.stands_for g.met.S.SiteKeeper.settled a b c e f o p) _
+    let line = c.in_ok-place.ensures.line in
+    let ran = line.holds in
+    record {
+      holds = λ plain.
+          rw (c.clear.ensures.items, c.if-byte-ne10.false)
+          (run_one _ (λ w. hub_rests g.S.SiteKeeper.site_state g.S.SiteKeeper.lacks g.S.SiteKeeper.crash_states g.S.SiteKeeper.represents g.met.S.SiteKeeper.crash_states_represent w) (λ a b c e f o p. hub_goes_on g.S.SiteKeeper.site_state g.S.SiteKeeper.lacks g.S.SiteKeeper.crash_states g.S.SiteKeeper.represents g.met.S.SiteKeeper.crash_states_represent a b c e f o p) _ _ _ _ _ _ c.args.place.now.line.items ran.0 ran.1.0 ran.1.1 plain (search rules) (rw (← c.deref.ensures.value) ran.1.2) ran.1.3 ran.2);
+      led = line.led;
+    }

@@ -10,8 +10,8 @@ invariant-loop-byte g l =
     let s = g.S.SiteKeeper in
     let contents = g.W.Write.contents in
     record {
-      ran : RanSo (HubRun s.keeping s.lacks s.stops s.stands_for) l.fn.hub l.hub;
+      ran : RanSo (HubRun s.site_state s.lacks s.crash_states s.represents) l.fn.hub l.hub;
       run : list_any is_lf l.fn.place.line.items ≡ false →
-          IsRunTo (HubRun s.keeping s.lacks s.stops s.stands_for) l.fn.hub l.hub (place_of l.fn.place) (place_of l.place) (contents l.fn.writer) (contents l.writer)
+          IsRunTo (HubRun s.site_state s.lacks s.crash_states s.represents) l.fn.hub l.hub (place_of l.fn.place) (place_of l.place) (contents l.fn.writer) (contents l.writer)
           (l.fn.place.line.items ++ take l.byte-index l.piece) l.place.line.items;
     }

@@ -1,6 +1,6 @@
 use Rattle.page_store.specs.Batch.{is_pair}
 use Rattle.page_store.proofs.Places.{all_at}
-use Rattle.page_store.proofs.Again.{pair_sizes}
+use Rattle.page_store.proofs.DecodedPages.{pair_sizes}
 use Rattle.page_store.proofs.batch.next_pair.Goals as goal
 
 pub returns-then-eq-clause-value : goal.returns-then-eq-clause-value

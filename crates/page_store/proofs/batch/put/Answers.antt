@@ -1,6 +1,6 @@
 use Rattle.std.proofs.Common.{◌≡◌, ◌<◌, ◌++◌, ◌∷◌, [], ℕ, List, length, insert, sym, ap, ◌∙◌, arith}
 use Rattle.std.specs.declared.cmp.Ordering.TheVariants.{Less, Equal}
-use Rattle.host_types.specs.Site.{byte_cmp}
+use Rattle.common_types.specs.ByteOrder.{byte_cmp}
 use Rattle.page_store.specs.Pages.{Pair}
 use Rattle.page_store.proofs.Places.{put_less, put_equal, put_last, same_at}
 use Rattle.page_store.proofs.batch.put.Goals as goal

@@ -1,6 +1,6 @@
 use Rattle.std.proofs.Common.{◌≡◌, ◌++◌, take, drop}
 use Rattle.std.specs.BTreeMap.{insert_entry}
-use Rattle.host_types.specs.Site.{byte_cmp}
+use Rattle.common_types.specs.ByteOrder.{byte_cmp}
 use Rattle.page_store.proofs.batch.put.Given as goal
 
 abbrev pub invariant-loop-place : goal.invariant-loop-place

@@ -1,7 +1,7 @@
 use Rattle.std.proofs.Common.{◌≤◌, List, ℕ, length, sym, subst}
 use Rattle.page_store.specs.Batch.{is_pair}
 use Rattle.page_store.proofs.Places.{all_at}
-use Rattle.page_store.proofs.Again.{pair_sizes}
+use Rattle.page_store.proofs.DecodedPages.{pair_sizes}
 use Rattle.page_store.proofs.batch.value_of.Goals as goal
 
 pub returns-then-eq-clause-size : goal.returns-then-eq-clause-size

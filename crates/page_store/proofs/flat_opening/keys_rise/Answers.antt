@@ -1,9 +1,9 @@
 use Rattle.std.proofs.Common.{◌≡◌, ◌-◌, ◌+◌, ℕ, List, suc, true, map, drop, get_or, sym, subst, ap, ◌∙◌, arith}
 use Rattle.std.specs.Ordering.{is_lt}
-use Rattle.host_types.specs.Site.{byte_cmp}
+use Rattle.common_types.specs.ByteOrder.{byte_cmp}
 use Rattle.page_store.specs.Keys.{rises, precedes}
 use Rattle.page_store.specs.Pages.{key_of}
-use Rattle.page_store.proofs.Opens.{rises_more, rises_last}
+use Rattle.page_store.proofs.OpeningFinds.{rises_more, rises_last}
 use Rattle.page_store.proofs.flat_opening.keys_rise.Goals as goal
 
 pub loop-place-preserved : goal.loop-place-preserved

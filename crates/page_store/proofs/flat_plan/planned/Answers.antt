@@ -1,7 +1,7 @@
 use Rattle.std.proofs.Common.{◌≤◌, ℕ, List, subst, ◌∙◌}
 use Rattle.page_store.specs.Pages.{Pair}
 use Rattle.page_store.specs.Flat.{half_size}
-use Rattle.page_store.specs.Spelling.{pages_needed}
+use Rattle.page_store.specs.Encoding.{pages_needed}
 use Rattle.page_store.proofs.Flats.{now_map, now_pairs, slot_made, pages_made}
 use Rattle.page_store.proofs.flat_plan.planned.Goals as goal
 

@@ -1,20 +1,16 @@
 use Rattle.std.proofs.Common.{◌≡◌, ◌-◌, IsTrue}
-use Rattle.host_types.specs.Stops.{IsQuiet}
 use Rattle.page_store.specs.Sectors.{page_of}
 use Rattle.page_store.specs.Flat.{flat_walk, half_size, with_pairs}
-use Rattle.page_store.specs.Steps.{stops_of}
+use Rattle.page_store.specs.DeviceEffects.{IsReadCall}
+use Rattle.page_store.specs.Steps.{crash_states_of}
 use Rattle.page_store.proofs.flat_reading.read_half.Given as goal
 
 abbrev pub invariant-loop-page : goal.invariant-loop-page
 invariant-loop-page g l =
     let d = g.D.Device in
     record {
-      size : (d.state l.device).size ≡ (d.state l.fn.device).size;
-      honest : (d.state l.device).honest ≡ (d.state l.fn.device).honest;
+      device : IsReadCall d.state (crash_states_of d.moment d.possible_since) l.fn.device l.device;
       reads : (d.state l.device).failed_reads ≡ (d.state l.fn.device).failed_reads;
-      writes : (d.state l.device).failed_writes ≡ (d.state l.fn.device).failed_writes;
-      disk : IsTrue (d.state l.fn.device).honest → (d.state l.device).disk ≡ (d.state l.fn.device).disk;
       walk : IsTrue (d.state l.fn.device).honest → with_pairs l.pairs.items (flat_walk (page_of (d.state l.fn.device).disk.view) l.slot.seal (half_size l.slot.root.pages - (l.page - l.slot.root.tree)) l.page l.room l.keys)
           ≡ flat_walk (page_of (d.state l.fn.device).disk.view) l.slot.seal (half_size l.slot.root.pages) l.slot.root.tree 0 l.slot.root.keys;
-      stop : IsTrue (d.state l.fn.device).honest → IsQuiet (stops_of d.moment d.left_since l.fn.device) (stops_of d.moment d.left_since l.device);
     }

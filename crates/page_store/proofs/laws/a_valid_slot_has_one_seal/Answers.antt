@@ -1,4 +1,4 @@
-use Rattle.page_store.proofs.Newest.{one_seal}
+use Rattle.page_store.proofs.CurrentSlots.{one_seal}
 use Rattle.page_store.proofs.laws.a_valid_slot_has_one_seal.Goals as goal
 
 pub returns : goal.returns

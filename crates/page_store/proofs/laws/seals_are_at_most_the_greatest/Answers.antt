@@ -1,4 +1,4 @@
-use Rattle.page_store.proofs.Ready.{greatest_ge}
+use Rattle.page_store.proofs.OtherHalfCommits.{greatest_ge}
 use Rattle.page_store.proofs.laws.seals_are_at_most_the_greatest.Goals as goal
 
 pub returns : goal.returns

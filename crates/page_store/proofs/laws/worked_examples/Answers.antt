@@ -5,7 +5,7 @@ use Rattle.page_store.specs.Pages.{head_at, pair_at}
 use Rattle.page_store.specs.Flat.{flat_page, flat_next}
 use Rattle.page_store.specs.Content.{flat_found, content_under, content}
 use Rattle.page_store.specs.Batch.{is_value}
-use Rattle.page_store.specs.Spelling.{flat_bytes, page_room, record_fields, record_bytes, root_sector, root_sectors, slot_bytes}
+use Rattle.page_store.specs.Encoding.{flat_bytes, page_room, record_fields, record_bytes, root_sector, root_sectors, slot_bytes}
 use Rattle.page_store.proofs.laws.worked_examples.Goals as goal
 
 pub returns : goal.returns

@@ -1,4 +1,4 @@
-use Rattle.request_reader.proofs.Growing.{decided_lem}
+use Rattle.request_reader.proofs.GrowingStreams.{decided_lem}
 use Rattle.request_reader.proofs.laws.decided.Goals as goal
 
 pub returns : goal.returns

@@ -1,13 +1,13 @@
 use Rattle.std.proofs.Common.{refl}
 use Rattle.request_reader.specs.Lines.{front, first_line}
-use Rattle.request_reader.specs.RequestLine.{asked_by}
+use Rattle.request_reader.specs.RequestLine.{parsed_line}
 use Rattle.request_reader.specs.DataHead.{most_data, counted, extent_of}
 use Rattle.request_reader.specs.DataLines.{room, is_too_much}
 use Rattle.request_reader.specs.Verdict.{verdict}
 use Rattle.request_reader.proofs.laws.worked_examples.Goals as goal
 
 pub returns-clause-lines : goal.returns-clause-lines
-unfolding front first_line asked_by most_data counted extent_of room is_too_much verdict
+unfolding front first_line parsed_line most_data counted extent_of room is_too_much verdict
 returns-clause-lines c = record {
   top = refl;
   selector = refl;
@@ -27,7 +27,7 @@ returns-clause-lines c = record {
 }
 
 pub returns-clause-plus : goal.returns-clause-plus
-unfolding front first_line asked_by most_data counted extent_of room is_too_much verdict
+unfolding front first_line parsed_line most_data counted extent_of room is_too_much verdict
 returns-clause-plus c = record {
   fetch = refl;
   view = refl;
@@ -49,7 +49,7 @@ returns-clause-plus c = record {
 }
 
 pub returns-clause-sent : goal.returns-clause-sent
-unfolding front first_line asked_by most_data counted extent_of room is_too_much verdict
+unfolding front first_line parsed_line most_data counted extent_of room is_too_much verdict
 returns-clause-sent c = record {
   to_period = refl;
   counted = refl;
@@ -73,7 +73,7 @@ returns-clause-sent c = record {
 }
 
 pub returns-clause-much : goal.returns-clause-much
-unfolding front first_line asked_by most_data counted extent_of room is_too_much verdict
+unfolding front first_line parsed_line most_data counted extent_of room is_too_much verdict
 returns-clause-much c = record {
   most_lines = refl;
   too_many_lines = refl;

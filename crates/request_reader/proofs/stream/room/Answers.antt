@@ -1,4 +1,4 @@
-use Rattle.request_reader.proofs.Growing.{front_length}
+use Rattle.request_reader.proofs.GrowingStreams.{front_length}
 use Rattle.request_reader.proofs.stream.room.Goals as goal
 
 pub slice_bounds-result-end : goal.slice_bounds-result-end

@@ -1,5 +1,5 @@
-use Rattle.session_core.proofs.Goes.{continues}
-use Rattle.session_core.proofs.Found.{continues_found}
+use Rattle.session_core.proofs.DrawsContinue.{continues}
+use Rattle.session_core.proofs.RequestTexts.{continues_found}
 use Rattle.session_core.proofs.laws.continues.Goals as goal
 
 pub returns-clause-rest : goal.returns-clause-rest

@@ -5,18 +5,18 @@ use Rattle.host_types.specs.Items.{most_view_bytes}
 use Rattle.request_reader.specs.DataHead.{most_data, counted, extent_of}
 use Rattle.request_reader.specs.DataLines.{room, is_too_much}
 use Rattle.request_reader.specs.Lines.{front, first_line}
-use Rattle.request_reader.specs.RequestLine.{asked_by}
+use Rattle.request_reader.specs.RequestLine.{parsed_line}
 use Rattle.request_reader.specs.Verdict.{verdict}
 use Rattle.text_writer.specs.Errors.{plain_error, words_of}
 use Rattle.text_writer.specs.Menu.{menu}
 use Rattle.text_writer.specs.Text.{text}
 use Rattle.ask_forms.specs.Post.{post_text, title_of}
-use Rattle.session_core.specs.Reply.{reply}
+use Rattle.site_replies.specs.Reply.{reply}
 use Rattle.session_core.specs.Step.{joined}
 use Rattle.session_core.proofs.laws.worked_examples.Goals as goal
 
 pub returns : goal.returns
-unfolding digits put remove post most_post_bytes most_view_bytes most_data counted extent_of room is_too_much front first_line asked_by verdict plain_error words_of menu text post_text title_of reply joined
+unfolding digits put remove post most_post_bytes most_view_bytes most_data counted extent_of room is_too_much front first_line parsed_line verdict plain_error words_of menu text post_text title_of reply joined
 returns c = record {
   text_document = refl;
   pieces = refl;

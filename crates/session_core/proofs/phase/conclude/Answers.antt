@@ -1,7 +1,7 @@
 use Rattle.request_reader.specs.Seen.{seen}
-use Rattle.session_core.proofs.Right.{right_now}
+use Rattle.session_core.proofs.StoredPosts.{right_now}
 use Rattle.session_core.proofs.phase.conclude.Goals as goal
 
 pub settle-requires-clause-right : goal.settle-requires-clause-right
 settle-requires-clause-right g c =
-    right_now (g.S.SiteKeeper.keeping c.args.site.now) (g.S.SiteKeeper.keeping c.reply_to.new.site) c.args.now (seen c.args.answer) c.in-Ok.made c.reply_to.ensures.kept c.in-Ok.ensures.reply
+    right_now (g.S.SiteKeeper.site_state c.args.site.now) (g.S.SiteKeeper.site_state c.reply_to.new.site) c.args.now (seen c.args.answer) c.in-Ok.made c.reply_to.ensures.kept c.in-Ok.ensures.reply

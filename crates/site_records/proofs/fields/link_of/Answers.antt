@@ -1,6 +1,6 @@
 use Rattle.host_types.specs.Names.{is_url}
 use Rattle.site_records.specs.Field.{byte, counted}
-use Rattle.site_records.proofs.Named.{field_found, field_refused}
+use Rattle.site_records.proofs.NameTests.{field_found, field_refused}
 use Rattle.site_records.proofs.fields.link_of.Goals as goal
 
 pub returns-in-Ok : goal.returns-in-Ok

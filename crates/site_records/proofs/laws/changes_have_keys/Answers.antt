@@ -1,6 +1,6 @@
 use Rattle.std.proofs.Common.{◌++◌, ◌∙◌}
-use Rattle.host_types.specs.Change.{apply}
-use Rattle.site_records.specs.Layout.{touched, keys_in, keys_after, keys_of}
+use Rattle.host_types.specs.Change.{apply, touched}
+use Rattle.site_records.specs.Layout.{keys_in, keys_after, keys_of}
 use Rattle.site_records.specs.KeyLaws.{among-append, among-once, sorted-once}
 use Rattle.site_records.proofs.laws.changes_have_keys.Goals as goal
 

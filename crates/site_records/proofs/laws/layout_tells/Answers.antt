@@ -1,4 +1,4 @@
-use Rattle.site_records.proofs.Tells.{layout_tells}
+use Rattle.site_records.proofs.LayoutTells.{layout_tells}
 use Rattle.site_records.proofs.laws.layout_tells.Goals as goal
 
 pub returns : goal.returns

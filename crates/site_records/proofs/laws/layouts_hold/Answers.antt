@@ -1,6 +1,6 @@
 use Rattle.site_records.specs.LayoutLaws.{record_in-layout}
 use Rattle.site_records.proofs.ChunkLaws.{chunks_law, words_law}
-use Rattle.site_records.proofs.Tells.{found_small}
+use Rattle.site_records.proofs.LayoutTells.{found_small}
 use Rattle.site_records.proofs.laws.layouts_hold.Goals as goal
 
 pub returns : goal.returns

@@ -1,4 +1,4 @@
-use Rattle.site_records.proofs.Tells.{each_pair_stands}
+use Rattle.site_records.proofs.LayoutTells.{each_pair_stands}
 use Rattle.site_records.proofs.laws.pairs_stand.Goals as goal
 
 pub returns : goal.returns

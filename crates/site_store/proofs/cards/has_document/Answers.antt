@@ -2,25 +2,38 @@ use Rattle.std.proofs.Common.{Bool, take, sym, ap, ◌∙◌}
 use Rattle.std.specs.Prelude.{◌&&◌, ◌==◌, slice_index}
 use Rattle.std.specs.Option.{option_map}
 use Rattle.std.proofs.lemmas.Bool.{lt-ltb, le-ltb}
+use Rattle.site_store.proofs.AfterReads.{done, begins}
 use Rattle.site_store.proofs.Chunking.{document_found, no_document}
 use Rattle.site_store.proofs.cards.has_document.Goals as goal
 
-pub returns-then-length-gt0-clause-document : goal.returns-then-length-gt0-clause-document
-returns-then-length-gt0-clause-document g c = λ honest s kept.
+pub returns-then-length-gt0 : goal.returns-then-length-gt0
+returns-then-length-gt0 g c =
+    let look = c.in-Ok-Some.ensures.value in
     let buffer = c.look_up.new.buffer in
-    let value = sym (ap (option_map (λ n. take n buffer)) c.in-Ok-Some.field-0-is) ∙ c.in-Ok-Some.ensures.value honest in
-    sym (ap (λ (b : Bool). b && (slice_index buffer 0 == 86)) (lt-ltb 0 c.in-Ok-Some.length c.if-length-gt0.true))
-    ∙ document_found (g.K.Keeper.holding c.args.keeper.now) s c.args.selector.now c.item_key.result c.in-Ok-Some.length buffer kept c.item_key.ensures value
+    record {
+      document = begins look (done look.reads.only look.reads.none (λ honest s kept.
+          let value = sym (ap (option_map (λ n. take n buffer)) c.in-Ok-Some.field-0-is) ∙ look.reads.gives honest in
+          sym (ap (λ (b : Bool). b && (slice_index buffer 0 == 86)) (lt-ltb 0 c.in-Ok-Some.length c.if-length-gt0.true))
+          ∙ document_found (g.K.Keeper.store_state c.args.keeper.now) s c.args.selector.now c.item_key.result c.in-Ok-Some.length buffer kept c.item_key.ensures value));
+    }
 
-pub returns-else-length-gt0-clause-document : goal.returns-else-length-gt0-clause-document
-returns-else-length-gt0-clause-document g c = λ honest s kept.
+pub returns-else-length-gt0 : goal.returns-else-length-gt0
+returns-else-length-gt0 g c =
+    let look = c.in-Ok-Some.ensures.value in
     let buffer = c.look_up.new.buffer in
-    let value = sym (ap (option_map (λ n. take n buffer)) c.in-Ok-Some.field-0-is) ∙ c.in-Ok-Some.ensures.value honest in
-    let none = le-ltb 0 c.in-Ok-Some.length c.if-length-gt0.false in
-    none ∙ sym (ap (λ (b : Bool). b && (slice_index buffer 0 == 86)) none)
-    ∙ document_found (g.K.Keeper.holding c.args.keeper.now) s c.args.selector.now c.item_key.result c.in-Ok-Some.length buffer kept c.item_key.ensures value
+    record {
+      document = begins look (done look.reads.only look.reads.none (λ honest s kept.
+          let value = sym (ap (option_map (λ n. take n buffer)) c.in-Ok-Some.field-0-is) ∙ look.reads.gives honest in
+          let none = le-ltb 0 c.in-Ok-Some.length c.if-length-gt0.false in
+          none ∙ sym (ap (λ (b : Bool). b && (slice_index buffer 0 == 86)) none)
+          ∙ document_found (g.K.Keeper.store_state c.args.keeper.now) s c.args.selector.now c.item_key.result c.in-Ok-Some.length buffer kept c.item_key.ensures value));
+    }
 
-pub returns-in-Ok-None-clause-document : goal.returns-in-Ok-None-clause-document
-returns-in-Ok-None-clause-document g c = λ honest s kept.
-    let value = sym (ap (option_map (λ n. take n c.look_up.new.buffer)) c.in-Ok-None.field-0-is) ∙ c.in-Ok-None.ensures.value honest in
-    no_document (g.K.Keeper.holding c.args.keeper.now) s c.args.selector.now c.item_key.result kept c.item_key.ensures value
+pub returns-in-Ok-None : goal.returns-in-Ok-None
+returns-in-Ok-None g c =
+    let look = c.in-Ok-None.ensures.value in
+    record {
+      document = begins look (done look.reads.only look.reads.none (λ honest s kept.
+          let value = sym (ap (option_map (λ n. take n c.look_up.new.buffer)) c.in-Ok-None.field-0-is) ∙ look.reads.gives honest in
+          no_document (g.K.Keeper.store_state c.args.keeper.now) s c.args.selector.now c.item_key.result kept c.item_key.ensures value));
+    }

@@ -1,5 +1,5 @@
 use Rattle.std.proofs.Common.{rules, ◌≡◌, suc, ◌+◌, length, arith}
-use Rattle.site_store.proofs.InOrder.{same_more}
+use Rattle.site_store.proofs.PairsInOrder.{same_more}
 use Rattle.site_store.proofs.opening.are_same.Goals as goal
 
 pub loop-place-preserved : goal.loop-place-preserved

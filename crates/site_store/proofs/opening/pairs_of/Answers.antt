@@ -1,36 +1,48 @@
 use Rattle.std.proofs.Common.{◌≡◌, List, Some, sym, ap, ◌∙◌, arith}
-use Rattle.std.specs.Prelude.{IsTrue}
 use Rattle.page_store.specs.Batch.{pair_after}
 use Rattle.page_store.specs.Pages.{Pair}
+use Rattle.site_store.specs.ReadLaws.{none_later}
 use Rattle.site_store.specs.Opening.{last_key}
-use Rattle.site_store.proofs.Looks.{looks_later, none_later}
-use Rattle.site_store.proofs.InOrder.{first_more, first_all}
+use Rattle.site_store.proofs.AfterReads.{done, fails, read_on}
+use Rattle.site_store.proofs.PairsInOrder.{first_more, first_all}
 use Rattle.site_store.proofs.opening.pairs_of.Goals as goal
 
-pub returns-in-Ok-None-clause-pairs : goal.returns-in-Ok-None-clause-pairs
-returns-in-Ok-None-clause-pairs g c = λ honest.
-    let holding = g.K.Keeper.holding in
-    let looked = c.loop.invariant.looked in
-    let now : IsTrue (holding c.loop.keeper).honest = looked.read.honest ∙ honest in
-    first_all c.loop.pairs.items (holding c.args.keeper.now).pairs (g.met.K.Keeper.ordered c.args.keeper.now honest) (c.loop.invariant.first honest)
-    (sym c.in-Ok-None.field-0-is ∙ c.in-Ok-None.ensures.pair now ∙ ap (λ (l : List Pair). pair_after (holding c.loop.keeper).pairs (last_key l)) c.deref.ensures.value ∙ ap (λ (l : List Pair). pair_after l (last_key c.loop.pairs.items)) (looked.read.same.pairs honest))
+pub returns-in-Ok-None : goal.returns-in-Ok-None
+returns-in-Ok-None g c =
+    let store_state = g.K.Keeper.store_state in
+    let inv = c.loop.invariant in
+    let read = inv.only.read in
+    let last = c.in-Ok-None.ensures.pair in
+    record {
+      pairs = record {
+        reads = done (read_on inv.only last.reads.only) (none_later (store_state c.args.keeper.now) (store_state c.loop.keeper) (store_state c.pair_behind.new.keeper) inv.none last.reads.none) (λ honest.
+            first_all c.loop.pairs.items (store_state c.args.keeper.now).pairs (g.met.K.Keeper.ordered c.args.keeper.now honest) (inv.first honest)
+            (sym c.in-Ok-None.field-0-is ∙ last.reads.gives (read.honest ∙ honest) ∙ ap (λ (l : List Pair). pair_after (store_state c.loop.keeper).pairs (last_key l)) c.deref.ensures.value ∙ ap (λ (l : List Pair). pair_after l (last_key c.loop.pairs.items)) (read.same.pairs honest)));
+        closed = λ shut. let clash = last.closed (read.same.usable ∙ shut) in absurd (cc clash);
+      };
+    }
 
 pub loop-preserved : goal.loop-preserved
 loop-preserved g c =
-    let holding = g.K.Keeper.holding in
-    let stops = g.K.Keeper.stops in
-    let looked = c.loop.invariant.looked in
+    let store_state = g.K.Keeper.store_state in
+    let inv = c.loop.invariant in
+    let read = inv.only.read in
+    let next = c.in-Ok-Some.ensures.pair in
     record {
-      looked = looks_later holding g.K.Keeper.may_need stops c.args.keeper.now c.loop.keeper c.pair_behind.new.keeper looked c.in-Ok-Some.ensures.looked;
-      reads = none_later (holding c.args.keeper.now) (holding c.loop.keeper) (holding c.pair_behind.new.keeper) c.loop.invariant.reads c.in-Ok-Some.ensures.reads;
+      only = read_on inv.only next.reads.only;
+      none = none_later (store_state c.args.keeper.now) (store_state c.loop.keeper) (store_state c.pair_behind.new.keeper) inv.none next.reads.none;
       first = λ honest.
-          let now : IsTrue (holding c.loop.keeper).honest = looked.read.honest ∙ honest in
-          let found : Some c.in-Ok-Some.pair ≡ pair_after (holding c.args.keeper.now).pairs (last_key c.loop.pairs.items) =
-          sym c.in-Ok-Some.field-0-is ∙ c.in-Ok-Some.ensures.pair now ∙ ap (λ (l : List Pair). pair_after (holding c.loop.keeper).pairs (last_key l)) c.deref.ensures.value ∙ ap (λ (l : List Pair). pair_after l (last_key c.loop.pairs.items)) (looked.read.same.pairs honest) in
-          let more = first_more c.loop.pairs.items (holding c.args.keeper.now).pairs c.in-Ok-Some.pair (g.met.K.Keeper.ordered c.args.keeper.now honest) (c.loop.invariant.first honest) found in
+          let found : Some c.in-Ok-Some.pair ≡ pair_after (store_state c.args.keeper.now).pairs (last_key c.loop.pairs.items) =
+          sym c.in-Ok-Some.field-0-is ∙ next.reads.gives (read.honest ∙ honest) ∙ ap (λ (l : List Pair). pair_after (store_state c.loop.keeper).pairs (last_key l)) c.deref.ensures.value ∙ ap (λ (l : List Pair). pair_after l (last_key c.loop.pairs.items)) (read.same.pairs honest) in
+          let more = first_more c.loop.pairs.items (store_state c.args.keeper.now).pairs c.in-Ok-Some.pair (g.met.K.Keeper.ordered c.args.keeper.now honest) (inv.first honest) found in
           rw c.in_ok-push-in-Ok-Some.ensures.items more;
-      shut = λ closed. absurd (cc (c.pair_behind.ensures.closed (looked.read.same.usable ∙ closed), c.in-Ok-Some.is));
+      shut = λ shut. let clash = next.closed (read.same.usable ∙ shut) in absurd (cc clash);
     }
 
-pub returns-clause-closed : goal.returns-clause-closed
-returns-clause-closed g c = λ closed. absurd (let none = c.loop.invariant.shut closed in omega (arith, none, c.loop-test.false))
+pub returns : goal.returns
+returns g c = record {
+  pairs = record {
+    reads = fails c.loop.invariant.only c.loop.invariant.none;
+    closed = λ shut. absurd (let none = c.loop.invariant.shut shut in omega (arith, none, c.loop-test.false));
+  };
+}

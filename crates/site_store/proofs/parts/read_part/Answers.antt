@@ -1,31 +1,33 @@
 use Rattle.std.proofs.Common.{rules, ◌≡◌, ◌+◌, ◌*◌, ℕ, List, take, sym, ap, subst, ◌∙◌, arith}
 use Rattle.std.specs.Prelude.{IsTrue}
 use Rattle.page_store.specs.Pages.{Pair}
-use Rattle.site_store.specs.Looking.{SomePart, HasPart}
-use Rattle.site_store.proofs.Looks.{looks_later, none_later, fault_later}
+use Rattle.site_store.specs.ReadLaws.{none_later}
+use Rattle.site_store.specs.StoreReads.{HasPart}
+use Rattle.site_store.proofs.AfterReads.{fails, read_on}
+use Rattle.site_store.proofs.LocalReads.{fault_later}
 use Rattle.site_store.proofs.parts.read_part.Goals as goal
 
-pub returns-in-Err-clause-fault : goal.returns-in-Err-clause-fault
-returns-in-Err-clause-fault g c =
-    let holding = g.K.Keeper.holding in
-    let looked = c.loop-k.invariant.looked in
-    fault_later (holding c.args.keeper.now) (holding c.loop-k.keeper) (holding c.add_chunk.new.keeper) c.in-Err.fault looked.read c.loop-k.invariant.reads
-    (λ honest known. subst (λ (ps : List Pair). SomePart ps c.args.selector.now c.args.part c.args.size) (sym (looked.read.same.pairs honest)) known) c.in-Err.ensures.fault
+pub returns-in-Err-clause-bytes : goal.returns-in-Err-clause-bytes
+returns-in-Err-clause-bytes g c =
+    let store_state = g.K.Keeper.store_state in
+    let only = c.loop-k.invariant.only in
+    let chunk = c.in-Err.ensures.bytes.reads in
+    fails (read_on only chunk.only) (fault_later (store_state c.args.keeper.now) (store_state c.loop-k.keeper) (store_state c.add_chunk.new.keeper) c.in-Err.fault only.read c.loop-k.invariant.none
+    (λ honest known. (known.0, (known.1.0, subst (λ (ps : List Pair). HasPart ps c.args.selector.now c.args.part known.0) (sym (only.read.same.pairs honest)) known.1.1))) chunk.fault)
 
 pub loop-k-preserved : goal.loop-k-preserved
 loop-k-preserved g c =
-    let holding = g.K.Keeper.holding in
-    let stops = g.K.Keeper.stops in
+    let store_state = g.K.Keeper.store_state in
     let inv = c.loop-k.invariant in
-    let looked = inv.looked in
+    let read = inv.only.read in
+    let chunk = c.in-Ok.ensures.bytes.reads in
     let next : 1000 * c.loop-k.k + 1000 ≡ 1000 * (c.loop-k.k + 1) = omega arith in
-    let bytes = c.add_chunk.new.bytes.items in
     record {
-      looked = looks_later holding g.K.Keeper.may_need stops c.args.keeper.now c.loop-k.keeper c.add_chunk.new.keeper looked c.in-Ok.ensures.looked;
-      reads = none_later (holding c.args.keeper.now) (holding c.loop-k.keeper) (holding c.add_chunk.new.keeper) inv.reads c.in-Ok.ensures.reads;
-      bytes = λ honest p size has.
-          let now : IsTrue (holding c.loop-k.keeper).honest = looked.read.honest ∙ honest in
-          c.in-Ok.ensures.bytes now p size (subst (λ (ps : List Pair). HasPart ps c.args.selector.now c.args.part p) (sym (looked.read.same.pairs honest)) has) (inv.bytes honest p size has)
+      only = read_on inv.only chunk.only;
+      none = none_later (store_state c.args.keeper.now) (store_state c.loop-k.keeper) (store_state c.add_chunk.new.keeper) inv.none chunk.none;
+      bytes = λ honest p is.
+          let now : IsTrue (store_state c.loop-k.keeper).honest = read.honest ∙ honest in
+          chunk.gives now p (is.0, subst (λ (ps : List Pair). HasPart ps c.args.selector.now c.args.part p) (sym (read.same.pairs honest)) is.1) (inv.bytes honest p is)
           ∙ ap (λ (n : ℕ). take n p) next;
       size = search rules;
     }

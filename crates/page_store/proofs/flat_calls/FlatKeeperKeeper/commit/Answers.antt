@@ -1,5 +1,5 @@
 use Rattle.std.proofs.Common.{List, ap, ◌∙◌, arith}
-use Rattle.sector_device.specs.Counting.{counted_rises}
+use Rattle.common_types.specs.Counts.{counted_rises}
 use Rattle.page_store.specs.Pages.{Pair}
 use Rattle.page_store.specs.Batch.{updated}
 use Rattle.page_store.proofs.Flats.{now_map}

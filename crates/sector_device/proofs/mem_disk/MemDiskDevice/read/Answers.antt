@@ -1,6 +1,6 @@
 use Rattle.std.proofs.Common.{length, ap, arith}
 use Rattle.sector_device.specs.Calls.{History}
-use Rattle.sector_device.proofs.Kept.{as_many, read_of}
+use Rattle.sector_device.proofs.ReadBack.{as_many, read_of}
 use Rattle.sector_device.proofs.mem_disk.MemDiskDevice.read.Goals as goal
 
 pub index-requires : goal.index-requires

@@ -1,6 +1,6 @@
 use Rattle.std.proofs.Common.{arith}
 use Rattle.sector_device.specs.declared.call.Call.TheVariants.{Sync}
-use Rattle.sector_device.proofs.Kept.{kept_sync}
+use Rattle.sector_device.proofs.ReadBack.{kept_sync}
 use Rattle.sector_device.proofs.Time.{elapses_to, replayed, not_synced}
 use Rattle.sector_device.proofs.mem_disk.MemDiskDevice.sync.Goals as goal
 

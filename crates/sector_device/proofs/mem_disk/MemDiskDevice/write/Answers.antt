@@ -1,7 +1,7 @@
 use Rattle.std.proofs.Common.{length, ap, arith}
 use Rattle.sector_device.specs.Calls.{History}
 use Rattle.sector_device.specs.declared.call.Call.TheVariants.{Write}
-use Rattle.sector_device.proofs.Kept.{as_many, kept_write}
+use Rattle.sector_device.proofs.ReadBack.{as_many, kept_write}
 use Rattle.sector_device.proofs.Time.{elapses_to, replayed}
 use Rattle.sector_device.proofs.mem_disk.MemDiskDevice.write.Goals as goal
 

@@ -1,87 +1,111 @@
-use Rattle.std.proofs.Common.{◌≡◌, true, refl, sym, ap, subst, ◌∙◌, rules}
+use Rattle.std.proofs.Common.{◌≡◌, true, false, refl, sym, ap, subst, ◌∙◌, rules, inl}
 use Rattle.std.specs.Prelude.{◌==◌, not, IsTrue}
 use Rattle.std.specs.List.{position}
 use Rattle.session_core.specs.Step.{listens, with_change}
 use Rattle.session_core.specs.Hub.{world_of}
 use Rattle.session_core.specs.declared.event.Event.TheVariants.{Bytes}
+use Rattle.session_core.specs.declared.event.Outcome.TheVariants.{Fault}
 use Rattle.session_core.specs.declared.session.Session.{Session}
 use Rattle.session_core.specs.Outcomes.{bytes_outcome}
 use Rattle.session_core.specs.Sessions.{phase_of}
-use Rattle.session_core.proofs.Hearings.{post_is, heard_cause, heard_stop}
+use Rattle.session_core.proofs.Hearings.{post_is, heard_cause, heard_at_crash}
 use Rattle.session_core.proofs.FaultsKeep.{as_before}
-use Rattle.session_core.proofs.Steps.{hears, unheard, only_changes, seats_stay}
+use Rattle.session_core.proofs.Steps.{answered_by, hears, unheard, only_changes, seats_stay}
 use Rattle.session_core.specs.Causes.{IsLacking}
-use Rattle.session_core.specs.declared.fault.HubFault.TheVariants.{Unknown}
-use Rattle.session_core.proofs.CallsMade.{stays_quiet, heard_fault, steady_fault, heard_steady, told_of}
+use Rattle.session_core.specs.declared.fault.HubFault.TheVariants.{Unknown, Failed}
+use Rattle.session_core.proofs.CallsMade.{stays_none_added, shut_answer, steady, heard_fault, heard_acknowledged, steady_fault, heard_steady, acknowledged_of}
 use Rattle.session_core.proofs.hub.Hub.bytes.Goals as goal
 
-pub returns-in_default-clause-step : goal.returns-in_default-clause-step
-returns-in_default-clause-step g c = λ honest.
-    let k = g.S.SiteKeeper.keeping c.args.self.now.site in
-    let usable : k.usable ≡ true = search rules in
-    unheard k c.args.self.now.next c.args.self.now.sessions.items c.args.id c.args.now _ (listens k.site c.args.now c.args.piece.now) usable
-    (ap (position (λ (s : Session). s.id == c.args.id)) (sym c.deref.ensures.value) ∙ sym c.place_in.ensures.place ∙ c.in_default.is) refl
-
-pub returns-clause-step : goal.returns-clause-step
-returns-clause-step g c = λ honest.
-    let k = g.S.SiteKeeper.keeping c.args.self.now.site in
-    let usable : k.usable ≡ true = search rules in
-    hears k (g.S.SiteKeeper.keeping c.hear.new.site) (IsLacking (g.S.SiteKeeper.lacks c.args.self.now.site)) c.args.self.now.next c.args.self.now.sessions.items c.args.id c.in-Some.at c.args.now c.index_mut-session.result.now c.hear.new.phase _ (listens k.site c.args.now c.args.piece.now) c.hear.result
-    (only_changes (g.S.SiteKeeper.lacks c.args.self.now.site) c.args.now) honest usable (ap (position (λ (s : Session). s.id == c.args.id)) (sym c.deref.ensures.value) ∙ sym c.in-Some.ensures.place) c.index_mut-session.ensures.value
-    refl refl refl (c.hear.ensures.said honest) (c.hear.ensures.phase honest) (c.hear.ensures.done honest) c.hear.ensures.still_usable c.hear.ensures.err c.hear.ensures.fault
-
-pub returns-clause-kept : goal.returns-clause-kept
-returns-clause-kept g c =
-    seats_stay c.args.self.now.sessions.items c.args.id c.in-Some.at c.index_mut-session.result.now c.hear.new.phase c.hear.result
-    (ap (position (λ (s : Session). s.id == c.args.id)) (sym c.deref.ensures.value) ∙ sym c.in-Some.ensures.place) c.index_mut-session.ensures.value c.hear.ensures.err
-
-pub returns-clause-as_before : goal.returns-clause-as_before
-returns-clause-as_before g c = λ honest. as_before _ _ _ bytes_outcome (λ fault. refl) c.hear.result (returns-clause-step g c honest)
-
-pub returns-clause-cause : goal.returns-clause-cause
-returns-clause-cause g c =
-    let k = g.S.SiteKeeper.keeping c.args.self.now.site in
-    let usable : k.usable ≡ true = search rules in
-    heard_cause k (g.S.SiteKeeper.keeping c.hear.new.site) (IsLacking (g.S.SiteKeeper.lacks c.args.self.now.site)) c.args.now (phase_of c.index_mut-session.result.now.phase) _ _ c.hear.result usable
-    (post_is c.args.self.now.sessions.items c.args.id c.in-Some.at c.index_mut-session.result.now (listens k.site c.args.now c.args.piece.now)
-    (ap (position (λ (s : Session). s.id == c.args.id)) (sym c.deref.ensures.value) ∙ sym c.in-Some.ensures.place) c.index_mut-session.ensures.value) c.hear.ensures.fault
-
-pub returns-clause-stop : goal.returns-clause-stop
-returns-clause-stop g c = λ honest.
-    let k = g.S.SiteKeeper.keeping c.args.self.now.site in
-    let usable : k.usable ≡ true = search rules in
-    heard_stop _ _ g.S.SiteKeeper.stands_for k (g.S.SiteKeeper.keeping c.hear.new.site) (IsLacking (g.S.SiteKeeper.lacks c.args.self.now.site)) (world_of g.S.SiteKeeper.keeping c.args.self.now) (record (world_of g.S.SiteKeeper.keeping c.args.self.now) { site = (g.S.SiteKeeper.keeping c.hear.new.site).site }) (Bytes c.args.id c.args.piece.now c.args.now) c.args.now
-    (phase_of c.index_mut-session.result.now.phase) _ c.hear.result (ap not usable) usable
-    (ap (with_change k.site c.args.now) (post_is c.args.self.now.sessions.items c.args.id c.in-Some.at c.index_mut-session.result.now (listens k.site c.args.now c.args.piece.now)
-    (ap (position (λ (s : Session). s.id == c.args.id)) (sym c.deref.ensures.value) ∙ sym c.in-Some.ensures.place) c.index_mut-session.ensures.value)) refl (c.hear.ensures.done honest) (c.hear.ensures.stop honest) (c.hear.ensures.still honest) c.hear.ensures.fault
-
-pub returns-in_default-clause-call : goal.returns-in_default-clause-call
-returns-in_default-clause-call g c =
-    let k = g.S.SiteKeeper.keeping c.args.self.now.site in
-    let usable : k.usable ≡ true = search rules in
+pub returns-then-not-is_usable : goal.returns-then-not-is_usable
+returns-then-not-is_usable g c =
+    let k = g.S.SiteKeeper.site_state c.args.self.now.site in
+    let w = world_of g.S.SiteKeeper.site_state c.args.self.now in
+    let shut : k.usable ≡ false = search rules in
+    let answers = shut_answer w (Bytes c.args.id c.args.piece.now c.args.now) (ap not shut) refl in
     record {
-      step = returns-in_default-clause-step g c;
-      cause = search rules;
+      step = λ honest. answered_by w.failed w _ _ _ answers;
+      as_before = λ honest. tt;
+      cause = λ honest. inl shut;
+      kept = refl;
       honest = refl;
-      site = refl;
-      flag = refl;
-      steady = steady_fault _ _ (Bytes c.args.id c.args.piece.now c.args.now) Unknown (ap not usable) (λ is. cc is);
-      told = λ honest. tt;
-      leaves = λ honest. stays_quiet _ _;
+      at_crash = λ honest. stays_none_added _ _;
+      closed = λ off. refl;
+      call = record {
+        step = λ honest. answered_by w.failed w _ _ _ answers;
+        cause = λ honest. inl shut;
+        honest = refl;
+        site = refl;
+        flag = refl;
+        steady = steady w _ _ (Fault Failed) _ answers refl;
+        acknowledged = λ honest. tt;
+        leaves = λ honest. stays_none_added _ _;
+      };
+      acknowledged = λ honest. tt;
     }
 
-pub returns-clause-call : goal.returns-clause-call
-returns-clause-call g c =
-    let k = g.S.SiteKeeper.keeping c.args.self.now.site in
+pub returns-in_default : goal.returns-in_default
+returns-in_default g c =
+    let k = g.S.SiteKeeper.site_state c.args.self.now.site in
     let usable : k.usable ≡ true = search rules in
+    let step = unheard k c.args.self.now.next c.args.self.now.sessions.items c.args.id c.args.now (Bytes c.args.id c.args.piece.now c.args.now) (listens k.site c.args.now c.args.piece.now) usable
+    (ap (position (λ (s : Session). s.id == c.args.id)) (sym c.deref.ensures.value) ∙ sym c.place_in.ensures.place ∙ c.in_default.is) refl in
     record {
-      step = returns-clause-step g c;
-      cause = heard_fault c.hear.result _ (returns-clause-cause g c);
+      step = λ honest. step;
+      as_before = λ honest. refl;
+      cause = usable;
+      kept = refl;
+      honest = refl;
+      at_crash = λ honest. stays_none_added _ _;
+      closed = λ off. refl;
+      call = record {
+        step = λ honest. step;
+        cause = usable;
+        honest = refl;
+        site = refl;
+        flag = refl;
+        steady = steady_fault _ _ (Bytes c.args.id c.args.piece.now c.args.now) Unknown (ap not usable) (λ is. cc is);
+        acknowledged = λ honest. tt;
+        leaves = λ honest. stays_none_added _ _;
+      };
+      acknowledged = λ honest. tt;
+    }
+
+pub returns : goal.returns
+returns g c =
+    let k = g.S.SiteKeeper.site_state c.args.self.now.site in
+    let l = g.S.SiteKeeper.site_state c.hear.new.site in
+    let lacking = IsLacking (g.S.SiteKeeper.lacks c.args.self.now.site) in
+    let w = world_of g.S.SiteKeeper.site_state c.args.self.now in
+    let items = c.args.self.now.sessions.items in
+    let session = c.index_mut-session.result.now in
+    let usable : k.usable ≡ true = search rules in
+    let found = ap (position (λ (s : Session). s.id == c.args.id)) (sym c.deref.ensures.value) ∙ sym c.in-Some.ensures.place in
+    let read = c.index_mut-session.ensures.value in
+    let post = post_is items c.args.id c.in-Some.at session (listens k.site c.args.now c.args.piece.now) found read in
+    let kept = seats_stay items c.args.id c.in-Some.at session c.hear.new.phase c.hear.result found read c.hear.ensures.err in
+    let cause = heard_cause k l lacking c.args.now (phase_of session.phase) _ _ c.hear.result usable post c.hear.ensures.fault in
+    let step = λ (honest : IsTrue k.honest). hears k l lacking c.args.self.now.next items c.args.id c.in-Some.at c.args.now session c.hear.new.phase (Bytes c.args.id c.args.piece.now c.args.now) (listens k.site c.args.now c.args.piece.now) c.hear.result
+    (only_changes (g.S.SiteKeeper.lacks c.args.self.now.site) c.args.now) honest usable found read
+    refl refl refl (c.hear.ensures.gives honest) (c.hear.ensures.phase honest) (c.hear.ensures.done honest) c.hear.ensures.still_usable c.hear.ensures.err c.hear.ensures.fault in
+    let at_crash = λ (honest : IsTrue k.honest). heard_at_crash _ _ g.S.SiteKeeper.represents k l lacking w (record w { site = l.site }) (Bytes c.args.id c.args.piece.now c.args.now) c.args.now (phase_of session.phase) _ c.hear.result (ap not usable) usable
+    (ap (with_change k.site c.args.now) post) refl (c.hear.ensures.done honest) (c.hear.ensures.at_crash honest) (c.hear.ensures.unchanged honest) c.hear.ensures.fault in
+    record {
+      step = step;
+      as_before = λ honest. as_before _ _ _ bytes_outcome (λ fault. refl) c.hear.result (step honest);
+      cause = cause;
+      kept = kept;
       honest = c.hear.ensures.tried.honest;
-      site = refl;
-      flag = refl;
-      steady = heard_steady g.S.SiteKeeper.keeping _ _ (Bytes c.args.id c.args.piece.now c.args.now) _ c.hear.new.site (IsLacking (g.S.SiteKeeper.lacks c.args.self.now.site)) (phase_of c.index_mut-session.result.now.phase) _ c.args.now c.hear.result (ap not usable) usable refl refl
-          (returns-clause-kept g c) c.hear.ensures.still_usable c.hear.ensures.fault;
-      told = λ honest. told_of g.S.SiteKeeper.keeping g.S.SiteKeeper.stops g.S.SiteKeeper.stands_for _ _ c.hear.new.site (g.met.S.SiteKeeper.settled c.hear.new.site) (subst IsTrue (sym c.hear.ensures.tried.honest) honest) refl refl;
-      leaves = returns-clause-stop g c;
+      at_crash = at_crash;
+      closed = λ off. (let no : true ≡ false = sym usable ∙ off in absurd (cc no));
+      call = record {
+        step = step;
+        cause = heard_fault c.hear.result _ cause;
+        honest = c.hear.ensures.tried.honest;
+        site = refl;
+        flag = refl;
+        steady = heard_steady g.S.SiteKeeper.site_state _ _ (Bytes c.args.id c.args.piece.now c.args.now) _ c.hear.new.site lacking (phase_of session.phase) _ c.args.now c.hear.result (ap not usable) usable refl refl kept c.hear.ensures.still_usable c.hear.ensures.fault;
+        acknowledged = λ honest. acknowledged_of g.S.SiteKeeper.site_state g.S.SiteKeeper.crash_states g.S.SiteKeeper.represents _ _ c.hear.new.site (g.met.S.SiteKeeper.crash_states_represent c.hear.new.site) (subst IsTrue (sym c.hear.ensures.tried.honest) honest) refl refl;
+        leaves = at_crash;
+      };
+      acknowledged = λ honest. heard_acknowledged l.usable _ c.hear.result c.hear.ensures.still_usable (λ unchanged left may. g.met.S.SiteKeeper.crash_states_represent c.hear.new.site left (subst IsTrue (sym c.hear.ensures.tried.honest) honest) unchanged may);
     }

@@ -13,18 +13,18 @@ use Rattle.session_core.proofs.hub.Hub.draw.Goals as goal
 
 pub returns-in_default-clause-step : goal.returns-in_default-clause-step
 returns-in_default-clause-step g c =
-    let k = g.S.SiteKeeper.keeping c.args.self.now.site in
+    let k = g.S.SiteKeeper.site_state c.args.self.now.site in
     let usable : k.usable ≡ true = search rules in
     unknown k c.args.self.now.next c.args.self.now.sessions.items c.args.id _ (draws (length c.args.out.now)) usable
     (ap (position (λ (s : Session). s.id == c.args.id)) (sym c.deref.ensures.value) ∙ sym c.place_in.ensures.place ∙ c.in_default.is) refl
 
 pub returns-clause-step : goal.returns-clause-step
 returns-clause-step g c =
-    let k = g.S.SiteKeeper.keeping c.args.self.now.site in
+    let k = g.S.SiteKeeper.site_state c.args.self.now.site in
     let usable : k.usable ≡ true = search rules in
     draws_so k c.args.self.now.next c.args.self.now.sessions.items c.args.id c.in-Some.at c.index_mut-session.result.now c.draw.new.phase (length c.args.out.now) _ usable
     (ap (position (λ (s : Session). s.id == c.args.id)) (sym c.deref.ensures.value) ∙ sym c.in-Some.ensures.place) c.index_mut-session.ensures.value
-    c.draw.ensures.said c.draw.ensures.phase
+    c.draw.ensures.gives c.draw.ensures.phase
 
 pub returns-in_default-clause-reply : goal.returns-in_default-clause-reply
 returns-in_default-clause-reply g c = λ rest has usable.
@@ -40,9 +40,9 @@ returns-clause-as_before g c = as_before _ _ _ (λ r. draw_outcome r c.draw.new.
 pub returns-in_default-clause-call : goal.returns-in_default-clause-call
 returns-in_default-clause-call g c =
     let is = returns-in_default-clause-step g c in let answers = exact _ _ (Draw c.args.id (length c.args.out.now)) _ refl refl is in
-    unasked _ _ _ _ _ c.args.self.now.site (Draw c.args.id (length c.args.out.now)) _ _ (g.met.S.SiteKeeper.settled c.args.self.now.site) answers is (answers.0, refl) refl refl refl
+    unasked _ _ _ _ _ c.args.self.now.site (Draw c.args.id (length c.args.out.now)) _ _ (g.met.S.SiteKeeper.crash_states_represent c.args.self.now.site) answers is (answers.0, refl) refl refl refl
 
 pub returns-clause-call : goal.returns-clause-call
 returns-clause-call g c =
     let is = returns-clause-step g c in let answers = exact _ _ (Draw c.args.id (length c.args.out.now)) _ refl refl is in
-    unasked _ _ _ _ _ c.args.self.now.site (Draw c.args.id (length c.args.out.now)) _ _ (g.met.S.SiteKeeper.settled c.args.self.now.site) answers is (answers.0, refl) refl refl refl
+    unasked _ _ _ _ _ c.args.self.now.site (Draw c.args.id (length c.args.out.now)) _ _ (g.met.S.SiteKeeper.crash_states_represent c.args.self.now.site) answers is (answers.0, refl) refl refl refl

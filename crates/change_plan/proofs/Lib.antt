@@ -1,0 +1,5 @@
+pub mod LastPosts
+pub mod Moving
+pub mod Posting
+pub mod Planning
+pub mod AfterLookUps

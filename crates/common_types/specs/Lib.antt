@@ -1,0 +1,5 @@
+pub mod ByteOrder
+pub mod Counts
+pub mod Digits
+pub mod Names
+pub mod CrashStates

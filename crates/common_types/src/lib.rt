@@ -1,0 +1,15 @@
+//! Bytes, names and refusals, which the crates of the site and those of the disk share.
+#![tactic(auto)]
+
+mod bytes;
+mod digits;
+mod list;
+mod names;
+mod post_name;
+mod refused;
+
+pub use bytes::Bytes;
+pub use digits::{is_number, number_of};
+pub use list::List;
+pub use names::{Admin, GREATEST_STAMP, Host, Selector, Stamp, Title, Url, is_field, is_word};
+pub use refused::Refused;

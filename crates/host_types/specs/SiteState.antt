@@ -1,0 +1,71 @@
+-- What a keeper of a site is, but for what a crash may leave of it, and what its calls have in common.
+use Rattle.std.specs.Prelude.{◌≡◌, ◌<◌, ◌≤◌, ℕ, Bool, true, false, List, drop, Result, Err, IsOk, IsTrue}
+pub use Rattle.common_types.specs.Counts.{Rose}
+use Rattle.host_types.specs.Site.{Site}
+use Rattle.host_types.specs.declared.change.Change.{Change}
+use Rattle.common_types.specs.declared.refused.Refused.{Refused}
+use Rattle.host_types.specs.declared.site_fault.SiteFault.{SiteFault}
+use Rattle.host_types.specs.declared.site_fault.SiteFault.TheVariants as faults
+
+-- `honest`: what the site is kept on keeps its written meaning. `usable`: no write or sync has failed. `free`: how much a change may take. The counts are of failed reads, and of failed writes and syncs.
+pub record SiteState : Type 0 where
+  pub site : Site
+  pub honest : Bool
+  pub usable : Bool
+  pub free : ℕ
+  pub failed_reads : ℕ
+  pub failed_writes : ℕ
+
+-- What a call that only reads leaves: the site and the flags stay, and reads may have failed.
+pub record HasRead (old new : SiteState) : Type 0 where
+  pub site : IsTrue old.honest → new.site ≡ old.site
+  pub honest : new.honest ≡ old.honest
+  pub usable : new.usable ≡ old.usable
+  pub free : IsTrue old.honest → new.free ≡ old.free
+  pub reads : old.failed_reads ≤ new.failed_reads
+  pub writes : new.failed_writes ≡ old.failed_writes
+
+-- When a fault may come of a call that only reads, where it may lack memory or not.
+abbrev pub IsReadFault : Bool → SiteState → SiteState → SiteFault → Type 0
+IsReadFault may_lack_memory old new (faults.Refused r) = ⊥
+IsReadFault may_lack_memory old new faults.Read = IsTrue old.honest → Rose old.failed_reads new.failed_reads
+IsReadFault may_lack_memory old new (faults.Full need free) = ⊥
+IsReadFault may_lack_memory old new faults.Spent = ⊥
+IsReadFault may_lack_memory old new faults.Failed = old.usable ≡ false
+IsReadFault may_lack_memory old new faults.Memory = IsTrue may_lack_memory
+
+-- A change at a moment may be refused for lack of the same before and now.
+pub record LacksTheSame (old new : Change → ℕ → SiteFault → Type 0) : Type 0 where
+  pub after : (change : Change) (now : ℕ) (fault : SiteFault) → old change now fault → new change now fault
+  pub before : (change : Change) (now : ℕ) (fault : SiteFault) → new change now fault → old change now fault
+
+-- What stands in a buffer behind its first n places stays.
+abbrev pub IsUnchangedBehind : ℕ → List ℕ → List ℕ → Type 0
+IsUnchangedBehind n old new = drop n new ≡ drop n old
+
+-- What a change that was not made leaves: nothing of the site changed, and its flags stay unless a write failed.
+pub record HasNotChanged (old new : SiteState) : Type 0 where
+  pub site : IsTrue old.honest → new.site ≡ old.site
+  pub usable : new.usable ≡ old.usable
+
+-- A write or a sync failed in this call, which has a change to make.
+pub record HasFailed (old new : SiteState) (applied : Result Site Refused) : Type 0 where
+  pub site : IsTrue old.honest → new.site ≡ old.site
+  pub shut : new.usable ≡ false
+  pub cause : IsTrue old.honest → old.usable ≡ true → Rose old.failed_writes new.failed_writes
+  pub right : IsTrue old.honest → old.usable ≡ true → IsOk applied
+
+-- When a fault may come of a change, and what stands then; `applied` is the site that the change would make, or its first refusal, and `lacks` says which fault a valid change may get for lack of room, or because no further change is taken.
+abbrev pub IsChangeFault : (SiteFault → Type 0) → SiteState → SiteState → Result Site Refused → SiteFault → Type 0
+IsChangeFault lacks old new applied (faults.Refused r) = HasNotChanged old new × (IsTrue old.honest → applied ≡ Err r)
+IsChangeFault lacks old new applied faults.Read = HasNotChanged old new × (IsTrue old.honest → Rose old.failed_reads new.failed_reads)
+IsChangeFault lacks old new applied (faults.Full need free) = HasNotChanged old new × (free < need) × (IsTrue old.honest → (free ≡ old.free) × IsOk applied × lacks (faults.Full need free))
+IsChangeFault lacks old new applied faults.Spent = HasNotChanged old new × (IsTrue old.honest → IsOk applied × lacks faults.Spent)
+IsChangeFault lacks old new applied faults.Failed = HasFailed old new applied
+IsChangeFault lacks old new applied faults.Memory = HasNotChanged old new
+
+-- What every change leaves, whatever it answers.
+pub record HasTried (old new : SiteState) : Type 0 where
+  pub honest : new.honest ≡ old.honest
+  pub reads : old.failed_reads ≤ new.failed_reads
+  pub writes : old.failed_writes ≤ new.failed_writes

@@ -1,0 +1,3 @@
+pub mod ShortPairs
+pub mod CutNames
+pub mod WholeSites

@@ -1,0 +1,4 @@
+pub mod ShortEntries
+pub mod MemoryReads
+pub mod MemoryFaults
+pub mod ValidSites

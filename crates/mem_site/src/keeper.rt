@@ -1,0 +1,48 @@
+// A site in memory as a keeper: it is always honest, and nothing of it can fail but for lack of memory.
+ghost use Rattle.std.specs.Prelude.{ℕ, true};
+ghost use Rattle.common_types.specs.CrashStates.{nothing, no_crash_state};
+
+use crate::MemSite;
+use host_types::{Card, Change, Front, Selector, SiteFault, SiteKeeper, Stamp, chunk_of};
+
+impl SiteKeeper for MemSite {
+    ghost site_state = { λ m. record { site = m; honest = true; usable = true; free = 0; failed_reads = 0; failed_writes = 0 } };
+
+    ghost lacks = { λ m change now fault. ⊥ };
+
+    ghost CrashState = { ℕ };
+
+    ghost represents = { λ c s. ⊥ };
+
+    ghost crash_states = { λ m. nothing };
+
+    ghost crash_states_represent = { λ m c honest usable left. no_crash_state left };
+
+    fn front(&self) -> Front<'_> {
+        self.shown()
+    }
+
+    fn is_usable(&self) -> bool {
+        true
+    }
+
+    fn card(&mut self, selector: &Selector) -> Result<Option<Card>, SiteFault> {
+        Ok(self.card_at(selector)?)
+    }
+
+    fn chunk(
+        &mut self,
+        selector: &Selector,
+        view: usize,
+        k: usize,
+        buffer: &mut [u8; 1000],
+    ) -> Result<usize, SiteFault> {
+        let chunk = chunk_of(self.viewed(selector, view), k);
+        buffer[..chunk.len()].copy_from_slice(chunk);
+        Ok(chunk.len())
+    }
+
+    fn change(&mut self, change: Change, now: Stamp) -> Result<(), SiteFault> {
+        self.make(change, now)
+    }
+}

@@ -1,0 +1,10 @@
+//! A site in memory.
+#![tactic(auto)]
+
+mod changing;
+mod keeper;
+mod lookup;
+mod mem_site;
+mod valid_site;
+
+pub use mem_site::MemSite;

@@ -1,9 +1,0 @@
-use Rattle.std.proofs.Common.{◌≡◌, ◌+◌, drop}
-use Rattle.page_store.specs.Spelling.{fitting, page_room}
-use Rattle.page_store.proofs.spelling.fitting.Given as goal
-
-abbrev pub invariant-loop-pair : goal.invariant-loop-pair
-invariant-loop-pair l = record {
-  count : l.count ≡ l.pair-index;
-  all : l.count + fitting l.room (drop l.pair-index l.pairs) ≡ fitting page_room l.pairs;
-}

@@ -1,6 +1,0 @@
-use Rattle.std.proofs.Common.{◌≡◌, ◌++◌, take}
-use Rattle.page_store.specs.Spelling.{entries_bytes}
-use Rattle.page_store.proofs.spelling.put_entries.Given as goal
-
-abbrev pub invariant-loop-pair : goal.invariant-loop-pair
-invariant-loop-pair l = l.out.items ≡ l.fn.out.items ++ entries_bytes (take l.pair-index l.pairs)

@@ -1,0 +1,88 @@
+-- What a key-value store holds, and what its calls have in common.
+use Rattle.std.specs.Prelude.{◌≡◌, ◌⊎◌, ◌<◌, ◌≤◌, ◌+◌, ◌-◌, ◌^◌, ℕ, Bool, false, List, drop, Option, Some, None, Result, Ok, Err, IsTrue}
+use Rattle.common_types.specs.Counts.{counted}
+use Rattle.page_store.specs.Pages.{Pair}
+use Rattle.page_store.specs.declared.banner.Banner.{Banner}
+use Rattle.page_store.specs.declared.edit.Edit.{Edit}
+use Rattle.page_store.specs.declared.fault.KeeperFault.{KeeperFault}
+use Rattle.page_store.specs.declared.fault.KeeperFault.TheVariants as faults
+
+-- The pairs stand in byte order of their keys. `honest`: the device keeps its written meaning. `usable`: no write or sync has failed. `top`: the greatest generation that was found at opening or tried since. `free`: how much a commit may take.
+pub record StoreState : Type 0 where
+  pub pairs : List Pair
+  pub banner : Banner
+  pub honest : Bool
+  pub usable : Bool
+  pub failed_reads : ℕ
+  pub failed_writes : ℕ
+  pub top : ℕ
+  pub free : ℕ
+
+-- no generation is above
+abbrev pub last_generation : ℕ
+last_generation = 2 ^ 64 - 1
+
+-- What a call leaves that changes nothing of what is held.
+pub record HasStayed (old new : StoreState) : Type 0 where
+  pub pairs : IsTrue old.honest → new.pairs ≡ old.pairs
+  pub banner : new.banner ≡ old.banner
+  pub usable : new.usable ≡ old.usable
+  pub top : new.top ≡ old.top
+  pub free : IsTrue old.honest → new.free ≡ old.free
+
+-- What a call that only reads leaves: reads may have failed.
+pub record HasRead (old new : StoreState) : Type 0 where
+  pub same : HasStayed old new
+  pub honest : new.honest ≡ old.honest
+  pub reads : old.failed_reads ≤ new.failed_reads
+  pub writes : new.failed_writes ≡ old.failed_writes
+
+-- A batch may need as much after a call as before it.
+pub record NeedsTheSame (old new : List Edit → ℕ → Type 0) : Type 0 where
+  pub after : (batch : List Edit) (need : ℕ) → old batch need → new batch need
+  pub before : (batch : List Edit) (need : ℕ) → new batch need → old batch need
+
+-- A buffer that an answer fills from the front: behind the answer it stays, and whole where nothing is found or a fault comes.
+abbrev pub IsFilled : {A E : Type 0} → (A → ℕ) → Result (Option A) E → List ℕ → List ℕ → Type 0
+IsFilled size (Ok (Some found)) old new = drop (size found) new ≡ drop (size found) old
+IsFilled size (Ok None) old new = new ≡ old
+IsFilled size (Err fault) old new = new ≡ old
+
+-- When a fault may come of a call that only reads.
+abbrev pub IsReadFault : StoreState → StoreState → KeeperFault → Type 0
+IsReadFault old new faults.Device = new.failed_reads ≡ counted old.failed_reads
+IsReadFault old new faults.NoImage = ⊥
+IsReadFault old new faults.Version = ⊥
+IsReadFault old new (faults.Damaged page) = old.honest ≡ false
+IsReadFault old new faults.Small = ⊥
+IsReadFault old new faults.Spent = ⊥
+IsReadFault old new (faults.Full need free) = ⊥
+IsReadFault old new faults.Failed = old.usable ≡ false
+IsReadFault old new faults.Memory = ⊥
+
+-- A write or a sync failed, in this call or before.
+pub record HasFailed (old new : StoreState) : Type 0 where
+  pub pairs : IsTrue old.honest → new.pairs ≡ old.pairs
+  pub banner : new.banner ≡ old.banner
+  pub shut : new.usable ≡ false
+  pub cause : IsTrue old.usable → new.failed_writes ≡ counted old.failed_writes
+  pub top : (new.top ≡ old.top) ⊎ (new.top ≡ old.top + 1)
+
+-- When a fault may come of a commit, and what stands then; `may_need` says how much the batch may need.
+abbrev pub IsCommitFault : StoreState → StoreState → (ℕ → Type 0) → KeeperFault → Type 0
+IsCommitFault old new may_need faults.Device = HasStayed old new × (new.failed_reads ≡ counted old.failed_reads)
+IsCommitFault old new may_need faults.NoImage = ⊥
+IsCommitFault old new may_need faults.Version = ⊥
+IsCommitFault old new may_need (faults.Damaged page) = HasStayed old new × (old.honest ≡ false)
+IsCommitFault old new may_need faults.Small = ⊥
+IsCommitFault old new may_need faults.Spent = HasStayed old new × (old.top ≡ last_generation)
+IsCommitFault old new may_need (faults.Full need free) = HasStayed old new × (free < need) × (IsTrue old.honest → (free ≡ old.free) × may_need need)
+IsCommitFault old new may_need faults.Failed = HasFailed old new
+IsCommitFault old new may_need faults.Memory = HasStayed old new
+
+-- What every commit leaves, whatever it answers.
+pub record HasTried (old new : StoreState) : Type 0 where
+  pub honest : new.honest ≡ old.honest
+  pub reads : old.failed_reads ≤ new.failed_reads
+  pub writes : old.failed_writes ≤ new.failed_writes
+  pub top : old.top ≤ new.top

@@ -1,0 +1,208 @@
+// The bytes of flat pages and root slots.
+ghost use Rattle.std.specs.Prelude.{◌≡◌, ◌+◌, ◌-◌, ◌*◌, ◌<◌, ◌≤◌, ◌++◌, ◌∷◌, ◌^◌, ℕ, [], IsTrue, IfOk, OnOk, length, take, drop, map};
+ghost use Rattle.std.specs.Int.{w16, w32, w64, to_be_bytes};
+ghost use Rattle.std.specs.List.{list_all};
+ghost use Rattle.page_store.specs.Batch.{is_pair};
+ghost use Rattle.page_store.specs.Roots.{FitsDevice};
+ghost use Rattle.page_store.specs.Switch.{IsSlotPage};
+ghost use Rattle.page_store.specs.Flat.{flat_word, entry_size};
+ghost use Rattle.page_store.specs.Encoding.{padded, entry_bytes, entries_bytes, flat_head_bytes, flat_bytes, fitting, page_room, paged, by_pages, pages_needed, flat_pages, IsTyped, record_fields, record_bytes, root_sector, root_sectors, slot_bytes};
+
+use crate::reading::{FLAT_WORD, ROOT_WORD};
+use crate::{NewPage, Pair, Root, Slot};
+use std::alloc::{AllocError, Global};
+
+/// How many bytes of a flat page are for its entries.
+const PAGE_ROOM: usize = 4072;
+
+#[tactic(auto, unfolding(crate::specs::Batch::is_value))]
+fn put_entry(out: &mut Vec<u8>, pair: &Pair) -> Result<(), AllocError>
+    requires { IsTrue (is_pair pair.now) }
+    ensures { OnOk result (out.new.items ≡ out.old.items ++ entry_bytes pair.now) }
+{
+    let key = pair.key();
+    let value = pair.value();
+    out.extend_from_slice(&(key.len() as u16).to_be_bytes())?;
+    out.extend_from_slice(&(value.len() as u16).to_be_bytes())?;
+    out.extend_from_slice(key)?;
+    out.extend_from_slice(value)
+}
+
+fn put_entries(out: &mut Vec<u8>, pairs: &[Pair]) -> Result<(), AllocError>
+    requires { IsTrue (list_all is_pair pairs.now) }
+    ensures { OnOk result (out.new.items ≡ out.old.items ++ entries_bytes pairs.now) }
+{
+    for pair in pairs {
+        put_entry(out, pair)?;
+    }
+    Ok(())
+}
+
+/// The bytes, and zeros after them up to so many.
+fn padded(bytes: Vec<u8>, most: usize) -> Result<Vec<u8>, AllocError>
+    requires { length bytes.items ≤ most }
+    ensures bytes { IfOk result (λ all. all.items ≡ padded most bytes.items) }
+    ensures length { IfOk result (λ all. length all.items ≡ most) }
+{
+    let mut bytes = bytes;
+    if bytes.as_slice().len() < most {
+        bytes.resize(most, 0)?;
+    }
+    Ok(bytes)
+}
+
+/// A page of these bytes, and zeros after them.
+fn padded_page(bytes: Vec<u8>) -> Result<[u8; 4096], AllocError>
+    requires { length bytes.items ≤ 4096 }
+    ensures { IfOk result (λ page. page ≡ padded 4096 bytes.items) }
+{
+    let bytes = padded(bytes, 4096)?;
+    let mut page = [0; 4096];
+    page.copy_from_slice(&bytes);
+    Ok(page)
+}
+
+/// The bytes of a flat page of a generation.
+#[tactic(auto, unfolding(crate::specs::Encoding::flat_bytes, crate::specs::Encoding::page_room))]
+fn flat_page(alloc: Global, seal: u64, page: u32, pairs: &[Pair]) -> Result<[u8; 4096], AllocError>
+    requires pairs { IsTrue (list_all is_pair pairs.now) }
+    requires count { length pairs.now < 2 ^ 16 }
+    requires room { length (entries_bytes pairs.now) ≤ page_room }
+    ensures { IfOk result (λ bytes. bytes ≡ flat_bytes seal page pairs.now) }
+{
+    let mut bytes = Vec::new(alloc);
+    bytes.extend_from_slice(&FLAT_WORD)?;
+    bytes.extend_from_slice(&page.to_be_bytes())?;
+    bytes.extend_from_slice(&seal.to_be_bytes())?;
+    bytes.extend_from_slice(&0u16.to_be_bytes())?;
+    bytes.extend_from_slice(&(pairs.len() as u16).to_be_bytes())?;
+    put_entries(&mut bytes, pairs)?;
+    padded_page(bytes)
+}
+
+/// How many pairs from the first on fit into one page.
+#[tactic(auto, unfolding(crate::specs::Encoding::page_room))]
+fn fitting(pairs: &[Pair]) -> usize
+    requires { IsTrue (list_all is_pair pairs.now) }
+    ensures { result ≡ fitting page_room pairs.now }
+{
+    let mut room = PAGE_ROOM;
+    let mut count = 0;
+    for pair in pairs {
+        let size = 4 + pair.key().len() + pair.value().len();
+        if size > room {
+            return count;
+        }
+        room -= size;
+        count += 1;
+    }
+    count
+}
+
+/// How many pages the pairs need. It takes no memory.
+pub(crate) fn pages_needed(pairs: &[Pair]) -> usize
+    requires { IsTrue (list_all is_pair pairs.now) }
+    ensures { result ≡ pages_needed pairs.now }
+{
+    let mut count = 0;
+    let mut rest = pairs;
+    while !rest.is_empty() {
+        let (_, after) = rest.split_at(fitting(rest));
+        rest = after;
+        count += 1;
+    }
+    count
+}
+
+/// The pages of these pairs from a number on.
+pub(crate) fn flat_pages(
+    alloc: Global,
+    seal: u64,
+    first: u32,
+    pairs: &[Pair],
+) -> Result<Vec<NewPage>, AllocError>
+    requires pairs { IsTrue (list_all is_pair pairs.now) }
+    requires numbers { first + pages_needed pairs.now < 2 ^ 32 }
+    ensures { IfOk result (λ pages. pages.items ≡ flat_pages seal first (by_pages pairs.now)) }
+{
+    let mut pages = Vec::new(alloc);
+    let mut page = first;
+    let mut rest = pairs;
+    while !rest.is_empty() {
+        let (here, after) = rest.split_at(fitting(rest));
+        pages.push(NewPage {
+            number: page,
+            bytes: flat_page(alloc, seal, page, here)?,
+        })?;
+        rest = after;
+        page += 1;
+    }
+    Ok(pages)
+}
+
+/// The fields of a root slot's record.
+#[tactic(auto, unfolding(crate::specs::Encoding::record_fields))]
+fn record_fields(alloc: Global, root: &Root) -> Result<Vec<u8>, AllocError>
+    ensures bytes { IfOk result (λ bytes. bytes.items ≡ record_fields root.now) }
+    ensures length { IfOk result (λ bytes. length bytes.items ≤ 224) }
+    ensures typed { IfOk result (λ bytes. IsTyped root.now) }
+{
+    let host = root.banner.host.as_bytes();
+    let admin = root.banner.admin.as_bytes();
+    let mut bytes = Vec::new(alloc);
+    bytes.extend_from_slice(&root.banner.version.to_be_bytes())?;
+    bytes.extend_from_slice(&root.pages.to_be_bytes())?;
+    bytes.extend_from_slice(&root.tree.to_be_bytes())?;
+    bytes.extend_from_slice(&root.height.to_be_bytes())?;
+    bytes.extend_from_slice(&root.keys.to_be_bytes())?;
+    bytes.push(host.len() as u8)?;
+    bytes.extend_from_slice(host)?;
+    bytes.extend_from_slice(&root.banner.port.to_be_bytes())?;
+    bytes.push(admin.len() as u8)?;
+    bytes.extend_from_slice(admin)?;
+    Ok(bytes)
+}
+
+/// The record of a root slot.
+#[tactic(auto, unfolding(crate::specs::Encoding::record_bytes))]
+fn record_of(alloc: Global, root: &Root) -> Result<Vec<u8>, AllocError>
+    ensures bytes { IfOk result (λ bytes. bytes.items ≡ record_bytes root.now) }
+    ensures length { IfOk result (λ bytes. length bytes.items ≡ 3904) }
+    ensures typed { IfOk result (λ bytes. IsTyped root.now) }
+{
+    padded(record_fields(alloc, root)?, 3904)
+}
+
+/// One root sector.
+fn put_sector(out: &mut Vec<u8>, number: u64, seal: u64, part: &[u8]) -> Result<(), AllocError>
+    ensures { OnOk result (out.new.items ≡ out.old.items ++ root_sector number seal part.now) }
+{
+    out.extend_from_slice(&ROOT_WORD)?;
+    out.extend_from_slice(&number.to_be_bytes())?;
+    out.extend_from_slice(&seal.to_be_bytes())?;
+    out.extend_from_slice(part)?;
+    Ok(())
+}
+
+/// The bytes of a slot's page.
+#[tactic(auto, unfolding(crate::specs::Encoding::slot_bytes))]
+pub(crate) fn slot_page(alloc: Global, slot: &Slot) -> Result<[u8; 4096], AllocError>
+    requires { slot.now.number < 2 }
+    ensures bytes { IfOk result (λ bytes. bytes ≡ slot_bytes slot.now) }
+    ensures valid { IfOk result (λ bytes. (sectors : ℕ) → slot.now.seal < 2 ^ 64 → FitsDevice sectors slot.now.root → 0 < slot.now.root.banner.port → IsSlotPage sectors slot.now bytes) }
+{
+    let record = record_of(alloc, &slot.root)?;
+    let first = 8 * slot.number as u64;
+    let mut out = Vec::new(alloc);
+    for k in 0..8 {
+        put_sector(
+            &mut out,
+            first + k as u64,
+            slot.seal,
+            &record[488 * k..488 * k + 488],
+        )?;
+    }
+    let mut page = [0; 4096];
+    page.copy_from_slice(&out);
+    Ok(page)
+}

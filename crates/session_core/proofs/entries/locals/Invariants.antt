@@ -1,6 +1,0 @@
-use Rattle.std.proofs.Common.{◌≡◌, take}
-use Rattle.session_core.specs.Reply.{locals}
-use Rattle.session_core.proofs.entries.locals.Given as goal
-
-abbrev pub invariant-loop-selector : goal.invariant-loop-selector
-invariant-loop-selector l = l.entries ≡ locals (take l.selector-index l.selectors)

@@ -1,0 +1,36 @@
+use Rattle.std.proofs.Common.{◌≡◌, false, refl, ap, rules, inl}
+use Rattle.std.specs.Prelude.{not}
+use Rattle.session_core.specs.Hub.{world_of}
+use Rattle.session_core.specs.declared.event.Event.TheVariants.{Admin}
+use Rattle.session_core.specs.declared.event.Outcome.TheVariants.{Fault}
+use Rattle.session_core.specs.declared.fault.HubFault.TheVariants.{Failed}
+use Rattle.session_core.proofs.Steps.{answered_by}
+use Rattle.session_core.proofs.CallsMade.{stays_none_added, shut_answer, steady}
+use Rattle.session_core.proofs.hub.Hub.admin.Goals as goal
+
+pub returns-then-not-is_usable : goal.returns-then-not-is_usable
+returns-then-not-is_usable g c =
+    let k = g.S.SiteKeeper.site_state c.args.self.now.site in
+    let w = world_of g.S.SiteKeeper.site_state c.args.self.now in
+    let shut : k.usable ≡ false = search rules in
+    let answers = shut_answer w (Admin c.args.change c.args.now) (ap not shut) refl in
+    record {
+      step = λ honest. answered_by w.failed w _ _ _ answers;
+      as_before = λ honest. tt;
+      cause = λ honest. inl shut;
+      kept = refl;
+      honest = refl;
+      at_crash = λ honest. stays_none_added _ _;
+      closed = λ off. refl;
+      call = record {
+        step = λ honest. answered_by w.failed w _ _ _ answers;
+        cause = λ honest. inl shut;
+        honest = refl;
+        site = refl;
+        flag = refl;
+        steady = steady w _ _ (Fault Failed) _ answers refl;
+        acknowledged = λ honest. tt;
+        leaves = λ honest. stays_none_added _ _;
+      };
+      acknowledged = λ honest. tt;
+    }

@@ -1,0 +1,128 @@
+// The batch of edits that makes a change.
+ghost use Rattle.std.specs.Prelude.{◌≡◌, List, IfOk, IfSome, OnOk, IsTrue, map};
+ghost use Rattle.std.specs.List.{list_all, AllByRecursion};
+ghost use Rattle.page_store.specs.Batch.{is_edit};
+ghost use Rattle.site_pairs.specs.Edits as spec;
+ghost use Rattle.change_plan.specs.Replacements.{IsFit};
+ghost use Rattle.site_pairs.specs.ShortReplacements.{IsShort, AreShort};
+
+use crate::item_pairs::item_pairs;
+use crate::piece::Piece;
+use change_plan::Replacement;
+use host_types::{Bytes, Item, Selector};
+use page_store::Edit;
+use site_records::Key;
+use std::alloc::{AllocError, Global};
+use std::collections::BTreeMap;
+
+/// All these keys go.
+#[tactic(auto, using(crate::proofs::ItemPairs::drop_last))]
+fn drop_all(
+    edits: &mut BTreeMap<Key, Option<Piece>>,
+    pairs: Vec<(Key, Piece)>,
+) -> Result<(), AllocError>
+    ensures { OnOk result (edits.new.entries ≡ spec.without_all edits.old.entries pairs.items) }
+{
+    let mut rest = pairs;
+    while let Some((key, _value)) = rest.pop() {
+        edits.insert(key, None)?;
+    }
+    Ok(())
+}
+
+/// All these pairs come.
+#[tactic(auto, using(crate::proofs::ItemPairs::put_last))]
+fn put_all(
+    edits: &mut BTreeMap<Key, Option<Piece>>,
+    pairs: Vec<(Key, Piece)>,
+) -> Result<(), AllocError>
+    ensures { OnOk result (edits.new.entries ≡ spec.with_all edits.old.entries pairs.items) }
+{
+    let mut rest = pairs;
+    while let Some((key, value)) = rest.pop() {
+        edits.insert(key, Some(value))?;
+    }
+    Ok(())
+}
+
+/// The pairs of what stands at a selector, if anything does.
+fn pairs_at(
+    alloc: Global,
+    selector: &Selector,
+    item: &Option<Item>,
+) -> Result<Vec<(Key, Piece)>, AllocError>
+    requires { IfSome item.now IsShort }
+    ensures { IfOk result (λ pairs. pairs.items ≡ spec.pairs_at selector.now item.now) }
+{
+    match item {
+        Some(item) => item_pairs(alloc, selector, item),
+        None => Ok(Vec::new(alloc)),
+    }
+}
+
+/// The pairs of what stood at a selector go, and those of what is to stand there come.
+fn put_replacement(
+    alloc: Global,
+    edits: &mut BTreeMap<Key, Option<Piece>>,
+    replacement: &Replacement,
+) -> Result<(), AllocError>
+    requires { IsFit IsShort replacement.now }
+    ensures { OnOk result (edits.new.entries ≡ spec.with_replacement edits.old.entries replacement.now) }
+{
+    drop_all(
+        edits,
+        pairs_at(alloc, &replacement.selector, &replacement.before)?,
+    )?;
+    put_all(
+        edits,
+        pairs_at(alloc, &replacement.selector, &replacement.after)?,
+    )
+}
+
+#[tactic(auto, unfolding(page_store::specs::Batch::is_value))]
+fn edit_of(alloc: Global, key: &Key, value: &Option<Piece>) -> Result<Edit, AllocError>
+    ensures edit { IfOk result (λ edit. edit ≡ spec.edit_of (key.now, value.now)) }
+    ensures sizes { IfOk result (λ edit. IsTrue (is_edit edit)) }
+{
+    let key = Bytes::from_slice(alloc, key.as_bytes())?;
+    let value = match value {
+        Some(value) => Some(Bytes::from_slice(alloc, value.as_slice())?),
+        None => None,
+    };
+    Ok(Edit { key, value })
+}
+
+fn edits_in<'a>(
+    alloc: Global,
+    edits: &'a BTreeMap<Key, Option<Piece>>,
+) -> Result<Vec<(&'a Key, &'a Option<Piece>)>, AllocError>
+    ensures { IfOk result (λ all. map (λ e. (e.0.now, e.1.now)) all.items ≡ edits.now.entries) }
+{
+    edits.iter().collect(alloc)
+}
+
+/// The edits in the order of their keys.
+fn batch_in(alloc: Global, edits: &BTreeMap<Key, Option<Piece>>) -> Result<Vec<Edit>, AllocError>
+    ensures batch { IfOk result (λ batch. batch.items ≡ spec.batch_of edits.now.entries) }
+    ensures sizes { IfOk result (λ batch. IsTrue (list_all is_edit batch.items)) }
+{
+    let entries = edits_in(alloc, edits)?;
+    let mut batch = Vec::new(alloc);
+    for entry in &entries {
+        batch.push(edit_of(alloc, entry.0, entry.1)?)?;
+    }
+    Ok(batch)
+}
+
+/// The edits that make some replacements.
+pub fn batch_of(alloc: Global, replacements: &[Replacement]) -> Result<Vec<Edit>, AllocError>
+    requires { AreShort replacements.now }
+    ensures batch { IfOk result (λ batch. batch.items ≡ spec.batch_of (spec.edits_of replacements.now)) }
+    ensures sizes { IfOk result (λ batch. IsTrue (list_all is_edit batch.items)) }
+{
+    let mut edits = BTreeMap::new(alloc);
+    for replacement in replacements {
+        put_replacement(alloc, &mut edits, replacement)?;
+    }
+    batch_in(alloc, &edits)
+}

@@ -1,0 +1,13 @@
+//! The pairs of an item and of a whole site, and the batch of edits that replaces items.
+#![tactic(auto)]
+
+mod edits;
+mod first_site;
+mod item_pairs;
+mod piece;
+mod whole_layout;
+
+pub use edits::batch_of;
+pub use first_site::first_pairs;
+pub use piece::Piece;
+pub use whole_layout::{entries_in, layout_of};

@@ -1,0 +1,40 @@
+// A value that a key-value store takes.
+ghost use Rattle.std.specs.Prelude.{◌≡◌, ◌≤◌, length};
+
+use host_types::Bytes;
+use std::marker::Model;
+
+/// A value of a pair, of at most 1,024 bytes.
+#[derive(Debug, Drop)]
+pub struct Piece {
+    bytes: Bytes,
+}
+
+impl Model for Piece {
+    ghost use Rattle.std.specs.Prelude.{List, ℕ, length, ◌≤◌};
+
+    ghost Value = { List ℕ };
+
+    ghost view = { λ p. p.bytes };
+
+    ghost invariant = { λ p. length p.bytes ≤ 1024 };
+}
+
+impl Piece {
+    /// The value of these bytes.
+    pub(crate) fn new(bytes: Bytes) -> Self
+        requires { length bytes ≤ 1024 }
+        ensures { result ≡ bytes }
+    {
+        Piece { bytes }
+    }
+
+    /// Its bytes.
+    pub fn as_slice(&self) -> &[u8]
+        ensures value { result.now ≡ self.now }
+        ensures length { length result.now ≤ 1024 }
+    {
+        let bytes = &self.bytes;
+        bytes.as_slice()
+    }
+}

@@ -1,0 +1,76 @@
+-- What the card of an item says of its views.
+use Rattle.std.proofs.Common.{◌≡◌, ℕ, Bool, false, zero, suc, ◌<◌, List, [], ◌∷◌, length, refl, ap, sym, subst, ◌∙◌, arith}
+use Rattle.std.specs.Prelude.{Option, Some, None, Result, Ok, Err, IfOk, IsTrue, map, slice_get, slice_index_or}
+use Rattle.host_types.specs.Names.{is_url_name}
+use Rattle.host_types.specs.Site.{Site, item_at}
+use Rattle.host_types.specs.Card.{card_view, card_body, card_of, card_at, bytes_of, viewed, viewed_in, viewed_at}
+use Rattle.host_types.specs.SiteState.{SiteState, HasRead}
+use Rattle.host_types.specs.declared.view.View.{View}
+use Rattle.host_types.specs.declared.item.Item.{Item}
+use Rattle.host_types.specs.declared.item.Body.{Body}
+use Rattle.host_types.specs.declared.item.Body.TheVariants as bodies
+use Rattle.host_types.specs.declared.card.Card.{Card}
+use Rattle.host_types.specs.declared.card.CardBody.{CardBody}
+use Rattle.host_types.specs.declared.card.CardView.{CardView}
+use Rattle.host_types.specs.declared.menu.Entry.{Entry}
+use Rattle.word_index.specs.Search.{search_of}
+use Rattle.request_reader.specs.Request.{Request}
+use Rattle.site_replies.specs.Lengths.{HasLengths}
+use Rattle.site_replies.specs.Reply.{menu_reply, locals, card_reply, found_reply, reply}
+use Rattle.site_replies.specs.declared.answered.Answered.{Answered}
+use Rattle.site_replies.proofs.AfterReads.{still_honest}
+
+view_lengths : (views : List View) (place : ℕ) (none : CardView) → place < length (map card_view views) → length (bytes_of (slice_get views place)) ≡ (slice_index_or (map card_view views) place none).length
+view_lengths [] place none less = absurd (omega arith)
+view_lengths (v ∷ vs) zero none less = refl
+view_lengths (v ∷ vs) (suc place) none less = view_lengths vs place none (omega arith)
+
+body_lengths : (body : Body) → HasLengths (card_body body) (viewed body)
+body_lengths (bodies.Views kind views) = view_lengths views
+body_lengths (bodies.Menu entries) = tt
+body_lengths (bodies.Board most next) = tt
+body_lengths (bodies.Form board questions) = tt
+body_lengths (bodies.Search scope) = tt
+body_lengths (bodies.Moved target) = tt
+
+lengths_in : (o : Option Item) (s : Site) (selector : List ℕ) (card : Card) → item_at s selector ≡ o → Some card ≡ card_at s selector → HasLengths card.body (viewed_at s selector)
+lengths_in None s selector card at is = let none : Some card ≡ None = rw at at is in absurd (cc none)
+lengths_in (Some item) s selector card at is =
+    let some : Some card ≡ Some (card_of item) = rw at at is in
+    let one : card ≡ card_of item = cc some in
+    let same : card.body ≡ card_body item.body = ap (λ (c : Card). c.body) one in
+    subst (λ (o : Option Item). HasLengths card.body (viewed_in o)) (sym at) (subst (λ (b : CardBody). HasLengths b (viewed item.body)) (sym same) (body_lengths item.body))
+
+pub has_lengths : (s : Site) (selector : List ℕ) (card : Card) → Some card ≡ card_at s selector → HasLengths card.body (viewed_at s selector)
+has_lengths s selector card is = lengths_in (item_at s selector) s selector card refl is
+
+-- the reply by the card that was read is the reply of the site before the read
+pub found : {E : Type 0} (a b : SiteState) (selector : List ℕ) (r : Request) (now : ℕ) (card : Card) (result : Result Answered E) → HasRead a b → IsTrue a.honest → selector ≡ r.selector → Some card ≡ card_at a.site selector
+    → (IsTrue b.honest → selector ≡ r.selector → HasLengths card.body (viewed_at b.site selector) → IfOk result (λ answered. answered ≡ card_reply b.site r now card card.body r.plus))
+    → IfOk result (λ answered. answered ≡ found_reply a.site r now (card_at a.site selector))
+found a b selector r now card (Err e) kept honest same is given = tt
+found a b selector r now card (Ok answered) kept honest same is given =
+    let after : b.site ≡ a.site = kept.site honest in
+    let lengths : HasLengths card.body (viewed_at b.site selector) = rw after (has_lengths a.site selector card is) in
+    given (still_honest a b kept honest) same lengths
+    ∙ ap (λ (s : Site). card_reply s r now card card.body r.plus) after
+    ∙ ap (found_reply a.site r now) is
+
+-- the reply to what is no link
+pub found_up : {E : Type 0} (s : Site) (r : Request) (now : ℕ) (selector : List ℕ) (result : Result Answered E) → is_url_name r.selector ≡ false → selector ≡ r.selector
+    → IfOk result (λ answered. answered ≡ found_reply s r now (card_at s selector)) → IfOk result (λ answered. answered ≡ reply s r now)
+unfolding reply
+found_up s r now selector (Err e) here same given = tt
+found_up s r now selector (Ok answered) here same given = rw here (given ∙ ap (λ (at : List ℕ). found_reply s r now (card_at s at)) same)
+
+-- the menu of what a search found before
+pub searched : {E : Type 0} (a b : SiteState) (is_plus : Bool) (scope words : List ℕ) (names : List (List ℕ)) (es : List Entry) (result : Result (List ℕ) E) → HasRead a b → IsTrue a.honest
+    → names ≡ search_of a.site scope words → es ≡ locals names
+    → (IsTrue b.honest → IfOk result (λ reply. reply ≡ menu_reply b.site is_plus es))
+    → IfOk result (λ reply. reply ≡ menu_reply a.site is_plus (locals (search_of a.site scope words)))
+searched a b is_plus scope words names es (Err e) kept honest names_are is given = tt
+searched a b is_plus scope words names es (Ok reply) kept honest names_are is given =
+    given (still_honest a b kept honest)
+    ∙ ap (λ (s : Site). menu_reply s is_plus es) (kept.site honest)
+    ∙ ap (λ (l : List Entry). menu_reply a.site is_plus l) is
+    ∙ ap (λ (l : List (List ℕ)). menu_reply a.site is_plus (locals l)) names_are

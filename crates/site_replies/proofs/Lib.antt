@@ -1,0 +1,7 @@
+pub mod AfterReads
+pub mod Cards
+pub mod Chunks
+pub mod Picks
+pub mod PostNames
+pub mod Posted
+pub mod StoredPosts

@@ -1,0 +1,71 @@
+-- A reply that stores a post stores one that the site takes.
+use Rattle.std.proofs.Common.{◌≡◌, ℕ, Bool, true, false, List, refl, sym, subst, inl, inr}
+use Rattle.std.specs.Prelude.{Option, Some, None, Result, Ok, Err, IsOk}
+use Rattle.std.proofs.lemmas.Bool.{cases_Bool}
+use Rattle.host_types.specs.Names.{is_url_name}
+use Rattle.host_types.specs.Site.{Site}
+use Rattle.host_types.specs.Change.{apply}
+use Rattle.host_types.specs.Card.{card_at}
+use Rattle.host_types.specs.declared.card.Card.{Card}
+use Rattle.host_types.specs.declared.card.CardBody.{CardBody}
+use Rattle.host_types.specs.declared.card.CardBody.TheVariants as cards
+use Rattle.host_types.specs.declared.change.Change.TheVariants.{Post}
+use Rattle.host_types.specs.declared.form.Question.{Question}
+use Rattle.common_types.specs.declared.refused.Refused.{Refused}
+use Rattle.ask_forms.specs.Reading.{read_by}
+use Rattle.ask_forms.specs.declared.answer.Answer.{Answer}
+use Rattle.ask_forms.specs.declared.ask_fault.AskFault.{AskFault}
+use Rattle.ask_forms.specs.Post.{post_title, post_text}
+use Rattle.request_reader.specs.Request.{Request, Plus, Fetch, Attributes, EntryAttributes}
+use Rattle.site_replies.specs.Reply.{posted_reply, post_reply, answers_reply, form_reply, card_reply, found_reply, reply}
+use Rattle.site_replies.specs.PostReply.{IsRight}
+
+by_apply : (s : Site) (now : ℕ) (board title text : List ℕ) (made : Result Site Refused) → apply s (Post board title text) now ≡ made → IsRight s now (posted_reply s now board title text made).post
+by_apply s now board title text (Ok after) is = subst (λ (r : Result Site Refused). IsOk r) (sym is) refl
+by_apply s now board title text (Err refused) is = tt
+
+post_right : (s : Site) (now : ℕ) (board title text : List ℕ) → IsRight s now (post_reply s now board title text).post
+post_right s now board title text = by_apply s now board title text (apply s (Post board title text) now) refl
+
+answers_right : (s : Site) (now : ℕ) (board : List ℕ) (questions : List Question) (read : Result (List Answer) AskFault) → IsRight s now (answers_reply s now board questions read).post
+answers_right s now board questions (Ok answers) = post_right s now board (post_title questions answers) (post_text questions answers)
+answers_right s now board questions (Err fault) = tt
+
+form_right : (s : Site) (is_plus : Bool) (now : ℕ) (board : List ℕ) (questions : List Question) (lines : Option (List (List ℕ))) → IsRight s now (form_reply s is_plus now board questions lines).post
+form_right s is_plus now board questions None = tt
+form_right s is_plus now board questions (Some lines) = answers_right s now board questions (read_by questions lines)
+
+card_right : (s : Site) (r : Request) (now : ℕ) (card : Card) (body : CardBody) (plus : Option Plus) → IsRight s now (card_reply s r now card body plus).post
+card_right s r now card (cards.Moved target) plus = tt
+card_right s r now card (cards.Form board questions) None = form_right s false now board questions r.lines
+card_right s r now card (cards.Form board questions) (Some (Fetch requested)) = form_right s true now board questions r.lines
+card_right s r now card (cards.Form board questions) (Some (Attributes names)) = tt
+card_right s r now card (cards.Form board questions) (Some (EntryAttributes names)) = tt
+card_right s r now card (cards.Views kind views) None = tt
+card_right s r now card (cards.Views kind views) (Some (Fetch requested)) = tt
+card_right s r now card (cards.Views kind views) (Some (Attributes names)) = tt
+card_right s r now card (cards.Views kind views) (Some (EntryAttributes names)) = tt
+card_right s r now card (cards.Menu es) None = tt
+card_right s r now card (cards.Menu es) (Some (Fetch requested)) = tt
+card_right s r now card (cards.Menu es) (Some (Attributes names)) = tt
+card_right s r now card (cards.Menu es) (Some (EntryAttributes names)) = tt
+card_right s r now card (cards.Board most next) None = tt
+card_right s r now card (cards.Board most next) (Some (Fetch requested)) = tt
+card_right s r now card (cards.Board most next) (Some (Attributes names)) = tt
+card_right s r now card (cards.Board most next) (Some (EntryAttributes names)) = tt
+card_right s r now card (cards.Search scope) None = tt
+card_right s r now card (cards.Search scope) (Some (Fetch requested)) = tt
+card_right s r now card (cards.Search scope) (Some (Attributes names)) = tt
+card_right s r now card (cards.Search scope) (Some (EntryAttributes names)) = tt
+
+found_right : (s : Site) (r : Request) (now : ℕ) (card : Option Card) → IsRight s now (found_reply s r now card).post
+found_right s r now None = tt
+found_right s r now (Some card) = card_right s r now card card.body r.plus
+
+pub reply_right : (s : Site) (r : Request) (now : ℕ) → IsRight s now (reply s r now).post
+unfolding reply
+reply_right s r now =
+    elim (cases_Bool (is_url_name r.selector)) [
+      | inl link ↦ rw link tt
+      | inr here ↦ rw here (found_right s r now (card_at s r.selector))
+    ]

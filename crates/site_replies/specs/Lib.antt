@@ -1,0 +1,4 @@
+pub mod Reads
+pub mod Reply
+pub mod Lengths
+pub mod PostReply

@@ -1,0 +1,113 @@
+// Attributes of what stands in a site.
+ghost use Rattle.std.specs.Prelude.{◌≡◌, true, filter_map, IfOk, IfErr, IsTrue};
+ghost use Rattle.host_types.specs.Card.{card_at};
+ghost use Rattle.host_types.specs.SiteState.{HasRead, LacksTheSame, IsReadFault};
+ghost use Rattle.host_types.specs.CrashStates.{AddsNone};
+ghost use Rattle.site_replies.specs.Reads.{Reads};
+ghost use Rattle.site_replies.specs.Reply as spec;
+ghost use Rattle.site_replies.specs.Reply.{found_blocks, entry_block, attributes_of};
+
+use crate::entries::posts;
+use crate::menus::add_any;
+use crate::posts::error_reply_of;
+use host_types::{Bytes, CardBody, Entry, LineList, Selector, SiteFault};
+use plus_blocks::{entry_attributes, info, item_blocks};
+use std::alloc::{AllocError, Global};
+use text_writer::{ErrorText, link_line};
+use word_index::SearchKeeper;
+
+/// The blocks of what stands at a selector, where clients find it.
+#[tactic(auto, using(crate::proofs::AfterReads::same_address))]
+fn blocks_at<S: SearchKeeper>(
+    alloc: Global,
+    site: &mut S,
+    names: &LineList,
+    selector: &Selector,
+) -> Result<Option<Bytes>, SiteFault>
+    ensures blocks { Reads S.site_state S.lacks S.crash_states site.old site.new result (λ s blocks. blocks ≡ found_blocks s names.now selector.now (card_at s selector.now)) }
+{
+    let Some(card) = site.card(selector)? else {
+        return Ok(None);
+    };
+    if let CardBody::Moved { .. } = &card.body {
+        return Ok(None);
+    }
+    Ok(Some(item_blocks(alloc, site.front(), names, selector, &card)?))
+}
+
+/// The block of a link's line.
+fn link_block(alloc: Global, line: Option<Bytes>) -> Result<Option<Bytes>, AllocError>
+    ensures { IfOk result (λ block. block ≡ spec.link_block line) }
+{
+    match line {
+        Some(line) => Ok(Some(info(alloc, line.as_slice())?)),
+        None => Ok(None),
+    }
+}
+
+/// The blocks of an entry of a menu, where it has some.
+fn blocks_of<S: SearchKeeper>(
+    alloc: Global,
+    site: &mut S,
+    names: &LineList,
+    entry: &Entry,
+) -> Result<Option<Bytes>, SiteFault>
+    ensures blocks { Reads S.site_state S.lacks S.crash_states site.old site.new result (λ s blocks. blocks ≡ entry_block s names.now entry.now) }
+{
+    if let Entry::Local(selector) = entry {
+        return blocks_at(alloc, site, names, selector);
+    }
+    let line = link_line(alloc, site.front(), entry)?;
+    Ok(link_block(alloc, line)?)
+}
+
+/// The blocks of the entries that have some.
+#[tactic(auto, using(crate::proofs::AfterReads::lacking_on, crate::proofs::Picks::filter_map_push))]
+fn all_blocks<S: SearchKeeper>(
+    alloc: Global,
+    site: &mut S,
+    names: &LineList,
+    entries: &[Entry],
+) -> Result<LineList, SiteFault>
+    ensures blocks { Reads S.site_state S.lacks S.crash_states site.old site.new result (λ s blocks. blocks ≡ filter_map (entry_block s names.now) entries.now) }
+{
+    let mut all = LineList::new(alloc);
+    for entry in entries {
+        let blocks = blocks_of(alloc, site, names, entry)?;
+        add_any(&mut all, blocks)?;
+    }
+    Ok(all)
+}
+
+/// The reply to `$`, for a menu of these entries.
+fn attributes_of<S: SearchKeeper>(
+    alloc: Global,
+    site: &mut S,
+    names: &LineList,
+    entries: &[Entry],
+) -> Result<Bytes, SiteFault>
+    ensures reply { Reads S.site_state S.lacks S.crash_states site.old site.new result (λ s reply. reply ≡ attributes_of s names.now entries.now) }
+{
+    let blocks = all_blocks(alloc, site, names, entries)?;
+    Ok(entry_attributes(alloc, &blocks)?)
+}
+
+/// The reply to `$`: the attributes of the entries of a menu or of a board.
+pub fn entries_reply<S: SearchKeeper>(
+    alloc: Global,
+    site: &mut S,
+    names: &LineList,
+    selector: &Selector,
+    body: &CardBody,
+) -> Result<Bytes, SiteFault>
+    ensures reply { Reads S.site_state S.lacks S.crash_states site.old site.new result (λ s reply. reply ≡ spec.entries_reply s names.now selector.now body.now) }
+{
+    match body {
+        CardBody::Menu(entries) => attributes_of(alloc, site, names, entries.as_slice()),
+        CardBody::Board { cap, next } => {
+            let entries = posts(alloc, selector, *cap, *next)?;
+            attributes_of(alloc, site, names, entries.as_slice())
+        }
+        _ => Ok(error_reply_of(alloc, true, ErrorText::NotAMenu)?),
+    }
+}

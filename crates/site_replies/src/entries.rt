@@ -1,0 +1,49 @@
+// Entries of the menus that a site makes by itself.
+ghost use Rattle.std.specs.Prelude.{◌≡◌, ◌∷◌, ◌++◌, [], filter, nat_le, length, OnOk, IfOk};
+ghost use Rattle.host_types.specs.Site.{post_selector};
+ghost use Rattle.site_replies.specs.Reply.{locals, post_names};
+
+use host_types::{Entry, EntryList, Selector};
+use std::alloc::{AllocError, Global};
+
+/// The entries of items of this site.
+pub fn locals(alloc: Global, selectors: &[Selector]) -> Result<EntryList, AllocError>
+    ensures { IfOk result (λ entries. entries ≡ locals selectors.now) }
+{
+    let mut entries = EntryList::new(alloc);
+    for selector in selectors {
+        entries.push(Entry::Local(selector.clone()?))?;
+    }
+    Ok(entries)
+}
+
+/// Adds the entry of a post whose selector is a name.
+fn add_post(
+    alloc: Global,
+    entries: &mut EntryList,
+    board: &Selector,
+    number: u64,
+) -> Result<(), AllocError>
+    ensures { OnOk result (entries.new ≡ entries.old ++ locals (filter (λ name. nat_le (length name) 255) (post_selector board.now number ∷ []))) }
+{
+    if let Some(selector) = Selector::of_post(alloc, board, number)? {
+        entries.push(Entry::Local(selector))?;
+    }
+    Ok(())
+}
+
+/// The entries of a board: its posts, newest first, whether they are there or not.
+pub fn posts(alloc: Global, board: &Selector, cap: u16, next: u64) -> Result<EntryList, AllocError>
+    ensures { IfOk result (λ entries. entries ≡ locals (post_names board.now cap next)) }
+{
+    let mut entries = EntryList::new(alloc);
+    let mut number = next;
+    for _ in 0..cap {
+        if number <= 1 {
+            return Ok(entries);
+        }
+        number -= 1;
+        add_post(alloc, &mut entries, board, number)?;
+    }
+    Ok(entries)
+}

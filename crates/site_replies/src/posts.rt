@@ -1,0 +1,160 @@
+// Posts by forms.
+ghost use Rattle.std.specs.Prelude.{◌≡◌, ◌≤◌, true, length, IfOk, IfErr, IfSome, IsTrue};
+ghost use Rattle.host_types.specs.Card.{card_of};
+ghost use Rattle.host_types.specs.Front.{lent};
+ghost use Rattle.host_types.specs.SiteState.{HasRead, LacksTheSame, IsReadFault};
+ghost use Rattle.host_types.specs.CrashStates.{AddsNone};
+ghost use Rattle.host_types.specs.Site.{text_item};
+ghost use Rattle.host_types.specs.declared.site_fault.SiteFault.TheVariants.{Memory as OutOfMemory};
+ghost use Rattle.site_replies.specs.Reads.{Reads};
+ghost use Rattle.site_replies.specs.PostReply.{stored_as, reply_by_card};
+ghost use Rattle.std.specs.Option.{option_map};
+ghost use Rattle.request_reader.specs.Seen.{lines_in};
+ghost use Rattle.site_replies.specs.Reply as spec;
+
+use crate::answered::{Answered, without_post};
+use crate::documents::as_text;
+use ask_forms::{AskFault, Post, post_of, read_answers};
+use host_types::{
+    Bytes, Card, CardBody, Change, Front, Item, LineList, QuestionList, Selector, SiteFault, Stamp,
+    Title,
+};
+use request_reader::Data;
+use std::alloc::{AllocError, Global};
+use text_writer::{ErrorText, error_reply, item_line, menu};
+use word_index::SearchKeeper;
+
+/// The most bytes of a post's text.
+const MOST_POST_BYTES: usize = 65_536;
+
+/// A reply that tells an error and names no new place.
+pub fn error_reply_of(alloc: Global, is_plus: bool, error: ErrorText) -> Result<Bytes, AllocError>
+    ensures { IfOk result (λ reply. reply ≡ spec.error_reply_of is_plus error) }
+{
+    error_reply(alloc, is_plus, error, &[])
+}
+
+/// The card of a post.
+#[tactic(auto, using(crate::proofs::Posted::is_short))]
+fn post_card(alloc: Global, title: &Title, text: &Bytes, now: Stamp) -> Result<Card, AllocError>
+    requires { length text.now ≤ 65536 }
+    ensures { IfOk result (λ card. card ≡ card_of (text_item title.now now text.now)) }
+{
+    let item = Item::text(alloc, title.clone()?, now, text.clone()?)?;
+    item.card(alloc)
+}
+
+/// The post of a board by its number, and the reply to its sender; none where its selector would be too long.
+fn stored_as(
+    alloc: Global,
+    front: Front<'_>,
+    board: &Selector,
+    number: u64,
+    post: Post,
+    now: Stamp,
+) -> Result<Option<Answered>, AllocError>
+    requires { length post.text ≤ 65536 }
+    ensures { IfOk result (λ o. IfSome o (λ answered. answered ≡ stored_as (lent front.entry) now board.now number post.title post.text)) }
+{
+    let Some(selector) = Selector::of_post(alloc, board, number)? else {
+        return Ok(None);
+    };
+    let card = post_card(alloc, &post.title, &post.text, now)?;
+    let mut lines = LineList::new(alloc);
+    lines.push(item_line(alloc, front, &selector, &card)?)?;
+    let bytes = as_text(alloc, true, menu(alloc, &lines)?)?;
+    let Post { title, text } = post;
+    let change = Change::Post {
+        board: board.clone()?,
+        title,
+        text,
+    };
+    Ok(Some(Answered {
+        bytes,
+        post: Some(change),
+    }))
+}
+
+/// The reply to the sender of a post, by the card of what stands at its board's selector.
+fn reply_by_card(
+    alloc: Global,
+    front: Front<'_>,
+    card: Option<Card>,
+    board: &Selector,
+    post: Post,
+    now: Stamp,
+) -> Result<Answered, SiteFault>
+    requires { length post.text ≤ 65536 }
+    ensures reply { IfOk result (λ answered. answered ≡ reply_by_card (lent front.entry) now board.now post.title post.text card) }
+    ensures fault { IfErr result (λ e. e ≡ OutOfMemory) }
+{
+    let Some(
+        Card {
+            body: CardBody::Board { next, .. },
+            ..
+        },
+    ) = card
+    else {
+        return Ok(without_post(error_reply_of(alloc, true, ErrorText::BoardNotFound)?));
+    };
+    if next == u64::MAX {
+        return Ok(without_post(error_reply_of(alloc, true, ErrorText::BoardIsFull)?));
+    }
+    match stored_as(alloc, front, board, next, post, now)? {
+        Some(answered) => Ok(answered),
+        None => Err(SiteFault::Memory),
+    }
+}
+
+/// The reply to the sender of a post, and the post where it is a right one.
+#[tactic(auto, using(crate::proofs::Posted::too_long, crate::proofs::Posted::by_card, crate::proofs::AfterReads::same_address))]
+pub fn post_reply<S: SearchKeeper>(
+    alloc: Global,
+    site: &mut S,
+    board: &Selector,
+    post: Post,
+    now: Stamp,
+) -> Result<Answered, SiteFault>
+    ensures reply { Reads S.site_state S.lacks S.crash_states site.old site.new result (λ s answered. answered ≡ spec.post_reply s now board.now post.title post.text) }
+{
+    if post.text.len() > MOST_POST_BYTES {
+        return Ok(without_post(error_reply_of(alloc, true, ErrorText::AnswersDoNotFit)?));
+    }
+    let card = site.card(board)?;
+    reply_by_card(alloc, site.front(), card, board, post, now)
+}
+
+/// The reply to answers of a form, and the post that they make.
+pub fn form_reply<S: SearchKeeper>(
+    alloc: Global,
+    site: &mut S,
+    is_plus: bool,
+    board: &Selector,
+    questions: &QuestionList,
+    given: Option<Data<'_>>,
+    now: Stamp,
+) -> Result<Answered, SiteFault>
+    ensures reply { Reads S.site_state S.lacks S.crash_states site.old site.new result (λ s answered. answered ≡ spec.form_reply s is_plus now board.now questions.now (option_map lines_in given.entry)) }
+{
+    let Some(data) = given else {
+        return Ok(without_post(error_reply_of(alloc, is_plus, ErrorText::FormNeedsAnswers)?));
+    };
+    let lines = data.lines(alloc)?;
+    match read_answers(alloc, questions, &lines) {
+        Ok(answers) => {
+            let post = post_of(alloc, questions, &answers)?;
+            post_reply(alloc, site, board, post, now)
+        }
+        Err(AskFault::WrongAnswers) => Ok(without_post(error_reply_of(
+            alloc,
+            true,
+            ErrorText::AnswersDoNotFit,
+        )?)),
+        Err(AskFault::WrongWord) => Ok(without_post(error_reply_of(
+            alloc,
+            true,
+            ErrorText::WrongWord,
+        )?)),
+        Err(AskFault::Memory) => Err(SiteFault::Memory),
+    }
+}

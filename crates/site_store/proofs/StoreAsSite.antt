@@ -1,0 +1,385 @@
+-- A key-value store as a keeper of its site: what calls leave.
+use Rattle.std.proofs.Common.{◌≡◌, ◌⊎◌, ℕ, ◌<◌, ◌≤◌, Bool, true, false, List, map, Option, Some, None, Result, Ok, Err, refl, inl, inr, ⊎_elim, sym, ap, subst, ◌∙◌}
+use Rattle.std.specs.Prelude.{IsTrue, IfErr, IfSome, OnOk, IsOk}
+use mathlib.Core.Logic.{∥∥₁_elim, ∥∥₁_prop}
+use Rattle.host_types.specs.Site.{Site}
+use Rattle.host_types.specs.Change.{apply, touched}
+use Rattle.host_types.specs.ValidChanges.{ChangesKeepSites, is_typed_change}
+use Rattle.host_types.specs.SiteState.{SiteState, Rose}
+use Rattle.host_types.specs.SiteState as sites
+use Rattle.host_types.specs.CrashStates.{CrashStates, AddsOnly, AddsNone, may_crash_to, adds_both}
+use Rattle.host_types.specs.declared.change.Change.{Change}
+use Rattle.common_types.specs.declared.refused.Refused.{Refused}
+use Rattle.host_types.specs.declared.site_fault.SiteFault.{SiteFault}
+use Rattle.host_types.specs.declared.site_fault.SiteFault.TheVariants as faults
+use Rattle.page_store.specs.Pages.{Pair}
+use Rattle.page_store.specs.Batch.{updated, edit_key}
+use Rattle.page_store.specs.StoreState.{StoreState, HasRead, NeedsTheSame, HasStayed, HasFailed, HasTried, IsReadFault, IsCommitFault}
+use Rattle.page_store.specs.declared.banner.Banner.{Banner}
+use Rattle.page_store.specs.declared.edit.Edit.{Edit}
+use Rattle.page_store.specs.declared.fault.KeeperFault.{KeeperFault}
+use Rattle.page_store.specs.declared.fault.KeeperFault.TheVariants as kinds
+use Rattle.site_records.specs.Layout.{layout, keys_of}
+use Rattle.site_store.specs.ReadLaws.{kept_after}
+use Rattle.site_store.specs.Represented.{Shows, Represents, RepresentedBy, HasSite, no_site, where_passed, site_of, site_state_of, site_kept, site_is}
+use Rattle.site_store.specs.Lacking.{MayNeed, IsLacking}
+use Rattle.site_store.specs.StoreReads.{ReadsOnly, IsSiteReadFault, IsQuickFault}
+use Rattle.site_pairs.specs.Edits.{batch_of, edits_of}
+use Rattle.change_plan.specs.Replacements.{all_replaced}
+use Rattle.change_plan.specs.Plans.{IsPlan, IsPlanFault, IfRefused}
+use Rattle.change_plan.specs.declared.plan.Plan.{Plan}
+use Rattle.site_store.specs.StoreFault.{site_fault_of, store_site_fault_of}
+use Rattle.site_store.specs.Planned.{IsPlanned, named, banner_after}
+use Rattle.site_store.specs.LookUps.{IsShown, HasFound, IsLookUpFault, HasNotFound}
+use Rattle.site_store.proofs.Planned.{planned}
+use Rattle.change_plan.specs.declared.replacement.Replacement.{Replacement}
+use Rattle.site_store.specs.declared.fault.SiteOpenFault.{SiteOpenFault}
+use Rattle.site_store.specs.declared.fault.SiteOpenFault.TheVariants.{BadRecord, Keeper, Memory}
+use Rattle.site_store.proofs.FoundItems.{kept_sorted}
+use Rattle.site_store.proofs.EditsMakeLayouts.{replacements_make}
+use Rattle.site_store.proofs.ChangedKeys.{changed_keys}
+use Rattle.site_store.proofs.LocalReads.{rose_later, rose_counted}
+
+-- ---- calls that read
+
+pub keeps_read : (a b : StoreState) → HasRead a b → HasSite a → HasSite b
+keeps_read a b read keeps honest1 =
+    let honest0 : IsTrue a.honest = sym read.honest ∙ honest1 in
+    ((keeps honest0).0, kept_after a b (keeps honest0).0 read honest0 (keeps honest0).1)
+
+pub has_read : (a b : StoreState) (ka : HasSite a) (kb : HasSite b) → HasRead a b → sites.HasRead (site_state_of a ka) (site_state_of b kb)
+has_read a b ka kb read = record {
+  site = λ honest. site_is b kb (read.honest ∙ honest) (site_of a ka) (kept_after a b (site_of a ka) read honest (site_kept a ka honest));
+  honest = read.honest;
+  usable = read.same.usable;
+  free = read.same.free;
+  reads = read.reads;
+  writes = read.writes;
+}
+
+no_truth : (b : Bool) → IsTrue b → b ≡ false → ⊥
+no_truth b t f = let clash : true ≡ false = sym t ∙ f in cc clash
+
+read_fault_of : (may_lack_memory : Bool) (a b : StoreState) (ka : HasSite a) (kb : HasSite b) (fault : KeeperFault) → IsReadFault a b fault → sites.IsReadFault may_lack_memory (site_state_of a ka) (site_state_of b kb) (store_site_fault_of fault)
+read_fault_of may_lack_memory a b ka kb kinds.Device h = λ honest. rose_counted a.failed_reads b.failed_reads h
+read_fault_of may_lack_memory a b ka kb kinds.NoImage h = absurd h
+read_fault_of may_lack_memory a b ka kb kinds.Version h = absurd h
+read_fault_of may_lack_memory a b ka kb (kinds.Damaged page) h = λ honest. absurd (no_truth a.honest honest h)
+read_fault_of may_lack_memory a b ka kb kinds.Small h = absurd h
+read_fault_of may_lack_memory a b ka kb kinds.Spent h = absurd h
+read_fault_of may_lack_memory a b ka kb (kinds.Full need free) h = absurd h
+read_fault_of may_lack_memory a b ka kb kinds.Failed h = h
+read_fault_of may_lack_memory a b ka kb kinds.Memory h = absurd h
+
+pub read_fault_comes : (a b : StoreState) (ka : HasSite a) (kb : HasSite b) (fault : SiteOpenFault) (to_site_fault : SiteFault) → to_site_fault ≡ site_fault_of fault → IsSiteReadFault a b fault → sites.IsReadFault true (site_state_of a ka) (site_state_of b kb) to_site_fault
+read_fault_comes a b ka kb fault to_site_fault is h = subst (sites.IsReadFault true (site_state_of a ka) (site_state_of b kb)) (sym is) (by fault h)
+  where
+    by : (fault : SiteOpenFault) → IsSiteReadFault a b fault → sites.IsReadFault true (site_state_of a ka) (site_state_of b kb) (site_fault_of fault)
+    by BadRecord h = λ honest. absurd (h.1 honest (site_of a ka, site_kept a ka honest))
+    by (Keeper fault) h = read_fault_of true a b ka kb fault h.0
+    by Memory h = refl
+
+pub quick_fault_comes : (a b : StoreState) (ka : HasSite a) (kb : HasSite b) (fault : SiteOpenFault) (to_site_fault : SiteFault) → to_site_fault ≡ site_fault_of fault → IsQuickFault a b fault → sites.IsReadFault false (site_state_of a ka) (site_state_of b kb) to_site_fault
+quick_fault_comes a b ka kb fault to_site_fault is h = subst (sites.IsReadFault false (site_state_of a ka) (site_state_of b kb)) (sym is) (by fault h)
+  where
+    by : (fault : SiteOpenFault) → IsQuickFault a b fault → sites.IsReadFault false (site_state_of a ka) (site_state_of b kb) (site_fault_of fault)
+    by BadRecord h = λ honest. absurd (h.1 honest (site_of a ka) (site_kept a ka honest))
+    by (Keeper fault) h = read_fault_of false a b ka kb fault h.0
+    by Memory h = absurd h
+
+-- ---- what a change may lack
+
+not_passed : (test : Bool) (site : IsTrue test → Site) → test ≡ false → where_passed test site ≡ no_site
+not_passed true site h = absurd (cc h)
+not_passed false site h = refl
+
+site_still : (a b : StoreState) (ka : HasSite a) (kb : HasSite b) → HasRead a b → site_of b kb ≡ site_of a ka
+site_still a b ka kb read = by a.honest refl
+  where
+    by : (test : Bool) → a.honest ≡ test → site_of b kb ≡ site_of a ka
+    by true honest = (has_read a b ka kb read).site honest
+    by false honest = not_passed b.honest (λ t. (kb t).0) (read.honest ∙ honest) ∙ sym (not_passed a.honest (λ t. (ka t).0) honest)
+
+lacks_later : {K : Type 0} → (store_state : K → StoreState) (may_need : K → List Edit → ℕ → Type 0) (k0 k1 : K) (s : Site) (change : Change) (now : ℕ) (fault : SiteFault) → ((batch : List Edit) (need : ℕ) → may_need k0 batch need → may_need k1 batch need) → (store_state k1).top ≡ (store_state k0).top
+    → IsLacking store_state may_need k0 s change now fault → IsLacking store_state may_need k1 s change now fault
+lacks_later store_state may_need k0 k1 s change now (faults.Refused r) need top h = h
+lacks_later store_state may_need k0 k1 s change now faults.Read need top h = h
+lacks_later store_state may_need k0 k1 s change now (faults.Full may_be_out_of_memory free) need top (batch, t, applied, keys, makes, (is, needs)) = (batch, t, applied, keys, makes, (is, need batch may_be_out_of_memory needs))
+lacks_later store_state may_need k0 k1 s change now faults.Spent need top h = top ∙ h
+lacks_later store_state may_need k0 k1 s change now faults.Failed need top h = h
+lacks_later store_state may_need k0 k1 s change now faults.Memory need top h = h
+
+-- a call that reads leaves it
+pub lacks_same : {K L : Type 0} → (store_state : K → StoreState) (may_need : K → List Edit → ℕ → Type 0) (crash_states : K → CrashStates L) (k0 k1 : K) (ka : HasSite (store_state k0)) (kb : HasSite (store_state k1)) → ReadsOnly store_state may_need crash_states k0 k1
+    → sites.LacksTheSame (IsLacking store_state may_need k0 (site_of (store_state k0) ka)) (IsLacking store_state may_need k1 (site_of (store_state k1) kb))
+lacks_same store_state may_need crash_states k0 k1 ka kb reads_only =
+    let after = site_still (store_state k0) (store_state k1) ka kb reads_only.read in
+    let top = reads_only.read.same.top in
+    record {
+      after = λ change now fault h. lacks_later store_state may_need k0 k1 (site_of (store_state k1) kb) change now fault reads_only.need.after top (subst (λ (s : Site). IsLacking store_state may_need k0 s change now fault) (sym after) h);
+      before = λ change now fault h. lacks_later store_state may_need k1 k0 (site_of (store_state k0) ka) change now fault reads_only.need.before (sym top) (subst (λ (s : Site). IsLacking store_state may_need k1 s change now fault) after h);
+    }
+
+-- ---- crash states
+
+pub stands : {L : Type 0} → (has_content : L → List Pair → Banner → Type 0) (h : StoreState) (k : HasSite h) (c : L) → IsTrue h.honest → has_content c h.pairs h.banner → Represents has_content c (site_of h k)
+stands has_content h k c honest content = (h.pairs, h.banner, content, site_kept h k honest)
+
+-- a call that writes nothing leaves what one before it might have left, and that represents the site
+pub none_added_crashes : {L : Type 0} → (s t : CrashStates L) (P : L → Type 0) → AddsNone s t → ((c : L) → may_crash_to s c → P c) → AddsOnly s t P
+none_added_crashes s t P no_new_crash_state start = record {
+  later = no_new_crash_state.later;
+  keeps = no_new_crash_state.keeps;
+  nothing_else = λ m c le left. ⊎_elim (λ o. inl o) (λ x. inr (start c x)) (no_new_crash_state.nothing_else m c le left);
+  now = λ c left. start c (no_new_crash_state.now c left);
+}
+
+-- ---- changes
+
+stayed : (a b : StoreState) (s : Site) → HasStayed a b → IsTrue a.honest → RepresentedBy a s → RepresentedBy b s
+stayed a b s same honest kept = record {
+  valid = kept.valid;
+  all = same.pairs honest ∙ kept.all;
+  host = ap (λ x. x.host) same.banner ∙ kept.host;
+  port = ap (λ x. x.port) same.banner ∙ kept.port;
+  admin = ap (λ x. x.admin) same.banner ∙ kept.admin;
+}
+
+failed : (a b : StoreState) (s : Site) → HasFailed a b → IsTrue a.honest → RepresentedBy a s → RepresentedBy b s
+failed a b s same honest kept = record {
+  valid = kept.valid;
+  all = same.pairs honest ∙ kept.all;
+  host = ap (λ x. x.host) same.banner ∙ kept.host;
+  port = ap (λ x. x.port) same.banner ∙ kept.port;
+  admin = ap (λ x. x.admin) same.banner ∙ kept.admin;
+}
+
+pub not_changed : (a b : StoreState) (ka : HasSite a) (kb : HasSite b) → HasRead a b → sites.HasNotChanged (site_state_of a ka) (site_state_of b kb)
+not_changed a b ka kb read = let h = has_read a b ka kb read in record { site = h.site; usable = h.usable }
+
+same_after : (a b c : StoreState) (ka : HasSite a) (kc : HasSite c) → HasRead a b → HasStayed b c → c.honest ≡ b.honest → sites.HasNotChanged (site_state_of a ka) (site_state_of c kc)
+same_after a b c ka kc read same honest_is = record {
+  site = λ honest. site_is c kc (honest_is ∙ read.honest ∙ honest) (site_of a ka) (stayed b c (site_of a ka) same (read.honest ∙ honest) (kept_after a b (site_of a ka) read honest (site_kept a ka honest)));
+  usable = same.usable ∙ read.same.usable;
+}
+
+-- a change that was not planned
+module _ {D K L : Type 0} (keeper : D → K) (store_state : K → StoreState) (may_need : K → List Edit → ℕ → Type 0) (crash_states : K → CrashStates L) where
+  abbrev PlanFault : D → D → (Site → Result Site Refused) → SiteFault → Type 0
+  PlanFault d0 d1 applied fault = IsPlanFault (λ d. IsShown store_state (keeper d)) (λ a b. HasNotFound store_state may_need crash_states (keeper a) (keeper b)) d0 d1 applied fault
+
+  pub plan_reads_only : (d0 d1 : D) (applied : Site → Result Site Refused) (fault : SiteFault) → PlanFault d0 d1 applied fault → IfRefused fault (HasFound store_state may_need crash_states (keeper d0) (keeper d1)) → ReadsOnly store_state may_need crash_states (keeper d0) (keeper d1)
+  plan_reads_only d0 d1 applied (faults.Refused r) h found = found.reads_only
+  plan_reads_only d0 d1 applied faults.Read h found = h.reads_only
+  plan_reads_only d0 d1 applied (faults.Full need free) h found = h.reads_only
+  plan_reads_only d0 d1 applied faults.Spent h found = h.reads_only
+  plan_reads_only d0 d1 applied faults.Failed h found = h.reads_only
+  plan_reads_only d0 d1 applied faults.Memory h found = h.reads_only
+
+  pub plan_fault_comes : (lacks : SiteFault → Type 0) (d0 d1 : D) (ka : HasSite (store_state (keeper d0))) (kb : HasSite (store_state (keeper d1))) (change : Change) (now : ℕ) (fault : SiteFault) → HasRead (store_state (keeper d0)) (store_state (keeper d1)) → (store_state (keeper d0)).usable ≡ true
+      → PlanFault d0 d1 (λ s. apply s change now) fault → sites.IsChangeFault lacks (site_state_of (store_state (keeper d0)) ka) (site_state_of (store_state (keeper d1)) kb) (apply (site_of (store_state (keeper d0)) ka) change now) fault
+  plan_fault_comes lacks d0 d1 ka kb change now (faults.Refused r) read up h =
+      let a = store_state (keeper d0) in
+      (not_changed a (store_state (keeper d1)) ka kb read, λ honest. h (site_of a ka) (honest, site_kept a ka honest))
+  plan_fault_comes lacks d0 d1 ka kb change now faults.Read read up h =
+      let a = store_state (keeper d0) in
+      (not_changed a (store_state (keeper d1)) ka kb read, λ honest. rose_counted a.failed_reads (store_state (keeper d1)).failed_reads (h.cause honest (site_of a ka) (site_kept a ka honest)))
+  plan_fault_comes lacks d0 d1 ka kb change now (faults.Full need free) read up h = absurd h.cause
+  plan_fault_comes lacks d0 d1 ka kb change now faults.Spent read up h = absurd h.cause
+  plan_fault_comes lacks d0 d1 ka kb change now faults.Failed read up h = absurd (no_truth (store_state (keeper d0)).usable up h.cause)
+  plan_fault_comes lacks d0 d1 ka kb change now faults.Memory read up h = not_changed (store_state (keeper d0)) (store_state (keeper d1)) ka kb read
+
+-- the site that a change makes of the one that is kept
+pub record Makes (a b : StoreState) (ka : HasSite a) (change : Change) (now : ℕ) (replacements : List Replacement) (banner : Banner) : Type 0 where
+  pub site : Site
+  pub applied : apply (site_of a ka) change now ≡ Ok site
+  pub keys : map edit_key (batch_of (edits_of replacements)) ≡ keys_of (site_of a ka) change now
+  pub shows : Shows (updated b.pairs (batch_of (edits_of replacements))) banner site
+  pub before : RepresentedBy b (site_of a ka)
+
+same_layout : (s : Site) (banner : Banner) → layout s ≡ layout (named s banner)
+unfolding layout
+same_layout s banner = refl
+
+pub makes : ChangesKeepSites → (a b : StoreState) (ka : HasSite a) (change : Change) (now : ℕ) (replacements : List Replacement) (banner : Banner) → IsTrue a.honest → HasRead a b → IsTrue (is_typed_change change) → now ≤ 253402300799
+    → IsPlanned (site_of a ka) (apply (site_of a ka) change now) (touched (site_of a ka) change) replacements banner → Makes a b ka change now replacements banner
+makes laws a b ka change now replacements banner honest read typed early planned =
+    let s = site_of a ka in
+    let kept = site_kept a ka honest in
+    let before = kept_after a b s read honest kept in
+    let t = named (all_replaced s replacements) banner in
+    record {
+      site = t;
+      applied = planned.0;
+      keys = changed_keys s change now replacements banner (kept_sorted s before.valid) planned.1 planned.0;
+      shows = record {
+        valid = ∥∥₁_elim kept.valid ∥∥₁_prop (λ site. ∣ laws s t change now site typed early planned.0 ∣₁);
+        all = replacements_make b.pairs s replacements (kept_sorted s before.valid) before.all planned.1.know ∙ same_layout (all_replaced s replacements) banner;
+        host = refl;
+        port = refl;
+        admin = refl;
+      };
+      before = before;
+    }
+
+-- by a plan that was found
+pub plan_makes : ChangesKeepSites → (a b : StoreState) (ka : HasSite a) (change : Change) (now : ℕ) (p : Plan) (replacements : List Replacement) (banner : Banner) → replacements ≡ p.replacements.items → banner ≡ banner_after b.banner p.host p.admin → HasRead a b → IsTrue (is_typed_change change)
+    → now ≤ 253402300799 → ((s : Site) → IsTrue a.honest × RepresentedBy a s → IsPlan s change now p) → IsTrue a.honest → Makes a b ka change now replacements banner
+plan_makes laws a b ka change now p replacements banner all name read typed early plan honest =
+    let s = site_of a ka in
+    let kept = site_kept a ka honest in
+    let made = planned b s change now p (kept_after a b s read honest kept) (plan s (honest, kept)) in
+    let same : IsPlanned s (apply s change now) (touched s change) replacements banner =
+    subst (λ (l : List Replacement). IsPlanned s (apply s change now) (touched s change) l banner) (sym all)
+    (subst (λ (x : Banner). IsPlanned s (apply s change now) (touched s change) p.replacements.items x) (sym name) made) in
+    makes laws a b ka change now replacements banner honest read typed early same
+
+pub kept_made : (a b c : StoreState) (ka : HasSite a) (change : Change) (now : ℕ) (replacements : List Replacement) (banner : Banner) → (m : Makes a b ka change now replacements banner) → c.pairs ≡ updated b.pairs (batch_of (edits_of replacements)) → c.banner ≡ banner → RepresentedBy c m.site
+kept_made a b c ka change now replacements banner m pairs named = record {
+  valid = m.shows.valid;
+  all = pairs ∙ m.shows.all;
+  host = ap (λ x. x.host) named ∙ m.shows.host;
+  port = ap (λ x. x.port) named ∙ m.shows.port;
+  admin = ap (λ x. x.admin) named ∙ m.shows.admin;
+}
+
+pub done_made : (a b c : StoreState) (ka : HasSite a) (kc : HasSite c) (change : Change) (now : ℕ) (replacements : List Replacement) (banner : Banner) → (m : Makes a b ka change now replacements banner) → IsTrue c.honest → c.pairs ≡ updated b.pairs (batch_of (edits_of replacements)) → c.banner ≡ banner
+    → apply (site_of a ka) change now ≡ Ok (site_of c kc)
+done_made a b c ka kc change now replacements banner m honest pairs named = m.applied ∙ ap (λ (t : Site). Ok t) (sym (site_is c kc honest m.site (kept_made a b c ka change now replacements banner m pairs named)))
+
+is_ok : (r : Result Site Refused) (t : Site) → r ≡ Ok t → IsOk r
+is_ok (Ok x) t e = refl
+is_ok (Err x) t e = absurd (cc e)
+
+-- a change that was not written
+pub commit_fault_comes : {K : Type 0} → (store_state : K → StoreState) (may_need : K → List Edit → ℕ → Type 0) (k0 k1 k2 : K) (ka : HasSite (store_state k0)) (kc : HasSite (store_state k2)) (change : Change) (now : ℕ) (replacements : List Replacement) (banner : Banner) (fault : KeeperFault)
+    → HasRead (store_state k0) (store_state k1) → NeedsTheSame (may_need k0) (may_need k1) → HasTried (store_state k1) (store_state k2) → (store_state k1).usable ≡ true → (IsTrue (store_state k0).honest → Makes (store_state k0) (store_state k1) ka change now replacements banner)
+    → IsCommitFault (store_state k1) (store_state k2) (MayNeed may_need k1 (batch_of (edits_of replacements))) fault
+    → sites.IsChangeFault (IsLacking store_state may_need k0 (site_of (store_state k0) ka) change now) (site_state_of (store_state k0) ka) (site_state_of (store_state k2) kc) (apply (site_of (store_state k0) ka) change now) (store_site_fault_of fault)
+commit_fault_comes store_state may_need k0 k1 k2 ka kc change now replacements banner kinds.Device read need tried up m h =
+    (same_after (store_state k0) (store_state k1) (store_state k2) ka kc read h.0 tried.honest, λ honest. rose_later (store_state k0).failed_reads (store_state k1).failed_reads (store_state k2).failed_reads read.reads tried.reads (rose_counted (store_state k1).failed_reads (store_state k2).failed_reads h.1))
+commit_fault_comes store_state may_need k0 k1 k2 ka kc change now replacements banner kinds.NoImage read need tried up m h = absurd h
+commit_fault_comes store_state may_need k0 k1 k2 ka kc change now replacements banner kinds.Version read need tried up m h = absurd h
+commit_fault_comes store_state may_need k0 k1 k2 ka kc change now replacements banner (kinds.Damaged page) read need tried up m h =
+    (same_after (store_state k0) (store_state k1) (store_state k2) ka kc read h.0 tried.honest, λ honest. absurd (no_truth (store_state k1).honest (read.honest ∙ honest) h.1))
+commit_fault_comes store_state may_need k0 k1 k2 ka kc change now replacements banner kinds.Small read need tried up m h = absurd h
+commit_fault_comes store_state may_need k0 k1 k2 ka kc change now replacements banner kinds.Spent read need tried up m h =
+    (same_after (store_state k0) (store_state k1) (store_state k2) ka kc read h.0 tried.honest, λ honest. (is_ok (apply (site_of (store_state k0) ka) change now) (m honest).site (m honest).applied, sym read.same.top ∙ h.1))
+commit_fault_comes store_state may_need k0 k1 k2 ka kc change now replacements banner (kinds.Full may_be_out_of_memory free) read need tried up m h = (
+  same_after (store_state k0) (store_state k1) (store_state k2) ka kc read h.0 tried.honest,
+  h.1,
+  λ honest.
+      let made = m honest in
+      let room = h.2 (read.honest ∙ honest) in (
+        room.0 ∙ read.same.free honest,
+        is_ok (apply (site_of (store_state k0) ka) change now) made.site made.applied,
+        (
+          batch_of (edits_of replacements),
+          made.site,
+          made.applied,
+          made.keys,
+          ap (λ (ps : List Pair). updated ps (batch_of (edits_of replacements))) (sym made.before.all) ∙ made.shows.all,
+          (room.1.0, need.before (batch_of (edits_of replacements)) may_be_out_of_memory room.1.1),
+        ),
+      ),
+)
+commit_fault_comes store_state may_need k0 k1 k2 ka kc change now replacements banner kinds.Failed read need tried up m h =
+    record {
+      site = λ honest. site_is (store_state k2) kc (tried.honest ∙ read.honest ∙ honest) (site_of (store_state k0) ka) (failed (store_state k1) (store_state k2) (site_of (store_state k0) ka) h (read.honest ∙ honest) (kept_after (store_state k0) (store_state k1) (site_of (store_state k0) ka) read honest (site_kept (store_state k0) ka honest)));
+      shut = h.shut;
+      cause = λ honest usable. subst (λ (n : ℕ). Rose n (store_state k2).failed_writes) read.writes (rose_counted (store_state k1).failed_writes (store_state k2).failed_writes (h.cause up));
+      right = λ honest usable. is_ok (apply (site_of (store_state k0) ka) change now) (m honest).site (m honest).applied;
+    }
+commit_fault_comes store_state may_need k0 k1 k2 ka kc change now replacements banner kinds.Memory read need tried up m h = same_after (store_state k0) (store_state k1) (store_state k2) ka kc read h tried.honest
+
+-- ---- banners
+
+pub after_version : (b : Banner) (host : Option (List ℕ × ℕ)) (admin : Option (List ℕ)) → (banner_after b host admin).version ≡ b.version
+after_version b None None = refl
+after_version b (Some name) None = refl
+after_version b None (Some admin) = refl
+after_version b (Some name) (Some admin) = refl
+
+pub after_port : (b : Banner) (host : Option (List ℕ × ℕ)) (admin : Option (List ℕ)) → 0 < b.port → IfSome host (λ name. 0 < name.1) → 0 < (banner_after b host admin).port
+after_port b None None h given = h
+after_port b (Some name) None h given = given
+after_port b None (Some admin) h given = h
+after_port b (Some name) (Some admin) h given = given
+
+-- ---- what a commit leaves
+
+err_kept : (b c : StoreState) (may_need : ℕ → Type 0) (fault : KeeperFault) (s : Site) → IsCommitFault b c may_need fault → IsTrue b.honest → RepresentedBy b s → RepresentedBy c s
+err_kept b c may_need kinds.Device s h honest kept = stayed b c s h.0 honest kept
+err_kept b c may_need kinds.NoImage s h honest kept = absurd h
+err_kept b c may_need kinds.Version s h honest kept = absurd h
+err_kept b c may_need (kinds.Damaged page) s h honest kept = stayed b c s h.0 honest kept
+err_kept b c may_need kinds.Small s h honest kept = absurd h
+err_kept b c may_need kinds.Spent s h honest kept = stayed b c s h.0 honest kept
+err_kept b c may_need (kinds.Full need free) s h honest kept = stayed b c s h.0 honest kept
+err_kept b c may_need kinds.Failed s h honest kept = failed b c s h honest kept
+err_kept b c may_need kinds.Memory s h honest kept = stayed b c s h honest kept
+
+err_banner : (b c : StoreState) (may_need : ℕ → Type 0) (fault : KeeperFault) → IsCommitFault b c may_need fault → c.banner ≡ b.banner
+err_banner b c may_need kinds.Device h = h.0.banner
+err_banner b c may_need kinds.NoImage h = absurd h
+err_banner b c may_need kinds.Version h = absurd h
+err_banner b c may_need (kinds.Damaged page) h = h.0.banner
+err_banner b c may_need kinds.Small h = absurd h
+err_banner b c may_need kinds.Spent h = h.0.banner
+err_banner b c may_need (kinds.Full need free) h = h.0.banner
+err_banner b c may_need kinds.Failed h = h.banner
+err_banner b c may_need kinds.Memory h = h.banner
+
+pub keeps_written : {U : Type 0} → (r : Result U KeeperFault) (a b c : StoreState) (ka : HasSite a) (change : Change) (now : ℕ) (replacements : List Replacement) (banner : Banner) (may_need : ℕ → Type 0) → HasRead a b → c.honest ≡ b.honest
+    → (IsTrue a.honest → Makes a b ka change now replacements banner) → (IsTrue b.honest → OnOk r (c.pairs ≡ updated b.pairs (batch_of (edits_of replacements)))) → OnOk r (c.banner ≡ banner) → IfErr r (IsCommitFault b c may_need) → HasSite c
+keeps_written (Ok u) a b c ka change now replacements banner may_need read same m pairs named fault honest2 =
+    let honest1 : IsTrue b.honest = sym same ∙ honest2 in
+    let made = m (sym read.honest ∙ honest1) in
+    (made.site, kept_made a b c ka change now replacements banner made (pairs honest1) named)
+keeps_written (Err e) a b c ka change now replacements banner may_need read same m pairs named fault honest2 =
+    let honest1 : IsTrue b.honest = sym same ∙ honest2 in
+    let made = m (sym read.honest ∙ honest1) in
+    (site_of a ka, err_kept b c may_need e (site_of a ka) fault honest1 made.before)
+
+pub port_written : {U : Type 0} → (r : Result U KeeperFault) (a b c : StoreState) (banner : Banner) (may_need : ℕ → Type 0) → HasRead a b → 0 < a.banner.port → 0 < banner.port → OnOk r (c.banner ≡ banner) → IfErr r (IsCommitFault b c may_need) → 0 < c.banner.port
+port_written (Ok u) a b c banner may_need read old new named fault = subst (λ (x : Banner). 0 < x.port) (sym named) new
+port_written (Err e) a b c banner may_need read old new named fault = subst (λ (x : Banner). 0 < x.port) (sym (err_banner b c may_need e fault ∙ read.same.banner)) old
+
+-- what a crash within a change may leave
+abbrev pub EitherSite : {L : Type 0} → (L → List Pair → Banner → Type 0) → Site → Result Site Refused → L → Type 0
+EitherSite has_content s applied c = Represents has_content c s ⊎ ((t : Site) × (applied ≡ Ok t) × Represents has_content c t)
+
+pub none_at_crash : {L : Type 0} → (has_content : L → List Pair → Banner → Type 0) (a : StoreState) (ka : HasSite a) (applied : Result Site Refused) (s t : CrashStates L) → IsTrue a.honest → AddsNone s t → ((c : L) → may_crash_to s c → has_content c a.pairs a.banner) → AddsOnly s t (EitherSite has_content (site_of a ka) applied)
+none_at_crash has_content a ka applied s t honest no_new_crash_state start = none_added_crashes s t (EitherSite has_content (site_of a ka) applied) no_new_crash_state (λ c left. inl (stands has_content a ka c honest (start c left)))
+
+pub crash_states_made : {L : Type 0} → (has_content : L → List Pair → Banner → Type 0) (a b : StoreState) (ka : HasSite a) (change : Change) (now : ℕ) (replacements : List Replacement) (banner : Banner) (s0 s1 s2 : CrashStates L) → IsTrue a.honest → AddsNone s0 s1
+    → ((c : L) → may_crash_to s0 c → has_content c a.pairs a.banner) → (m : Makes a b ka change now replacements banner)
+    → AddsOnly s1 s2 (λ c. has_content c b.pairs b.banner ⊎ has_content c (updated b.pairs (batch_of (edits_of replacements))) banner)
+    → AddsOnly s0 s2 (EitherSite has_content (site_of a ka) (apply (site_of a ka) change now))
+crash_states_made has_content a b ka change now replacements banner s0 s1 s2 honest no_new_crash_state start m written =
+    let P = EitherSite has_content (site_of a ka) (apply (site_of a ka) change now) in
+    adds_both s0 s1 s2 (may_crash_to s0) (λ c. has_content c b.pairs b.banner ⊎ has_content c (updated b.pairs (batch_of (edits_of replacements))) banner) P no_new_crash_state written
+    (λ c left. inl (stands has_content a ka c honest (start c left)))
+    (λ c left. ⊎_elim (λ x. inl (b.pairs, b.banner, x, m.before)) (λ x. inr (m.site, m.applied, (updated b.pairs (batch_of (edits_of replacements)), banner, x, m.shows))) left)
+
+-- ---- look-ups for a plan
+
+-- a fault of reading what is kept, as one of a look-up
+pub look_up_failed : (a b : StoreState) (fault : SiteOpenFault) (to_site_fault : SiteFault) → to_site_fault ≡ site_fault_of fault → IsSiteReadFault a b fault → IsLookUpFault a b to_site_fault
+look_up_failed a b fault to_site_fault is h = subst (IsLookUpFault a b) (sym is) (by fault h)
+  where
+    by_keeper : (fault : KeeperFault) → IsReadFault a b fault → IsLookUpFault a b (store_site_fault_of fault)
+    by_keeper kinds.Device h = λ honest s kept. h
+    by_keeper kinds.NoImage h = absurd h
+    by_keeper kinds.Version h = absurd h
+    by_keeper (kinds.Damaged page) h = λ honest s kept. absurd (no_truth a.honest honest h)
+    by_keeper kinds.Small h = absurd h
+    by_keeper kinds.Spent h = h
+    by_keeper (kinds.Full need free) h = h
+    by_keeper kinds.Failed h = h
+    by_keeper kinds.Memory h = absurd h
+
+    by : (fault : SiteOpenFault) → IsSiteReadFault a b fault → IsLookUpFault a b (site_fault_of fault)
+    by BadRecord h = λ honest s kept. absurd (h.1 honest (s, kept))
+    by (Keeper fault) h = by_keeper fault h.0
+    by Memory h = h

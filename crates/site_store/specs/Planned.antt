@@ -1,0 +1,28 @@
+-- A plan as a key-value store makes it: replacements, and a banner.
+use Rattle.std.specs.Prelude.{◌≡◌, ℕ, List, Option, Some, None, Result, Ok}
+use Rattle.host_types.specs.Site.{Site}
+use Rattle.common_types.specs.declared.refused.Refused.{Refused}
+use Rattle.page_store.specs.declared.banner.Banner.{Banner}
+use Rattle.change_plan.specs.Replacements.{all_replaced, AreReplacementsAt}
+use Rattle.change_plan.specs.declared.replacement.Replacement.{Replacement}
+
+-- a banner with another name, where one is set
+abbrev pub with_host : Banner → Option (List ℕ × ℕ) → Banner
+with_host b None = b
+with_host b (Some name) = record { version = b.version; host = name.0; port = name.1; admin = b.admin }
+
+abbrev pub with_admin : Banner → Option (List ℕ) → Banner
+with_admin b None = b
+with_admin b (Some admin) = record { version = b.version; host = b.host; port = b.port; admin = admin }
+
+-- the banner after a plan
+abbrev pub banner_after : Banner → Option (List ℕ × ℕ) → Option (List ℕ) → Banner
+banner_after b host admin = with_admin (with_host b host) admin
+
+-- a site under the name of a banner
+abbrev pub named : Site → Banner → Site
+named s banner = record s { host = banner.host; port = banner.port; admin = banner.admin }
+
+-- Replacements at the selectors that are touched, and a banner, that make a changed site.
+abbrev pub IsPlanned : Site → Result Site Refused → List (List ℕ) → List Replacement → Banner → Type 0
+IsPlanned s applied touched replacements banner = (applied ≡ Ok (named (all_replaced s replacements) banner)) × AreReplacementsAt s touched replacements
