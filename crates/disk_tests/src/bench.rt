@@ -312,6 +312,7 @@ fn on_site(
 ) -> Result<(), Trouble> {
     match word {
         "next" => sites::next(site, line, fields),
+        "figures" => sites::figures(site, line),
         _ => sites::call(alloc, site, line, now, word, fields),
     }
 }

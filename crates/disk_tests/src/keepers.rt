@@ -4,7 +4,7 @@ use crate::line::Line;
 use crate::made::change;
 use crate::trouble::Trouble;
 use host_types::Bytes;
-use page_store::{FlatKeeper, Keeper, Pair};
+use page_store::{Figures, FlatKeeper, Keeper, Pair};
 use sector_device::Device;
 use std::alloc::Global;
 
@@ -48,6 +48,13 @@ pub fn show_usable(line: &mut Line, is_usable: bool) -> Result<(), Trouble> {
     line.word(if is_usable { "usable" } else { "unusable" })
 }
 
+/// `figures`: keys, free pages and generation.
+pub fn show_figures(line: &mut Line, figures: Figures) -> Result<(), Trouble> {
+    line.number(figures.keys)?;
+    line.number(figures.free)?;
+    line.number(figures.generation)
+}
+
 /// `pairs`: all keys and values by turns.
 fn show_pairs<K: Keeper>(alloc: Global, keeper: &mut K, line: &mut Line) -> Result<(), Trouble> {
     for part in &pairs_of(alloc, keeper)? {
@@ -76,7 +83,7 @@ pub fn show_pair(alloc: Global, line: &mut Line, key: &[u8], value: &[u8]) -> Re
     show_moved(alloc, line, key, value)
 }
 
-/// The words that look at a keeper: `banner`, `usable`, `pairs`, `get KEY` and `next KEY`.
+/// The words that look at a keeper: `banner`, `usable`, `figures`, `pairs`, `get KEY` and `next KEY`.
 fn looks<K: Keeper>(
     alloc: Global,
     keeper: &mut K,
@@ -87,6 +94,7 @@ fn looks<K: Keeper>(
     match (word, fields) {
         ("banner", []) => show_banner(line, keeper.banner()),
         ("usable", []) => show_usable(line, keeper.is_usable()),
+        ("figures", []) => show_figures(line, keeper.figures()),
         ("pairs", []) => show_pairs(alloc, keeper, line),
         ("get", [key]) => get(keeper, line, key),
         ("next", [key]) => next(keeper, line, key),

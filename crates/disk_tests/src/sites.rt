@@ -1,6 +1,6 @@
 // Sites.
 use crate::items::change;
-use crate::keepers::show_usable;
+use crate::keepers::{show_figures, show_usable};
 use crate::line::{Line, number};
 use crate::trouble::Trouble;
 use host_types::{Card, CardBody, Selector, SiteKeeper, Stamp};
@@ -99,6 +99,13 @@ pub fn call<S: SearchKeeper>(
         ("search", [scope, query]) => search(site, line, scope, query),
         _ => make(alloc, site, now, word, fields),
     }
+}
+
+/// `figures`: items, and the figures of the keeper.
+pub fn figures<K: Keeper>(site: &mut DiskSite<K>, line: &mut Line) -> Result<(), Trouble> {
+    let figures = site.figures()?;
+    line.number(figures.items)?;
+    show_figures(line, figures.store)
 }
 
 /// `next` and `next SELECTOR`: the first item, and the item behind a selector, with its card, which stands there alone too.

@@ -2,7 +2,7 @@
 ghost use Rattle.std.specs.Prelude.{◌≡◌, ℕ, true, false};
 ghost use Rattle.host_types.specs.CrashStates.{nothing, no_crash_state};
 
-use host_types::{Card, Change, Front, Refused, Selector, SiteFault, SiteKeeper, Stamp};
+use host_types::{Card, Change, Address, Refused, Selector, SiteFault, SiteKeeper, Stamp};
 use mem_site::MemSite;
 use word_index::{SearchKeeper, SelectorList};
 
@@ -66,7 +66,7 @@ impl SiteKeeper for FailingSite {
 
     ghost crash_states_represent = { λ m c honest usable left. no_crash_state left };
 
-    fn front(&self) -> Front<'_> {
+    fn front(&self) -> Address<'_> {
         self.site.front()
     }
 

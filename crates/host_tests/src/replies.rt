@@ -42,9 +42,9 @@ fn error(alloc: Global, line: &mut Line, is_plus: bool, fields: &[Vec<u8>]) -> R
 /// `item_line SELECTOR`: the line of the item, and the line that a menu has of it, where it has one.
 fn lines(bench: &Bench, line: &mut Line, selector: &Selector, card: &Card) -> Result<(), Trouble> {
     let alloc = bench.alloc;
-    let front = bench.site.front();
-    line.bytes(item_line(alloc, front, selector, card)?.as_slice())?;
-    match menu_line(alloc, front, selector, card)? {
+    let address = bench.site.front();
+    line.bytes(item_line(alloc, &address, selector, card)?.as_slice())?;
+    match menu_line(alloc, &address, selector, card)? {
         Some(shown) => Ok(line.bytes(shown.as_slice())?),
         None => Ok(line.word("none")?),
     }
@@ -59,13 +59,13 @@ fn whole_menu(
     links: &[Vec<u8>],
 ) -> Result<(), Trouble> {
     let alloc = bench.alloc;
-    let front = bench.site.front();
+    let address = bench.site.front();
     let mut lines = LineList::new(alloc);
-    if let Some(shown) = menu_line(alloc, front, selector, card)? {
+    if let Some(shown) = menu_line(alloc, &address, selector, card)? {
         lines.push(shown)?;
     }
     for entry in entries(alloc, links)?.as_slice() {
-        if let Some(link) = link_line(alloc, front, entry)? {
+        if let Some(link) = link_line(alloc, &address, entry)? {
             lines.push(link)?;
         }
     }
@@ -81,10 +81,10 @@ fn all_attributes(
     names: &LineList,
 ) -> Result<(), Trouble> {
     let alloc = bench.alloc;
-    let front = bench.site.front();
-    let reply = attributes(alloc, front, names, selector, card)?;
+    let address = bench.site.front();
+    let reply = attributes(alloc, &address, names, selector, card)?;
     let mut blocks = LineList::new(alloc);
-    blocks.push(item_blocks(alloc, front, names, selector, card)?)?;
+    blocks.push(item_blocks(alloc, &address, names, selector, card)?)?;
     if entry_attributes(alloc, &blocks)? != reply {
         return Err(Trouble::Differs);
     }
@@ -102,7 +102,7 @@ fn menu_attributes(
     let alloc = bench.alloc;
     let mut blocks = LineList::new(alloc);
     let names = LineList::new(alloc);
-    blocks.push(item_blocks(alloc, bench.site.front(), &names, selector, card)?)?;
+    blocks.push(item_blocks(alloc, &bench.site.front(), &names, selector, card)?)?;
     for other in others.as_slice() {
         blocks.push(info(alloc, other.as_slice())?)?;
     }

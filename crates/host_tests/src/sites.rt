@@ -127,10 +127,10 @@ fn show_front(bench: &Bench, line: &mut Line) -> Result<(), Trouble> {
     if !bench.site.is_usable() {
         return Err(Trouble::Differs);
     }
-    let front = bench.site.front();
-    line.bytes(front.host.as_bytes())?;
-    line.number(u64::from(front.port))?;
-    Ok(line.bytes(front.admin.as_bytes())?)
+    let address = bench.site.front();
+    line.bytes(address.host.as_bytes())?;
+    line.number(u64::from(address.port))?;
+    Ok(line.bytes(address.admin.as_bytes())?)
 }
 
 /// `chunk SELECTOR VIEW PLACE`

@@ -2,6 +2,7 @@ pub use Rattle.common_types.specs.Names
 pub mod Items
 pub mod Site
 pub mod SiteLaws
+pub mod Address
 pub mod Change
 pub mod ValidChanges
 pub mod Standing
@@ -9,6 +10,5 @@ pub mod Card
 pub mod Words
 pub use Rattle.common_types.specs.CrashStates
 pub mod SiteState
-pub mod Front
 pub mod Lines
 pub mod SiteExamples

@@ -26,6 +26,6 @@ pub use limits::MOST_VIEW_BYTES;
 pub use line_list::{LineList, lines_of, without_cr};
 pub use menu::{Entry, EntryList, LinkKind};
 pub use site_fault::SiteFault;
-pub use site_keeper::{Front, SiteKeeper};
+pub use site_keeper::{Address, SiteKeeper};
 pub use typed::{valid_admin, valid_host, valid_selector};
 pub use view::{Kind, View, ViewList};

@@ -5,22 +5,31 @@ ghost use Rattle.host_types.specs.Change.{apply};
 ghost use Rattle.host_types.specs.Card.{card_at, viewed_at, chunk_of};
 ghost use Rattle.common_types.specs.CrashStates.{CrashStates, AddsOnly, AddsNone, may_crash_to};
 ghost use Rattle.host_types.specs.SiteState.{SiteState, HasRead, LacksTheSame, IsUnchangedBehind, HasTried, HasNotChanged, IsReadFault, IsChangeFault};
-ghost use Rattle.host_types.specs.Front.{address, lent};
+ghost use Rattle.host_types.specs.Address.{address};
 ghost use Rattle.host_types.specs.declared.change.Change.{Change as ChangeValue};
 ghost use Rattle.host_types.specs.declared.site_fault.SiteFault.{SiteFault as SiteFaultValue};
 ghost use Rattle.host_types.specs.declared.site_fault.SiteFault.TheVariants.{Failed};
 
 use crate::{Admin, Card, Change, Host, Selector, SiteFault, Stamp};
+use std::marker::Model;
 
 /// Under which name clients find a site, and who keeps it.
-#[derive(Clone, Copy, Debug)]
-pub struct Front<'a> {
+#[derive(Debug, Drop)]
+pub struct Address<'a> {
     /// The name of the host that clients connect to.
     pub host: &'a Host,
     /// The port that they connect to.
     pub port: u16,
     /// Who keeps the site.
     pub admin: &'a Admin,
+}
+
+impl<'a> Model for Address<'a> {
+    ghost use Rattle.host_types.specs.Address.{Address};
+
+    ghost Value = { Address };
+
+    ghost view = { λ a. record { host = a.host.now; port = a.port; admin = a.admin.now } };
 }
 
 /// A site that is kept somewhere: in memory, or on a device that may fail.
@@ -43,8 +52,8 @@ pub trait SiteKeeper {
     ghost crash_states: { Self → CrashStates CrashState };
 
     /// Host, port and administrator. It takes no memory.
-    fn front(&self) -> Front<'_>
-        ensures { IsTrue (site_state self.now).honest → lent result ≡ address (site_state self.now).site };
+    fn front(&self) -> Address<'_>
+        ensures { IsTrue (site_state self.now).honest → result ≡ address (site_state self.now).site };
 
     /// Whether no write or sync has failed.
     fn is_usable(&self) -> bool

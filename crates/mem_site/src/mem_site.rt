@@ -2,12 +2,12 @@
 ghost use Rattle.std.specs.Prelude.{◌≡◌, ◌<◌, [], None, IfOk, OnOk, IfErr, OnErr, IfSome, IsTrue, option_copied};
 ghost use Rattle.host_types.specs.Site.{item_at, with_item, without_item, board_at, fresh_site, IsSite};
 ghost use Rattle.host_types.specs.Card.{has_short_views, card_at, viewed_at};
-ghost use Rattle.host_types.specs.Front.{address, lent};
+ghost use Rattle.host_types.specs.Address.{address};
 ghost use Rattle.change_plan.specs.LookUps.{HasNoLongNames};
 ghost use Rattle.change_plan.specs.Plans.{with_host, with_admin};
 ghost use Rattle.mem_site.specs.ShortEntries.{HasShortViews};
 
-use host_types::{Admin, Card, Front, Host, Item, Selector, SiteFault, Stamp, Title};
+use host_types::{Admin, Card, Address, Host, Item, Selector, SiteFault, Stamp, Title};
 use std::alloc::{AllocError, Global};
 use std::collections::BTreeMap;
 use std::marker::Model;
@@ -127,10 +127,10 @@ impl MemSite {
         items
     }
 
-    pub(crate) fn shown(&self) -> Front<'_>
-        ensures { lent result ≡ address self.now }
+    pub(crate) fn shown(&self) -> Address<'_>
+        ensures { result ≡ address self.now }
     {
-        Front {
+        Address {
             host: &self.host,
             port: self.port,
             admin: &self.admin,

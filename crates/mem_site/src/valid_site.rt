@@ -188,9 +188,9 @@ impl MemSite {
         ensures port { self.now.port < 2 ^ 16 }
         ensures admin { IsTrue (is_admin self.now.admin) }
     {
-        let front = self.shown();
-        valid_host(front.host);
-        valid_admin(front.admin);
+        let address = self.shown();
+        valid_host(address.host);
+        valid_admin(address.admin);
     }
 
     /// Whether the port is not 0, and a menu stands at the empty selector.

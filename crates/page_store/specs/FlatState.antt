@@ -74,6 +74,7 @@ flat_holding state slot pairs top usable = record {
   usable = usable;
   failed_reads = state.failed_reads;
   failed_writes = state.failed_writes;
+  generation = slot.seal;
   top = top;
   free = half_size slot.root.pages;
 }

@@ -1,13 +1,14 @@
 -- What a key-value store holds, and what its calls have in common.
-use Rattle.std.specs.Prelude.{◌≡◌, ◌⊎◌, ◌<◌, ◌≤◌, ◌+◌, ◌-◌, ◌^◌, ℕ, Bool, false, List, drop, Option, Some, None, Result, Ok, Err, IsTrue}
+use Rattle.std.specs.Prelude.{◌≡◌, ◌⊎◌, ◌<◌, ◌≤◌, ◌+◌, ◌-◌, ◌^◌, ℕ, Bool, false, List, length, drop, Option, Some, None, Result, Ok, Err, IsTrue}
 use Rattle.common_types.specs.Counts.{counted}
 use Rattle.page_store.specs.Pages.{Pair}
 use Rattle.page_store.specs.declared.banner.Banner.{Banner}
 use Rattle.page_store.specs.declared.edit.Edit.{Edit}
+use Rattle.page_store.specs.declared.figures.Figures.{Figures}
 use Rattle.page_store.specs.declared.fault.KeeperFault.{KeeperFault}
 use Rattle.page_store.specs.declared.fault.KeeperFault.TheVariants as faults
 
--- The pairs stand in byte order of their keys. `honest`: the device keeps its written meaning. `usable`: no write or sync has failed. `top`: the greatest generation that was found at opening or tried since. `free`: how much a commit may take.
+-- The pairs stand in byte order of their keys. `honest`: the device keeps its written meaning. `usable`: no write or sync has failed. `generation`: that of the current root slot. `top`: the greatest generation that was found at opening or tried since. `free`: how many pages a commit may write.
 pub record StoreState : Type 0 where
   pub pairs : List Pair
   pub banner : Banner
@@ -15,6 +16,7 @@ pub record StoreState : Type 0 where
   pub usable : Bool
   pub failed_reads : ℕ
   pub failed_writes : ℕ
+  pub generation : ℕ
   pub top : ℕ
   pub free : ℕ
 
@@ -22,11 +24,18 @@ pub record StoreState : Type 0 where
 abbrev pub last_generation : ℕ
 last_generation = 2 ^ 64 - 1
 
+-- What is told of the size of what is held.
+pub record IsFigures (h : StoreState) (figures : Figures) : Type 0 where
+  pub keys : IsTrue h.honest → figures.keys ≡ length h.pairs
+  pub free : IsTrue h.honest → figures.free ≡ h.free
+  pub generation : figures.generation ≡ h.generation
+
 -- What a call leaves that changes nothing of what is held.
 pub record HasStayed (old new : StoreState) : Type 0 where
   pub pairs : IsTrue old.honest → new.pairs ≡ old.pairs
   pub banner : new.banner ≡ old.banner
   pub usable : new.usable ≡ old.usable
+  pub generation : new.generation ≡ old.generation
   pub top : new.top ≡ old.top
   pub free : IsTrue old.honest → new.free ≡ old.free
 
@@ -65,6 +74,7 @@ pub record HasFailed (old new : StoreState) : Type 0 where
   pub pairs : IsTrue old.honest → new.pairs ≡ old.pairs
   pub banner : new.banner ≡ old.banner
   pub shut : new.usable ≡ false
+  pub generation : new.generation ≡ old.generation
   pub cause : IsTrue old.usable → new.failed_writes ≡ counted old.failed_writes
   pub top : (new.top ≡ old.top) ⊎ (new.top ≡ old.top + 1)
 

@@ -18,7 +18,7 @@ ghost use Rattle.page_store.specs.CrashStatesRepresent.{crash_states_represent_c
 use crate::batch::{next_pair, value_of};
 use crate::commit::commit_pages;
 use crate::flat_plan::{Plan, planned};
-use crate::{Banner, Edit, FlatKeeper, Keeper, KeeperFault};
+use crate::{Banner, Edit, Figures, FlatKeeper, Keeper, KeeperFault};
 use sector_device::{Device, DeviceFault};
 
 impl<D: Device> FlatKeeper<D> {
@@ -85,6 +85,14 @@ impl<D: Device> Keeper for FlatKeeper<D> {
         self.usable
     }
 
+    fn figures(&self) -> Figures {
+        Figures {
+            keys: self.pairs.len() as u64,
+            free: u64::from(self.slot.root.half_size()),
+            generation: self.slot.seal,
+        }
+    }
+
     fn get(&mut self, key: &[u8], buffer: &mut [u8; 1024]) -> Result<Option<usize>, KeeperFault> {
         if !self.usable {
             return Err(KeeperFault::Failed);
@@ -121,6 +129,7 @@ impl<D: Device> Keeper for FlatKeeper<D> {
         ensures banner { OnOk result ((held D.state self.new).banner ≡ banner) }
         ensures still_usable { OnOk result ((held D.state self.new).usable ≡ true) }
         ensures rises { OnOk result ((held D.state self.new).top ≡ (held D.state self.old).top + 1) }
+        ensures generation { OnOk result ((held D.state self.new).generation ≡ (held D.state self.old).top + 1) }
         ensures fits { IsTrue (held D.state self.old).honest → OnOk result ((n : ℕ) × NeedsPages (pairs_of self.old) batch.now n × (n ≤ (held D.state self.old).free)) }
         ensures fault { IfErr result (IsCommitFault (held D.state self.old) (held D.state self.new) (NeedsPages (pairs_of self.old) batch.now)) }
         ensures closed { (held D.state self.old).usable ≡ false → IsErrOf result Failed }

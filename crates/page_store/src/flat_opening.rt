@@ -30,7 +30,7 @@ fn is_half(root: &Root) -> bool
     requires small { root.now.pages ≤ 65536 }
     ensures { result ≡ is_half root.now }
 {
-    root.height == 0 && (root.tree == 2 || root.tree == 2 + (root.pages - 2) / 2)
+    root.height == 0 && (root.tree == 2 || root.tree == 2 + root.half_size())
 }
 
 /// Whether the keys rise in byte order.

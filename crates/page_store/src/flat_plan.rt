@@ -26,7 +26,7 @@ fn other_half(root: &Root) -> u32
     ensures { result ≡ other_half root.now }
 {
     if root.tree == 2 {
-        2 + (root.pages - 2) / 2
+        2 + root.half_size()
     } else {
         2
     }
@@ -49,7 +49,7 @@ pub(crate) fn planned(
 {
     let pairs = updated_pairs(alloc, pairs, batch)?;
     let need = pages_needed(&pairs);
-    let half = (slot.root.pages - 2) / 2;
+    let half = slot.root.half_size();
     if need > half as usize {
         return Err(KeeperFault::Full {
             need: need as u64,

@@ -120,7 +120,7 @@ pub(crate) fn read_half<D: Device>(
     let mut room = 0;
     let mut keys = slot.root.keys;
     let first = slot.root.tree;
-    for page in first..first + (slot.root.pages - 2) / 2 {
+    for page in first..first + slot.root.half_size() {
         if keys == 0 {
             return Ok(pairs);
         }

@@ -4,12 +4,12 @@ ghost use Rattle.common_types.specs.CrashStates.{CrashStates, AddsOnly, AddsNone
 ghost use Rattle.page_store.specs.Pages.{Pair};
 ghost use Rattle.page_store.specs.Batch.{value_at, pair_after, updated, is_batch, is_map};
 ghost use Rattle.page_store.specs.Counting.{CountsReads, CountsWrites};
-ghost use Rattle.page_store.specs.StoreState.{StoreState, HasRead, HasTried, NeedsTheSame, IsFilled, IsReadFault, IsCommitFault, last_generation};
+ghost use Rattle.page_store.specs.StoreState.{StoreState, IsFigures, HasRead, HasTried, NeedsTheSame, IsFilled, IsReadFault, IsCommitFault, last_generation};
 ghost use Rattle.page_store.specs.declared.banner.Banner.{Banner as BannerValue};
 ghost use Rattle.page_store.specs.declared.edit.Edit.{Edit as EditValue};
 ghost use Rattle.page_store.specs.declared.fault.KeeperFault.TheVariants.{Failed, Spent};
 
-use crate::{Banner, Edit, KeeperFault};
+use crate::{Banner, Edit, Figures, KeeperFault};
 
 /// A map of byte keys with a banner, which changes by whole batches: a crash within a commit leaves the map and the banner from before, or the new ones.
 ///
@@ -40,6 +40,10 @@ pub trait Keeper {
     /// Whether no write or sync has failed.
     fn is_usable(&self) -> bool
         ensures { result ≡ (store_state self.now).usable };
+
+    /// How much is kept, how much room is left, and of which generation the image is. It takes no memory.
+    fn figures(&self) -> Figures
+        ensures { IsFigures (store_state self.now) result };
 
     /// Puts the value at a key into the front of the buffer, and answers its length, or none where nothing stands there. What stands behind the value stays. It takes no memory.
     fn get(&mut self, key: &[u8], buffer: &mut [u8; 1024]) -> Result<Option<usize>, KeeperFault>
@@ -84,6 +88,7 @@ pub trait Keeper {
         ensures banner { OnOk result ((store_state self.new).banner ≡ banner) }
         ensures still_usable { OnOk result ((store_state self.new).usable ≡ true) }
         ensures rises { OnOk result ((store_state self.new).top ≡ (store_state self.old).top + 1) }
+        ensures generation { OnOk result ((store_state self.new).generation ≡ (store_state self.old).top + 1) }
         ensures fits { IsTrue (store_state self.old).honest → OnOk result ((n : ℕ) × may_need self.old batch.now n × (n ≤ (store_state self.old).free)) }
         ensures fault { IfErr result (IsCommitFault (store_state self.old) (store_state self.new) (may_need self.old batch.now)) }
         ensures closed { (store_state self.old).usable ≡ false → IsErrOf result Failed }

@@ -1,4 +1,7 @@
 // Root slots.
+ghost use Rattle.std.specs.Prelude.{◌≡◌, ◌≤◌};
+ghost use Rattle.page_store.specs.Flat.{half_size};
+
 use crate::Banner;
 
 /// What a commit writes of itself.
@@ -14,6 +17,16 @@ pub struct Root {
     pub keys: u64,
     /// Version, host, port and administrator.
     pub banner: Banner,
+}
+
+impl Root {
+    /// How many pages each half of an image of flat pages has.
+    pub(crate) fn half_size(&self) -> u32
+        requires { 2 ≤ self.now.pages }
+        ensures { result ≡ half_size self.now.pages }
+    {
+        (self.pages - 2) / 2
+    }
 }
 
 /// A valid root slot.

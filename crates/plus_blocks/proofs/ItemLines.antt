@@ -8,7 +8,7 @@ use Rattle.host_types.specs.Names.{is_field, is_visible, is_word}
 use Rattle.host_types.specs.Lines.{is_lf, lines}
 use Rattle.host_types.specs.Items.{kind_letter, has_bad_name, is_bad_word, is_bad_question, is_bad_body, is_long_item, is_long_body, is_long_view, is_admin, is_host, is_selector, is_title, is_typed_body, is_typed_item, is_valid_item, prompt_of, view_bytes, most_view_bytes}
 use Rattle.host_types.specs.Card.{card_of, card_body, card_view}
-use Rattle.host_types.specs.Front.{Address, address}
+use Rattle.host_types.specs.Address.{Address, address}
 use Rattle.host_types.specs.Site.{Site, IsSite, item_at}
 use Rattle.host_types.specs.declared.card.Card.{Card}
 use Rattle.host_types.specs.declared.card.CardBody.{CardBody}

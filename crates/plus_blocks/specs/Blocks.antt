@@ -2,7 +2,7 @@
 use Rattle.std.specs.Prelude.{◌≡◌, ℕ, ◌+◌, ◌/◌, Bool, List, [], ◌∷◌, ◌++◌, ◌||◌, ◌==◌, Option, Some, None, if◌then◌else◌, length, map, flat_map, bytes_eq, codes, decimal}
 use Rattle.std.specs.List.{AllByRecursion, list_any}
 use Rattle.host_types.specs.Lines.{lines}
-use Rattle.host_types.specs.Front.{Address}
+use Rattle.host_types.specs.Address.{Address}
 use Rattle.host_types.specs.declared.card.Card.{Card}
 use Rattle.host_types.specs.declared.card.CardView.{CardView}
 use Rattle.host_types.specs.declared.card.CardBody.{CardBody}

@@ -1,6 +1,6 @@
 -- Worked examples of dates and blocks.
 use Rattle.std.specs.Prelude.{◌≡◌, ℕ, List, [], ◌∷◌, ◌++◌, codes}
-use Rattle.host_types.specs.Front.{Address}
+use Rattle.host_types.specs.Address.{Address}
 use Rattle.host_types.specs.declared.card.Card.{Card}
 use Rattle.host_types.specs.declared.card.CardBody.TheVariants as cards
 use Rattle.host_types.specs.declared.view.Kind.TheVariants as kinds

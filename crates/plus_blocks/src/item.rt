@@ -1,11 +1,10 @@
 // The blocks of an item, and replies of blocks.
 ghost use Rattle.std.specs.Prelude.{◌≡◌, ◌++◌, OnOk, IfOk, codes, flat_map, bytes_eq};
 ghost use Rattle.std.specs.List.{list_any};
-ghost use Rattle.host_types.specs.Front.{lent};
 ghost use Rattle.plus_blocks.specs.Blocks as spec;
 
 use crate::blocks::{push_abstract, push_admin, push_ask, push_info, push_views};
-use host_types::{Admin, Bytes, Card, CardBody, Front, LineList, Selector, Stamp};
+use host_types::{Address, Bytes, Card, CardBody, LineList, Selector, Stamp};
 use std::alloc::{AllocError, Global};
 use text_writer::item_line;
 
@@ -52,13 +51,13 @@ fn push_asks_of(out: &mut Vec<u8>, body: &CardBody) -> Result<(), AllocError>
 fn push_asked_admin(
     out: &mut Vec<u8>,
     names: &LineList,
-    admin: &Admin,
+    address: &Address<'_>,
     stamp: Stamp,
 ) -> Result<(), AllocError>
-    ensures { OnOk result (out.new.items ≡ out.old.items ++ spec.asked_for names.now (codes "+ADMIN") (spec.admin admin.now stamp)) }
+    ensures { OnOk result (out.new.items ≡ out.old.items ++ spec.asked_for names.now (codes "+ADMIN") (spec.admin address.now.admin stamp)) }
 {
     if is_asked(names, b"+ADMIN") {
-        push_admin(out, admin, stamp)
+        push_admin(out, address.admin, stamp)
     } else {
         Ok(())
     }
@@ -113,16 +112,16 @@ fn push_asked_questions(
 fn push_item(
     alloc: Global,
     out: &mut Vec<u8>,
-    front: Front<'_>,
+    address: &Address<'_>,
     names: &LineList,
     selector: &Selector,
     card: &Card,
 ) -> Result<(), AllocError>
-    ensures { OnOk result (out.new.items ≡ out.old.items ++ spec.item_blocks (lent front.entry) names.now selector.now card.now) }
+    ensures { OnOk result (out.new.items ≡ out.old.items ++ spec.item_blocks address.now names.now selector.now card.now) }
 {
-    let line = item_line(alloc, front, selector, card)?;
+    let line = item_line(alloc, address, selector, card)?;
     push_info(out, line.as_slice())?;
-    push_asked_admin(out, names, front.admin, card.stamp)?;
+    push_asked_admin(out, names, address, card.stamp)?;
     push_asked_views(alloc, out, names, &card.body)?;
     push_asked_abstract(alloc, out, names, card.summary.as_slice())?;
     push_asked_questions(out, names, &card.body)
@@ -131,31 +130,31 @@ fn push_item(
 /// The blocks of an item: `+INFO` always, and of the others those of these names that it has; no names ask for all.
 pub fn item_blocks(
     alloc: Global,
-    front: Front<'_>,
+    address: &Address<'_>,
     names: &LineList,
     selector: &Selector,
     card: &Card,
 ) -> Result<Bytes, AllocError>
-    ensures { IfOk result (λ blocks. blocks ≡ spec.item_blocks (lent front.entry) names.now selector.now card.now) }
+    ensures { IfOk result (λ blocks. blocks ≡ spec.item_blocks address.now names.now selector.now card.now) }
 {
     let mut blocks = Vec::new(alloc);
-    push_item(alloc, &mut blocks, front, names, selector, card)?;
+    push_item(alloc, &mut blocks, address, names, selector, card)?;
     Ok(Bytes::from(blocks))
 }
 
 /// The reply to `!`: the blocks of an item, ended by a line that is one period.
 pub fn attributes(
     alloc: Global,
-    front: Front<'_>,
+    address: &Address<'_>,
     names: &LineList,
     selector: &Selector,
     card: &Card,
 ) -> Result<Bytes, AllocError>
-    ensures { IfOk result (λ reply. reply ≡ spec.attributes (lent front.entry) names.now selector.now card.now) }
+    ensures { IfOk result (λ reply. reply ≡ spec.attributes address.now names.now selector.now card.now) }
 {
     let mut reply = Vec::new(alloc);
     reply.extend_from_slice(b"+-1\r\n")?;
-    push_item(alloc, &mut reply, front, names, selector, card)?;
+    push_item(alloc, &mut reply, address, names, selector, card)?;
     reply.extend_from_slice(b".\r\n")?;
     Ok(Bytes::from(reply))
 }

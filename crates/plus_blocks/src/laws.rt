@@ -2,7 +2,7 @@
 ghost use Rattle.std.specs.Prelude.{◌≡◌, ◌<◌, ◌^◌, ℕ, List, Some, IsTrue};
 ghost use Rattle.std.specs.List.{AllByRecursion};
 ghost use Rattle.host_types.specs.Card.{card_of};
-ghost use Rattle.host_types.specs.Front.{Address, address};
+ghost use Rattle.host_types.specs.Address.{Address, address};
 ghost use Rattle.host_types.specs.Items.{is_admin, is_host, is_selector, is_valid_item};
 ghost use Rattle.host_types.specs.Site.{Site, IsSite, item_at};
 ghost use Rattle.host_types.specs.declared.card.Card.{Card};

@@ -2,7 +2,7 @@
 use Rattle.std.proofs.Common.{◌≡◌, ◌≤◌, ℕ, Bool, true, ◌∙◌, ap, sym, subst, arith, refl, inl, inr}
 use Rattle.std.specs.Prelude.{IsTrue}
 use Rattle.std.proofs.lemmas.Bool.{cases_lt}
-use Rattle.host_types.specs.Front.{Address, address}
+use Rattle.host_types.specs.Address.{Address, address}
 use Rattle.host_types.specs.SiteState.{SiteState, HasRead, LacksTheSame, IsReadFault, Rose}
 use Rattle.host_types.specs.CrashStates.{CrashStates, AddsNone, no_new_crash_state, adds_none_again}
 use Rattle.host_types.specs.declared.change.Change.{Change}

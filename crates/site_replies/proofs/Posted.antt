@@ -8,7 +8,7 @@ use Rattle.host_types.specs.Site.{Site, item_at, text_item}
 use Rattle.host_types.specs.Change.{post, most_post_bytes}
 use Rattle.std.specs.Option.{option_map}
 use Rattle.host_types.specs.Card.{card_of, card_body, card_at, has_short_views}
-use Rattle.host_types.specs.Front.{address}
+use Rattle.host_types.specs.Address.{address}
 use Rattle.host_types.specs.declared.item.Item.{Item}
 use Rattle.host_types.specs.declared.item.Body.{Body}
 use Rattle.host_types.specs.declared.item.Body.TheVariants as bodies

@@ -3,7 +3,7 @@ use Rattle.std.specs.Prelude.{ℕ, ◌-◌, ◌^◌, ◌==◌, true, List, [], �
 use Rattle.host_types.specs.Site.{Site, post_selector, text_item}
 use Rattle.host_types.specs.Change.{apply}
 use Rattle.host_types.specs.Card.{card_of}
-use Rattle.host_types.specs.Front.{Address}
+use Rattle.host_types.specs.Address.{Address}
 use Rattle.host_types.specs.declared.card.Card.{Card}
 use Rattle.host_types.specs.declared.card.CardBody.{CardBody}
 use Rattle.host_types.specs.declared.card.CardBody.TheVariants as cards

@@ -5,7 +5,7 @@ use Rattle.host_types.specs.Names.{is_url_name}
 use Rattle.host_types.specs.Site.{Site, post_selector, last_numbers, text_item}
 use Rattle.host_types.specs.Change.{apply}
 use Rattle.host_types.specs.Card.{card_of, card_at, viewed_at}
-use Rattle.host_types.specs.Front.{address}
+use Rattle.host_types.specs.Address.{address}
 use Rattle.host_types.specs.declared.view.Kind.{Kind}
 use Rattle.host_types.specs.declared.view.Kind.TheVariants as kinds
 use Rattle.host_types.specs.declared.menu.Entry.{Entry}

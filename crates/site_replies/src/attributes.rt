@@ -32,7 +32,7 @@ fn blocks_at<S: SearchKeeper>(
     if let CardBody::Moved { .. } = &card.body {
         return Ok(None);
     }
-    Ok(Some(item_blocks(alloc, site.front(), names, selector, &card)?))
+    Ok(Some(item_blocks(alloc, &site.front(), names, selector, &card)?))
 }
 
 /// The block of a link's line.
@@ -57,7 +57,7 @@ fn blocks_of<S: SearchKeeper>(
     if let Entry::Local(selector) = entry {
         return blocks_at(alloc, site, names, selector);
     }
-    let line = link_line(alloc, site.front(), entry)?;
+    let line = link_line(alloc, &site.front(), entry)?;
     Ok(link_block(alloc, line)?)
 }
 

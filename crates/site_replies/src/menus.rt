@@ -2,7 +2,7 @@
 ghost use Rattle.std.specs.Prelude.{◌≡◌, ◌++◌, true, filter_map, OnOk, IfOk, IfErr, IsTrue, option_copied};
 ghost use Rattle.std.specs.Option.{option_to_list};
 ghost use Rattle.host_types.specs.Card.{card_at};
-ghost use Rattle.host_types.specs.Front.{address};
+ghost use Rattle.host_types.specs.Address.{address};
 ghost use Rattle.host_types.specs.SiteState.{HasRead, LacksTheSame, IsReadFault};
 ghost use Rattle.host_types.specs.CrashStates.{AddsNone};
 ghost use Rattle.text_writer.specs.Menu.{found_line, entry_line};
@@ -30,7 +30,7 @@ fn line_at<S: SearchKeeper>(
     let Some(card) = site.card(selector)? else {
         return Ok(None);
     };
-    Ok(menu_line(alloc, site.front(), selector, &card)?)
+    Ok(menu_line(alloc, &site.front(), selector, &card)?)
 }
 
 /// The line of an entry of a menu, where it has one.
@@ -44,7 +44,7 @@ fn line_of<S: SearchKeeper>(
     if let Entry::Local(selector) = entry {
         return line_at(alloc, site, selector);
     }
-    Ok(link_line(alloc, site.front(), entry)?)
+    Ok(link_line(alloc, &site.front(), entry)?)
 }
 
 /// Adds a line, where there is one.

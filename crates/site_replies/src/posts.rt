@@ -1,7 +1,6 @@
 // Posts by forms.
 ghost use Rattle.std.specs.Prelude.{◌≡◌, ◌≤◌, true, length, IfOk, IfErr, IfSome, IsTrue};
 ghost use Rattle.host_types.specs.Card.{card_of};
-ghost use Rattle.host_types.specs.Front.{lent};
 ghost use Rattle.host_types.specs.SiteState.{HasRead, LacksTheSame, IsReadFault};
 ghost use Rattle.host_types.specs.CrashStates.{AddsNone};
 ghost use Rattle.host_types.specs.Site.{text_item};
@@ -16,7 +15,7 @@ use crate::answered::{Answered, without_post};
 use crate::documents::as_text;
 use ask_forms::{AskFault, Post, post_of, read_answers};
 use host_types::{
-    Bytes, Card, CardBody, Change, Front, Item, LineList, QuestionList, Selector, SiteFault, Stamp,
+    Bytes, Card, CardBody, Change, Address, Item, LineList, QuestionList, Selector, SiteFault, Stamp,
     Title,
 };
 use request_reader::Data;
@@ -47,21 +46,21 @@ fn post_card(alloc: Global, title: &Title, text: &Bytes, now: Stamp) -> Result<C
 /// The post of a board by its number, and the reply to its sender; none where its selector would be too long.
 fn stored_as(
     alloc: Global,
-    front: Front<'_>,
+    address: &Address<'_>,
     board: &Selector,
     number: u64,
     post: Post,
     now: Stamp,
 ) -> Result<Option<Answered>, AllocError>
     requires { length post.text ≤ 65536 }
-    ensures { IfOk result (λ o. IfSome o (λ answered. answered ≡ stored_as (lent front.entry) now board.now number post.title post.text)) }
+    ensures { IfOk result (λ o. IfSome o (λ answered. answered ≡ stored_as address.now now board.now number post.title post.text)) }
 {
     let Some(selector) = Selector::of_post(alloc, board, number)? else {
         return Ok(None);
     };
     let card = post_card(alloc, &post.title, &post.text, now)?;
     let mut lines = LineList::new(alloc);
-    lines.push(item_line(alloc, front, &selector, &card)?)?;
+    lines.push(item_line(alloc, address, &selector, &card)?)?;
     let bytes = as_text(alloc, true, menu(alloc, &lines)?)?;
     let Post { title, text } = post;
     let change = Change::Post {
@@ -78,14 +77,14 @@ fn stored_as(
 /// The reply to the sender of a post, by the card of what stands at its board's selector.
 fn reply_by_card(
     alloc: Global,
-    front: Front<'_>,
+    address: &Address<'_>,
     card: Option<Card>,
     board: &Selector,
     post: Post,
     now: Stamp,
 ) -> Result<Answered, SiteFault>
     requires { length post.text ≤ 65536 }
-    ensures reply { IfOk result (λ answered. answered ≡ reply_by_card (lent front.entry) now board.now post.title post.text card) }
+    ensures reply { IfOk result (λ answered. answered ≡ reply_by_card address.now now board.now post.title post.text card) }
     ensures fault { IfErr result (λ e. e ≡ OutOfMemory) }
 {
     let Some(
@@ -100,7 +99,7 @@ fn reply_by_card(
     if next == u64::MAX {
         return Ok(without_post(error_reply_of(alloc, true, ErrorText::BoardIsFull)?));
     }
-    match stored_as(alloc, front, board, next, post, now)? {
+    match stored_as(alloc, address, board, next, post, now)? {
         Some(answered) => Ok(answered),
         None => Err(SiteFault::Memory),
     }
@@ -121,7 +120,7 @@ pub fn post_reply<S: SearchKeeper>(
         return Ok(without_post(error_reply_of(alloc, true, ErrorText::AnswersDoNotFit)?));
     }
     let card = site.card(board)?;
-    reply_by_card(alloc, site.front(), card, board, post, now)
+    reply_by_card(alloc, &site.front(), card, board, post, now)
 }
 
 /// The reply to answers of a form, and the post that they make.

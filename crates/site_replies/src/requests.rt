@@ -82,7 +82,7 @@ fn card_reply<S: SearchKeeper>(
         (CardBody::Moved { target }, _) => moved_reply(alloc, site, is_plus, target)?,
         (_, Some(Plus::Attributes(names))) => {
             let names = names.to_list(alloc)?;
-            attributes(alloc, site.front(), &names, selector, card)?
+            attributes(alloc, &site.front(), &names, selector, card)?
         }
         (body, Some(Plus::EntryAttributes(names))) => {
             let names = names.to_list(alloc)?;

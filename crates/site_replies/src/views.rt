@@ -34,7 +34,7 @@ pub fn moved_reply<S: SearchKeeper>(
     if let CardBody::Moved { .. } = &card.body {
         return Ok(error_reply_of(alloc, is_plus, ErrorText::ItemNotFound)?);
     }
-    let line = item_line(alloc, site.front(), target, &card)?;
+    let line = item_line(alloc, &site.front(), target, &card)?;
     Ok(error_reply(alloc, is_plus, ErrorText::ItemHasMoved, line.as_slice())?)
 }
 

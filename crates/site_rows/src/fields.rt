@@ -50,36 +50,36 @@ pub fn title(alloc: Global, field: &str) -> Result<Title, Fault> {
 
 /// The kind of document that a menu's letter tells.
 pub fn kind(letter: &str) -> Result<Kind, Fault> {
-    Ok(match letter.as_bytes() {
-        b"0" => Kind::Text,
-        b"4" => Kind::BinHex,
-        b"5" => Kind::DosArchive,
-        b"6" => Kind::Uuencoded,
-        b"9" => Kind::Binary,
-        b"g" => Kind::Gif,
-        b"I" => Kind::Image,
-        b"h" => Kind::Html,
+    Ok(match letter {
+        "0" => Kind::Text,
+        "4" => Kind::BinHex,
+        "5" => Kind::DosArchive,
+        "6" => Kind::Uuencoded,
+        "9" => Kind::Binary,
+        "g" => Kind::Gif,
+        "I" => Kind::Image,
+        "h" => Kind::Html,
         _ => return Err(Fault::Line),
     })
 }
 
 /// The kind of link that a menu's letter tells.
 pub fn link_kind(letter: &str) -> Result<LinkKind, Fault> {
-    Ok(match letter.as_bytes() {
-        b"0" => LinkKind::Text,
-        b"1" => LinkKind::Menu,
-        b"2" => LinkKind::PhoneBook,
-        b"4" => LinkKind::BinHex,
-        b"5" => LinkKind::DosArchive,
-        b"6" => LinkKind::Uuencoded,
-        b"7" => LinkKind::Search,
-        b"8" => LinkKind::Telnet,
-        b"9" => LinkKind::Binary,
-        b"+" => LinkKind::Mirror,
-        b"T" => LinkKind::Tn3270,
-        b"g" => LinkKind::Gif,
-        b"I" => LinkKind::Image,
-        b"h" => LinkKind::Html,
+    Ok(match letter {
+        "0" => LinkKind::Text,
+        "1" => LinkKind::Menu,
+        "2" => LinkKind::PhoneBook,
+        "4" => LinkKind::BinHex,
+        "5" => LinkKind::DosArchive,
+        "6" => LinkKind::Uuencoded,
+        "7" => LinkKind::Search,
+        "8" => LinkKind::Telnet,
+        "9" => LinkKind::Binary,
+        "+" => LinkKind::Mirror,
+        "T" => LinkKind::Tn3270,
+        "g" => LinkKind::Gif,
+        "I" => LinkKind::Image,
+        "h" => LinkKind::Html,
         _ => return Err(Fault::Line),
     })
 }

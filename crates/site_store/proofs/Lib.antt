@@ -14,3 +14,4 @@ pub mod SitesRead
 pub mod RisingKeys
 pub mod ItemWalks
 pub mod Searches
+pub mod ItemCounts

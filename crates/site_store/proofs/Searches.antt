@@ -46,7 +46,7 @@ searched_rest s scope asked old new selector left reads_only = ap (λ (l : List 
 pub stops_full : (s : Site) (scope : List ℕ) (asked old new : List (List ℕ)) (selector : List ℕ) (left : IsLeft s scope asked old selector) → IsFoundNext s scope asked old new selector left → 100 ≤ length new → new ≡ all_found s scope asked
 stops_full s scope asked old new selector left reads_only many = sym (enough scope asked new (rest_of s.items selector) many) ∙ searched_rest s scope asked old new selector left reads_only
 
-none_above : (s : Site) (q : List ℕ) → None ≡ selector_after s q → item_after s q ≡ None
+pub none_above : (s : Site) (q : List ℕ) → None ≡ selector_after s q → item_after s q ≡ None
 none_above s q none =
     elim (item_after s q) as (λ (o : Option Entry). None ≡ option_map {U = List ℕ} (λ e. e.0) o → o ≡ None) [
       | None ↦ λ _. refl

@@ -12,3 +12,4 @@ pub mod CrashStatesRepresent
 pub mod Opening
 pub mod Walking
 pub mod Searching
+pub mod Counting

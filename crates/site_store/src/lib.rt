@@ -4,6 +4,7 @@
 mod cards;
 mod disk_site;
 mod fault;
+mod figures;
 mod items;
 mod looking;
 mod lookup;
@@ -20,4 +21,5 @@ mod writing;
 
 pub use disk_site::DiskSite;
 pub use fault::SiteOpenFault;
+pub use figures::SiteFigures;
 pub use site_pairs::first_pairs;

@@ -9,7 +9,7 @@ use crate::to_site_fault::{store_fault_comes, to_site_fault};
 use crate::writing::{banner_after, write_replacements};
 use change_plan::plan_change;
 use host_types::{
-    Card, Change, Front, Selector, SiteFault, SiteKeeper, Stamp, changes_keep_sites_valid,
+    Card, Change, Address, Selector, SiteFault, SiteKeeper, Stamp, changes_keep_sites_valid,
 };
 use page_store::Keeper;
 
@@ -26,9 +26,9 @@ impl<K: Keeper> SiteKeeper for DiskSite<K> {
 
     ghost crash_states_represent = { λ d c honest usable left. crash_states_represent_site K.has_content (K.store_state d.keeper) d.kept c honest (K.crash_states_represent d.keeper c honest usable left) };
 
-    fn front(&self) -> Front<'_> {
+    fn front(&self) -> Address<'_> {
         let banner = self.keeper.banner();
-        Front {
+        Address {
             host: &banner.host,
             port: banner.port,
             admin: &banner.admin,

@@ -19,7 +19,7 @@ use Rattle.host_types.specs.declared.view.Kind.TheVariants as kinds
 use Rattle.host_types.specs.declared.menu.LinkKind.{LinkKind}
 use Rattle.host_types.specs.declared.menu.LinkKind.TheVariants as links
 use Rattle.host_types.specs.Lines.{is_lf, begins, lines}
-use Rattle.host_types.specs.Front.{address}
+use Rattle.host_types.specs.Address.{address}
 use Rattle.host_types.specs.declared.menu.Entry.{Entry}
 use Rattle.host_types.specs.declared.menu.Entry.TheVariants as entries
 use Rattle.host_types.specs.declared.card.CardBody.{CardBody}

@@ -5,7 +5,7 @@ use Rattle.host_types.specs.Items.{kind_letter, link_letter}
 use Rattle.host_types.specs.Lines.{is_lf, begins}
 use Rattle.host_types.specs.Site.{Site}
 use Rattle.host_types.specs.Card.{card_at}
-use Rattle.host_types.specs.Front.{Address, address}
+use Rattle.host_types.specs.Address.{Address, address}
 use Rattle.host_types.specs.declared.menu.Entry.{Entry}
 use Rattle.host_types.specs.declared.menu.Entry.TheVariants as entries
 use Rattle.host_types.specs.declared.card.Card.{Card}

@@ -2,7 +2,7 @@
 ghost use Rattle.std.specs.Prelude.{◌≡◌, ℕ, List, Some, IsTrue};
 ghost use Rattle.std.specs.List.{AllByRecursion};
 ghost use Rattle.host_types.specs.Card.{card_of};
-ghost use Rattle.host_types.specs.Front.{address};
+ghost use Rattle.host_types.specs.Address.{address};
 ghost use Rattle.host_types.specs.Items.{is_typed_entry};
 ghost use Rattle.host_types.specs.Site.{Site, IsSite, item_at};
 ghost use Rattle.host_types.specs.declared.item.Item.{Item};

@@ -1,9 +1,8 @@
 // Menus.
 ghost use Rattle.std.specs.Prelude.{◌≡◌, ◌∷◌, ◌++◌, Some, IfOk, decimal};
-ghost use Rattle.host_types.specs.Front.{lent};
 ghost use Rattle.text_writer.specs.Menu as spec;
 
-use host_types::{Bytes, Card, CardBody, Entry, Front, LineList, Selector};
+use host_types::{Bytes, Card, CardBody, Entry, Address, LineList, Selector};
 use std::alloc::{AllocError, Global};
 
 /// The letter that a menu line begins with (RFC 1436, section 3.8).
@@ -56,11 +55,11 @@ fn four_fields(
 /// The line of an item of this site: its letter and title, selector, host, port, and the sign of Gopher+ (RFC 1436, section 3.8).
 pub fn item_line(
     alloc: Global,
-    front: Front<'_>,
+    address: &Address<'_>,
     selector: &Selector,
     card: &Card,
 ) -> Result<Bytes, AllocError>
-    ensures line { IfOk result (λ line. line ≡ spec.item_line (lent front.entry) selector.now card.now) }
+    ensures line { IfOk result (λ line. line ≡ spec.item_line address.now selector.now card.now) }
 {
     let letter = type_letter(&card.body);
     let mut line = four_fields(
@@ -68,8 +67,8 @@ pub fn item_line(
         letter,
         card.title.as_bytes(),
         selector.as_bytes(),
-        front.host.as_bytes(),
-        front.port,
+        address.host.as_bytes(),
+        address.port,
     )?;
     line.push(b'\t')?;
     line.extend_from_slice(plus_sign(&card.body))?;
@@ -80,25 +79,25 @@ pub fn item_line(
 /// The line that a menu has for what stands at a selector; none for an item that has moved.
 pub fn menu_line(
     alloc: Global,
-    front: Front<'_>,
+    address: &Address<'_>,
     selector: &Selector,
     card: &Card,
 ) -> Result<Option<Bytes>, AllocError>
-    ensures line { IfOk result (λ line. line ≡ spec.found_line (lent front.entry) selector.now (Some card.now)) }
+    ensures line { IfOk result (λ line. line ≡ spec.found_line address.now selector.now (Some card.now)) }
 {
     if let CardBody::Moved { .. } = &card.body {
         return Ok(None);
     }
-    Ok(Some(item_line(alloc, front, selector, card)?))
+    Ok(Some(item_line(alloc, address, selector, card)?))
 }
 
 /// The line of an entry that names no item of this site; none for one that does.
 pub fn link_line(
     alloc: Global,
-    front: Front<'_>,
+    address: &Address<'_>,
     entry: &Entry,
 ) -> Result<Option<Bytes>, AllocError>
-    ensures line { IfOk result (λ line. line ≡ spec.link_line (lent front.entry) entry.now) }
+    ensures line { IfOk result (λ line. line ≡ spec.link_line address.now entry.now) }
 {
     let mut line = match entry {
         Entry::Local(_) => return Ok(None),
@@ -107,8 +106,8 @@ pub fn link_line(
             b'i',
             title.as_bytes(),
             &[],
-            front.host.as_bytes(),
-            front.port,
+            address.host.as_bytes(),
+            address.port,
         )?,
         Entry::Url { title, url } => {
             let mut selector = Vec::new(alloc);
@@ -119,8 +118,8 @@ pub fn link_line(
                 b'h',
                 title.as_bytes(),
                 &selector,
-                front.host.as_bytes(),
-                front.port,
+                address.host.as_bytes(),
+                address.port,
             )?
         }
         Entry::Remote {

@@ -18,7 +18,7 @@ returns-clause-plan c =
     let fitted = c.requires.fitted in
     record {
       pairs_are = c.in_ok-pairs.ensures;
-      room = subst (λ (l : List Pair). pages_needed l ≤ half) (c.deref.ensures.value ∙ c.in_ok-pairs.ensures) (subst (λ (n : ℕ). n ≤ half) c.pages_needed-need.ensures c.if-need-half.false);
+      room = subst (λ (l : List Pair). pages_needed l ≤ half) (c.deref.ensures.value ∙ c.in_ok-pairs.ensures) (subst (λ (n : ℕ). n ≤ half) c.pages_needed-need.ensures (subst (λ (n : ℕ). c.pages_needed-need.result ≤ n) c.half_size-half.ensures c.if-need-half.false));
       pages_are = pages_made c.args.seal c.other_half-tree.result slot.root c.in_ok-pages.pages.items _ c.deref-2.result.now c.in_ok-pages.ensures c.other_half-tree.ensures (c.deref-2.ensures.value ∙ c.in_ok-pairs.ensures);
       slot_is = slot_made slot c.args.seal c.other_half-tree.result _ c.as_slice.result.now c.args.banner c.other_half-tree.ensures (c.as_slice.ensures.value ∙ c.in_ok-pairs.ensures);
       page = λ sectors fits. c.in_ok-root.ensures.valid sectors c.ranges.seal.fits (fitted.least, fitted.most, fits) c.requires.port;

@@ -1,7 +1,6 @@
 -- Under which name clients find a site, and who keeps it.
 use Rattle.std.specs.Prelude.{ℕ, List}
 use Rattle.host_types.specs.Site.{Site}
-use Rattle.host_types.specs.declared.site_keeper.Front.{Front}
 
 pub record Address : Type 0 where
   pub host : List ℕ
@@ -11,7 +10,3 @@ pub record Address : Type 0 where
 -- that of a site
 abbrev pub address : Site → Address
 address s = record { host = s.host; port = s.port; admin = s.admin }
-
--- as it is lent
-abbrev pub lent : Front → Address
-lent front = record { host = front.host.now; port = front.port; admin = front.admin.now }

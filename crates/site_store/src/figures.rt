@@ -1,0 +1,64 @@
+// How much a site over a keeper holds.
+ghost use Rattle.std.specs.Prelude.{◌≡◌, true, false, length, IfOk, OnOk, IfErr, IsErrOf, IsTrue};
+ghost use Rattle.host_types.specs.SiteState.{HasRead, LacksTheSame, IsReadFault};
+ghost use Rattle.host_types.specs.CrashStates.{AddsNone};
+ghost use Rattle.host_types.specs.declared.site_fault.SiteFault.TheVariants.{Failed};
+ghost use Rattle.page_store.specs.StoreState.{IsFigures};
+ghost use Rattle.site_store.specs.Represented.{RepresentedBy, site_state_of, site_of};
+ghost use Rattle.site_store.specs.Lacking.{IsLacking};
+ghost use Rattle.site_store.specs.StoreReads.{NoneFailed};
+ghost use Rattle.site_store.specs.Reads.{ReadsKnown};
+
+use crate::to_site_fault::to_site_fault;
+use crate::walking::selector_after;
+use crate::{DiskSite, SiteOpenFault};
+use host_types::{Selector, SiteFault};
+use page_store::{Figures, Keeper};
+
+/// How much a site over a keeper holds.
+#[derive(Clone, Copy, Debug, PartialEq, Eq)]
+pub struct SiteFigures {
+    /// How many items there are.
+    pub items: u64,
+    /// What the keeper tells.
+    pub store: Figures,
+}
+
+/// How many items there are.
+fn items_in<K: Keeper>(keeper: &mut K) -> Result<u64, SiteOpenFault>
+    ensures items { ReadsKnown K.store_state K.may_need K.crash_states keeper.old keeper.new result RepresentedBy (λ s items. items ≡ length s.items) }
+{
+    let mut selector = Selector::root();
+    for counted in 1..u64::MAX {
+        match selector_after(keeper, &selector) {
+            Ok(Some(next)) => selector = next,
+            Ok(None) => return Ok(counted),
+            Err(fault) => return Err(fault),
+        }
+    }
+    // No device that can be had holds so many items.
+    Err(SiteOpenFault::Memory)
+}
+
+impl<K: Keeper> DiskSite<K> {
+    /// How many items and pairs there are, how much room is left, and of which generation the image is.
+    pub fn figures(&mut self) -> Result<SiteFigures, SiteFault>
+        ensures items { IsTrue (K.store_state self.old.keeper).honest → IfOk result (λ figures. figures.items ≡ length (site_state_of (K.store_state self.old.keeper) self.old.kept).site.items) }
+        ensures store { IfOk result (λ figures. IsFigures (K.store_state self.old.keeper) figures.store) }
+        ensures reads { OnOk result (NoneFailed (K.store_state self.old.keeper) (K.store_state self.new.keeper)) }
+        ensures lacking { LacksTheSame (IsLacking K.store_state K.may_need self.old.keeper (site_of (K.store_state self.old.keeper) self.old.kept)) (IsLacking K.store_state K.may_need self.new.keeper (site_of (K.store_state self.new.keeper) self.new.kept)) }
+        ensures kept { HasRead (site_state_of (K.store_state self.old.keeper) self.old.kept) (site_state_of (K.store_state self.new.keeper) self.new.kept) }
+        ensures fault { IfErr result (IsReadFault true (site_state_of (K.store_state self.old.keeper) self.old.kept) (site_state_of (K.store_state self.new.keeper) self.new.kept)) }
+        ensures closed { (K.store_state self.old.keeper).usable ≡ false → IsErrOf result Failed }
+        ensures at_crash { IsTrue (K.store_state self.old.keeper).honest → AddsNone (K.crash_states self.old.keeper) (K.crash_states self.new.keeper) }
+    {
+        if !self.keeper.is_usable() {
+            return Err(SiteFault::Failed);
+        }
+        let store = self.keeper.figures();
+        match items_in(&mut self.keeper) {
+            Ok(items) => Ok(SiteFigures { items, store }),
+            Err(fault) => Err(to_site_fault(fault)),
+        }
+    }
+}
