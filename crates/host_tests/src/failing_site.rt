@@ -2,7 +2,7 @@
 ghost use Rattle.std.specs.Prelude.{◌≡◌, ℕ, true, false};
 ghost use Rattle.host_types.specs.CrashStates.{nothing, no_crash_state};
 
-use host_types::{Card, Change, Address, Refused, Selector, SiteFault, SiteKeeper, Stamp};
+use host_types::{Address, Card, Change, Refused, Selector, SiteFault, SiteKeeper, Stamp};
 use mem_site::MemSite;
 use word_index::{SearchKeeper, SelectorList};
 

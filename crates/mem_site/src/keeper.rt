@@ -3,7 +3,7 @@ ghost use Rattle.std.specs.Prelude.{ℕ, true};
 ghost use Rattle.common_types.specs.CrashStates.{nothing, no_crash_state};
 
 use crate::MemSite;
-use host_types::{Card, Change, Address, Selector, SiteFault, SiteKeeper, Stamp, chunk_of};
+use host_types::{Address, Card, Change, Selector, SiteFault, SiteKeeper, Stamp, chunk_of};
 
 impl SiteKeeper for MemSite {
     ghost site_state = { λ m. record { site = m; honest = true; usable = true; free = 0; failed_reads = 0; failed_writes = 0 } };

@@ -7,7 +7,7 @@ ghost use Rattle.change_plan.specs.LookUps.{HasNoLongNames};
 ghost use Rattle.change_plan.specs.Plans.{with_host, with_admin};
 ghost use Rattle.mem_site.specs.ShortEntries.{HasShortViews};
 
-use host_types::{Admin, Card, Address, Host, Item, Selector, SiteFault, Stamp, Title};
+use host_types::{Address, Admin, Card, Host, Item, Selector, SiteFault, Stamp, Title};
 use std::alloc::{AllocError, Global};
 use std::collections::BTreeMap;
 use std::marker::Model;

@@ -15,8 +15,8 @@ use crate::answered::{Answered, without_post};
 use crate::documents::as_text;
 use ask_forms::{AskFault, Post, post_of, read_answers};
 use host_types::{
-    Bytes, Card, CardBody, Change, Address, Item, LineList, QuestionList, Selector, SiteFault, Stamp,
-    Title,
+    Address, Bytes, Card, CardBody, Change, Item, LineList, QuestionList, Selector, SiteFault,
+    Stamp, Title,
 };
 use request_reader::Data;
 use std::alloc::{AllocError, Global};

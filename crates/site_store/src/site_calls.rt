@@ -9,7 +9,7 @@ use crate::to_site_fault::{store_fault_comes, to_site_fault};
 use crate::writing::{banner_after, write_replacements};
 use change_plan::plan_change;
 use host_types::{
-    Card, Change, Address, Selector, SiteFault, SiteKeeper, Stamp, changes_keep_sites_valid,
+    Address, Card, Change, Selector, SiteFault, SiteKeeper, Stamp, changes_keep_sites_valid,
 };
 use page_store::Keeper;
 

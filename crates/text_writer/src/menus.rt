@@ -2,7 +2,7 @@
 ghost use Rattle.std.specs.Prelude.{◌≡◌, ◌∷◌, ◌++◌, Some, IfOk, decimal};
 ghost use Rattle.text_writer.specs.Menu as spec;
 
-use host_types::{Bytes, Card, CardBody, Entry, Address, LineList, Selector};
+use host_types::{Address, Bytes, Card, CardBody, Entry, LineList, Selector};
 use std::alloc::{AllocError, Global};
 
 /// The letter that a menu line begins with (RFC 1436, section 3.8).
