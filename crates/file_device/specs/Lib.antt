@@ -1,0 +1,4 @@
+pub mod FileCalls
+pub mod FileCallLaws
+pub mod FileExamples
+pub mod Opening

@@ -1,0 +1,32 @@
+-- What a file is asked for before a device over it is used, and what one call of such a device asks.
+use Rattle.std.specs.Prelude.{◌≡◌, ℕ, zero, suc, ◌/◌, Bool, true, false, IsTrue, IsErr, Result, List, [], ◌∷◌}
+use Rattle.file_device.specs.FileCalls.{FileHistory, is_sound, no_sectors, disk_of, noted}
+use Rattle.file_device.specs.declared.file_call.FileCall.{FileCall}
+use Rattle.file_device.specs.declared.file_call.FileCall.TheVariants.{Sync, DropCache, Length, Read}
+
+-- no sector was read or written yet, and nothing has failed
+pub record IsUnread (calls : List FileCall) : Type 0 where
+  pub disk : disk_of calls ≡ no_sectors
+  pub sound : is_sound calls ≡ true
+
+-- after the calls of `before`, so many sectors were read, one by one from the first
+abbrev pub AreRead : ℕ → List FileCall → List FileCall → Type 0
+AreRead zero before calls = calls ≡ before
+AreRead (suc n) before calls = (bytes : List ℕ) × (earlier : List FileCall) × (calls ≡ Read n bytes ∷ earlier) × AreRead n before earlier
+
+-- After the calls of `before`, the file was synced, its pages in memory were dropped, its length was asked for, and each whole sector of that length was read.
+pub record IsOpened (before : List FileCall) (d : FileHistory) : Type 0 where
+  pub bytes : ℕ
+  pub read : AreRead (bytes / 512) (Length bytes ∷ DropCache ∷ Sync ∷ before) d.calls
+
+-- A device over a file of which nothing was asked yet: nothing is listed, reads give the base, and nothing has failed.
+pub record IsUnused (d : FileHistory) : Type 0 where
+  pub writes : (disk_of d.calls).writes ≡ []
+  pub view : (disk_of d.calls).view ≡ (disk_of d.calls).base
+  pub sound : is_sound d.calls ≡ true
+  pub failures : d.failed_writes ≡ 0
+
+-- A write or a sync makes one call of the file, and its answer is that call's. Once one has failed it makes none, and is refused.
+pub record Asks {T E : Type 0} (result : Result T E) (done failed : FileCall) (old new : List FileCall) : Type 0 where
+  pub asked : is_sound old ≡ true → new ≡ noted result done failed ∷ old
+  pub refused : is_sound old ≡ false → IsErr result × (new ≡ old)

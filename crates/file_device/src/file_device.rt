@@ -1,0 +1,221 @@
+// A file as a disk of sectors. What the file holds is read once, at its opening, and kept in memory; each write goes to both.
+ghost use Rattle.std.specs.Prelude.{◌≡◌, ◌⊎◌, ◌*◌, ◌<◌, false, [], ◌∷◌, IfOk, IfErr, OnOk, OnErr, IsOk, IsTrue, Some, length, slice_get, refl};
+ghost use Rattle.sector_device.specs.Disk.{written, synced, WriteFailed, SyncFailed};
+ghost use Rattle.sector_device.specs.Device.{Elapses};
+ghost use Rattle.sector_device.specs.Effects.{ReadOutcome, WriteOutcome};
+ghost use Rattle.sector_device.specs.declared.device.DeviceFault.TheVariants.{Device as Failing, NoFile, Memory};
+ghost use Rattle.common_types.specs.Counts.{counted};
+ghost use Rattle.file_device.specs.FileCalls.{disk_of, file_state, PossibleSince};
+ghost use Rattle.file_device.specs.FileCallLaws.{good, only_images, all_images};
+ghost use Rattle.file_device.specs.Opening.{AreRead, IsUnread, IsOpened, IsUnused, Asks};
+ghost use Rattle.file_device.specs.declared.file_call.FileCall.TheVariants.{Open, Create, Lock, SetLength, Sync, DropCache, Length, Write, FailedWrite, FailedSync};
+
+use crate::image_file::ImageFile;
+use sector_device::{Device, DeviceFault};
+use std::alloc::Global;
+use std::fs::{File, Files};
+use std::io;
+use std::marker::Model;
+
+/// A file as a disk. Its length div 512 is its count of sectors.
+#[derive(Drop)]
+pub struct FileDevice {
+    file: ImageFile,
+    view: Vec<[u8; 512]>,
+    /// No write and no sync has failed. Once one has, the file is asked for nothing more, since the system may have dropped what was written.
+    is_sound: bool,
+    failed_writes: u64,
+}
+
+impl Model for FileDevice {
+    ghost use Rattle.file_device.specs.FileCalls.{FileHistory, IsKept};
+
+    ghost Value = { FileHistory };
+
+    ghost view = { λ f. record { calls = f.file.made.calls; failed_writes = f.failed_writes } };
+
+    ghost invariant = { λ f. IsKept f.file.made.calls f.view.items f.is_sound };
+}
+
+/// Counts a write or a sync that fails, after which no other is tried.
+#[tactic(auto, unfolding(common_types::specs::Counts::counted))]
+fn gives_up(is_sound: &mut bool, failed_writes: &mut u64) -> DeviceFault
+    ensures sound { is_sound.new ≡ false }
+    ensures next { failed_writes.new ≡ counted failed_writes.old }
+    ensures fault { result ≡ Failing }
+{
+    *is_sound = false;
+    *failed_writes = failed_writes.saturating_add(1);
+    DeviceFault::Device
+}
+
+/// Makes sure of a file, has the system let go of what it keeps of it, and gives its length in bytes.
+fn settled(file: &mut ImageFile) -> io::Result<u64>
+    ensures { IfOk result (λ bytes. file.new.made.calls ≡ Length bytes ∷ DropCache ∷ Sync ∷ file.old.made.calls) }
+{
+    file.sync_all()?;
+    // A sync of an earlier process that failed may have left in the system's memory what the disk doesn't have.
+    file.drop_cache()?;
+    file.length()
+}
+
+/// Reads so many sectors from the first.
+fn read_all(
+    alloc: Global,
+    file: &mut ImageFile,
+    sectors: u64,
+) -> Result<Vec<[u8; 512]>, DeviceFault>
+    requires { (disk_of file.old.made.calls).view ≡ [] }
+    ensures read { OnOk result (AreRead sectors file.old.made.calls file.new.made.calls) }
+    ensures shown { IfOk result (λ view. view.items ≡ (disk_of file.new.made.calls).view) }
+    ensures fault { IfErr result (λ e. (e ≡ NoFile) ⊎ (e ≡ Memory)) }
+{
+    let Ok(mut view) = Vec::with_capacity(alloc, sectors as usize) else {
+        return Err(DeviceFault::Memory);
+    };
+    for n in 0..sectors {
+        let Ok(bytes) = file.read(n) else {
+            return Err(DeviceFault::NoFile);
+        };
+        if view.push(bytes).is_err() {
+            return Err(DeviceFault::Memory);
+        }
+    }
+    Ok(view)
+}
+
+impl FileDevice {
+    /// Opens a file, for this device alone: while another device is open on it, there is no file. It is `NoFile` too where any call of the file fails, and
+    /// `Memory` where there is none for the file's bytes.
+    pub fn open<R: Files<File = File> + AllocGlobal>(
+        rt: &R,
+        path: &str,
+    ) -> Result<FileDevice, DeviceFault>
+        ensures opened { IfOk result (λ d. IsOpened (Lock ∷ Open ∷ []) d) }
+        ensures unused { IfOk result (λ d. IsUnused d) }
+        ensures fault { IfErr result (λ e. (e ≡ NoFile) ⊎ (e ≡ Memory)) }
+    {
+        let Ok(mut file) = ImageFile::open(rt, path) else {
+            return Err(DeviceFault::NoFile);
+        };
+        if file.lock().is_err() {
+            return Err(DeviceFault::NoFile);
+        }
+        FileDevice::over(rt.alloc(), file)
+    }
+
+    /// Opens a file, as `open` does, which is made where it isn't there, and has this many sectors from then on: what it had within them stays, and what is
+    /// new is zeros.
+    pub fn create<R: Files<File = File> + AllocGlobal>(
+        rt: &R,
+        path: &str,
+        sectors: u64,
+    ) -> Result<FileDevice, DeviceFault>
+        ensures opened { IfOk result (λ d. IsOpened (SetLength (512 * sectors) ∷ Lock ∷ Create ∷ []) d) }
+        ensures unused { IfOk result (λ d. IsUnused d) }
+        ensures size { IfOk result (λ d. length (disk_of d.calls).base ≡ sectors) }
+        ensures fault { IfErr result (λ e. (e ≡ NoFile) ⊎ (e ≡ Memory)) }
+    {
+        let Some(length) = sectors.checked_mul(512) else {
+            return Err(DeviceFault::NoFile);
+        };
+        let Ok(mut file) = ImageFile::create(rt, path) else {
+            return Err(DeviceFault::NoFile);
+        };
+        if file.lock().is_err() || file.set_length(length).is_err() {
+            return Err(DeviceFault::NoFile);
+        }
+        let device = FileDevice::over(rt.alloc(), file)?;
+        if device.sectors() != sectors {
+            return Err(DeviceFault::NoFile);
+        }
+        Ok(device)
+    }
+
+    /// Makes sure of a file of which no sector was read yet, and reads all of it.
+    fn over(alloc: Global, file: ImageFile) -> Result<FileDevice, DeviceFault>
+        requires { IsUnread file.made.calls }
+        ensures opened { IfOk result (λ d. IsOpened file.made.calls d) }
+        ensures unused { IfOk result (λ d. IsUnused d) }
+        ensures fault { IfErr result (λ e. (e ≡ NoFile) ⊎ (e ≡ Memory)) }
+    {
+        let mut file = file;
+        let Ok(length) = settled(&mut file) else {
+            return Err(DeviceFault::NoFile);
+        };
+        let view = read_all(alloc, &mut file, length / 512)?;
+        Ok(FileDevice {
+            file,
+            view,
+            is_sound: true,
+            failed_writes: 0,
+        })
+    }
+}
+
+impl Device for FileDevice {
+    ghost state = { file_state };
+
+    ghost moment = { λ f. length f.calls };
+
+    ghost possible_since = { λ f. PossibleSince f.calls };
+
+    ghost crash_states_are_images = { λ f c h left. only_images f.calls c left };
+
+    ghost each_image_is_a_crash_state = { λ f c h image. all_images f.calls c image };
+
+    ghost view_is_image = { λ f h. good f.calls };
+
+    ghost base_has_size = { λ f h. refl };
+
+    fn sectors(&self) -> u64 {
+        self.view.len() as u64
+    }
+
+    /// It never fails, and asks the file for nothing.
+    fn read(&mut self, n: u64, buffer: &mut [u8; 512]) -> Result<(), DeviceFault>
+        requires { n < (file_state self.old).size }
+        ensures read { IsTrue (file_state self.old).honest → OnOk result (slice_get (file_state self.old).disk.view n ≡ Some buffer.new) }
+        ensures untouched { IfErr result (λ e. buffer.new ≡ buffer.old) }
+        ensures outcome { ReadOutcome result (file_state self.old) (file_state self.new) }
+        ensures time { IsTrue (file_state self.old).honest → Elapses (length self.old.calls) (length self.new.calls) (PossibleSince self.old.calls) (PossibleSince self.new.calls) }
+        ensures never_fails { IsOk result }
+        ensures same { self.new ≡ self.old }
+    {
+        *buffer = self.view[n as usize];
+        Ok(())
+    }
+
+    /// One call of the file, and none once a write or a sync has failed.
+    fn write(&mut self, n: u64, bytes: &[u8; 512]) -> Result<(), DeviceFault>
+        requires { n < (file_state self.old).size }
+        ensures written { IsTrue (file_state self.old).honest → OnOk result ((file_state self.new).disk ≡ written n bytes.now (file_state self.old).disk) }
+        ensures failed { IsTrue (file_state self.old).honest → OnErr result (WriteFailed n bytes.now (file_state self.old).disk (file_state self.new).disk) }
+        ensures outcome { WriteOutcome result (file_state self.old) (file_state self.new) }
+        ensures time { IsTrue (file_state self.old).honest → Elapses (length self.old.calls) (length self.new.calls) (PossibleSince self.old.calls) (PossibleSince self.new.calls) }
+        ensures asks { Asks result (Write n bytes.now) (FailedWrite n bytes.now) self.old.calls self.new.calls }
+    {
+        if self.is_sound && self.file.write(n, bytes).is_ok() {
+            self.view[n as usize] = *bytes;
+            return Ok(());
+        }
+        Err(gives_up(&mut self.is_sound, &mut self.failed_writes))
+    }
+
+    /// One call of the file, and none once a write or a sync has failed.
+    fn sync(&mut self) -> Result<(), DeviceFault>
+        ensures synced { IsTrue (file_state self.old).honest → OnOk result ((file_state self.new).disk ≡ synced (file_state self.old).disk) }
+        ensures failed { IsTrue (file_state self.old).honest → OnErr result (SyncFailed (file_state self.old).disk (file_state self.new).disk) }
+        ensures outcome { WriteOutcome result (file_state self.old) (file_state self.new) }
+        ensures time { IsTrue (file_state self.old).honest → Elapses (length self.old.calls) (length self.new.calls) (PossibleSince self.old.calls) (PossibleSince self.new.calls) }
+        ensures asks { Asks result Sync FailedSync self.old.calls self.new.calls }
+    {
+        if !self.is_sound {
+            return Err(gives_up(&mut self.is_sound, &mut self.failed_writes));
+        }
+        match self.file.sync() {
+            Ok(()) => Ok(()),
+            Err(_) => Err(gives_up(&mut self.is_sound, &mut self.failed_writes)),
+        }
+    }
+}

@@ -1,0 +1,134 @@
+// The calls of the system on an image's file. Each function here makes one of them and notes it. That it makes the call which it notes, no clause can say:
+// so each is short, and tests on a real file hold it.
+ghost use Rattle.std.specs.Prelude.{◌≡◌, ◌*◌, ◌<◌, ◌^◌, [], ◌∷◌, IfOk, OnOk};
+ghost use Rattle.file_device.specs.FileCalls.{noted};
+ghost use Rattle.file_device.specs.declared.file_call.FileCall.TheVariants.{Open, Create, Lock, SetLength, Sync, DropCache, Length, Read, Write, FailedWrite, FailedSync};
+
+use crate::FileCall;
+use crate::record::Record;
+use std::fs::{File, Files};
+use std::io;
+use std::os::fd::AsRawFd;
+use std::os::unix::fs::FileExt;
+
+/// A file, and the calls that were made of it since it was opened.
+#[derive(Drop)]
+pub(crate) struct ImageFile {
+    file: File,
+    made: Record,
+}
+
+/// Where a sector begins, in bytes.
+fn offset_of(n: u64) -> u64
+    ensures { n < 2 ^ 55 → result ≡ 512 * n }
+{
+    n.saturating_mul(512)
+}
+
+impl ImageFile {
+    /// Opens a file for reads and writes.
+    pub(crate) fn open<R: Files<File = File>>(rt: &R, path: &str) -> io::Result<ImageFile>
+        ensures { IfOk result (λ file. file.made.calls ≡ Open ∷ []) }
+    {
+        let file = File::options().read(true).write(true).open(rt, path)?;
+        let mut made = Record::new();
+        made.note(FileCall::Open);
+        Ok(ImageFile { file, made })
+    }
+
+    /// The same of a file that is made where it isn't there.
+    pub(crate) fn create<R: Files<File = File>>(rt: &R, path: &str) -> io::Result<ImageFile>
+        ensures { IfOk result (λ file. file.made.calls ≡ Create ∷ []) }
+    {
+        let file = File::options()
+            .read(true)
+            .write(true)
+            .create(true)
+            .open(rt, path)?;
+        let mut made = Record::new();
+        made.note(FileCall::Create);
+        Ok(ImageFile { file, made })
+    }
+
+    /// Locks the file for this opening alone. It doesn't wait.
+    pub(crate) fn lock(&mut self) -> io::Result<()>
+        ensures { OnOk result (self.new.made.calls ≡ Lock ∷ self.old.made.calls) }
+    {
+        self.file.try_lock()?;
+        self.made.note(FileCall::Lock);
+        Ok(())
+    }
+
+    /// Cuts the file to so many bytes, or fills it up with zeros.
+    pub(crate) fn set_length(&mut self, bytes: u64) -> io::Result<()>
+        ensures { OnOk result (self.new.made.calls ≡ SetLength bytes ∷ self.old.made.calls) }
+    {
+        self.file.set_len(bytes)?;
+        self.made.note(FileCall::SetLength(bytes));
+        Ok(())
+    }
+
+    /// Makes sure of the file and of its length.
+    pub(crate) fn sync_all(&mut self) -> io::Result<()>
+        ensures { OnOk result (self.new.made.calls ≡ Sync ∷ self.old.made.calls) }
+    {
+        self.file.sync_all()?;
+        self.made.note(FileCall::Sync);
+        Ok(())
+    }
+
+    /// Has the system let go of the pages that it keeps of the file in memory.
+    pub(crate) fn drop_cache(&mut self) -> io::Result<()>
+        ensures { OnOk result (self.new.made.calls ≡ DropCache ∷ self.old.made.calls) }
+    {
+        let status = libc::posix_fadvise(self.file.as_raw_fd(), 0, 0, libc::POSIX_FADV_DONTNEED);
+        if status != 0 {
+            return Err(io::Error::from_raw_os_error(status));
+        }
+        self.made.note(FileCall::DropCache);
+        Ok(())
+    }
+
+    /// The length of the file, in bytes.
+    pub(crate) fn length(&mut self) -> io::Result<u64>
+        ensures { IfOk result (λ bytes. self.new.made.calls ≡ Length bytes ∷ self.old.made.calls) }
+    {
+        let bytes = self.file.metadata()?.len();
+        self.made.note(FileCall::Length(bytes));
+        Ok(bytes)
+    }
+
+    /// Reads a sector.
+    pub(crate) fn read(&mut self, n: u64) -> io::Result<[u8; 512]>
+        ensures { IfOk result (λ bytes. self.new.made.calls ≡ Read n bytes ∷ self.old.made.calls) }
+    {
+        let mut bytes = [0; 512];
+        self.file.read_exact_at(&mut bytes, offset_of(n))?;
+        self.made.note(FileCall::Read(n, bytes));
+        Ok(bytes)
+    }
+
+    /// Writes a sector. It takes no memory.
+    pub(crate) fn write(&mut self, n: u64, bytes: &[u8; 512]) -> io::Result<()>
+        ensures { self.new.made.calls ≡ noted result (Write n bytes.now) (FailedWrite n bytes.now) ∷ self.old.made.calls }
+    {
+        let answer = self.file.write_all_at(bytes, offset_of(n));
+        match answer {
+            Ok(()) => self.made.note(FileCall::Write(n, *bytes)),
+            Err(_) => self.made.note(FileCall::FailedWrite(n, *bytes)),
+        }
+        answer
+    }
+
+    /// Makes sure of what was written. It takes no memory.
+    pub(crate) fn sync(&mut self) -> io::Result<()>
+        ensures { self.new.made.calls ≡ noted result Sync FailedSync ∷ self.old.made.calls }
+    {
+        let answer = self.file.sync_data();
+        match answer {
+            Ok(()) => self.made.note(FileCall::Sync),
+            Err(_) => self.made.note(FileCall::FailedSync),
+        }
+        answer
+    }
+}
