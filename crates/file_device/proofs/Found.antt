@@ -1,9 +1,9 @@
 -- What an opening after a crash finds.
-use Rattle.std.proofs.Common.{◌≡◌, ℕ, true, List, [], ◌∷◌, length, refl, sym, ◌∙◌, ap, subst}
+use Rattle.std.proofs.Common.{◌≡◌, ℕ, true, List, [], ◌∷◌, length, refl, sym, ◌∙◌, ap}
 use Rattle.sector_device.specs.Disk.{Disk, IsImage, synced}
 use Rattle.sector_device.specs.AfterStop.{done_where}
 use Rattle.sector_device.proofs.EachImage.{some_picks}
-use Rattle.file_device.specs.FileCalls.{FileHistory, FindsWhatACrashLeft, PossibleSince, is_sound, disk_of}
+use Rattle.file_device.specs.FileCalls.{FileHistory, FindsWhatACrashLeft, is_sound, disk_of}
 use Rattle.file_device.specs.FileCallLaws.{only_images}
 use Rattle.file_device.specs.declared.file_call.FileCall.{FileCall}
 use Rattle.file_device.specs.declared.file_call.FileCall.TheVariants.{Sync}

@@ -1,7 +1,7 @@
 -- What the calls of an opening make.
-use Rattle.std.proofs.Common.{◌≡◌, ℕ, zero, suc, ◌/◌, true, List, [], ◌∷◌, ◌++◌, length, refl, sym, ◌∙◌, ap, subst, arith, length-append}
+use Rattle.std.proofs.Common.{◌≡◌, ℕ, zero, suc, true, List, [], ◌∷◌, ◌++◌, length, refl, sym, ◌∙◌, ap, arith, length-append}
 use Rattle.sector_device.specs.Disk.{Disk}
-use Rattle.file_device.specs.FileCalls.{is_sound, grown, disk_of, no_sectors}
+use Rattle.file_device.specs.FileCalls.{is_sound, disk_of}
 use Rattle.file_device.specs.Opening.{AreRead, IsUnread}
 use Rattle.file_device.specs.declared.file_call.FileCall.{FileCall}
 use Rattle.file_device.specs.declared.file_call.FileCall.TheVariants.{Sync, DropCache, Length, Read}

@@ -1,7 +1,7 @@
 -- What every list of calls of a file keeps: its view is an image, and a crash now leaves exactly the images.
 use Rattle.std.specs.Prelude.{◌≡◌, ◌⊎◌, ◌≤◌, ℕ, zero, suc, Bool, true, false, List, [], ◌∷◌, ◌++◌, length, Some, slice_get, refl}
 use Rattle.std.proofs.Common.{inl, inr, ⊎_elim, sym, ◌∙◌, ap, subst, arith, length-append}
-use Rattle.sector_device.specs.Disk.{Disk, IsImage, written, listed, synced, SyncFailed}
+use Rattle.sector_device.specs.Disk.{Disk, IsImage, SyncFailed}
 use Rattle.sector_device.specs.Device.{Elapses}
 use Rattle.sector_device.specs.Images.{image_listed, image_written}
 use Rattle.file_device.specs.FileCalls.{grown, after, is_sound, disk_of, PossibleSince}

@@ -1,5 +1,5 @@
 -- What a file is asked for before a device over it is used, and what one call of such a device asks.
-use Rattle.std.specs.Prelude.{◌≡◌, ℕ, zero, suc, ◌/◌, Bool, true, false, IsTrue, IsErr, Result, List, [], ◌∷◌}
+use Rattle.std.specs.Prelude.{◌≡◌, ℕ, zero, suc, ◌/◌, true, false, IsErr, Result, List, [], ◌∷◌}
 use Rattle.file_device.specs.FileCalls.{FileHistory, is_sound, no_sectors, disk_of, noted}
 use Rattle.file_device.specs.declared.file_call.FileCall.{FileCall}
 use Rattle.file_device.specs.declared.file_call.FileCall.TheVariants.{Sync, DropCache, Length, Read}
