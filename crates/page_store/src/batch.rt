@@ -40,8 +40,8 @@ pub(crate) fn next_pair<'a>(pairs: &'a [Pair], after: &[u8]) -> Option<&'a Pair>
     None
 }
 
-/// Puts a value at a key, in place of what was there.
-fn put(pairs: &mut Vec<Pair>, key: Bytes, value: Bytes) -> Result<(), AllocError>
+/// Puts a value at a key into pairs whose keys rise, in place of what was there.
+pub fn put_pair(pairs: &mut Vec<Pair>, key: Bytes, value: Bytes) -> Result<(), AllocError>
     ensures { OnOk result (pairs.new.items ≡ insert_entry byte_cmp pairs.old.items key value) }
 {
     for place in 0..pairs.len() {
@@ -61,8 +61,8 @@ fn put(pairs: &mut Vec<Pair>, key: Bytes, value: Bytes) -> Result<(), AllocError
     Ok(())
 }
 
-/// Takes what stands at a key away.
-fn take_out(pairs: &mut Vec<Pair>, key: &[u8])
+/// Takes what stands at a key away. It takes no memory.
+pub fn remove_pair(pairs: &mut Vec<Pair>, key: &[u8])
     ensures { pairs.new.items ≡ remove_entry (is_at (byte_cmp key.now)) pairs.old.items }
 {
     for place in 0..pairs.len() {
@@ -77,9 +77,9 @@ fn apply(pairs: &mut Vec<Pair>, edit: &Edit) -> Result<(), AllocError>
     ensures { OnOk result (pairs.new.items ≡ edited pairs.old.items edit.now) }
 {
     match &edit.value {
-        Some(value) => put(pairs, edit.key.clone()?, value.clone()?),
+        Some(value) => put_pair(pairs, edit.key.clone()?, value.clone()?),
         None => {
-            take_out(pairs, edit.key.as_slice());
+            remove_pair(pairs, edit.key.as_slice());
             Ok(())
         }
     }

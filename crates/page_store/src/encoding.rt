@@ -28,7 +28,8 @@ fn put_entry(out: &mut Vec<u8>, pair: &Pair) -> Result<(), AllocError>
     out.extend_from_slice(value)
 }
 
-fn put_entries(out: &mut Vec<u8>, pairs: &[Pair]) -> Result<(), AllocError>
+/// Adds the entries of a leaf to the bytes.
+pub fn put_entries(out: &mut Vec<u8>, pairs: &[Pair]) -> Result<(), AllocError>
     requires { IsTrue (list_all is_pair pairs.now) }
     ensures { OnOk result (out.new.items ≡ out.old.items ++ entries_bytes pairs.now) }
 {
@@ -52,7 +53,7 @@ fn padded(bytes: Vec<u8>, most: usize) -> Result<Vec<u8>, AllocError>
 }
 
 /// A page of these bytes, and zeros after them.
-fn padded_page(bytes: Vec<u8>) -> Result<[u8; 4096], AllocError>
+pub fn padded_page(bytes: Vec<u8>) -> Result<[u8; 4096], AllocError>
     requires { length bytes.items ≤ 4096 }
     ensures { IfOk result (λ page. page ≡ padded 4096 bytes.items) }
 {

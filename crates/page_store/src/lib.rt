@@ -23,8 +23,10 @@ mod roots;
 mod slot;
 
 pub use banner::Banner;
+pub use batch::{put_pair, remove_pair};
 pub use commit::{NewPage, commit_pages, write_pages};
 pub use edit::Edit;
+pub use encoding::{padded_page, put_entries};
 pub use fault::KeeperFault;
 pub use figures::Figures;
 pub use flat_keeper::FlatKeeper;
@@ -36,5 +38,6 @@ pub use laws::{
 };
 pub use pages::{read_page, read_sector, switch_root, sync_all, write_page, write_sector};
 pub use pair::Pair;
+pub use reading::{PageHead, are_zero, child_at, head_at, pair_at};
 pub use roots::{Roots, open_roots};
 pub use slot::{Root, Slot};

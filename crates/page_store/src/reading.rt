@@ -4,8 +4,8 @@ ghost use Rattle.std.specs.Int.{w16, w32, w64};
 ghost use Rattle.page_store.specs.Reading.{number_at, byte_at, piece_at};
 ghost use Rattle.std.specs.List.{list_all};
 ghost use Rattle.page_store.specs.Roots.{FitsDevice, seal_of, root_at, short_text_at, is_zero};
-ghost use Rattle.page_store.specs.Heads.{seen_head};
-ghost use Rattle.page_store.specs.Pages.{Head, head_at, pair_at};
+ghost use Rattle.page_store.specs.Heads.{seen_head, seen_child};
+ghost use Rattle.page_store.specs.Pages.{Head, head_at, pair_at, child_at};
 
 use crate::{Banner, Root};
 use common_types::{Admin, Host};
@@ -76,8 +76,8 @@ fn short_text_at(bytes: &[u8]) -> Option<(&[u8], &[u8])>
     piece_at(length as usize, rest)
 }
 
-/// Whether all bytes are 0.
-pub(crate) fn are_zero(bytes: &[u8]) -> bool
+/// Whether all bytes are 0. It takes no memory.
+pub fn are_zero(bytes: &[u8]) -> bool
     ensures { result ≡ list_all is_zero bytes.now }
 {
     bytes.iter().all(|byte| *byte == 0)
@@ -148,16 +148,20 @@ pub(crate) fn seal_at(number: u64, sector: &[u8; 512]) -> Option<u64>
 
 /// What stands before the entries of a page.
 #[derive(Clone, Copy)]
-pub(crate) struct PageHead {
-    pub(crate) number: u32,
-    pub(crate) generation: u64,
-    pub(crate) level: u16,
-    pub(crate) count: u16,
+pub struct PageHead {
+    /// The page's own number.
+    pub number: u32,
+    /// The generation that wrote it.
+    pub generation: u64,
+    /// How many levels are under it.
+    pub level: u16,
+    /// How many entries it has.
+    pub count: u16,
 }
 
-/// What stands before the entries of a page with a magic word, and the bytes after it.
+/// What stands before the entries of a page with a magic word, and the bytes after it; none where the word is another or the bytes are too few. It takes no memory.
 #[tactic(auto, unfolding(crate::specs::Pages::head_at))]
-pub(crate) fn head_at<'a>(word: &[u8; 8], bytes: &'a [u8]) -> Option<(PageHead, &'a [u8])>
+pub fn head_at<'a>(word: &[u8; 8], bytes: &'a [u8]) -> Option<(PageHead, &'a [u8])>
     ensures { option_map (λ x. (seen_head x.0, x.1.now)) result ≡ head_at word.now bytes.now }
 {
     let (own, rest) = piece_at(8, bytes)?;
@@ -179,9 +183,9 @@ pub(crate) fn head_at<'a>(word: &[u8; 8], bytes: &'a [u8]) -> Option<(PageHead, 
     ))
 }
 
-/// A key and a value in a page, and the bytes after them.
+/// A key and a value in a page, and the bytes after them; none where they have not the form. It takes no memory.
 #[tactic(auto, unfolding(crate::specs::Pages::pair_at))]
-pub(crate) fn pair_at(bytes: &[u8]) -> Option<((&[u8], &[u8]), &[u8])>
+pub fn pair_at(bytes: &[u8]) -> Option<((&[u8], &[u8]), &[u8])>
     ensures { option_map (λ x. ((x.0.0.now, x.0.1.now), x.1.now)) result ≡ pair_at bytes.now }
 {
     let (key_length, rest) = u16_at(bytes)?;
@@ -192,4 +196,18 @@ pub(crate) fn pair_at(bytes: &[u8]) -> Option<((&[u8], &[u8]), &[u8])>
         return None;
     }
     Some(((key, value), rest))
+}
+
+/// A key and the number of the page under it, in a page, and the bytes after them; none where they have not the form. It takes no memory.
+#[tactic(auto, unfolding(crate::specs::Pages::child_at))]
+pub fn child_at(bytes: &[u8]) -> Option<((&[u8], u32), &[u8])>
+    ensures { option_map (λ x. (seen_child (x.0.0.now) x.0.1, x.1.now)) result ≡ child_at bytes.now }
+{
+    let (key_length, rest) = u16_at(bytes)?;
+    let (page, rest) = u32_at(rest)?;
+    let (key, rest) = piece_at(key_length as usize, rest)?;
+    if key_length > 300 {
+        return None;
+    }
+    Some(((key, page), rest))
 }

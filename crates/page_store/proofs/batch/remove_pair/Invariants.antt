@@ -2,7 +2,7 @@ use Rattle.std.proofs.Common.{◌≡◌, ◌++◌, take, drop}
 use Rattle.std.specs.Map.{remove_entry}
 use Rattle.std.specs.BTreeMap.{is_at}
 use Rattle.common_types.specs.ByteOrder.{byte_cmp}
-use Rattle.page_store.proofs.batch.take_out.Given as goal
+use Rattle.page_store.proofs.batch.remove_pair.Given as goal
 
 abbrev pub invariant-loop-place : goal.invariant-loop-place
 invariant-loop-place l = record {

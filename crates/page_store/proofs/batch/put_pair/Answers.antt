@@ -3,7 +3,7 @@ use Rattle.std.specs.declared.cmp.Ordering.TheVariants.{Less, Equal}
 use Rattle.common_types.specs.ByteOrder.{byte_cmp}
 use Rattle.page_store.specs.Pages.{Pair}
 use Rattle.page_store.proofs.Places.{put_less, put_equal, put_last, same_at}
-use Rattle.page_store.proofs.batch.put.Goals as goal
+use Rattle.page_store.proofs.batch.put_pair.Goals as goal
 
 pub returns-in-Less : goal.returns-in-Less
 returns-in-Less c =

@@ -1,7 +1,7 @@
 use Rattle.std.proofs.Common.{◌≡◌, ◌++◌, take, drop}
 use Rattle.std.specs.BTreeMap.{insert_entry}
 use Rattle.common_types.specs.ByteOrder.{byte_cmp}
-use Rattle.page_store.proofs.batch.put.Given as goal
+use Rattle.page_store.proofs.batch.put_pair.Given as goal
 
 abbrev pub invariant-loop-place : goal.invariant-loop-place
 invariant-loop-place l = record {

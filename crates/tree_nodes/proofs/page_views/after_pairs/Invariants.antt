@@ -1,0 +1,7 @@
+use Rattle.std.proofs.Common.{◌≡◌, ◌-◌}
+use Rattle.page_store.specs.Pages.{pair_at, entries_at}
+use Rattle.tree_nodes.specs.PageViews.{after_entries}
+use Rattle.tree_nodes.proofs.page_views.after_pairs.Given as goal
+
+abbrev pub invariant-loop : goal.invariant-loop
+invariant-loop l = after_entries (entries_at pair_at (l.count - l.counter) l.rest) ≡ after_entries (entries_at pair_at l.count l.bytes)

@@ -1,0 +1,11 @@
+pub mod Tree
+pub mod Put
+pub mod Delete
+pub mod Valid
+pub mod NodeView
+pub mod Image
+pub mod Supply
+pub mod PageBytes
+pub mod PageViews
+pub mod Supplied
+pub mod Steps

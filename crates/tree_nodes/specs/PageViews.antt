@@ -1,0 +1,41 @@
+-- What is read of a page, entry by entry.
+use Rattle.std.specs.Prelude.{ℕ, zero, suc, Bool, map, ◌&&◌, List, [], ◌∷◌, Option, Some, None, if◌then◌else◌}
+use Rattle.std.specs.List.{list_all}
+use Rattle.page_store.specs.Keys.{precedes, rises}
+use Rattle.page_store.specs.Pages.{Pair, Child, child_key, starts_empty, is_inside, pair_at, child_at}
+use Rattle.page_store.specs.Content.{Bounds}
+use Rattle.tree_nodes.specs.declared.page_views.ImageBounds.{ImageBounds}
+
+-- the pages of an image and its current seal
+abbrev pub bounds_of : ImageBounds → Bounds
+bounds_of bounds = record { pages = bounds.pages; seal = bounds.seal }
+
+abbrev pub then_more : {E : Type 0} → (List ℕ → List E) → Option (E × List ℕ) → List E
+then_more more None = []
+then_more more (Some entry) = entry.0 ∷ more entry.1
+
+-- so many entries, as far as they have the form
+abbrev pub in_row : {E : Type 0} → (List ℕ → Option (E × List ℕ)) → ℕ → List ℕ → List E
+in_row entry_at zero bytes = []
+in_row entry_at (suc n) bytes = then_more (in_row entry_at n) (entry_at bytes)
+
+abbrev pub pairs_in : ℕ → List ℕ → List Pair
+pairs_in = in_row pair_at
+
+abbrev pub children_in : ℕ → List ℕ → List Child
+children_in = in_row child_at
+
+-- the bytes after so many entries
+abbrev pub after_entries : {E : Type 0} → Option (List E × List ℕ) → Option (List ℕ)
+after_entries None = None
+after_entries (Some entries) = Some entries.1
+
+-- which children a branch of an image of so many pages may have
+abbrev pub are_children : ℕ → List Child → Bool
+are_children pages children = starts_empty (map child_key children) && (rises (map child_key children) && list_all (is_inside pages) children)
+
+-- the page under which a key stands: that of the last child whose key isn't above it
+abbrev pub page_on_path : List ℕ → List Child → Option ℕ
+page_on_path key [] = None
+page_on_path key (child ∷ []) = Some child.page
+page_on_path key (child ∷ next ∷ children) = if precedes key next.key then Some child.page else page_on_path key (next ∷ children)

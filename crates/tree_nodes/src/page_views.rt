@@ -1,0 +1,303 @@
+// Entries of a page, lent from its bytes.
+ghost use Rattle.std.specs.Prelude.{◌≡◌, ◌∷◌, ◌<◌, [], Some, None, IfOk, IfErr, MatchOption, option_map, map};
+ghost use Rattle.page_store.specs.Keys.{rises};
+ghost use Rattle.page_store.specs.Pages.{pair_at, child_at, entries_at, key_of, child_key, fits_place, starts_empty, leaf_of, branch_of, is_inside};
+ghost use Rattle.page_store.specs.Batch.{value_at, pair_after};
+ghost use Rattle.page_store.specs.Content.{place_in};
+ghost use Rattle.page_store.specs.Heads.{seen_head, seen_child};
+ghost use Rattle.std.specs.List.{list_all};
+ghost use Rattle.tree_nodes.specs.PageViews.{bounds_of, pairs_in, children_in, after_entries, are_children, page_on_path};
+ghost use Rattle.tree_nodes.specs.declared.fault.NodeFault.TheVariants.{Damaged};
+
+use crate::NodeFault;
+use page_store::{PageHead, are_zero, child_at, head_at, pair_at};
+use std::cmp::Ordering;
+
+/// The first word of a tree page.
+pub(crate) const PAGE_WORD: [u8; 8] = *b"GOPHPAGE";
+
+/// What the pages of an image are tested against.
+#[derive(Clone, Copy, Debug, PartialEq, Eq)]
+pub struct ImageBounds {
+    /// How many pages the image has.
+    pub pages: u32,
+    /// The generation that is current.
+    pub seal: u64,
+}
+
+/// The pairs of a leaf, in rising order, lent from the bytes of its page.
+#[derive(Clone, Copy)]
+pub struct Leaf<'a> {
+    count: u16,
+    entries: &'a [u8],
+}
+
+/// The children of a branch, in rising order, lent from the bytes of its page.
+#[derive(Clone, Copy)]
+pub struct Branch<'a> {
+    count: u16,
+    entries: &'a [u8],
+}
+
+/// Whether a head is that of a page of this number and level, of a generation up to the current one, and of at least one entry.
+fn fits_place(bounds: ImageBounds, level: u16, page: u32, head: PageHead) -> bool
+    ensures { result ≡ fits_place (place_in (bounds_of bounds) level page) (seen_head head) }
+{
+    head.number == page
+        && head.level == level
+        && head.generation >= 1
+        && head.generation <= bounds.seal
+        && head.count >= 1
+}
+
+/// The bytes after so many pairs, where they have the form.
+fn after_pairs(count: u16, bytes: &[u8]) -> Option<&[u8]>
+    ensures { option_map (λ r. r.now) result ≡ after_entries (entries_at pair_at count bytes.now) }
+{
+    let mut rest = bytes;
+    for _ in 0..count {
+        let (_, after) = pair_at(rest)?;
+        rest = after;
+    }
+    Some(rest)
+}
+
+/// The bytes after so many children, where they have the form.
+fn after_children(count: u16, bytes: &[u8]) -> Option<&[u8]>
+    ensures { option_map (λ r. r.now) result ≡ after_entries (entries_at child_at count bytes.now) }
+{
+    let mut rest = bytes;
+    for _ in 0..count {
+        let (_, after) = child_at(rest)?;
+        rest = after;
+    }
+    Some(rest)
+}
+
+impl<'a> Leaf<'a> {
+    /// Its first pair, and the others; none where it has none. It takes no memory.
+    pub fn first(&self) -> Option<(&'a [u8], &'a [u8], Leaf<'a>)>
+        ensures pairs { MatchOption result (pairs_in self.now.count self.now.entries.now ≡ []) (λ x. pairs_in self.now.count self.now.entries.now ≡ (x.0.now, x.1.now) ∷ pairs_in x.2.count x.2.entries.now) }
+        ensures fewer { MatchOption result (self.now.count ≡ self.now.count) (λ x. x.2.count < self.now.count) }
+    {
+        if self.count < 1 {
+            return None;
+        }
+        let ((key, value), entries) = pair_at(self.entries)?;
+        let others = Leaf {
+            count: self.count - 1,
+            entries,
+        };
+        Some((key, value, others))
+    }
+
+    /// The value at a key. It takes no memory.
+    pub fn get(&self, key: &[u8]) -> Option<&'a [u8]>
+        ensures { option_map (λ v. v.now) result ≡ value_at (pairs_in self.now.count self.now.entries.now) key.now }
+    {
+        let mut left = *self;
+        while let Some((here, value, others)) = left.first() {
+            if key.cmp(here) == Ordering::Equal {
+                return Some(value);
+            }
+            left = others;
+        }
+        None
+    }
+
+    /// The pair with the least key above this one. It takes no memory.
+    pub fn after(&self, key: &[u8]) -> Option<(&'a [u8], &'a [u8])>
+        ensures { option_map (λ p. (p.0.now, p.1.now)) result ≡ pair_after (pairs_in self.now.count self.now.entries.now) key.now }
+    {
+        let mut left = *self;
+        while let Some((here, value, others)) = left.first() {
+            if key.cmp(here) == Ordering::Less {
+                return Some((here, value));
+            }
+            left = others;
+        }
+        None
+    }
+}
+
+impl<'a> Leaf<'a> {
+    /// The pairs of a leaf, by the bytes of its page; `Damaged` exactly where they have not the form of that page. It takes no memory.
+    pub fn new(bounds: ImageBounds, page: u32, bytes: &'a [u8; 4096]) -> Result<Leaf<'a>, NodeFault>
+        ensures pairs { IfOk result (λ leaf. leaf_of (place_in (bounds_of bounds) 0 page) [] None bytes.now ≡ Some (pairs_in leaf.count leaf.entries.now)) }
+        ensures fault { IfErr result (λ e. (e ≡ Damaged page) × (leaf_of (place_in (bounds_of bounds) 0 page) [] None bytes.now ≡ None)) }
+    {
+        match leaf_in(bounds, page, bytes) {
+            Some(leaf) => Ok(leaf),
+            None => Err(NodeFault::Damaged { page }),
+        }
+    }
+
+    /// Whether its keys rise.
+    fn keys_rise(&self) -> bool
+        ensures { result ≡ rises (map key_of (pairs_in self.now.count self.now.entries.now)) }
+    {
+        let Some((first, _, others)) = self.first() else {
+            return true;
+        };
+        let mut before = first;
+        let mut left = others;
+        while let Some((key, _, others)) = left.first() {
+            if before.cmp(key) != Ordering::Less {
+                return false;
+            }
+            before = key;
+            left = others;
+        }
+        true
+    }
+}
+
+/// The leaf that the bytes of a page have the form of.
+fn leaf_in<'a>(bounds: ImageBounds, page: u32, bytes: &'a [u8; 4096]) -> Option<Leaf<'a>>
+    ensures { MatchOption result (leaf_of (place_in (bounds_of bounds) 0 page) [] None bytes.now ≡ None) (λ leaf. leaf_of (place_in (bounds_of bounds) 0 page) [] None bytes.now ≡ Some (pairs_in leaf.count leaf.entries.now)) }
+{
+    let (head, entries) = head_at(&PAGE_WORD, bytes)?;
+    let rest = after_pairs(head.count, entries)?;
+    let leaf = Leaf {
+        count: head.count,
+        entries,
+    };
+    if !fits_place(bounds, 0, page, head) {
+        return None;
+    }
+    if !are_zero(rest) {
+        return None;
+    }
+    if !leaf.keys_rise() {
+        return None;
+    }
+    Some(leaf)
+}
+
+impl<'a> Branch<'a> {
+    /// The children of a branch of a level, by the bytes of its page; `Damaged` exactly where they have not the form of that page. It takes no memory.
+    pub fn new(
+        bounds: ImageBounds,
+        level: u16,
+        page: u32,
+        bytes: &'a [u8; 4096],
+    ) -> Result<Branch<'a>, NodeFault>
+        ensures children { IfOk result (λ branch. branch_of (place_in (bounds_of bounds) level page) [] None bytes.now ≡ Some (children_in branch.count branch.entries.now)) }
+        ensures fault { IfErr result (λ e. (e ≡ Damaged page) × (branch_of (place_in (bounds_of bounds) level page) [] None bytes.now ≡ None)) }
+    {
+        match branch_in(bounds, level, page, bytes) {
+            Some(branch) => Ok(branch),
+            None => Err(NodeFault::Damaged { page }),
+        }
+    }
+
+    /// Its first child, by key and page, and the others; none where it has none. It takes no memory.
+    pub fn first(&self) -> Option<(&'a [u8], u32, Branch<'a>)>
+        ensures children { MatchOption result (children_in self.now.count self.now.entries.now ≡ []) (λ x. children_in self.now.count self.now.entries.now ≡ seen_child x.0.now x.1 ∷ children_in x.2.count x.2.entries.now) }
+        ensures fewer { MatchOption result (self.now.count ≡ self.now.count) (λ x. x.2.count < self.now.count) }
+    {
+        if self.count == 0 {
+            return None;
+        }
+        let ((key, page), entries) = child_at(self.entries)?;
+        let others = Branch {
+            count: self.count - 1,
+            entries,
+        };
+        Some((key, page, others))
+    }
+
+    /// The page under which a key stands: that of the last child whose key isn't above it. It takes no memory.
+    pub fn page_of(&self, key: &[u8]) -> Option<u32>
+        ensures { result ≡ page_on_path key.now (children_in self.now.count self.now.entries.now) }
+    {
+        let (_, first, others) = self.first()?;
+        let mut page = first;
+        let mut left = others;
+        while let Some((next, after, others)) = left.first() {
+            if key.cmp(next) == Ordering::Less {
+                return Some(page);
+            }
+            page = after;
+            left = others;
+        }
+        Some(page)
+    }
+
+    /// Whether its keys rise.
+    fn keys_rise(&self) -> bool
+        ensures { result ≡ rises (map child_key (children_in self.now.count self.now.entries.now)) }
+    {
+        let Some((first, _, others)) = self.first() else {
+            return true;
+        };
+        let mut before = first;
+        let mut left = others;
+        while let Some((key, _, others)) = left.first() {
+            if before.cmp(key) != Ordering::Less {
+                return false;
+            }
+            before = key;
+            left = others;
+        }
+        true
+    }
+
+    /// Whether its children are pages of an image of so many.
+    fn are_inside(&self, pages: u32) -> bool
+        ensures { result ≡ list_all (is_inside pages) (children_in self.now.count self.now.entries.now) }
+    {
+        let mut left = *self;
+        while let Some((_, page, others)) = left.first() {
+            if page < 2 || page >= pages {
+                return false;
+            }
+            left = others;
+        }
+        true
+    }
+
+    /// Whether its first key is empty, its keys rise, and its children are pages of an image of so many.
+    fn are_children(&self, pages: u32) -> bool
+        ensures { result ≡ are_children pages (children_in self.now.count self.now.entries.now) }
+    {
+        self.starts_empty() && self.keys_rise() && self.are_inside(pages)
+    }
+
+    /// Whether its first key is empty.
+    fn starts_empty(&self) -> bool
+        ensures { result ≡ starts_empty (map child_key (children_in self.now.count self.now.entries.now)) }
+    {
+        match self.first() {
+            Some((key, _, _)) => key.is_empty(),
+            None => false,
+        }
+    }
+}
+
+/// The branch that the bytes of a page have the form of.
+fn branch_in<'a>(
+    bounds: ImageBounds,
+    level: u16,
+    page: u32,
+    bytes: &'a [u8; 4096],
+) -> Option<Branch<'a>>
+    ensures { MatchOption result (branch_of (place_in (bounds_of bounds) level page) [] None bytes.now ≡ None) (λ branch. branch_of (place_in (bounds_of bounds) level page) [] None bytes.now ≡ Some (children_in branch.count branch.entries.now)) }
+{
+    let (head, entries) = head_at(&PAGE_WORD, bytes)?;
+    let rest = after_children(head.count, entries)?;
+    let branch = Branch {
+        count: head.count,
+        entries,
+    };
+    if !fits_place(bounds, level, page, head) {
+        return None;
+    }
+    if !are_zero(rest) {
+        return None;
+    }
+    if !branch.are_children(bounds.pages) {
+        return None;
+    }
+    Some(branch)
+}
