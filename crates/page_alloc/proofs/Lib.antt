@@ -1,0 +1,10 @@
+pub mod Changes
+pub mod Counting
+pub mod Keeping
+pub mod Lives
+pub mod Marks
+pub mod Next
+pub mod Pins
+pub mod Sets
+pub mod Sweeping
+pub mod Uses

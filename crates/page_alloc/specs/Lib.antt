@@ -1,0 +1,7 @@
+pub mod Calls
+pub mod Examples
+pub mod Kept
+pub mod LedgerState
+pub mod Lives
+pub mod Outcomes
+pub mod Runs
