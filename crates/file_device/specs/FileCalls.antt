@@ -76,6 +76,6 @@ abbrev pub file_state : FileHistory → State
 file_state h = record { disk = disk_of h.calls; size = length (disk_of h.calls).base; honest = true; failed_reads = 0; failed_writes = h.failed_writes }
 
 -- The copy in memory is what reads give, and it is known whether a write or a sync has failed.
-pub record IsKept (calls : List FileCall) (copy : List (List ℕ)) (sound : Bool) : Type 0 where
+pub record IsCopy (calls : List FileCall) (copy : List (List ℕ)) (sound : Bool) : Type 0 where
   pub shown : copy ≡ (disk_of calls).view
   pub known : sound ≡ is_sound calls

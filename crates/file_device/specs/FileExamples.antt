@@ -14,8 +14,8 @@ abbrev pub two : ℕ → ℕ → List (List ℕ)
 two a b = (a ∷ []) ∷ (b ∷ []) ∷ []
 
 -- these sectors, of which nothing is listed
-abbrev pub settled : ℕ → ℕ → Disk
-settled a b = record { base = two a b; writes = []; view = two a b }
+abbrev pub synced_disk : ℕ → ℕ → Disk
+synced_disk a b = record { base = two a b; writes = []; view = two a b }
 
 -- sector 0 was written as 7
 abbrev pub once : List FileCall
@@ -27,9 +27,9 @@ torn = FailedWrite 1 (8 ∷ []) ∷ once
 
 pub record FileExamples : Type 0 where
   pub before_reads : disk_of (Length 1024 ∷ DropCache ∷ Sync ∷ Lock ∷ Open ∷ []) ≡ no_sectors
-  pub opened : disk_of opened ≡ settled 5 6
+  pub opened : disk_of opened ≡ synced_disk 5 6
   pub shown : disk_of once ≡ record { base = two 5 6; writes = (0, 7 ∷ []) ∷ []; view = two 7 6 }
-  pub sure : disk_of (Sync ∷ once) ≡ settled 7 6
+  pub sure : disk_of (Sync ∷ once) ≡ synced_disk 7 6
   pub sound : is_sound (Sync ∷ once) ≡ true
   pub failed_is_listed : disk_of torn ≡ record { base = two 5 6; writes = (0, 7 ∷ []) ∷ (1, 8 ∷ []) ∷ []; view = two 7 6 }
   pub not_sound : is_sound torn ≡ false

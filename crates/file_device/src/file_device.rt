@@ -28,13 +28,13 @@ pub struct FileDevice {
 }
 
 impl Model for FileDevice {
-    ghost use Rattle.file_device.specs.FileCalls.{FileHistory, IsKept};
+    ghost use Rattle.file_device.specs.FileCalls.{FileHistory, IsCopy};
 
     ghost Value = { FileHistory };
 
     ghost view = { λ f. record { calls = f.file.made.calls; failed_writes = f.failed_writes } };
 
-    ghost invariant = { λ f. IsKept f.file.made.calls f.view.items f.is_sound };
+    ghost invariant = { λ f. IsCopy f.file.made.calls f.view.items f.is_sound };
 }
 
 /// Counts a write or a sync that fails, after which no other is tried.
@@ -50,7 +50,7 @@ fn gives_up(is_sound: &mut bool, failed_writes: &mut u64) -> DeviceFault
 }
 
 /// Makes sure of a file, has the system let go of what it keeps of it, and gives its length in bytes.
-fn settled(file: &mut ImageFile) -> io::Result<u64>
+fn sync_and_measure(file: &mut ImageFile) -> io::Result<u64>
     ensures { IfOk result (λ bytes. file.new.made.calls ≡ Length bytes ∷ DropCache ∷ Sync ∷ file.old.made.calls) }
 {
     file.sync_all()?;
@@ -140,7 +140,7 @@ impl FileDevice {
         ensures fault { IfErr result (λ e. (e ≡ NoFile) ⊎ (e ≡ Memory)) }
     {
         let mut file = file;
-        let Ok(length) = settled(&mut file) else {
+        let Ok(length) = sync_and_measure(&mut file) else {
             return Err(DeviceFault::NoFile);
         };
         let view = read_all(alloc, &mut file, length / 512)?;

@@ -1,6 +1,6 @@
 pub mod Changes
 pub mod Counting
-pub mod Keeping
+pub mod ConsistentLedgers
 pub mod Lives
 pub mod Marks
 pub mod Next

@@ -8,7 +8,7 @@ use Rattle.page_alloc.specs.declared.runs.Starts.{Starts}
 use Rattle.page_alloc.specs.LedgerState.{Mark, Untouched}
 use Rattle.page_alloc.specs.Calls.{unmarked, life_from, lives_from}
 use Rattle.page_alloc.specs.Kept.{mark_at, marks_of, swept, is_pinned}
-use Rattle.page_alloc.specs.Runs.{Use, Root, Waiting, Retired, Held, Taken, Free, use_at, use_of, undone, settled, OneChanges}
+use Rattle.page_alloc.specs.Runs.{Use, Root, Waiting, Retired, Held, Taken, Free, use_at, use_of, undone, after_switch, OneChanges}
 
 pub mark_get : (starts : Starts) (places : List ℕ) (p : ℕ) → p < length places → get_or (marks_of starts places) p Untouched ≡ mark_at (use_of starts places p)
 mark_get starts places p lt = get_or-map (λ place. mark_at (use_at starts place)) places p 0 Untouched lt
@@ -87,7 +87,7 @@ swept_is_unmarked pins life = either_way (is_pinned pins life)
     either_way true = refl
     either_way false = refl
 
-pub settled_is_unmarked : (pins : List (Option ℕ)) (life : Life) (now : Use) → mark_at (swept pins life (settled now)) ≡ Untouched
+pub settled_is_unmarked : (pins : List (Option ℕ)) (life : Life) (now : Use) → mark_at (swept pins life (after_switch now)) ≡ Untouched
 settled_is_unmarked pins life Root = refl
 settled_is_unmarked pins life Waiting = swept_is_unmarked pins life
 settled_is_unmarked pins life Retired = swept_is_unmarked pins life

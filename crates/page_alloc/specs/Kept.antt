@@ -58,8 +58,8 @@ pub record Keeps (starts : Starts) (places : List ℕ) (pages : ℕ) (lives : Li
   pub suits : (page : ℕ) → page < pages → Suits generation pins page (slice_index_or lives page Never) (use_of starts places page)
   pub past : (number : ℕ) → AtMost generation (slice_index_or pins number None)
 
-abbrev pub IsKept : Inside → Type 0
-IsKept a = Keeps a.runs.starts a.runs.order.places.items (length a.runs.order.pages.items) a.lives.items a.generation a.pins
+abbrev pub IsConsistent : Inside → Type 0
+IsConsistent a = Keeps a.runs.starts a.runs.order.places.items (length a.runs.order.pages.items) a.lives.items a.generation a.pins
 
 -- a waiting page is free where no pin keeps it any longer
 abbrev pub swept : List (Option ℕ) → Life → Use → Use

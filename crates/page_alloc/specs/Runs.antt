@@ -64,7 +64,7 @@ undone Retired = Held
 undone other = other
 
 -- a page's use once the running commit has switched
-abbrev pub settled : Use → Use
-settled Taken = Held
-settled Retired = Waiting
-settled other = other
+abbrev pub after_switch : Use → Use
+after_switch Taken = Held
+after_switch Retired = Waiting
+after_switch other = other

@@ -39,11 +39,11 @@ impl Model for Ledger {
 
     ghost Value = { LedgerState };
 
-    ghost use Rattle.page_alloc.specs.Kept.{IsKept, state_of};
+    ghost use Rattle.page_alloc.specs.Kept.{IsConsistent, state_of};
 
     ghost view = { state_of };
 
-    ghost invariant = { IsKept };
+    ghost invariant = { IsConsistent };
 }
 
 impl Ledger {

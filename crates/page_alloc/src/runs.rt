@@ -1,7 +1,7 @@
 // All pages in one order, cut into runs by what the pages are used for: root slots, waiting, retired, held, taken, free. A page goes
 // from a run to the next one by two exchanges of places, so no call takes time that grows with the image.
 ghost use Rattle.std.specs.Prelude.{◌↔◌, IsTrue, ◌⊎◌, ◌≡◌, ◌<◌, ◌≤◌, ◌+◌, ◌-◌, ℕ, IfOk, length, if◌then◌else◌, nat_lt};
-ghost use Rattle.page_alloc.specs.Runs.{Root, Waiting, Retired, Held, Taken, Free, use_of, undone, settled, at, IsInverse, AreRuns, OneChanges};
+ghost use Rattle.page_alloc.specs.Runs.{Root, Waiting, Retired, Held, Taken, Free, use_of, undone, after_switch, at, IsInverse, AreRuns, OneChanges};
 
 use crate::order::Order;
 use std::alloc::{AllocError, Global};
@@ -114,7 +114,7 @@ impl Runs {
 
     /// What the running commit took is held, and what it retired waits.
     pub fn settle(&mut self)
-        ensures uses { (page : ℕ) → use_of self.new.starts self.new.order.places.items page ≡ settled (use_of self.old.starts self.old.order.places.items page) }
+        ensures uses { (page : ℕ) → use_of self.new.starts self.new.order.places.items page ≡ after_switch (use_of self.old.starts self.old.order.places.items page) }
         ensures free { self.new.starts.free ≡ self.old.starts.free }
         ensures size { length self.new.order.pages.items ≡ length self.old.order.pages.items }
     {

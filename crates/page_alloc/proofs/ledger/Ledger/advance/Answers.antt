@@ -6,8 +6,8 @@ use Rattle.page_alloc.specs.declared.life.Life.TheVariants.{Never}
 use Rattle.page_alloc.specs.LedgerState.{Mark, LedgerState, has_page, has_page_next}
 use Rattle.page_alloc.specs.Calls.{advanced, lives_from}
 use Rattle.page_alloc.specs.Kept.{state, marks_of, mark_at, swept}
-use Rattle.page_alloc.specs.Runs.{Use, use_of, settled}
-use Rattle.page_alloc.proofs.Keeping.{keeps_advanced}
+use Rattle.page_alloc.specs.Runs.{Use, use_of, after_switch}
+use Rattle.page_alloc.proofs.ConsistentLedgers.{keeps_advanced}
 use Rattle.page_alloc.proofs.Next.{next_pages, pinned_pages}
 use Rattle.page_alloc.proofs.Marks.{marks_gone, settled_is_unmarked}
 use Rattle.page_alloc.proofs.ledger.Ledger.advance.Goals as goal
@@ -29,7 +29,7 @@ invariant_of-self c =
     (λ p lt.
     c.sweep.ensures.uses p (omega (arith, lt, ap length passed, ap length kept, count, a.lives.ok.0, c.self.invariant.size))
     ∙ ap (λ (u : Use). swept a.pins (get_or c.deref.result.now p Never) u) (c.settle.ensures.uses p)
-    ∙ ap (λ (ls : List Life). swept a.pins (get_or ls p Never) (settled (use_of a.runs.starts a.runs.order.places.items p))) passed)
+    ∙ ap (λ (ls : List Life). swept a.pins (get_or ls p Never) (after_switch (use_of a.runs.starts a.runs.order.places.items p))) passed)
 
 pub returns-clause-advanced : goal.returns-clause-advanced
 returns-clause-advanced c =

@@ -4,7 +4,7 @@ use Rattle.page_alloc.specs.LedgerState.{Mark, LedgerState, is_free}
 use Rattle.page_alloc.specs.Calls.{holding}
 use Rattle.page_alloc.specs.Kept.{mark_at, Suits}
 use Rattle.page_alloc.specs.Runs.{Use, Held}
-use Rattle.page_alloc.proofs.Keeping.{keeps_held}
+use Rattle.page_alloc.proofs.ConsistentLedgers.{keeps_held}
 use Rattle.page_alloc.proofs.Marks.{marks_stay}
 use Rattle.page_alloc.proofs.Uses.{free_inside, free_is_free}
 use Rattle.page_alloc.proofs.ledger.Ledger.hold.Goals as goal

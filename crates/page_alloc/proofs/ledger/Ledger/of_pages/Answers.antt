@@ -3,7 +3,7 @@ use Rattle.page_alloc.specs.declared.life.Life.{Life}
 use Rattle.page_alloc.specs.declared.life.Life.TheVariants.{Never}
 use Rattle.page_alloc.specs.LedgerState.{Mark}
 use Rattle.page_alloc.specs.Kept.{Keeps, state}
-use Rattle.page_alloc.proofs.Keeping.{keeps_fresh}
+use Rattle.page_alloc.proofs.ConsistentLedgers.{keeps_fresh}
 use Rattle.page_alloc.proofs.Marks.{marks_none}
 use Rattle.page_alloc.proofs.ledger.Ledger.of_pages.Goals as goal
 

@@ -1,4 +1,4 @@
-use Rattle.page_alloc.proofs.Keeping.{keeps_pinned}
+use Rattle.page_alloc.proofs.ConsistentLedgers.{keeps_pinned}
 use Rattle.std.proofs.Common.{length}
 use Rattle.page_alloc.proofs.ledger.Ledger.pin.Goals as goal
 

@@ -4,7 +4,7 @@ use Rattle.page_alloc.specs.LedgerState.{Mark, Retired, LedgerState, is_alive, f
 use Rattle.page_alloc.specs.Calls.{retiring}
 use Rattle.page_alloc.specs.Kept.{Suits}
 use Rattle.page_alloc.specs.Runs.{Use, Retired as Leaving}
-use Rattle.page_alloc.proofs.Keeping.{keeps_one}
+use Rattle.page_alloc.proofs.ConsistentLedgers.{keeps_one}
 use Rattle.page_alloc.proofs.Marks.{marks_one}
 use Rattle.page_alloc.proofs.Uses.{alive_inside, alive_is_held, free_count_is}
 use Rattle.page_alloc.proofs.ledger.Ledger.retire.Goals as goal

@@ -4,7 +4,7 @@ use Rattle.page_alloc.specs.LedgerState.{Mark, Taken, LedgerState, is_free, free
 use Rattle.page_alloc.specs.Calls.{taking}
 use Rattle.page_alloc.specs.Kept.{Suits}
 use Rattle.page_alloc.specs.Runs.{Use, Taken as Coming}
-use Rattle.page_alloc.proofs.Keeping.{keeps_one}
+use Rattle.page_alloc.proofs.ConsistentLedgers.{keeps_one}
 use Rattle.page_alloc.proofs.Marks.{marks_one}
 use Rattle.page_alloc.proofs.Uses.{is_free_use, free_is, free_count_is}
 use Rattle.page_alloc.proofs.ledger.Ledger.take.Goals as goal

@@ -5,7 +5,7 @@ use Rattle.page_alloc.specs.LedgerState.{Mark}
 use Rattle.page_alloc.specs.Calls.{unpinned}
 use Rattle.page_alloc.specs.Kept.{mark_at, marks_of, swept}
 use Rattle.page_alloc.specs.Runs.{use_of}
-use Rattle.page_alloc.proofs.Keeping.{keeps_unpinned}
+use Rattle.page_alloc.proofs.ConsistentLedgers.{keeps_unpinned}
 use Rattle.page_alloc.proofs.Marks.{marks_are, marks_count, mark_get, swept_keeps_marks}
 use Rattle.page_alloc.proofs.ledger.Ledger.unpin.Goals as goal
 

@@ -9,7 +9,7 @@ use Rattle.page_alloc.specs.Lives.{lives_at, ended_at}
 use Rattle.page_alloc.specs.LedgerState.{Mark}
 use Rattle.page_alloc.specs.Calls.{life_from, lives_from}
 use Rattle.page_alloc.specs.Kept.{mark_at, marks_of, is_pinned, swept, HasEnded, GoesOn, Suits, AtMost, Keeps}
-use Rattle.page_alloc.specs.Runs.{Use, Root, Waiting, Retired, Held, Taken, Free, use_of, settled, OneChanges}
+use Rattle.page_alloc.specs.Runs.{Use, Root, Waiting, Retired, Held, Taken, Free, use_of, after_switch, OneChanges}
 use Rattle.page_alloc.proofs.Marks.{mark_get, marks_count, lives_from_get}
 use Rattle.page_alloc.proofs.Pins.{any_less, any_more}
 use Rattle.page_alloc.proofs.Uses.{ended_before}
@@ -79,7 +79,7 @@ swept_suits g pins page life low ended =
       | inr loose ↦ subst (λ (u : Use). Suits g pins page life u) (sym (ap (λ (b : Bool). cond b Waiting Free) loose)) (low, ended, loose)
     ]
 
-settled_suits : (old new : ℕ) (pins : List (Option ℕ)) (page : ℕ) (life : Life) (now : Use) → old < new → Suits old pins page life now → Suits new pins page (life_from new life (mark_at now)) (swept pins (life_from new life (mark_at now)) (settled now))
+settled_suits : (old new : ℕ) (pins : List (Option ℕ)) (page : ℕ) (life : Life) (now : Use) → old < new → Suits old pins page life now → Suits new pins page (life_from new life (mark_at now)) (swept pins (life_from new life (mark_at now)) (after_switch now))
 settled_suits old new pins page life Root lt h = h
 settled_suits old new pins page life Waiting lt h = swept_suits new pins page life h.0 (later_end old new life lt h.1)
 settled_suits old new pins page life Retired lt h = swept_suits new pins page (ended_at new life) h.0 (just_ended old new life h.1)
@@ -95,7 +95,7 @@ lives_from_count g (life ∷ lives) (mark ∷ marks) = ap suc (lives_from_count 
 -- once the running commit has switched
 pub keeps_advanced : (starts after : Starts) (places placed : List ℕ) (n m : ℕ) (lives lived : List Life) (old new : ℕ) (pins : List (Option ℕ)) → Keeps starts places n lives old pins → length places ≡ n → m ≡ n → old < new
     → lived ≡ lives_from new lives (marks_of starts places)
-    → ((p : ℕ) → p < n → use_of after placed p ≡ swept pins (get_or lived p Never) (settled (use_of starts places p)))
+    → ((p : ℕ) → p < n → use_of after placed p ≡ swept pins (get_or lived p Never) (after_switch (use_of starts places p)))
     → Keeps after placed m lived new pins
 keeps_advanced starts after places placed n m lives lived old new pins keeps count size lt are uses = record {
   size = ap length are ∙ lives_from_count new lives (marks_of starts places) ∙ keeps.size ∙ sym size;
@@ -110,7 +110,7 @@ keeps_advanced starts after places placed n m lives lived old new pins keeps cou
       ∙ lives_from_get new lives marks p (omega (arith, marks_count starts places, count, keeps.size)) (omega (arith, inside, keeps.size))
       ∙ ap (λ (mark : Mark). life_from new (get_or lives p Never) mark) (mark_get starts places p (omega (arith, inside, count))) in
       subst (λ (u : Use). Suits new pins p (get_or lived p Never) u) (sym (uses p inside))
-      (subst (λ (l : Life). Suits new pins p l (swept pins l (settled now))) (sym life) (settled_suits old new pins p (get_or lives p Never) now lt (keeps.suits p inside)));
+      (subst (λ (l : Life). Suits new pins p l (swept pins l (after_switch now))) (sym life) (settled_suits old new pins p (get_or lives p Never) now lt (keeps.suits p inside)));
 }
 
 unpinned_suits : (generation : ℕ) (pins : List (Option ℕ)) (number page : ℕ) (life : Life) (now : Use) → Suits generation pins page life now → Suits generation (set pins number None) page life (swept (set pins number None) life now)
