@@ -24,7 +24,7 @@ pub record StoreState : Type 0 where
 abbrev pub last_generation : ℕ
 last_generation = 2 ^ 64 - 1
 
--- What is told of the size of what is held.
+-- What a store says of its size.
 pub record IsFigures (h : StoreState) (figures : Figures) : Type 0 where
   pub keys : IsTrue h.honest → figures.keys ≡ length h.pairs
   pub free : IsTrue h.honest → figures.free ≡ h.free
