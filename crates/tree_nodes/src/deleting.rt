@@ -65,7 +65,7 @@ fn with_child_left(others: Vec<(Bytes, Node)>, at: usize, left: Option<Node>) ->
     }
 }
 
-/// Takes a key away. Nothing is left of a node without entries. It takes no memory.
+/// Takes a key away. Nothing is left of a node without entries. Where the key's path ends at a page that isn't owned (`needed` tells which), the tree comes back as it is. It takes no memory.
 pub fn delete(node: Node, key: &[u8]) -> Option<Node>
     ensures { left_of result ≡ delete_in key.now (tree_of node) }
 {

@@ -76,7 +76,7 @@ fn with_child(
     }
 }
 
-/// Puts a value at a key, in place of what was there.
+/// Puts a value at a key, in place of what was there. Where the key's path ends at a page that isn't owned (`needed` tells which), the tree comes back as it is.
 pub fn put(alloc: Global, node: Node, key: &[u8], value: &[u8]) -> Result<NodeGrown, AllocError>
     ensures { IfOk result (λ g. grown_of g ≡ put_in key.now value.now (tree_of node)) }
 {
