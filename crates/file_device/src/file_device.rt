@@ -176,7 +176,6 @@ impl Device for FileDevice {
     fn read(&mut self, n: u64, buffer: &mut [u8; 512]) -> Result<(), DeviceFault>
         requires { n < (file_state self.old).size }
         ensures read { IsTrue (file_state self.old).honest → OnOk result (slice_get (file_state self.old).disk.view n ≡ Some buffer.new) }
-        ensures untouched { IfErr result (λ e. buffer.new ≡ buffer.old) }
         ensures outcome { ReadOutcome result (file_state self.old) (file_state self.new) }
         ensures time { IsTrue (file_state self.old).honest → Elapses (length self.old.calls) (length self.new.calls) (PossibleSince self.old.calls) (PossibleSince self.new.calls) }
         ensures never_fails { IsOk result }

@@ -1,7 +1,7 @@
 // All pages in one order, cut into runs by what the pages are used for: root slots, waiting, retired, held, taken, free. A page goes
 // from a run to the next one by two exchanges of places, so no call takes time that grows with the image.
 ghost use Rattle.std.specs.Prelude.{◌↔◌, IsTrue, ◌⊎◌, ◌≡◌, ◌<◌, ◌≤◌, ◌+◌, ◌-◌, ℕ, IfOk, length, if◌then◌else◌, nat_lt};
-ghost use Rattle.page_alloc.specs.Runs.{Root, Waiting, Retired, Held, Taken, Free, use_of, undone, after_switch, at, IsInverse, AreRuns, OneChanges};
+ghost use Rattle.page_alloc.specs.Runs.{Root, Waiting, Retired, Held, Taken, Free, use_of, undone, after_switch, at, IsInverse, AreRuns};
 
 use crate::order::Order;
 use std::alloc::{AllocError, Global};
@@ -24,6 +24,8 @@ pub struct Runs {
 }
 
 impl Runs {
+    ghost use Rattle.page_alloc.specs.Moves.{Moves, WaitsAsBefore, MovesOn};
+
     /// All pages but the two root slots are free.
     pub fn new(alloc: Global, pages: u32) -> Result<Runs, AllocError>
         requires { 2 ≤ pages }
@@ -68,9 +70,8 @@ impl Runs {
         requires { self.old.starts.free < length self.old.order.pages.items }
         ensures within { result < length self.old.order.pages.items }
         ensures was { use_of self.old.starts self.old.order.places.items result ≡ Free }
-        ensures uses { OneChanges (length self.old.order.pages.items) result Taken (use_of self.old.starts self.old.order.places.items) (use_of self.new.starts self.new.order.places.items) }
+        ensures moves { Moves result Taken self.old self.new }
         ensures count { self.new.starts.free ≡ self.old.starts.free + 1 }
-        ensures size { length self.new.order.pages.items ≡ length self.old.order.pages.items }
     {
         let page = self.order.pages[self.starts.free];
         self.starts.free += 1;
@@ -81,9 +82,8 @@ impl Runs {
     pub fn retire(&mut self, page: u32)
         requires within { page < length self.old.order.pages.items }
         requires held { use_of self.old.starts self.old.order.places.items page ≡ Held }
-        ensures uses { OneChanges (length self.old.order.pages.items) page Retired (use_of self.old.starts self.old.order.places.items) (use_of self.new.starts self.new.order.places.items) }
+        ensures moves { Moves page Retired self.old self.new }
         ensures free { self.new.starts.free ≡ self.old.starts.free }
-        ensures size { length self.new.order.pages.items ≡ length self.old.order.pages.items }
     {
         let place = self.order.places[page as usize] as usize;
         let first = self.starts.held;
@@ -95,9 +95,8 @@ impl Runs {
     pub fn hold(&mut self, page: u32)
         requires within { page < length self.old.order.pages.items }
         requires free { use_of self.old.starts self.old.order.places.items page ≡ Free }
-        ensures uses { OneChanges (length self.old.order.pages.items) page Held (use_of self.old.starts self.old.order.places.items) (use_of self.new.starts self.new.order.places.items) }
+        ensures moves { Moves page Held self.old self.new }
         ensures count { self.new.starts.free ≡ self.old.starts.free + 1 }
-        ensures size { length self.new.order.pages.items ≡ length self.old.order.pages.items }
     {
         self.free_to_taken(page);
         self.taken_to_held(page);
@@ -126,11 +125,10 @@ impl Runs {
     pub fn release(&mut self, page: u32)
         requires within { page < length self.old.order.pages.items }
         requires waiting { use_of self.old.starts self.old.order.places.items page ≡ Waiting }
-        ensures uses { OneChanges (length self.old.order.pages.items) page Free (use_of self.old.starts self.old.order.places.items) (use_of self.new.starts self.new.order.places.items) }
+        ensures moves { Moves page Free self.old self.new }
         ensures count { self.new.starts.free + 1 ≡ self.old.starts.free }
         ensures retired { self.new.starts.retired + 1 ≡ self.old.starts.retired }
         ensures waiting { (p : ℕ) → p < length self.old.order.pages.items → at self.new.order.places.items p < self.new.starts.retired → (at self.new.order.places.items p ≡ at self.old.order.places.items p) ⊎ (at self.old.order.places.items p ≡ self.new.starts.retired) }
-        ensures size { length self.new.order.pages.items ≡ length self.old.order.pages.items }
     {
         self.waiting_to_retired(page);
         self.retired_to_held(page);
@@ -141,9 +139,8 @@ impl Runs {
     fn free_to_taken(&mut self, page: u32)
         requires within { page < length self.old.order.pages.items }
         requires was { use_of self.old.starts self.old.order.places.items page ≡ Free }
-        ensures uses { OneChanges (length self.old.order.pages.items) page Taken (use_of self.old.starts self.old.order.places.items) (use_of self.new.starts self.new.order.places.items) }
+        ensures moves { Moves page Taken self.old self.new }
         ensures free { self.new.starts.free ≡ self.old.starts.free + 1 }
-        ensures size { length self.new.order.pages.items ≡ length self.old.order.pages.items }
     {
         let place = self.order.places[page as usize] as usize;
         let first = self.starts.free;
@@ -154,9 +151,8 @@ impl Runs {
     fn taken_to_held(&mut self, page: u32)
         requires within { page < length self.old.order.pages.items }
         requires was { use_of self.old.starts self.old.order.places.items page ≡ Taken }
-        ensures uses { OneChanges (length self.old.order.pages.items) page Held (use_of self.old.starts self.old.order.places.items) (use_of self.new.starts self.new.order.places.items) }
+        ensures moves { Moves page Held self.old self.new }
         ensures free { self.new.starts.free ≡ self.old.starts.free }
-        ensures size { length self.new.order.pages.items ≡ length self.old.order.pages.items }
     {
         let place = self.order.places[page as usize] as usize;
         let first = self.starts.taken;
@@ -167,11 +163,10 @@ impl Runs {
     fn waiting_to_retired(&mut self, page: u32)
         requires within { page < length self.old.order.pages.items }
         requires was { use_of self.old.starts self.old.order.places.items page ≡ Waiting }
-        ensures uses { OneChanges (length self.old.order.pages.items) page Retired (use_of self.old.starts self.old.order.places.items) (use_of self.new.starts self.new.order.places.items) }
+        ensures moves { Moves page Retired self.old self.new }
         ensures free { self.new.starts.free ≡ self.old.starts.free }
         ensures retired { self.new.starts.retired + 1 ≡ self.old.starts.retired }
         ensures waiting { (p : ℕ) → p < length self.old.order.pages.items → at self.new.order.places.items p < self.new.starts.retired → (at self.new.order.places.items p ≡ at self.old.order.places.items p) ⊎ (at self.old.order.places.items p ≡ self.new.starts.retired) }
-        ensures size { length self.new.order.pages.items ≡ length self.old.order.pages.items }
     {
         let place = self.order.places[page as usize] as usize;
         let last = self.starts.retired - 1;
@@ -182,11 +177,7 @@ impl Runs {
     fn retired_to_held(&mut self, page: u32)
         requires within { page < length self.old.order.pages.items }
         requires was { use_of self.old.starts self.old.order.places.items page ≡ Retired }
-        ensures uses { OneChanges (length self.old.order.pages.items) page Held (use_of self.old.starts self.old.order.places.items) (use_of self.new.starts self.new.order.places.items) }
-        ensures free { self.new.starts.free ≡ self.old.starts.free }
-        ensures retired { self.new.starts.retired ≡ self.old.starts.retired }
-        ensures waiting { (p : ℕ) → p < length self.old.order.pages.items → at self.new.order.places.items p < self.new.starts.retired → at self.new.order.places.items p ≡ at self.old.order.places.items p }
-        ensures size { length self.new.order.pages.items ≡ length self.old.order.pages.items }
+        ensures { MovesOn page Held self.old self.new }
     {
         let place = self.order.places[page as usize] as usize;
         let last = self.starts.held - 1;
@@ -197,11 +188,7 @@ impl Runs {
     fn held_to_taken(&mut self, page: u32)
         requires within { page < length self.old.order.pages.items }
         requires was { use_of self.old.starts self.old.order.places.items page ≡ Held }
-        ensures uses { OneChanges (length self.old.order.pages.items) page Taken (use_of self.old.starts self.old.order.places.items) (use_of self.new.starts self.new.order.places.items) }
-        ensures free { self.new.starts.free ≡ self.old.starts.free }
-        ensures retired { self.new.starts.retired ≡ self.old.starts.retired }
-        ensures waiting { (p : ℕ) → p < length self.old.order.pages.items → at self.new.order.places.items p < self.new.starts.retired → at self.new.order.places.items p ≡ at self.old.order.places.items p }
-        ensures size { length self.new.order.pages.items ≡ length self.old.order.pages.items }
+        ensures { MovesOn page Taken self.old self.new }
     {
         let place = self.order.places[page as usize] as usize;
         let last = self.starts.taken - 1;
@@ -212,11 +199,9 @@ impl Runs {
     fn taken_to_free(&mut self, page: u32)
         requires within { page < length self.old.order.pages.items }
         requires was { use_of self.old.starts self.old.order.places.items page ≡ Taken }
-        ensures uses { OneChanges (length self.old.order.pages.items) page Free (use_of self.old.starts self.old.order.places.items) (use_of self.new.starts self.new.order.places.items) }
+        ensures moves { Moves page Free self.old self.new }
         ensures free { self.new.starts.free + 1 ≡ self.old.starts.free }
-        ensures retired { self.new.starts.retired ≡ self.old.starts.retired }
-        ensures waiting { (p : ℕ) → p < length self.old.order.pages.items → at self.new.order.places.items p < self.new.starts.retired → at self.new.order.places.items p ≡ at self.old.order.places.items p }
-        ensures size { length self.new.order.pages.items ≡ length self.old.order.pages.items }
+        ensures waiting { WaitsAsBefore self.old self.new }
     {
         let place = self.order.places[page as usize] as usize;
         let last = self.starts.free - 1;

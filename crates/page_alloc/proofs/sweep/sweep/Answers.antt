@@ -19,7 +19,7 @@ loop-place-preserved-then-not-is_pinned c =
     let is : q ≡ at before.order.pages.items j = get_or_read before.order.pages.items j q within c.index-page.ensures 0 in
     let there : at before.order.places.items q ≡ j = ap (at before.order.places.items) is ∙ before.order.inverse.place_back j within in
     record {
-      size = c.release.ensures.size ∙ c.loop-place.invariant.size;
+      size = c.release.ensures.moves.size ∙ c.loop-place.invariant.size;
       left = omega arith;
       uses = swept_more c.args.pins.now (λ p. get_or c.args.lives.now p Never) (length c.args.lives.now) j after.starts.retired q (at before.order.places.items) (at after.order.places.items)
           (use_of start.starts start.order.places.items) (use_of before.starts before.order.places.items) (use_of after.starts after.order.places.items)
@@ -28,7 +28,7 @@ loop-place-preserved-then-not-is_pinned c =
           (λ p lt same. sym (before.order.inverse.page_back p (omega (arith, lt))) ∙ ap (at before.order.pages.items) same ∙ sym is)
           (ap (use_at before.starts) there ∙ waiting_at before.starts j (omega arith) (omega arith))
           (sym c.is_pinned.ensures ∙ c.if-not-is_pinned.true)
-          (λ p lt. c.release.ensures.uses p (omega (arith, lt)))
+          (λ p lt. c.release.ensures.moves.uses p (omega (arith, lt)))
           (λ p lt. c.release.ensures.waiting p (omega (arith, lt)))
           (λ p lt waits. at_waiting after.starts (at after.order.places.items p) waits);
     }

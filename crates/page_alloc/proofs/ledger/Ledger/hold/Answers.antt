@@ -28,7 +28,7 @@ invariant_of-self c =
     let was = free_is_free a.runs.starts a.runs.order.pages.items a.runs.order.places.items a.lives.items a.generation a.pins a.runs.order.inverse a.runs.runs c.self.invariant page free in
     let suits = subst (λ (u : Use). Suits a.generation a.pins page (get_or a.lives.items page Never) u) was (c.self.invariant.suits page within) in
     let here : a.generation ≤ a.generation = omega arith in
-    keeps_held a.runs.starts b.starts a.runs.order.places.items b.order.places.items (length a.runs.order.pages.items) (length b.order.pages.items) page a.lives.items a.generation a.pins c.self.invariant c.hold.ensures.size within Held (Since a.generation) c.hold.ensures.uses (suits.0, here)
+    keeps_held a.runs.starts b.starts a.runs.order.places.items b.order.places.items (length a.runs.order.pages.items) (length b.order.pages.items) page a.lives.items a.generation a.pins c.self.invariant c.hold.ensures.moves.size within Held (Since a.generation) c.hold.ensures.moves.uses (suits.0, here)
 
 pub returns : goal.returns
 returns c =
@@ -38,5 +38,5 @@ returns c =
     let free = ap (λ (s : LedgerState). is_free s page) c.self.view_is ∙ c.requires in
     let within = free_inside a.runs.starts a.runs.order.pages.items a.runs.order.places.items a.lives.items a.generation a.pins a.runs.order.inverse a.runs.runs c.self.invariant page free in
     let was = free_is_free a.runs.starts a.runs.order.pages.items a.runs.order.places.items a.lives.items a.generation a.pins a.runs.order.inverse a.runs.runs c.self.invariant page free in
-    let marks = marks_stay a.runs.starts b.starts a.runs.order.places.items b.order.places.items (length a.runs.order.pages.items) page Held a.runs.order.inverse.same (b.order.inverse.same ∙ c.hold.ensures.size) within c.hold.ensures.uses (sym (ap mark_at was)) in
+    let marks = marks_stay a.runs.starts b.starts a.runs.order.places.items b.order.places.items (length a.runs.order.pages.items) page Held a.runs.order.inverse.same (b.order.inverse.same ∙ c.hold.ensures.moves.size) within c.hold.ensures.moves.uses (sym (ap mark_at was)) in
     ap (λ (ms : List Mark). record { lives = set a.lives.items page (Since a.generation); marks = ms; generation = a.generation; pins = a.pins }) marks ∙ ap (holding page) c.self.view_is
