@@ -1,0 +1,33 @@
+-- What holds of a script by one relation of runs holds by any other that follows from it.
+use Rattle.std.proofs.Common.{◌≡◌, ℕ, List, [], Option, Some, None}
+use Rattle.std.specs.Prelude.{IfSome, Result, Ok, Err, OnOk}
+use Rattle.session_core.specs.declared.event.Event.{Event}
+use Rattle.session_core.specs.declared.event.Outcome.{Outcome}
+use Rattle.host_script.specs.Lines.{Ran, RanSo, IsReplayed, IsRunInPart, start}
+use Rattle.host_script.specs.declared.fault.Fault.{Fault}
+use Rattle.host_script.specs.declared.fault.Fault.TheVariants.{Script}
+use Rattle.image_sessions.specs.ImageRuns.{Replays}
+
+some_too : {A : Type 0} {P Q : A → Type 0} (o : Option A) → ((a : A) → P a → Q a) → IfSome o P → IfSome o Q
+some_too None f h = h
+some_too (Some a) f h = f a h
+
+ok_too : {P Q : Type 0} (result : Result (Unit {0}) Fault) → (P → Q) → OnOk result P → OnOk result Q
+ok_too (Ok a) f h = f h
+ok_too (Err e) f h = h
+
+pub replays_too : {H K : Type 0} (ran : Ran H) (other : Ran K) (old new : H) (from to : K) → ((events : List Event) (outcomes : List Outcome) → ran old events outcomes new → other from events outcomes to) →
+    (script given took : Option (List ℕ)) (result : Result (Unit {0}) Fault) → Replays ran old new script given took result → Replays other from to script given took result
+replays_too ran other old new from to f script given took result r = record {
+  whole = ok_too result (some_too {P = IsReplayed ran old new given took} {Q = IsReplayed other from to given took} script (λ text is. record { lines = is.lines; rest = is.rest; printed = is.printed; after = is.after; events = is.events; outcomes = is.outcomes; cut = is.cut; run = is.run; calls = f is.events is.outcomes is.calls; written = is.written })) r.whole;
+  in_part = λ n is. some_too {P = IsRunInPart ran old new start n given took []} {Q = IsRunInPart other from to start n given took []} script (λ text part. record {
+    front = part.front;
+    left = part.left;
+    is = part.is;
+    to = part.to;
+    line = part.line;
+    run = record { lines = part.run.lines; printed = part.run.printed; events = part.run.events; outcomes = part.run.outcomes; cut = part.run.cut; run = part.run.run; number = part.run.number; calls = f part.run.events part.run.outcomes part.run.calls; written = part.run.written };
+    number_is = part.number_is;
+  }) (r.in_part n is);
+  led = (r.led.0, r.led.1, f r.led.0 r.led.1 r.led.2);
+}

@@ -1,0 +1,36 @@
+-- Events of one hub over a site, and over the site of an image, and a script that makes them.
+use Rattle.std.specs.Prelude.{◌≡◌, ℕ, List, [], Option, IfSome, Result, Err, OnOk, IsTrue}
+use Rattle.host_types.specs.Site.{Site}
+use Rattle.host_types.specs.SiteState.{SiteState}
+use Rattle.host_types.specs.CrashStates.{CrashStates}
+use Rattle.host_types.specs.declared.change.Change.{Change}
+use Rattle.host_types.specs.declared.site_fault.SiteFault.{SiteFault}
+use Rattle.sector_device.specs.Device.{State}
+use Rattle.page_store.specs.Sectors.{Image}
+use Rattle.session_core.specs.World.{World, started}
+use Rattle.session_core.specs.Run.{Run}
+use Rattle.session_core.specs.RunCrashStates.{HasCrashStates}
+use Rattle.session_core.specs.declared.event.Event.{Event}
+use Rattle.session_core.specs.declared.event.Outcome.{Outcome}
+use Rattle.host_script.specs.Lines.{Ran, RanSo, IsReplayed, IsRunInPart, start}
+use Rattle.host_script.specs.declared.fault.Fault.{Fault}
+use Rattle.host_script.specs.declared.fault.Fault.TheVariants.{Script}
+use Rattle.host_on_disk.specs.Headline.{Survives, RunsOver, RunsOn}
+
+-- A site is handed in and back, and in between these events had these outcomes in one hub, whose sessions count from 1: the calls, on any device; and over an honest one they are a run of the world, with what a crash at any moment of it leaves.
+pub record OverSite {S L : Type 0} (site_state : S → SiteState) (lacks : S → Change → ℕ → SiteFault → Type 0) (crash_states : S → CrashStates L) (stands : L → Site → Type 0) (old : S) (events : List Event) (outcomes : List Outcome) (new : S) : Type 0 where
+  pub calls : RunsOver site_state lacks crash_states stands old new 1 events outcomes
+  pub run : IsTrue (site_state old).honest → (last : World) × Run (started (site_state old).site 1) events outcomes last × HasCrashStates stands (started (site_state old).site 1) last (crash_states old) (crash_states new) events outcomes
+  pub honest : (site_state new).honest ≡ (site_state old).honest
+
+-- The same of a device that is opened as the site which it shows, and what survives a crash at any moment of it.
+pub record OnImage {D S L : Type 0} (state : D → State) (device : S → D) (site_state : S → SiteState) (lacks : S → Change → ℕ → SiteFault → Type 0) (site_crash_states : S → CrashStates L) (stands : L → Site → Type 0) (crash_states : D → CrashStates Image) (old : D) (events : List Event) (outcomes : List Outcome) (new : D) : Type 0 where
+  pub calls : RunsOn state device site_state lacks site_crash_states stands old new 1 events outcomes
+  pub survives : IsTrue (state old).honest → Survives state crash_states old new 1 events outcomes
+  pub honest : (state new).honest ≡ (state old).honest
+
+-- What a script did: where it was run to its end, all of it was; where a line ended it, what stands before that was; and whatever it answered, some events led from `old` to `new`.
+pub record Replays {H : Type 0} (ran : Ran H) (old new : H) (script given took : Option (List ℕ)) (result : Result (Unit {0}) Fault) : Type 0 where
+  pub whole : OnOk result (IfSome script (IsReplayed ran old new given took))
+  pub in_part : (n : ℕ) → result ≡ Err (Script n) → IfSome script (IsRunInPart ran old new start n given took [])
+  pub led : RanSo ran old new

@@ -1,0 +1,67 @@
+// A script over a site, and over the site of an image.
+ghost use Rattle.std.specs.Prelude.{◌≡◌, true, IfOk, IfErr, IsTrue};
+ghost use Rattle.host_types.specs.CrashStates.{AddsNone};
+ghost use Rattle.page_store.specs.Steps.{crash_states_of};
+ghost use Rattle.page_store.specs.FlatSeen.{device_of};
+ghost use Rattle.site_store.specs.Seen.{keeper_of};
+ghost use Rattle.host_on_disk.specs.OpenFaults.{IsOpeningFault};
+ghost use Rattle.host_on_disk.specs.declared.open_fault.OpenFault.TheVariants.{Memory};
+ghost use Rattle.image_sessions.specs.ImageRuns.{OverSite, OnImage, Replays};
+
+use host_on_disk::{OpenFault, open_site};
+use host_script::{Fault, replay};
+use host_types::SiteKeeper;
+use page_store::FlatKeeper;
+use sector_device::Device;
+use session_core::Hub;
+use site_store::DiskSite;
+use std::alloc::Global;
+use std::io::{Read, Write};
+use word_index::SearchKeeper;
+
+/// Replays a script over a site in one hub, whose sessions count from 1, and hands the site back. What it answers beside that is what `replay` of `host_script`
+/// does. `Memory` comes before the script is read.
+pub fn replay_over<S: SearchKeeper, R: Read, W: Write>(
+    alloc: Global,
+    site: S,
+    reader: &mut R,
+    writer: &mut W,
+) -> Result<(Result<(), Fault>, S), (OpenFault, S)>
+    requires { (S.site_state site).usable ≡ true }
+    ensures replayed { IfOk result (λ r. Replays (OverSite S.site_state S.lacks S.crash_states S.represents) site r.1 (R.remaining reader.old) (W.contents writer.old) (W.contents writer.new) r.0) }
+    ensures err { IfErr result (λ e. (e.0 ≡ Memory) × (e.1 ≡ site)) }
+    ensures unread { IfErr result (λ e. (reader.new ≡ reader.old) × (writer.new ≡ writer.old)) }
+{
+    let mut hub = match Hub::new(alloc, site, 1) {
+        Ok(hub) => hub,
+        Err((_, site)) => return Err((OpenFault::Memory, site)),
+    };
+    let ended = replay(alloc, reader, writer, &mut hub);
+    Ok((ended, hub.close()))
+}
+
+/// Opens the image on a device, replays a script over its site, and hands the device back.
+///
+/// What a crash at any moment leaves on the device represents the site after some of the events that the script made, with each change that was acknowledged by
+/// then, or the one with the change in flight, unacknowledged.
+pub fn replay_on<D: Device, R: Read, W: Write>(
+    alloc: Global,
+    device: D,
+    reader: &mut R,
+    writer: &mut W,
+) -> Result<(Result<(), Fault>, D), (OpenFault, D)>
+    ensures replayed { IfOk result (λ r. Replays (OnImage D.state (λ d. device_of (keeper_of d)) ⟦<DiskSite<FlatKeeper<D>> as SiteKeeper>⟧.site_state ⟦<DiskSite<FlatKeeper<D>> as SiteKeeper>⟧.lacks ⟦<DiskSite<FlatKeeper<D>> as SiteKeeper>⟧.crash_states ⟦<DiskSite<FlatKeeper<D>> as SiteKeeper>⟧.represents (crash_states_of D.moment D.possible_since)) device r.1 (R.remaining reader.old) (W.contents writer.old) (W.contents writer.new) r.0) }
+    ensures fault { IfErr result (λ e. IsOpeningFault (D.state device) (D.state e.1) e.0) }
+    ensures at_crash_on_fault { IsTrue (D.state device).honest → IfErr result (λ e. AddsNone (crash_states_of D.moment D.possible_since device) (crash_states_of D.moment D.possible_since e.1)) }
+    ensures handed_back { IfErr result (λ e. (D.state e.1).honest ≡ (D.state device).honest) }
+    ensures unread { IfErr result (λ e. (reader.new ≡ reader.old) × (writer.new ≡ writer.old)) }
+{
+    let site = match open_site(alloc, device) {
+        Ok(site) => site,
+        Err(refused) => return Err(refused),
+    };
+    match replay_over(alloc, site, reader, writer) {
+        Ok((ended, site)) => Ok((ended, site.into_keeper().into_device())),
+        Err((fault, site)) => Err((fault, site.into_keeper().into_device())),
+    }
+}
