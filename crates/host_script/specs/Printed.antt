@@ -1,8 +1,8 @@
 -- Outcomes as a script's answers are printed, and faults by their names.
-use Rattle.std.specs.Prelude.{ℕ, List, ◌++◌, codes, decimal, encode_utf8_all}
-use Rattle.bstr.specs.Escape.{escaped}
+use Rattle.std.specs.Prelude.{ℕ, List, ◌++◌, codes, decimal}
 use Rattle.common_types.specs.declared.refused.Refused.{Refused as Refusal}
-use Rattle.common_types.specs.declared.refused.Refused.TheVariants as refusals
+use Rattle.printed_names.specs.Shown.{shown}
+use Rattle.printed_names.specs.Names.{refused_name, full_name}
 use Rattle.session_core.specs.declared.event.Outcome.{Outcome}
 use Rattle.session_core.specs.declared.event.Outcome.TheVariants.{Joined, More, Ready, Finished, Drawn, Gone, Done, Fault}
 use Rattle.session_core.specs.declared.fault.HubFault.{HubFault}
@@ -10,23 +10,7 @@ use Rattle.session_core.specs.declared.fault.HubFault.TheVariants as hub
 use Rattle.host_script.specs.declared.fault.Fault.{Fault as RunFault}
 use Rattle.host_script.specs.declared.fault.Fault.TheVariants.{Script, Memory, Output}
 
--- bytes with escapes for all but printable ASCII and whole characters of more bytes; a space is `\x20`
-abbrev pub shown : List ℕ → List ℕ
-shown bytes = encode_utf8_all (escaped bytes)
-
 -- ---- names
-
-abbrev pub refused_name : Refusal → List ℕ
-refused_name refusals.BadName = codes "BadName"
-refused_name refusals.TooLong = codes "TooLong"
-refused_name refusals.Reserved = codes "Reserved"
-refused_name refusals.Missing = codes "Missing"
-refused_name refusals.NotEmpty = codes "NotEmpty"
-refused_name refusals.Root = codes "Root"
-refused_name refusals.NotABoard = codes "NotABoard"
-refused_name refusals.WrongAnswers = codes "WrongAnswers"
-refused_name refusals.WrongWord = codes "WrongWord"
-refused_name refusals.Spent = codes "Spent"
 
 -- a refusal goes by its own name
 abbrev pub fault_name : HubFault → List ℕ
@@ -34,7 +18,7 @@ fault_name hub.Unknown = codes "Unknown"
 fault_name hub.Crowded = codes "Crowded"
 fault_name hub.Spent = codes "Spent"
 fault_name (hub.Refused refused) = refused_name refused
-fault_name (hub.Full need free) = codes "Full " ++ decimal need ++ codes " " ++ decimal free
+fault_name (hub.Full need free) = full_name need free
 fault_name hub.Broken = codes "Broken"
 fault_name hub.Failed = codes "Failed"
 fault_name hub.Memory = codes "Memory"

@@ -10,7 +10,7 @@ mod site;
 
 pub use asking::{ParsedLine, ask};
 pub use fault::Fault;
-pub use printed::{escaped, fault_line, fault_text, line_of, refused_line};
+pub use printed::{fault_line, fault_text, line_of, refused_line};
 pub use replaying::{MOST_READS, replay};
 pub use script::{Command, LineFault, MOST_ROOM, parse};
 pub use site::small_site;

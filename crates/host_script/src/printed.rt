@@ -2,47 +2,27 @@
 ghost use Rattle.std.specs.Prelude.{◌≡◌, IfOk};
 ghost use Rattle.std.specs.String.{string_bytes};
 ghost use Rattle.host_script.specs.Printed as spec;
-ghost use Rattle.host_script.specs.Printed.{shown};
 ghost use Rattle.session_core.specs.declared.fault.HubFault.TheVariants.{Full};
 
 use crate::fault::Fault;
-use bstr::ByteSlice;
 use host_types::Refused;
+use printed_names::{escaped, full_name, refused_name};
 use session_core::{HubFault, Outcome};
 use std::alloc::{AllocError, Global};
-
-/// The bytes with escapes for all but printable ASCII and whole characters of more bytes. A space is `\x20`.
-pub fn escaped(alloc: Global, bytes: &[u8]) -> Result<String, AllocError>
-    ensures { IfOk result (λ t. string_bytes t ≡ shown bytes.now) }
-{
-    bytes.escape_bytes().to_string(alloc)
-}
 
 /// The line of a refusal, without its LF: `fault`, a space, and its name.
 pub fn refused_line(alloc: Global, refused: Refused) -> Result<String, AllocError>
     ensures { IfOk result (λ t. string_bytes t ≡ spec.refused_line refused) }
 {
-    let line = match refused {
-        Refused::BadName => "fault BadName",
-        Refused::TooLong => "fault TooLong",
-        Refused::Reserved => "fault Reserved",
-        Refused::Missing => "fault Missing",
-        Refused::NotEmpty => "fault NotEmpty",
-        Refused::Root => "fault Root",
-        Refused::NotABoard => "fault NotABoard",
-        Refused::WrongAnswers => "fault WrongAnswers",
-        Refused::WrongWord => "fault WrongWord",
-        Refused::Spent => "fault Spent",
-    };
-    String::from_str(alloc, line)
+    let name = refused_name(refused);
+    format!(in alloc; "fault {name}")
 }
 
 fn full_line(alloc: Global, need: u64, free: u64) -> Result<String, AllocError>
     ensures { IfOk result (λ t. string_bytes t ≡ spec.fault_line (Full need free)) }
 {
-    let mut line = format!(in alloc; "fault Full {need}")?;
-    line.push_str(&format!(in alloc; " {free}")?)?;
-    Ok(line)
+    let name = full_name(alloc, need, free)?;
+    format!(in alloc; "fault {name}")
 }
 
 /// The line of a fault, without its LF: `fault`, a space, and its name.

@@ -1,7 +1,7 @@
 // Lines of the two files, as fields.
 use crate::trouble::Trouble;
 use bstr::ByteVec;
-use host_script::escaped;
+use printed_names::escaped;
 use host_types::LineList;
 use std::alloc::{AllocError, Global};
 
