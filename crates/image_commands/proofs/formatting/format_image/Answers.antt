@@ -1,0 +1,11 @@
+use Rattle.std.proofs.Common.{refl, ◌∙◌, arith}
+use Rattle.image_commands.proofs.FormattedImages.{banner_of, fresh_shows, is_formatted}
+use Rattle.image_commands.proofs.formatting.format_image.Goals as goal
+
+pub returns-clause-made : goal.returns-clause-made
+returns-clause-made g c = λ honest.
+    let names = c.args.names in
+    let all = c.deref.ensures.value ∙ c.in_ok-pairs.ensures.pairs names.host names.admin c.args.port in
+    is_formatted c.format.result (g.D.Device.state c.format.new.device).disk.view c.args.pages c.deref.result.now (banner_of names.host c.args.port names.admin) _ (c.format.ensures.content honest) (c.format.ensures.first honest) refl
+    (fresh_shows c.deref.result.now names.host c.args.port names.admin names.title c.args.now all c.as_bytes.ensures.length c.as_bytes.ensures.valid c.requires.port (omega (arith, c.ranges.port.fits))
+    c.as_bytes-2.ensures.length c.as_bytes-2.ensures.valid c.as_bytes-3.ensures.length c.as_bytes-3.ensures.valid (omega (arith, c.seconds.ensures.value, c.seconds.ensures.range)))

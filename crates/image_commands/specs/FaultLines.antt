@@ -1,0 +1,50 @@
+-- What standard error gets of a command on an image that ends with a fault.
+use Rattle.std.specs.Prelude.{ℕ, List, [], ◌++◌, codes, decimal}
+use Rattle.printed_names.specs.Names.{refused_name, full_name, change_line}
+use Rattle.page_store.specs.declared.fault.KeeperFault.{KeeperFault}
+use Rattle.page_store.specs.declared.fault.KeeperFault.TheVariants as store
+use Rattle.image_commands.specs.declared.fault.ImageFault.{ImageFault}
+use Rattle.image_commands.specs.declared.fault.ImageFault.TheVariants.{Refused, NoFile, BadRecord, Store, Memory}
+
+-- a fault by its name, and the numbers that it has
+abbrev pub image_line : List ℕ → List ℕ
+image_line name = codes "image: " ++ name
+
+abbrev pub store_line : KeeperFault → List ℕ
+store_line store.Device = image_line (codes "Device")
+store_line store.NoImage = image_line (codes "NoImage")
+store_line store.Version = image_line (codes "Version")
+store_line (store.Damaged page) = image_line (codes "Damaged " ++ decimal page)
+store_line store.Small = image_line (codes "Small")
+store_line store.Spent = image_line (codes "Spent")
+store_line (store.Full need free) = image_line (full_name need free)
+store_line store.Failed = image_line (codes "Failed")
+store_line store.Memory = codes "memory"
+
+-- the line, without its LF; a name that `format` refuses comes before the first change, which is number 0
+abbrev pub fault_line : ImageFault → List ℕ
+fault_line (Refused refused) = change_line 0 (refused_name refused)
+fault_line NoFile = image_line (codes "NoFile")
+fault_line BadRecord = image_line (codes "BadRecord")
+fault_line (Store fault) = store_line fault
+fault_line Memory = codes "memory"
+
+-- what to do about a store's fault; nothing is said of most
+abbrev pub store_advice : KeeperFault → List ℕ
+store_advice store.Device = []
+store_advice store.NoImage = codes "The command `format` makes an image; what is in the file is lost."
+store_advice store.Version = codes "The image was made by another version of the program."
+store_advice (store.Damaged page) = []
+store_advice store.Small = codes "An image has 16 to 65536 pages, and its file 4096 bytes for each."
+store_advice store.Spent = []
+store_advice (store.Full need free) = []
+store_advice store.Failed = []
+store_advice store.Memory = []
+
+-- what to do about a fault, as a sentence for a line of its own; no bytes where nothing is said
+abbrev pub advice : ImageFault → List ℕ
+advice (Refused refused) = []
+advice NoFile = codes "The file is not there, can not be read and written, or another program has it open."
+advice BadRecord = []
+advice (Store fault) = store_advice fault
+advice Memory = []

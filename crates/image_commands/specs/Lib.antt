@@ -1,0 +1,5 @@
+pub mod Listing
+pub mod Lines
+pub mod Formatted
+pub mod Faults
+pub mod FaultLines

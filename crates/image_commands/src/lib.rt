@@ -1,0 +1,17 @@
+//! The commands that make, show and check an image.
+#![tactic(auto)]
+
+mod checking;
+mod fault;
+mod fault_lines;
+mod formatting;
+mod listing;
+mod names;
+mod showing;
+
+pub use checking::{check_site, figures_line};
+pub use fault::ImageFault;
+pub use fault_lines::{advice, fault_line};
+pub use formatting::{format_image, formatted_line, sectors_of};
+pub use names::SiteNames;
+pub use showing::show_site;
