@@ -1,5 +1,5 @@
 -- Why a command on an image ends with a fault.
-use Rattle.std.specs.Prelude.{◌≡◌, ◌⊎◌, IsTrue}
+use Rattle.std.specs.Prelude.{◌≡◌, ◌⊎◌, ◌≤◌, IsTrue}
 use Rattle.common_types.specs.Counts.{Rose}
 use Rattle.sector_device.specs.Device.{State}
 use Rattle.sector_device.specs.declared.device.DeviceFault.{DeviceFault}
@@ -55,14 +55,13 @@ of_device devices.Memory = Memory
 abbrev pub IsNotOpened : State → State → ImageFault → Type 0
 IsNotOpened old new fault = (refused : OpenFault) × (fault ≡ of_opening refused) × IsOpeningFault old new refused
 
--- Or it was opened, and a read failed then, or there was no memory for what is printed.
+-- Or it was opened, nothing was written, and a read failed then, or there was no memory for what is printed.
 abbrev pub IsNotRead : State → State → ImageFault → Type 0
 IsNotRead old new (Refused refused) = ⊥
 IsNotRead old new NoFile = ⊥
 IsNotRead old new BadRecord = ⊥
-IsNotRead old new (Store store.Device) = IsTrue old.honest → Rose old.failed_reads new.failed_reads
-IsNotRead old new (Store other) = ⊥
-IsNotRead old new Memory = IsTrue old.honest → new.failed_writes ≡ old.failed_writes
+IsNotRead old new (Store fault) = (fault ≡ store.Device) × (new.failed_writes ≡ old.failed_writes) × (IsTrue old.honest → Rose old.failed_reads new.failed_reads)
+IsNotRead old new Memory = (128 ≤ old.size) × (new.failed_writes ≡ old.failed_writes)
 
 -- When a fault may come of a command that only reads an image.
 abbrev pub IsReadingFault : State → State → ImageFault → Type 0

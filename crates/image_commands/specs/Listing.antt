@@ -4,7 +4,9 @@ use Rattle.host_types.specs.Site.{Site}
 use Rattle.host_types.specs.Card.{card_of}
 use Rattle.host_types.specs.declared.card.Card.{Card}
 use Rattle.host_types.specs.declared.card.CardBody.{CardBody}
+use Rattle.page_store.specs.Sectors.{Image}
 use Rattle.site_store.specs.Walking.{card_after}
+use Rattle.host_on_disk.specs.ImageSites.{ImageRepresents}
 use Rattle.text_writer.specs.Menu.{is_moved, type_letter}
 use Rattle.printed_names.specs.Shown.{shown}
 
@@ -24,3 +26,7 @@ listing s = flat_map (λ e. listed_line e.0 (card_of e.1)) s.items
 abbrev pub IsListedNext : Site → Option (List ℕ) → List ℕ → List ℕ → Option (List ℕ) → Type 0
 IsListedNext s after old new None = (None ≡ card_after s after) × (new ≡ old)
 IsListedNext s after old new (Some selector) = (card : Card) × (Some (selector, card) ≡ card_after s after) × (new ≡ old ++ listed_line selector card)
+
+-- The image represents a site, and this is its listing.
+abbrev pub IsShown : Image → List ℕ → Type 0
+IsShown image text = (s : Site) × ImageRepresents image s × (text ≡ listing s)

@@ -9,9 +9,9 @@ mod listing;
 mod names;
 mod showing;
 
-pub use checking::{check_site, figures_line};
+pub use checking::{check_image, check_site, figures_line};
 pub use fault::ImageFault;
 pub use fault_lines::{advice, fault_line};
 pub use formatting::{format_image, formatted_line, sectors_of};
 pub use names::SiteNames;
-pub use showing::show_site;
+pub use showing::{show_image, show_site};

@@ -1,12 +1,21 @@
 // Showing the items of a site.
-ghost use Rattle.std.specs.Prelude.{◌≡◌, false, OnOk, IsErrOf, option_map};
+ghost use Rattle.std.specs.Prelude.{◌≡◌, ◌<◌, false, IfOk, OnOk, IfErr, IsErrOf, IsErrAnd, IsTrue, option_map};
+ghost use Rattle.host_types.specs.CrashStates.{AddsNone};
+ghost use Rattle.sector_device.specs.Device.{NothingCounted};
+ghost use Rattle.page_store.specs.Steps.{crash_states_of};
+ghost use Rattle.page_store.specs.declared.fault.KeeperFault.TheVariants.{Small};
+ghost use Rattle.image_commands.specs.Faults.{IsReadingFault};
+ghost use Rattle.image_commands.specs.declared.fault.ImageFault.TheVariants.{Store};
 ghost use Rattle.host_types.specs.declared.site_fault.SiteFault.TheVariants.{Failed};
 ghost use Rattle.site_replies.specs.Reads.{Reads};
-ghost use Rattle.image_commands.specs.Listing.{listing, IsListedNext};
+ghost use Rattle.image_commands.specs.Listing.{listing, IsListedNext, IsShown};
 
+use crate::ImageFault;
 use crate::listing::list_item;
+use host_on_disk::open_site;
 use host_types::{Selector, SiteFault, SiteKeeper};
 use page_store::Keeper;
+use sector_device::Device;
 use site_store::DiskSite;
 use std::alloc::Global;
 
@@ -32,10 +41,7 @@ fn list_next<K: Keeper>(
 }
 
 /// The lines of all items, in the order of their selectors: letter (`>` of an item that has moved), selector and title, escaped.
-pub fn show_site<K: Keeper>(
-    alloc: Global,
-    site: &mut DiskSite<K>,
-) -> Result<Vec<u8>, SiteFault>
+pub fn show_site<K: Keeper>(alloc: Global, site: &mut DiskSite<K>) -> Result<Vec<u8>, SiteFault>
     ensures listing { Reads ⟦<DiskSite<K> as SiteKeeper>⟧.site_state ⟦<DiskSite<K> as SiteKeeper>⟧.lacks ⟦<DiskSite<K> as SiteKeeper>⟧.crash_states site.old site.new result (λ s text. text.items ≡ listing s) }
     ensures counts { OnOk result ((⟦<DiskSite<K> as SiteKeeper>⟧.site_state site.new).failed_reads ≡ (⟦<DiskSite<K> as SiteKeeper>⟧.site_state site.old).failed_reads) }
     ensures closed { (⟦<DiskSite<K> as SiteKeeper>⟧.site_state site.old).usable ≡ false → IsErrOf result Failed }
@@ -54,4 +60,27 @@ pub fn show_site<K: Keeper>(
     }
     // No device that can be had holds so many items.
     Err(SiteFault::Memory)
+}
+
+/// Opens the image on a device, gives the lines of its items, and hands the device back. Nothing is written.
+pub fn show_image<D: Device>(alloc: Global, device: D) -> Result<(Vec<u8>, D), (ImageFault, D)>
+    ensures shown { IsTrue (D.state device).honest → IfOk result (λ r. IsShown (D.state device).disk.view r.0.items) }
+    ensures fault { IfErr result (λ e. IsReadingFault (D.state device) (D.state e.1) e.0) }
+    ensures small { (D.state device).size < 128 → IsErrAnd result (λ e. (e.0 ≡ Store Small) × (e.1 ≡ device)) }
+    ensures counts { IfOk result (λ r. NothingCounted (D.state device) (D.state r.1)) }
+    ensures at_crash { IsTrue (D.state device).honest → IfOk result (λ r. AddsNone (crash_states_of D.moment D.possible_since device) (crash_states_of D.moment D.possible_since r.1)) }
+    ensures at_crash_on_fault { IsTrue (D.state device).honest → IfErr result (λ e. AddsNone (crash_states_of D.moment D.possible_since device) (crash_states_of D.moment D.possible_since e.1)) }
+    ensures honest { IfOk result (λ r. (D.state r.1).honest ≡ (D.state device).honest) }
+    ensures handed_back { IfErr result (λ e. (D.state e.1).honest ≡ (D.state device).honest) }
+{
+    let mut site = match open_site(alloc, device) {
+        Ok(site) => site,
+        Err((fault, device)) => return Err((ImageFault::from(fault), device)),
+    };
+    let shown = show_site(alloc, &mut site);
+    let device = site.into_keeper().into_device();
+    match shown {
+        Ok(text) => Ok((text, device)),
+        Err(fault) => Err((ImageFault::from(fault), device)),
+    }
 }

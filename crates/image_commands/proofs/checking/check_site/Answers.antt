@@ -1,4 +1,4 @@
-use Rattle.std.proofs.Common.{◌≡◌, ℕ, length, ap, ◌∙◌}
+use Rattle.std.proofs.Common.{ℕ, length, ap, ◌∙◌}
 use Rattle.site_records.specs.Layout.{layout}
 use Rattle.site_store.specs.Represented.{site_of, site_kept}
 use Rattle.image_commands.specs.Lines.{figures_line}

@@ -1,5 +1,4 @@
 use Rattle.std.specs.Prelude.{◌≡◌, IsTrue}
-use Rattle.site_store.specs.Represented.{site_of}
 use Rattle.site_replies.specs.Reads.{ReadsOnly}
 use Rattle.image_commands.proofs.ListedItems.{IsListedTo}
 use Rattle.image_commands.proofs.DiskSites.{disk_state, disk_lacks, disk_crash_states}
