@@ -1,21 +1,54 @@
-// The command line.
+// What the words of the command line ask for.
 ghost use Rattle.std.specs.Prelude.{◌≡◌, ◌≤◌, ◌↔◌};
 ghost use Rattle.clap.specs.Values.{kind_of};
 ghost use Rattle.clap.specs.declared.error.kind.ErrorKind.TheVariants.{OutOfMemory};
 ghost use Rattle.gopher_host.specs.declared.words.Misread.TheVariants.{Memory};
 
+use crate::command_line::command_line;
 use clap::error::ErrorKind;
-use clap::{Command, Error};
-use host_script::Fault;
+use clap::{ArgMatches, Error};
+use host_types::Stamp;
 use std::alloc::{AllocError, Global};
 use std::io;
 use std::process::ExitCode;
 
-/// What the program is asked to do.
-#[derive(Clone, Copy, Debug, PartialEq, Eq)]
-pub enum Task {
+/// What the program is asked to do. Images are names of files.
+#[derive(Clone, Copy, Debug)]
+pub enum Task<'a> {
+    /// Makes an image.
+    Format {
+        image: &'a str,
+        site: NewSite<'a>,
+        pages: u32,
+        now: Stamp,
+    },
+    /// Makes the changes of a file.
+    Apply {
+        image: &'a str,
+        file: &'a str,
+        now: Stamp,
+    },
+    /// Lists the items of an image.
+    Show {
+        image: &'a str,
+    },
+    /// Counts what an image holds.
+    Check {
+        image: &'a str,
+    },
     /// Runs the script on standard input, and prints its answers.
-    Replay,
+    Replay {
+        image: Option<&'a str>,
+    },
+}
+
+/// What a new site is given.
+#[derive(Clone, Copy, Debug)]
+pub struct NewSite<'a> {
+    pub host: &'a str,
+    pub port: u16,
+    pub admin: &'a str,
+    pub title: &'a str,
 }
 
 /// Why words are no task.
@@ -25,6 +58,8 @@ pub enum Misread {
     Words(Error),
     /// A word is not UTF-8.
     NotUnicode,
+    /// A word that a command wants is missing.
+    Incomplete,
     Memory,
 }
 
@@ -36,7 +71,7 @@ impl Misread {
     {
         match self {
             Misread::Words(error) => { if error.exit_code() == 0 { 0 } else { 2 } }
-            Misread::NotUnicode => 2,
+            Misread::NotUnicode | Misread::Incomplete => 2,
             Misread::Memory => 1,
         }
     }
@@ -46,7 +81,8 @@ impl Misread {
         match self {
             Misread::Words(error) => error.print(rt)?,
             Misread::NotUnicode => eprintln!(rt; "error: a word of the command line is not UTF-8")?,
-            Misread::Memory => eprintln!(rt; "{}", Fault::Memory)?,
+            Misread::Incomplete => eprintln!(rt; "error: a word is missing")?,
+            Misread::Memory => eprintln!(rt; "memory")?,
         }
         Ok(ExitCode::from(self.status()))
     }
@@ -71,29 +107,59 @@ impl From<AllocError> for Misread {
     }
 }
 
-fn command<'a>(alloc: Global) -> Result<Command<'a>, AllocError> {
-    let replay = Command::new(alloc, "replay").about(
-        "Prints the answers of a script on standard input",
-    );
-    Command::new(alloc, "gopher_host")
-        .subcommand_required(true)
-        .subcommand(replay)
-}
-
-/// What the words ask for, the first of which is the program's name.
-pub fn read(alloc: Global, words: &[String]) -> Result<Task, Misread> {
-    // The one subcommand is required, so words that parse name it.
-    let _ = command(alloc)?.try_get_matches_from(words)?;
-    Ok(Task::Replay)
-}
-
-/// What the words that the program was given ask for.
-pub fn given(rt: &HostRuntime) -> Result<Task, Misread> {
+/// The words that the program was given.
+pub fn given(rt: &HostRuntime) -> Result<Vec<String>, Misread> {
     let words = match std::env::args(rt) {
         Ok(words) => words,
         Err(error) if error.kind() == io::ErrorKind::InvalidData => return Err(Misread::NotUnicode),
         Err(_) => return Err(Misread::Memory),
     };
-    let words: Vec<String> = words.collect(rt.alloc())?;
-    read(rt.alloc(), words.as_slice())
+    Ok(words.collect(rt.alloc())?)
+}
+
+fn new_site<'a>(matches: &ArgMatches<'a>) -> Option<NewSite<'a>> {
+    Some(NewSite {
+        host: matches.get_str("host")?,
+        port: matches.get_one::<u16>("port")?,
+        admin: matches.get_str("admin")?,
+        title: matches.get_str("title")?,
+    })
+}
+
+fn moment(matches: &ArgMatches<'_>) -> Option<Stamp> {
+    Stamp::new(matches.get_one::<u64>("now")?).ok()
+}
+
+/// What the words behind a command ask for.
+fn task_of<'a>(name: &str, matches: &ArgMatches<'a>) -> Option<Task<'a>> {
+    let image = matches.get_str("IMAGE");
+    match name {
+        "format" => Some(Task::Format {
+            image: image?,
+            site: new_site(matches)?,
+            pages: matches.get_one::<u32>("pages")?,
+            now: moment(matches)?,
+        }),
+        "apply" => Some(Task::Apply {
+            image: image?,
+            file: matches.get_str("FILE")?,
+            now: moment(matches)?,
+        }),
+        "show" => Some(Task::Show { image: image? }),
+        "check" => Some(Task::Check { image: image? }),
+        "replay" => Some(Task::Replay { image }),
+        _ => None,
+    }
+}
+
+/// What the words ask for, the first of which is the program's name.
+pub fn read<'a>(alloc: Global, words: &'a [String]) -> Result<Task<'a>, Misread> {
+    let matches = command_line(alloc)?.try_get_matches_from(words)?;
+    let Some((name, matches)) = matches.subcommand() else {
+        return Err(Misread::Incomplete);
+    };
+    match task_of(name, matches) {
+        Some(task) => Ok(task),
+        None => Err(Misread::Incomplete),
+    }
 }

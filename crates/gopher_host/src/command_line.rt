@@ -1,0 +1,118 @@
+// The words of the command line, with their help texts.
+use clap::builder::ValueParser;
+use clap::{Arg, ArgAction, Command};
+use std::alloc::{AllocError, Global};
+
+/// The last second of the year 9999: the greatest moment.
+const GREATEST_MOMENT: u64 = 253_402_300_799;
+
+fn path<'a>(alloc: Global, name: &'a str, help: &'a str) -> Arg<'a> {
+    Arg::new(alloc, name).help(help).action(ArgAction::Set)
+}
+
+fn image<'a>(alloc: Global) -> Arg<'a> {
+    path(alloc, "IMAGE", "The file of the image").required(true)
+}
+
+fn text<'a>(alloc: Global, name: &'a str, value: &'a str, help: &'a str) -> Arg<'a> {
+    Arg::new(alloc, name)
+        .long(name)
+        .value_name(value)
+        .help(help)
+        .required(true)
+        .action(ArgAction::Set)
+}
+
+fn number<'a>(
+    alloc: Global,
+    name: &'a str,
+    value: &'a str,
+    help: &'a str,
+    least: u64,
+    most: u64,
+) -> Arg<'a> {
+    text(alloc, name, value, help).value_parser(ValueParser::unsigned(least, most))
+}
+
+fn now<'a>(alloc: Global) -> Arg<'a> {
+    let help = "The moment of the change, in seconds since 1970-01-01; `date +%s` prints this one";
+    number(alloc, "now", "SECONDS", help, 0, GREATEST_MOMENT)
+}
+
+fn format<'a>(alloc: Global) -> Result<Command<'a>, AllocError> {
+    let pages =
+        "How many pages of 4,096 bytes the image has, 16 to 65,536; half of them hold the site, half its next version";
+    let host = "The name of the host, as menus give it to clients";
+    let port = "The port that menus give to clients, and that `serve` listens on";
+    let admin = "The administrator, as attributes show it";
+    let title = "The title of the top menu, which is empty at first";
+    Command::new(alloc, "format")
+        .about("Makes an image with an empty top menu; what the file held is gone")
+        .after_help(
+            "Example: gopher_host format site.img --pages 4096 --host localhost --port 7070 --admin 'Ada <ada@localhost>' --title Top --now $(date +%s)",
+        )
+        .arg(image(alloc))?
+        .arg(number(alloc, "pages", "N", pages, 0, 4_294_967_295))?
+        .arg(text(alloc, "host", "NAME", host))?
+        .arg(number(alloc, "port", "N", port, 1, 65_535))?
+        .arg(text(alloc, "admin", "TEXT", admin))?
+        .arg(text(alloc, "title", "TEXT", title))?
+        .arg(now(alloc))
+}
+
+fn apply<'a>(alloc: Global) -> Result<Command<'a>, AllocError> {
+    let file = path(alloc, "FILE", "The file of changes, in TOML").required(true);
+    Command::new(alloc, "apply")
+        .about(
+            "Makes the changes of a file, one after another; the first that is refused ends it, and earlier ones stay",
+        )
+        .after_help("Example: gopher_host apply site.img changes.toml --now $(date +%s)")
+        .arg(image(alloc))?
+        .arg(file)?
+        .arg(now(alloc))
+}
+
+fn show<'a>(alloc: Global) -> Result<Command<'a>, AllocError> {
+    Command::new(alloc, "show")
+        .about(
+            "Prints a line for each item: its type, its selector and its title, with spaces in them as `\\x20`; `>` is a moved item",
+        )
+        .after_help("Example: gopher_host show site.img")
+        .arg(image(alloc))
+}
+
+fn check<'a>(alloc: Global) -> Result<Command<'a>, AllocError> {
+    Command::new(alloc, "check")
+        .about(
+            "Reads the whole image, and prints how many items, keys and free pages it has, and its generation",
+        )
+        .after_help("Example: gopher_host check site.img")
+        .arg(image(alloc))
+}
+
+fn replay<'a>(alloc: Global) -> Result<Command<'a>, AllocError> {
+    let image = path(
+        alloc,
+        "IMAGE",
+        "The file of the image; without it a site in memory",
+    );
+    Command::new(alloc, "replay")
+        .about("Prints the answers of a script on standard input")
+        .after_help(
+            "Example: printf 'join\\nbytes 1 /about\\\\r\\\\n\\ndraw 1 512\\n' | gopher_host replay site.img",
+        )
+        .arg(image)
+}
+
+/// The whole command line.
+pub fn command_line<'a>(alloc: Global) -> Result<Command<'a>, AllocError> {
+    Command::new(alloc, "gopher_host")
+        .version("0.1.0")
+        .about("A Gopher server whose site lies on one disk image")
+        .subcommand_required(true)
+        .subcommand(format(alloc)?)?
+        .subcommand(apply(alloc)?)?
+        .subcommand(show(alloc)?)?
+        .subcommand(check(alloc)?)?
+        .subcommand(replay(alloc)?)
+}

@@ -1,0 +1,112 @@
+// The commands, over an image in a file or a site in memory.
+use crate::fault::Fault;
+use crate::words::NewSite;
+use file_device::FileDevice;
+use host_script::small_site;
+use host_types::{Refused, Stamp};
+use image_commands::{
+    ImageFault, SiteNames, check_image, format_image, formatted_line, sectors_of, show_image,
+};
+use image_sessions::{replay_on, replay_over};
+use std::io;
+use std::io::{BufWriter, Write};
+
+/// The image in a file.
+fn open(rt: &HostRuntime, image: &str) -> Result<FileDevice, ImageFault> {
+    Ok(FileDevice::open(rt, image)?)
+}
+
+/// Makes an image in a file, and gives the line to print. The file is made where it isn't there.
+fn made(
+    rt: &HostRuntime,
+    image: &str,
+    site: NewSite<'_>,
+    pages: u32,
+    now: Stamp,
+) -> Result<String, ImageFault> {
+    if site.port == 0 {
+        return Err(ImageFault::Refused(Refused::BadName));
+    }
+    let names = SiteNames::new(
+        site.host.as_bytes(),
+        site.admin.as_bytes(),
+        site.title.as_bytes(),
+    )?;
+    let sectors = sectors_of(pages)?;
+    let line = formatted_line(rt.alloc(), pages)?;
+    let mut device = FileDevice::create(rt, image, sectors)?;
+    format_image(rt.alloc(), &mut device, pages, names, site.port, now)?;
+    Ok(line)
+}
+
+fn print_line(rt: &HostRuntime, line: &str) -> Result<(), Fault> {
+    match println!(rt; "{line}") {
+        Ok(()) => Ok(()),
+        Err(_) => Err(Fault::of_output()),
+    }
+}
+
+/// Makes an image, and prints how many pages it has.
+pub fn format(
+    rt: &HostRuntime,
+    image: &str,
+    site: NewSite<'_>,
+    pages: u32,
+    now: Stamp,
+) -> Result<(), Fault> {
+    let line = made(rt, image, site, pages, now)?;
+    print_line(rt, &line)
+}
+
+/// Prints a line for each item of an image.
+pub fn show(rt: &HostRuntime, image: &str) -> Result<(), Fault> {
+    let device = open(rt, image)?;
+    match show_image(rt.alloc(), device) {
+        Ok((listing, _)) => match io::writer(rt).write_all(&listing) {
+            Ok(()) => Ok(()),
+            Err(_) => Err(Fault::of_output()),
+        },
+        Err((fault, _)) => Err(Fault::from(fault)),
+    }
+}
+
+/// Prints the line of an image's figures.
+pub fn check(rt: &HostRuntime, image: &str) -> Result<(), Fault> {
+    let device = open(rt, image)?;
+    match check_image(rt.alloc(), device) {
+        Ok((line, _)) => print_line(rt, &line),
+        Err((fault, _)) => Err(Fault::from(fault)),
+    }
+}
+
+/// A script on standard input over a site in memory, or over that of an image. What was printed before a fault stays printed.
+pub fn replay(rt: &HostRuntime, image: Option<&str>) -> Result<(), Fault> {
+    let alloc = rt.alloc();
+    let Ok(mut writer) = BufWriter::new(alloc, io::writer(rt)) else {
+        return Err(Fault::of_memory());
+    };
+    let ended = match image {
+        Some(image) => {
+            let device = open(rt, image)?;
+            match replay_on(alloc, device, &mut rt.reader(), &mut writer) {
+                Ok((ended, _)) => ended,
+                Err((fault, _)) => return Err(Fault::from(ImageFault::from(fault))),
+            }
+        }
+        None => {
+            let Ok(site) = small_site(alloc) else {
+                return Err(Fault::of_memory());
+            };
+            match replay_over(alloc, site, &mut rt.reader(), &mut writer) {
+                Ok((ended, _)) => ended,
+                Err((fault, _)) => return Err(Fault::from(ImageFault::from(fault))),
+            }
+        }
+    };
+    let written = writer.flush();
+    ended?;
+    match written {
+        Ok(()) => Ok(()),
+        Err(_) => Err(Fault::of_output()),
+    }
+}
