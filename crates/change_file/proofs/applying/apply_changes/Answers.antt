@@ -1,0 +1,40 @@
+use Rattle.std.proofs.Common.{◌≡◌, ◌∙◌, ◌+◌, ◌++◌, ◌∷◌, [], sym, drop, length, rules, arith, subst, length-append}
+use Rattle.std.proofs.lemmas.List.{map-id}
+use Rattle.std.specs.Prelude.{List}
+use Rattle.std.proofs.lemmas.Iterator.Adapters.{YieldsList-from_vec}
+use Rattle.std.proofs.lemmas.Iterator.Consumers.{YieldsList-turn, YieldsList-so_far}
+use Rattle.common_types.specs.CrashStates.{AddsOnly}
+use Rattle.change_file.specs.declared.fault.FileChange.{FileChange}
+use Rattle.change_file.specs.Applied.{RepresentsFront}
+use Rattle.change_file.proofs.Lists.{parts_at}
+use Rattle.change_file.proofs.Fronts.{stopped, earlier_stay, crash_more, goes_on}
+use Rattle.change_file.proofs.applying.apply_changes.Goals as goal
+
+-- the changes are those that were made, the one in hand, and those behind it
+parts : (g : _) (c : goal.After-drop-change-iterator g) → c.args.changes.items ≡ c.loop-change.yielded ++ c.in-Some.change ∷ drop (length c.loop-change.yielded + 1) c.args.changes.items
+parts g c =
+    let all = YieldsList-from_vec {s = c.into_iter-change-iterator.result} c.args.changes.items (search rules) (search rules) in
+    let t = YieldsList-turn all c.loop-change.yielded _ c.loop-change.yielded_by _ c.next.new.self c.in-Some.change c.in-Some.is c.next.ensures.steps in
+    let s = YieldsList-so_far all c.loop-change.yielded _ c.loop-change.yielded_by in
+    parts_at c.args.changes.items c.loop-change.yielded c.in-Some.change (sym (map-id c.loop-change.yielded) ∙ s) t.0 t.1
+
+pub returns-in-Err-clause-stopped : goal.returns-in-Err-clause-stopped
+returns-in-Err-clause-stopped g c =
+    stopped g.S.SiteKeeper.site_state g.S.SiteKeeper.lacks g.S.SiteKeeper.crash_states g.S.SiteKeeper.represents c.args.site.now c.loop-change.site c.apply_one.new.site c.args.changes.items c.loop-change.yielded c.in-Some.change
+    (drop (length c.loop-change.yielded + 1) c.args.changes.items) c.args.now (c.loop-change.number + 1) c.in-Err.fault (parts g c) (omega (arith, c.loop-change.invariant.counted)) c.loop-change.invariant.so_far c.in-Err.ensures.stop
+
+pub returns-in-Err-clause-kept : goal.returns-in-Err-clause-kept
+returns-in-Err-clause-kept g c = earlier_stay g.S.SiteKeeper.site_state g.S.SiteKeeper.lacks g.S.SiteKeeper.crash_states g.S.SiteKeeper.represents c.args.site.now c.apply_one.new.site c.args.changes.items c.args.now (c.loop-change.number + 1) c.in-Err.fault (returns-in-Err-clause-stopped g c)
+
+pub returns-in-Err-clause-at_crash : goal.returns-in-Err-clause-at_crash
+returns-in-Err-clause-at_crash g c = λ honest usable.
+    subst (λ (l : List FileChange). AddsOnly (g.S.SiteKeeper.crash_states c.args.site.now) (g.S.SiteKeeper.crash_states c.apply_one.new.site) (RepresentsFront g.S.SiteKeeper.represents (g.S.SiteKeeper.site_state c.args.site.now).site l c.args.now)) (sym (parts g c))
+    (crash_more g.S.SiteKeeper.site_state g.S.SiteKeeper.lacks g.S.SiteKeeper.crash_states g.S.SiteKeeper.represents c.args.site.now c.loop-change.site c.apply_one.new.site c.loop-change.yielded c.in-Some.change
+    (drop (length c.loop-change.yielded + 1) c.args.changes.items) c.args.now c.loop-change.invariant.so_far c.in-Err.ensures.at_crash honest usable)
+
+pub loop-change-preserved : goal.loop-change-preserved
+loop-change-preserved g c = record {
+  so_far = goes_on g.S.SiteKeeper.site_state g.S.SiteKeeper.lacks g.S.SiteKeeper.crash_states g.S.SiteKeeper.represents c.args.site.now c.loop-change.site c.apply_one.new.site c.loop-change.yielded c.in-Some.change c.args.now c.loop-change.invariant.so_far
+      (λ honest. search (rules, c.apply_one.ensures.done honest)) (search rules) c.apply_one.ensures.tried c.apply_one.ensures.at_crash c.apply_one.ensures.no_new_crash_state_when_closed;
+  counted = omega (arith, c.loop-change.invariant.counted, length-append c.loop-change.yielded (c.in-Some.change ∷ []));
+}

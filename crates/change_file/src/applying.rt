@@ -1,0 +1,54 @@
+// Makes the changes of a file on a site.
+ghost use Rattle.std.specs.Prelude.{◌≡◌, ◌-◌, true, false, Ok, OnOk, IfOk, IfErr, IsTrue, length, take};
+ghost use Rattle.common_types.specs.CrashStates.{AddsOnly, AddsNone};
+ghost use Rattle.host_types.specs.SiteState.{HasTried};
+ghost use Rattle.change_file.specs.Applied.{apply_one, apply_all, IsStop, IsStopped, RepresentsEither, RepresentsFront};
+
+use crate::fault::{ApplyFault, FileChange};
+use host_types::{SiteFault, SiteKeeper, Stamp};
+
+/// Makes one change of a file. A name that its type refuses is refused here.
+fn apply_one<S: SiteKeeper>(site: &mut S, change: FileChange, now: Stamp) -> Result<(), SiteFault>
+    ensures done { IsTrue (S.site_state site.old).honest → OnOk result (apply_one (S.site_state site.old).site change now ≡ Ok (S.site_state site.new).site) }
+    ensures usable { OnOk result ((S.site_state site.new).usable ≡ (S.site_state site.old).usable) }
+    ensures stop { IfErr result (IsStop S.site_state S.lacks change now site.old site.new) }
+    ensures tried { HasTried (S.site_state site.old) (S.site_state site.new) }
+    ensures at_crash { IsTrue (S.site_state site.old).honest → (S.site_state site.old).usable ≡ true →
+        AddsOnly (S.crash_states site.old) (S.crash_states site.new) (RepresentsEither S.represents (S.site_state site.old).site change now) }
+    ensures no_new_crash_state_when_closed { IsTrue (S.site_state site.old).honest → (S.site_state site.old).usable ≡ false → AddsNone (S.crash_states site.old) (S.crash_states site.new) }
+{
+    match change {
+        FileChange::Change(change) => site.change(change, now),
+        FileChange::Refused(refused) => Err(SiteFault::Refused(refused)),
+    }
+}
+
+/// Makes the changes of a file, one after another, and answers how many they are. The first that is refused, or that the keeper cannot make, ends it, by its number
+/// from 1: those before it stay, and none behind it is tried.
+pub fn apply_changes<S: SiteKeeper>(
+    site: &mut S,
+    changes: Vec<FileChange>,
+    now: Stamp,
+) -> Result<u64, ApplyFault>
+    ensures done { IsTrue (S.site_state site.old).honest → OnOk result (apply_all (S.site_state site.old).site changes.items now ≡ Ok (S.site_state site.new).site) }
+    ensures count { IfOk result (λ n. n ≡ length changes.items) }
+    ensures usable { OnOk result ((S.site_state site.new).usable ≡ (S.site_state site.old).usable) }
+    ensures stopped { IfErr result (λ e. IsStopped S.site_state S.lacks site.old site.new changes.items now e.number e.fault) }
+    ensures kept { IsTrue (S.site_state site.old).honest → IfErr result (λ e. apply_all (S.site_state site.old).site (take (e.number - 1) changes.items) now ≡ Ok (S.site_state site.new).site) }
+    ensures tried { HasTried (S.site_state site.old) (S.site_state site.new) }
+
+    // A crash at any moment of it leaves what represents the site after some of the changes, from the front.
+    ensures at_crash { IsTrue (S.site_state site.old).honest → (S.site_state site.old).usable ≡ true →
+        AddsOnly (S.crash_states site.old) (S.crash_states site.new) (RepresentsFront S.represents (S.site_state site.old).site changes.items now) }
+    ensures no_new_crash_state_when_closed { IsTrue (S.site_state site.old).honest → (S.site_state site.old).usable ≡ false → AddsNone (S.crash_states site.old) (S.crash_states site.new) }
+{
+    let count = changes.len() as u64;
+    let mut number = 0;
+    for change in changes {
+        number += 1;
+        if let Err(fault) = apply_one(site, change, now) {
+            return Err(ApplyFault { number, fault });
+        }
+    }
+    Ok(count)
+}
