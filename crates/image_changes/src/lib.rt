@@ -1,0 +1,6 @@
+//! The changes of a file, made on the site of an image.
+#![tactic(auto)]
+
+mod applying;
+
+pub use applying::{apply_on, apply_over};
