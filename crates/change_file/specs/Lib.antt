@@ -6,3 +6,5 @@ pub mod Questions
 pub mod Bodies
 pub mod Changes
 pub mod Applied
+pub mod ChangeFileExamples
+pub mod Printed
