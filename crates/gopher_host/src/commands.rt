@@ -1,15 +1,17 @@
 // The commands, over an image in a file or a site in memory.
 use crate::fault::Fault;
 use crate::words::NewSite;
+use change_file::{ChangeFileFault, FileChange, applied_line, read_changes};
 use file_device::FileDevice;
 use host_script::small_site;
 use host_types::{Refused, Stamp};
+use image_changes::apply_on;
 use image_commands::{
     ImageFault, SiteNames, check_image, format_image, formatted_line, sectors_of, show_image,
 };
 use image_sessions::{replay_on, replay_over};
-use std::io;
 use std::io::{BufWriter, Write};
+use std::{fs, io};
 
 /// The image in a file.
 fn open(rt: &HostRuntime, image: &str) -> Result<FileDevice, ImageFault> {
@@ -55,6 +57,30 @@ pub fn format(
     now: Stamp,
 ) -> Result<(), Fault> {
     let line = made(rt, image, site, pages, now)?;
+    print_line(rt, &line)
+}
+
+/// What a file of changes says. A file that can't be read says nothing.
+fn read(rt: &HostRuntime, file: &str) -> Result<Vec<FileChange>, ChangeFileFault> {
+    match fs::read(rt, file) {
+        Ok(bytes) => read_changes(rt.alloc(), &bytes),
+        Err(error) if error.kind() == io::ErrorKind::OutOfMemory => Err(ChangeFileFault::Memory),
+        Err(_) => Err(ChangeFileFault::NotToml),
+    }
+}
+
+/// Makes the changes of a file on the site of an image, and prints how many they are.
+pub fn apply(rt: &HostRuntime, image: &str, file: &str, now: Stamp) -> Result<(), Fault> {
+    let changes = read(rt, file)?;
+    let device = open(rt, image)?;
+    let applied = match apply_on(rt.alloc(), device, changes, now) {
+        Ok((applied, _)) => applied,
+        Err((fault, _)) => return Err(Fault::from(ImageFault::from(fault))),
+    };
+    let line = match applied_line(rt.alloc(), applied?) {
+        Ok(line) => line,
+        Err(_) => return Err(Fault::of_memory()),
+    };
     print_line(rt, &line)
 }
 

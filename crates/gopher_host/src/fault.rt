@@ -1,5 +1,7 @@
 // Why the program ends with status 1.
+use change_file::{ApplyFault, ChangeFileFault, file_line};
 use host_script::fault_text;
+use image_changes::stopped_line;
 use image_commands::{ImageFault, advice, fault_line};
 use std::alloc::{AllocError, Global};
 use std::io;
@@ -10,6 +12,10 @@ use std::process::ExitCode;
 pub enum Fault {
     /// A command on an image.
     Image(ImageFault),
+    /// A file of changes.
+    Changes(ChangeFileFault),
+    /// A change that was not made.
+    Stopped(ApplyFault),
     /// The script, or lack of memory, or an output that takes no more.
     Script(host_script::Fault),
 }
@@ -23,6 +29,18 @@ impl From<ImageFault> for Fault {
 impl From<host_script::Fault> for Fault {
     fn from(fault: host_script::Fault) -> Self {
         Fault::Script(fault)
+    }
+}
+
+impl From<ChangeFileFault> for Fault {
+    fn from(fault: ChangeFileFault) -> Self {
+        Fault::Changes(fault)
+    }
+}
+
+impl From<ApplyFault> for Fault {
+    fn from(fault: ApplyFault) -> Self {
+        Fault::Stopped(fault)
     }
 }
 
@@ -40,6 +58,8 @@ impl Fault {
     fn line(&self, alloc: Global) -> Result<String, AllocError> {
         match self {
             Fault::Image(fault) => fault_line(alloc, *fault),
+            Fault::Changes(fault) => file_line(alloc, *fault),
+            Fault::Stopped(fault) => stopped_line(alloc, *fault),
             Fault::Script(fault) => fault_text(alloc, fault),
         }
     }
@@ -48,7 +68,7 @@ impl Fault {
     fn advice(&self) -> &'static str {
         match self {
             Fault::Image(fault) => advice(*fault),
-            Fault::Script(_) => "",
+            Fault::Changes(_) | Fault::Stopped(_) | Fault::Script(_) => "",
         }
     }
 

@@ -19,7 +19,7 @@ fn run(rt: &HostRuntime, task: Task<'_>) -> Result<(), Fault> {
             pages,
             now,
         } => commands::format(rt, image, site, pages, now),
-        Task::Apply { .. } => Err(Fault::of_memory()),
+        Task::Apply { image, file, now } => commands::apply(rt, image, file, now),
         Task::Show { image } => commands::show(rt, image),
         Task::Check { image } => commands::check(rt, image),
         Task::Replay { image } => commands::replay(rt, image),

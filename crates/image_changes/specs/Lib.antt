@@ -1,1 +1,2 @@
 pub mod ImageChanges
+pub mod StoppedLines

@@ -2,5 +2,7 @@
 #![tactic(auto)]
 
 mod applying;
+mod lines;
 
 pub use applying::{apply_on, apply_over};
+pub use lines::stopped_line;
