@@ -195,8 +195,8 @@ impl<S: SearchKeeper> Hub<S> {
         }
     }
 
-    /// Whether no write or sync has failed.
-    pub(crate) fn is_usable(&self) -> bool
+    /// Whether no write or sync has failed. A hub that isn't usable answers `Failed` to all but `leave`.
+    pub fn is_usable(&self) -> bool
         ensures { result ≡ (S.site_state (keeper_of self.now)).usable }
     {
         self.site.is_usable()

@@ -1,0 +1,10 @@
+use Rattle.session_core.specs.Calls.{HubRun}
+use Rattle.turns.specs.Runs.{HasRun}
+use Rattle.turns.specs.Turns.{For, Turn, InOrder, Times}
+use Rattle.turns.proofs.turns.pass_on.Given as goal
+
+-- so many passes were made
+abbrev pub invariant-loop-number : goal.invariant-loop-number
+invariant-loop-number g l =
+    let s = g.S.SiteKeeper in
+    HasRun (HubRun s.site_state s.lacks s.crash_states s.represents) l.fn.hub l.hub (g.C.Clock.told l.fn.clock) (g.C.Clock.told l.clock) (λ es os. Times l.number (InOrder (For g.W.Wire.calls Turn)) l.fn.connections es os l.connections)

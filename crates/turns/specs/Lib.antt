@@ -1,0 +1,3 @@
+pub mod WireCalls
+pub mod Turns
+pub mod Runs

@@ -1,0 +1,51 @@
+// The calls that were made of a wire. Only clauses read them, and they take no memory.
+ghost use Rattle.std.specs.Prelude.{◌≡◌, List, [], ◌∷◌, ◌++◌};
+ghost use Rattle.std.specs.Borrow.{ftrue};
+ghost use Rattle.turns.specs.WireCalls.{WireCall, call_of};
+
+use std::marker::Model;
+
+/// Which call of a wire it was, without its bytes.
+#[derive(Clone, Copy, Debug, PartialEq, Eq)]
+pub enum CallKind {
+    /// Bytes were read, or none at the end.
+    Read,
+    ReadFailed,
+    /// Bytes were taken.
+    Wrote,
+    WriteFailed,
+    Closed,
+}
+
+/// The calls of a wire, in order.
+#[derive(Drop)]
+pub struct CallLog {
+    pub ghost calls: { List WireCall },
+}
+
+impl Model for CallLog {
+    ghost also_owns = { λ _. ftrue };
+}
+
+impl CallLog {
+    /// No calls.
+    pub fn new() -> CallLog
+        ensures { result.calls ≡ [] }
+    {
+        CallLog {}
+    }
+
+    /// One call more.
+    fn with(_before: &CallLog, _kind: &CallKind, _bytes: &[u8]) -> CallLog
+        ensures { result.calls ≡ _before.now.calls ++ call_of _kind.now _bytes.now ∷ [] }
+    {
+        CallLog {}
+    }
+
+    /// Notes a call that was made, with its bytes where it has some.
+    pub fn note(&mut self, kind: CallKind, bytes: &[u8])
+        ensures { self.new.calls ≡ self.old.calls ++ call_of kind bytes.now ∷ [] }
+    {
+        *self = CallLog::with(self, &kind, bytes);
+    }
+}

@@ -1,0 +1,16 @@
+//! Sessions over wires, which are served in turns.
+#![tactic(auto)]
+
+mod call_log;
+mod clock;
+mod connection;
+mod sending;
+mod turn;
+mod turns;
+mod wire;
+
+pub use call_log::{CallKind, CallLog};
+pub use clock::{Clock, MomentLog};
+pub use connection::{Connection, Stage};
+pub use turns::{MOST_PASSES, take_turns};
+pub use wire::{Wire, WireFault};

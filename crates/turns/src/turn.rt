@@ -1,0 +1,169 @@
+// One turn of a session: a read or a draw, with its writes.
+ghost use Rattle.std.specs.Prelude.{◌≡◌, ◌⊎◌, Bool, true, List, [], ◌++◌};
+ghost use Rattle.text_writer.specs.Errors.{error_reply};
+ghost use Rattle.text_writer.specs.declared.error.ErrorText.TheVariants.{TryAgainLater};
+ghost use Rattle.session_core.specs.Calls.{HubCall, HubRun};
+ghost use Rattle.session_core.specs.Outcomes.{bytes_outcome};
+ghost use Rattle.turns.specs.Runs.{HasRun};
+ghost use Rattle.turns.specs.WireCalls.{WireCall, HasMade, IsSent};
+ghost use Rattle.turns.specs.Turns.{trace, is_closed, For, Joins, Turn, Ends, Hears, HearsNothing, Replies, Leaves, Follows, heard_event, heard_reply, heard_stage};
+
+use crate::connection::{Connection, Stage};
+use crate::sending::send;
+use crate::{Clock, Wire};
+use host_types::Stamp;
+use session_core::{Drawn, Hub, HubFault, InputStatus};
+use word_index::SearchKeeper;
+
+/// How many bytes are read or drawn in a turn, at most.
+const PIECE: usize = 512;
+
+/// What a client is told where there is no room for its post, by Gopher+.
+#[tactic(auto, unfolding(text_writer::specs::Errors::plus_error, text_writer::specs::Errors::words_of))]
+fn try_again_later() -> &'static [u8]
+    ensures { result.now ≡ error_reply true TryAgainLater [] }
+{
+    b"--1\r\n2 Try again later\r\n.\r\n"
+}
+
+/// Where a session is once what it heard is answered, and what its client is told of that.
+fn heard<W: Wire>(wire: &mut W, id: u64, answer: Result<InputStatus, HubFault>) -> Stage
+    ensures stage { result ≡ heard_stage id (bytes_outcome answer) }
+    ensures reply { HasMade (W.calls wire.old) (W.calls wire.new) (λ made. (whole : Bool) × IsSent (heard_reply (bytes_outcome answer)) made whole) }
+{
+    match answer {
+        Ok(InputStatus::More) => Stage::Listening(id),
+        Ok(InputStatus::Ready) => Stage::Replying(id),
+        Ok(InputStatus::Finished) => Stage::Left,
+        Err(HubFault::Full { .. }) => {
+            let _ = send(wire, try_again_later());
+            Stage::Left
+        }
+        Err(_) => Stage::Left,
+    }
+}
+
+/// The hub is told what was read: no bytes are the end.
+fn tell<S: SearchKeeper>(
+    hub: &mut Hub<S>,
+    id: u64,
+    piece: &[u8],
+    now: Stamp,
+) -> Result<InputStatus, HubFault>
+    ensures { HubCall S.site_state S.lacks S.crash_states S.represents hub.old (heard_event id piece.now now) (bytes_outcome result) hub.new }
+{
+    if piece.is_empty() {
+        hub.end(id, now)
+    } else {
+        hub.bytes(id, piece, now)
+    }
+}
+
+/// One read, and what the hub makes of it.
+fn hear<S: SearchKeeper, W: Wire, C: Clock>(
+    hub: &mut Hub<S>,
+    wire: &mut W,
+    clock: &mut C,
+    id: u64,
+) -> Stage
+    ensures { HasRun (HubRun S.site_state S.lacks S.crash_states S.represents) hub.old hub.new (C.told clock.old) (C.told clock.new) (λ es os. HasMade (W.calls wire.old) (W.calls wire.new) (λ made. Hears id (trace made es os) result ⊎ HearsNothing (trace made es os) result)) }
+{
+    let mut buffer = [0; PIECE];
+    let Ok(count) = wire.read(&mut buffer) else {
+        return Stage::Left;
+    };
+    let answer = tell(hub, id, &buffer[..count], clock.now());
+    heard(wire, id, answer)
+}
+
+/// One draw, with its writes.
+fn reply<S: SearchKeeper, W: Wire>(hub: &mut Hub<S>, wire: &mut W, id: u64) -> Stage
+    ensures { HasRun (HubRun S.site_state S.lacks S.crash_states S.represents) hub.old hub.new [] [] (λ es os. HasMade (W.calls wire.old) (W.calls wire.new) (λ made. Replies id (trace made es os) result)) }
+{
+    let mut buffer = [0; PIECE];
+    match hub.draw(id, &mut buffer) {
+        Ok(Drawn::Bytes(count)) => {
+            if send(wire, &buffer[..count.min(PIECE)]) {
+                Stage::Replying(id)
+            } else {
+                Stage::Left
+            }
+        }
+        Ok(Drawn::Finished) => Stage::Served,
+        Err(_) => Stage::Left,
+    }
+}
+
+/// The session leaves, and its wire is closed.
+fn leave<S: SearchKeeper, W: Wire>(hub: &mut Hub<S>, wire: &mut W, id: u64)
+    ensures { HasRun (HubRun S.site_state S.lacks S.crash_states S.represents) hub.old hub.new [] [] (λ es os. HasMade (W.calls wire.old) (W.calls wire.new) (λ made. Leaves id (trace made es os))) }
+{
+    let _ = hub.leave(id);
+    wire.close();
+}
+
+/// A session joins on a connection that is new, or its wire is closed.
+pub(crate) fn join<S: SearchKeeper, W: Wire>(hub: &mut Hub<S>, connection: &mut Connection<W>)
+    ensures { HasRun (HubRun S.site_state S.lacks S.crash_states S.represents) hub.old hub.new [] [] (λ es os. For W.calls Joins connection.old es os connection.new) }
+{
+    if connection.stage != Stage::New {
+        return;
+    }
+    match hub.join() {
+        Ok(id) => connection.stage = Stage::Listening(id),
+        Err(_) => {
+            connection.wire.close();
+            connection.stage = Stage::Left;
+        }
+    }
+}
+
+/// The session goes on as it is after a turn: one that doesn't go on leaves the hub, and its wire is closed.
+fn go_on<S: SearchKeeper, W: Wire>(
+    hub: &mut Hub<S>,
+    connection: &mut Connection<W>,
+    id: u64,
+    after: Stage,
+)
+    ensures run { HasRun (HubRun S.site_state S.lacks S.crash_states S.represents) hub.old hub.new [] [] (λ es os. HasMade (W.calls connection.old.wire) (W.calls connection.new.wire) (λ made. Follows id (is_closed after) (trace made es os))) }
+    ensures stage { connection.new.stage ≡ after }
+{
+    connection.stage = after;
+    if after.is_closed() {
+        leave(hub, &mut connection.wire, id);
+    }
+}
+
+/// One turn of a connection. One that doesn't go on leaves the hub, and its wire is closed.
+pub(crate) fn take_turn<S: SearchKeeper, W: Wire, C: Clock>(
+    hub: &mut Hub<S>,
+    connection: &mut Connection<W>,
+    clock: &mut C,
+)
+    ensures { HasRun (HubRun S.site_state S.lacks S.crash_states S.represents) hub.old hub.new (C.told clock.old) (C.told clock.new) (λ es os. For W.calls Turn connection.old es os connection.new) }
+{
+    match connection.stage {
+        Stage::Listening(id) => {
+            let after = hear(hub, &mut connection.wire, clock, id);
+            go_on(hub, connection, id, after);
+        }
+        Stage::Replying(id) => {
+            let after = reply(hub, &mut connection.wire, id);
+            go_on(hub, connection, id, after);
+        }
+        Stage::New | Stage::Served | Stage::Left => {}
+    }
+}
+
+/// A session that is still open leaves, and its wire is closed.
+pub(crate) fn end<S: SearchKeeper, W: Wire>(hub: &mut Hub<S>, connection: &mut Connection<W>)
+    ensures { HasRun (HubRun S.site_state S.lacks S.crash_states S.represents) hub.old hub.new [] [] (λ es os. For W.calls Ends connection.old es os connection.new) }
+{
+    match connection.stage {
+        Stage::Listening(id) | Stage::Replying(id) => {
+            leave(hub, &mut connection.wire, id);
+            connection.stage = Stage::Left;
+        }
+        Stage::New | Stage::Served | Stage::Left => {}
+    }
+}

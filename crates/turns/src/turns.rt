@@ -1,0 +1,84 @@
+// Sessions over wires, which are served in turns.
+ghost use Rattle.std.specs.Prelude.{◌≡◌, [], length, filter, true};
+ghost use Rattle.session_core.specs.Calls.{HubRun};
+ghost use Rattle.turns.specs.Runs.{HasRun};
+ghost use Rattle.turns.specs.Turns.{For, Joins, Turn, Ends, InOrder, Passes, Serves, AreClosed, is_served};
+
+use crate::connection::Connection;
+use crate::turn::{end, join, take_turn};
+use crate::{Clock, Wire};
+use session_core::Hub;
+use word_index::SearchKeeper;
+
+/// How many passes are made over the connections, at most.
+pub const MOST_PASSES: u32 = 1_000_000;
+
+/// A session joins on each connection that is new.
+fn join_all<S: SearchKeeper, W: Wire>(hub: &mut Hub<S>, connections: &mut [Connection<W>])
+    ensures { HasRun (HubRun S.site_state S.lacks S.crash_states S.represents) hub.old hub.new [] [] (λ es os. InOrder (For W.calls Joins) connections.old es os connections.new) }
+{
+    for connection in connections.iter_mut() {
+        join(hub, connection);
+    }
+}
+
+/// One turn for each connection, in order.
+fn pass<S: SearchKeeper, W: Wire, C: Clock>(
+    hub: &mut Hub<S>,
+    connections: &mut [Connection<W>],
+    clock: &mut C,
+)
+    ensures { HasRun (HubRun S.site_state S.lacks S.crash_states S.represents) hub.old hub.new (C.told clock.old) (C.told clock.new) (λ es os. InOrder (For W.calls Turn) connections.old es os connections.new) }
+{
+    for connection in connections.iter_mut() {
+        take_turn(hub, connection, clock);
+    }
+}
+
+/// Whether all are closed.
+fn are_closed<W>(connections: &[Connection<W>]) -> bool
+    ensures { result ≡ true → AreClosed connections.now }
+{
+    connections.iter().all(|c| c.stage.is_closed())
+}
+
+/// Passes over the connections, until all are closed.
+fn pass_on<S: SearchKeeper, W: Wire, C: Clock>(
+    hub: &mut Hub<S>,
+    connections: &mut [Connection<W>],
+    clock: &mut C,
+)
+    ensures { HasRun (HubRun S.site_state S.lacks S.crash_states S.represents) hub.old hub.new (C.told clock.old) (C.told clock.new) (λ es os. Passes W.calls connections.old es os connections.new) }
+{
+    for _number in 0..MOST_PASSES {
+        if are_closed(connections) {
+            return;
+        }
+        pass(hub, connections, clock);
+    }
+}
+
+/// Who is still open leaves.
+fn end_all<S: SearchKeeper, W: Wire>(hub: &mut Hub<S>, connections: &mut [Connection<W>])
+    ensures { HasRun (HubRun S.site_state S.lacks S.crash_states S.represents) hub.old hub.new [] [] (λ es os. InOrder (For W.calls Ends) connections.old es os connections.new) }
+{
+    for connection in connections.iter_mut() {
+        end(hub, connection);
+    }
+}
+
+/// A session joins on each connection that is new, and each open one gets one read or one draw in its turn, until all are closed.
+/// It answers how many replies were written whole.
+pub fn take_turns<S: SearchKeeper, W: Wire, C: Clock>(
+    hub: &mut Hub<S>,
+    connections: &mut [Connection<W>],
+    clock: &mut C,
+) -> u64
+    ensures serves { HasRun (HubRun S.site_state S.lacks S.crash_states S.represents) hub.old hub.new (C.told clock.old) (C.told clock.new) (λ es os. Serves W.calls connections.old es os connections.new) }
+    ensures count { result ≡ length (filter (λ c. is_served c.stage) connections.new) }
+{
+    join_all(hub, connections);
+    pass_on(hub, connections, clock);
+    end_all(hub, connections);
+    connections.iter().filter(|c| c.stage.is_served()).count() as u64
+}
