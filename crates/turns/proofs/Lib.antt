@@ -1,3 +1,4 @@
 pub mod Sendings
 pub mod Runnings
 pub mod Passing
+pub mod TurnsMade

@@ -68,3 +68,7 @@ done_more step i old now x y es fs os ps d within is one =
 pub done_all : {X : Type 0} (step : StepOf X) (i : ℕ) (old now : List X) (es : List Event) (os : List Outcome) → IsDoneTo step i old es os now → length now ≤ i → InOrder step old es os now
 done_all step i old now es os d all =
     subst (λ l. InOrder step l es os now) (take_all i old (omega (arith, d.size))) (subst (λ l. InOrder step (take i old) es os l) (take_all i now all) d.front)
+
+-- the next of them, as a loop has it
+pub done_next : {X : Type 0} (step : StepOf X) (i : ℕ) (old now : List X) (x y : X) (es fs : List Event) (os ps : List Outcome) → IsDoneTo step i old es os now → i < length now → x ≡ get_or now i x → step (get_or now i x) fs ps y → IsDoneTo step (i + 1) old (es ++ fs) (os ++ ps) (set now i y)
+done_next step i old now x y es fs os ps d within is one = done_more step i old now x y es fs os ps d within is (subst (λ a. step a fs ps y) (sym is) one)

@@ -4,6 +4,7 @@ ghost use Rattle.text_writer.specs.Errors.{error_reply};
 ghost use Rattle.text_writer.specs.declared.error.ErrorText.TheVariants.{TryAgainLater};
 ghost use Rattle.session_core.specs.Calls.{HubCall, HubRun};
 ghost use Rattle.session_core.specs.Outcomes.{bytes_outcome};
+ghost use Rattle.session_core.specs.declared.event.Outcome.TheVariants.{Fault};
 ghost use Rattle.turns.specs.Runs.{HasRun};
 ghost use Rattle.turns.specs.WireCalls.{WireCall, HasMade, IsSent};
 ghost use Rattle.turns.specs.Turns.{trace, is_closed, For, Joins, Turn, Ends, Hears, HearsNothing, Replies, Leaves, Follows, heard_event, heard_reply, heard_stage};
@@ -26,6 +27,18 @@ fn try_again_later() -> &'static [u8]
     b"--1\r\n2 Try again later\r\n.\r\n"
 }
 
+/// The client is told to try again later where there is no room for its post, and of no other fault.
+fn refused<W: Wire>(wire: &mut W, fault: HubFault)
+    ensures { HasMade (W.calls wire.old) (W.calls wire.new) (λ made. (whole : Bool) × IsSent (heard_reply (Fault fault)) made whole) }
+{
+    match fault {
+        HubFault::Full { .. } => {
+            let _ = send(wire, try_again_later());
+        }
+        _ => {}
+    }
+}
+
 /// Where a session is once what it heard is answered, and what its client is told of that.
 fn heard<W: Wire>(wire: &mut W, id: u64, answer: Result<InputStatus, HubFault>) -> Stage
     ensures stage { result ≡ heard_stage id (bytes_outcome answer) }
@@ -35,11 +48,10 @@ fn heard<W: Wire>(wire: &mut W, id: u64, answer: Result<InputStatus, HubFault>) 
         Ok(InputStatus::More) => Stage::Listening(id),
         Ok(InputStatus::Ready) => Stage::Replying(id),
         Ok(InputStatus::Finished) => Stage::Left,
-        Err(HubFault::Full { .. }) => {
-            let _ = send(wire, try_again_later());
+        Err(fault) => {
+            refused(wire, fault);
             Stage::Left
         }
-        Err(_) => Stage::Left,
     }
 }
 
@@ -106,15 +118,15 @@ fn leave<S: SearchKeeper, W: Wire>(hub: &mut Hub<S>, wire: &mut W, id: u64)
 pub(crate) fn join<S: SearchKeeper, W: Wire>(hub: &mut Hub<S>, connection: &mut Connection<W>)
     ensures { HasRun (HubRun S.site_state S.lacks S.crash_states S.represents) hub.old hub.new [] [] (λ es os. For W.calls Joins connection.old es os connection.new) }
 {
-    if connection.stage != Stage::New {
-        return;
-    }
-    match hub.join() {
-        Ok(id) => connection.stage = Stage::Listening(id),
-        Err(_) => {
-            connection.wire.close();
-            connection.stage = Stage::Left;
-        }
+    match connection.stage {
+        Stage::New => match hub.join() {
+            Ok(id) => connection.stage = Stage::Listening(id),
+            Err(_) => {
+                connection.wire.close();
+                connection.stage = Stage::Left;
+            }
+        },
+        _ => {}
     }
 }
 
@@ -151,7 +163,7 @@ pub(crate) fn take_turn<S: SearchKeeper, W: Wire, C: Clock>(
             let after = reply(hub, &mut connection.wire, id);
             go_on(hub, connection, id, after);
         }
-        Stage::New | Stage::Served | Stage::Left => {}
+        _ => {}
     }
 }
 
@@ -164,6 +176,6 @@ pub(crate) fn end<S: SearchKeeper, W: Wire>(hub: &mut Hub<S>, connection: &mut C
             leave(hub, &mut connection.wire, id);
             connection.stage = Stage::Left;
         }
-        Stage::New | Stage::Served | Stage::Left => {}
+        _ => {}
     }
 }

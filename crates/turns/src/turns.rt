@@ -50,7 +50,7 @@ fn pass_on<S: SearchKeeper, W: Wire, C: Clock>(
 )
     ensures { HasRun (HubRun S.site_state S.lacks S.crash_states S.represents) hub.old hub.new (C.told clock.old) (C.told clock.new) (λ es os. Passes W.calls connections.old es os connections.new) }
 {
-    for _number in 0..MOST_PASSES {
+    for _pass in 0..MOST_PASSES {
         if are_closed(connections) {
             return;
         }
