@@ -10,7 +10,7 @@ use Rattle.session_core.specs.declared.answer.InputStatus.{InputStatus}
 use Rattle.session_core.specs.declared.answer.InputStatus.TheVariants as statuses
 use Rattle.session_core.specs.declared.fault.HubFault.{HubFault}
 use Rattle.session_core.specs.declared.fault.HubFault.TheVariants as faults
-use Rattle.session_core.specs.Outcomes.{join_outcome, bytes_outcome, draw_outcome}
+use Rattle.session_core.specs.Outcomes.{join_outcome, heard_outcome, bytes_outcome, draw_outcome}
 use Rattle.session_core.specs.declared.answer.Drawn.{Drawn}
 use Rattle.session_core.specs.declared.answer.Drawn.TheVariants as drawn
 use Rattle.turns.specs.Runs.{moment_of}
@@ -190,3 +190,9 @@ times_next n step old mid new es fs os ps before one = subst (λ m. Times m step
 -- the passes end
 pub passes_made : {W : Type 0} (calls : W → List WireCall) (count : ℕ) (old new : List (Connection W)) (es : List Event) (os : List Outcome) → count ≤ 1000000 → (count < 1000000 → AreClosed new) → Times count (InOrder (For calls Turn)) old es os new → Passes calls old es os new
 passes_made calls count old new es os few until passes = record { count = count; few = few; passes = passes; until = until }
+
+-- a client is told nothing of what the hub took
+pub says_nothing : (status : InputStatus) → heard_reply (heard_outcome status) ≡ []
+says_nothing statuses.More = refl
+says_nothing statuses.Ready = refl
+says_nothing statuses.Finished = refl

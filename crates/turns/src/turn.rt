@@ -3,7 +3,7 @@ ghost use Rattle.std.specs.Prelude.{◌≡◌, ◌⊎◌, Bool, true, List, [], 
 ghost use Rattle.text_writer.specs.Errors.{error_reply};
 ghost use Rattle.text_writer.specs.declared.error.ErrorText.TheVariants.{TryAgainLater};
 ghost use Rattle.session_core.specs.Calls.{HubCall, HubRun};
-ghost use Rattle.session_core.specs.Outcomes.{bytes_outcome};
+ghost use Rattle.session_core.specs.Outcomes.{bytes_outcome, heard_outcome};
 ghost use Rattle.session_core.specs.declared.event.Outcome.TheVariants.{Fault};
 ghost use Rattle.turns.specs.Runs.{HasRun};
 ghost use Rattle.turns.specs.WireCalls.{WireCall, HasMade, IsSent};
@@ -39,15 +39,24 @@ fn refused<W: Wire>(wire: &mut W, fault: HubFault)
     }
 }
 
+/// Where a session is once the hub took what it heard.
+fn stage_after(id: u64, status: InputStatus) -> Stage
+    ensures { result ≡ heard_stage id (heard_outcome status) }
+{
+    match status {
+        InputStatus::More => Stage::Listening(id),
+        InputStatus::Ready => Stage::Replying(id),
+        InputStatus::Finished => Stage::Left,
+    }
+}
+
 /// Where a session is once what it heard is answered, and what its client is told of that.
 fn heard<W: Wire>(wire: &mut W, id: u64, answer: Result<InputStatus, HubFault>) -> Stage
     ensures stage { result ≡ heard_stage id (bytes_outcome answer) }
     ensures reply { HasMade (W.calls wire.old) (W.calls wire.new) (λ made. (whole : Bool) × IsSent (heard_reply (bytes_outcome answer)) made whole) }
 {
     match answer {
-        Ok(InputStatus::More) => Stage::Listening(id),
-        Ok(InputStatus::Ready) => Stage::Replying(id),
-        Ok(InputStatus::Finished) => Stage::Left,
+        Ok(status) => stage_after(id, status),
         Err(fault) => {
             refused(wire, fault);
             Stage::Left
