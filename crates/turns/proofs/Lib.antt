@@ -2,3 +2,4 @@ pub mod Sendings
 pub mod Runnings
 pub mod Passing
 pub mod TurnsMade
+pub mod AllClosed

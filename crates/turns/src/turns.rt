@@ -68,13 +68,14 @@ fn end_all<S: SearchKeeper, W: Wire>(hub: &mut Hub<S>, connections: &mut [Connec
 }
 
 /// A session joins on each connection that is new, and each open one gets one read or one draw in its turn, until all are closed.
-/// It answers how many replies were written whole.
+/// It answers how many replies were written whole. It takes no memory.
 pub fn take_turns<S: SearchKeeper, W: Wire, C: Clock>(
     hub: &mut Hub<S>,
     connections: &mut [Connection<W>],
     clock: &mut C,
 ) -> u64
     ensures serves { HasRun (HubRun S.site_state S.lacks S.crash_states S.represents) hub.old hub.new (C.told clock.old) (C.told clock.new) (λ es os. Serves W.calls connections.old es os connections.new) }
+    ensures closed { AreClosed connections.new }
     ensures count { result ≡ length (filter (λ c. is_served c.stage) connections.new) }
 {
     join_all(hub, connections);
