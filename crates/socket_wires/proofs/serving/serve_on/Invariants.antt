@@ -1,0 +1,14 @@
+use Rattle.session_core.specs.Calls.{HubRun}
+use Rattle.session_core.specs.Hub.{keeper_of}
+use Rattle.turns.specs.Runs.{HasRun}
+use Rattle.socket_wires.specs.Rounds.{Rounds}
+use Rattle.socket_wires.proofs.serving.serve_on.Given as goal
+
+-- so many rounds were made
+abbrev pub invariant-loop-round : goal.invariant-loop-round
+invariant-loop-round g l =
+    let s = g.S.SiteKeeper in
+    record {
+      rounds : Rounds (HubRun s.site_state s.lacks s.crash_states s.represents) (λ h. (s.site_state (keeper_of h)).usable) l.together l._round l.fn.hub l.hub (g.C.Clock.told l.fn.clock) (g.C.Clock.told l.clock) 0 l.served;
+      ran : HasRun (HubRun s.site_state s.lacks s.crash_states s.represents) l.fn.hub l.hub (g.C.Clock.told l.fn.clock) (g.C.Clock.told l.clock) (λ es os. Unit {0});
+    }

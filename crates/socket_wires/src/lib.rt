@@ -1,0 +1,10 @@
+//! Sessions over sockets: connections as wires, the clock of the system, and rounds of connections.
+#![tactic(auto)]
+
+mod serving;
+mod socket_wire;
+mod system_clock;
+
+pub use serving::{ServeFault, serve_on};
+pub use socket_wire::SocketWire;
+pub use system_clock::{SystemClock, moment_of};

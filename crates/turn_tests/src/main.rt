@@ -1,0 +1,146 @@
+//! Tests of sessions over wires: wires in memory that are served together, and a connection over the loopback. Each test prints how many replies were written
+//! whole, and what each wire was given.
+#![tactic(auto)]
+
+mod memory_wire;
+mod site;
+
+use memory_wire::{MemoryWire, StandingClock};
+use session_core::Hub;
+use site::{NotReady, test_site};
+use socket_wires::{SystemClock, serve_on};
+use std::alloc::Global;
+use std::io;
+use std::io::{Read, Write};
+use std::net::{OpenListener, OpenStream, TcpListener, TcpStream};
+use turns::{Connection, take_turns};
+
+const POST: &[u8] = b"/sign\t+\t1\r\n+-1\r\nAnn\r\n1\r\nHi\r\n.\r\n";
+
+/// A test by its name: wires that are served together.
+fn wires_of(alloc: Global, name: &str) -> Result<Vec<MemoryWire>, NotReady> {
+    let mut wires = Vec::new(alloc);
+    let wire = |pieces| MemoryWire::new(alloc, pieces);
+    match name {
+        "post in three reads" => {
+            wires.push(wire(&[
+                b"/sign\t+\t1\r\n",
+                b"+-1\r\nAnn\r\n1\r\n",
+                b"Hi\r\n.\r\n",
+            ]))?;
+            wires.push(wire(&[b"/book\r\n"]))?;
+        }
+        "post in one read" => {
+            wires.push(wire(&[POST]))?;
+            wires.push(wire(&[b"/book\r\n"]))?;
+        }
+        "post on the second wire" => {
+            wires.push(wire(&[b"/book\r\n"]))?;
+            wires.push(wire(&[POST]))?;
+        }
+        "failed write" => {
+            wires.push(wire(&[b"/about\r\n"]).cut(5))?;
+            wires.push(wire(&[b"/about\r\n"]))?;
+        }
+        "stalled read" => {
+            wires.push(wire(&[b"/abo"]).stalled())?;
+            wires.push(wire(&[b"/about\r\n"]))?;
+        }
+        "early end" => {
+            wires.push(wire(&[b"/abo"]))?;
+        }
+        "writes in part" => {
+            wires.push(wire(&[b"/about\r\n"]).slow(3))?;
+        }
+        _ => {
+            for _ in 0..33 {
+                wires.push(wire(&[b"/none\r\n"]))?;
+            }
+        }
+    }
+    Ok(wires)
+}
+
+const NAMES: [&str; 8] = [
+    "post in three reads",
+    "post in one read",
+    "post on the second wire",
+    "failed write",
+    "stalled read",
+    "early end",
+    "writes in part",
+    "one wire too many",
+];
+
+/// Serves wires together over the site of the tests.
+fn serve(
+    alloc: Global,
+    wires: Vec<MemoryWire>,
+) -> Result<(u64, Vec<Connection<MemoryWire>>), NotReady> {
+    let mut connections = Vec::new(alloc);
+    for wire in wires {
+        connections.push(Connection::new(wire))?;
+    }
+    let Ok(mut hub) = Hub::new(alloc, test_site(alloc)?, 1) else {
+        return Err(NotReady);
+    };
+    let served = take_turns(&mut hub, &mut connections, &mut StandingClock::new());
+    let _ = hub.close();
+    Ok((served, connections))
+}
+
+fn show(rt: &HostRuntime, name: &str) -> io::Result<()> {
+    println!(rt; "{name}")?;
+    let answered = match wires_of(rt.alloc(), name) {
+        Ok(wires) => serve(rt.alloc(), wires),
+        Err(fault) => Err(fault),
+    };
+    let Ok((served, connections)) = answered else {
+        return Err(io::ErrorKind::OutOfMemory.into());
+    };
+    println!(rt; "served {served}")?;
+    for connection in connections.iter() {
+        let wire = connection.wire();
+        let closed = wire.closed();
+        match std::str::from_utf8(wire.written()) {
+            Ok(text) => println!(rt; "{text:?} closed {closed}")?,
+            Err(_) => println!(rt; "no text")?,
+        }
+    }
+    Ok(())
+}
+
+/// One client over the loopback asks for `/about`, and is served in one round of one.
+fn show_loopback(rt: &HostRuntime) -> io::Result<()> {
+    let listener = TcpListener::bind(rt, "127.0.0.1:0")?;
+    let port = listener.local_addr()?.port();
+    let mut client = TcpStream::connect(rt, ("127.0.0.1", port))?;
+    client.write_all(b"/about\r\n")?;
+    let Ok(site) = test_site(rt.alloc()) else {
+        return Err(io::ErrorKind::OutOfMemory.into());
+    };
+    let Ok(mut hub) = Hub::new(rt.alloc(), site, 1) else {
+        return Err(io::ErrorKind::OutOfMemory.into());
+    };
+    let mut clock = SystemClock::new(rt);
+    let served = serve_on(rt.alloc(), &listener, &mut hub, &mut clock, 1, 1);
+    let _ = hub.close();
+    let mut reply = Vec::new(rt.alloc());
+    let _ = client.read_to_end(&mut reply)?;
+    println!(rt; "loopback")?;
+    match served {
+        Ok(count) => println!(rt; "served {count}")?,
+        Err(fault) => println!(rt; "fault {fault}")?,
+    }
+    match std::str::from_utf8(&reply) {
+        Ok(text) => println!(rt; "{text:?}"),
+        Err(_) => println!(rt; "no text"),
+    }
+}
+
+fn main(rt: HostRuntime) -> io::Result<()> {
+    for name in NAMES {
+        show(&rt, name)?;
+    }
+    show_loopback(&rt)
+}

@@ -1,0 +1,126 @@
+// A wire in memory, and a clock that stands.
+ghost use Rattle.std.specs.Prelude.{◌≡◌};
+
+use host_types::Stamp;
+use std::alloc::Global;
+use turns::{CallKind, CallLog, Clock, MomentLog, Wire, WireFault};
+
+/// A wire whose reads give some pieces, and which keeps what was written to it.
+#[derive(Drop)]
+pub struct MemoryWire {
+    pieces: &'static [&'static [u8]],
+    /// Whether the input ends behind the pieces; else a further read fails.
+    ends: bool,
+    /// How many bytes a write takes, at most.
+    at_once: usize,
+    /// How many bytes are taken before writes fail.
+    room: usize,
+    written: Vec<u8>,
+    closed: u32,
+    made: CallLog,
+}
+
+impl MemoryWire {
+    pub fn new(alloc: Global, pieces: &'static [&'static [u8]]) -> MemoryWire {
+        MemoryWire {
+            pieces,
+            ends: true,
+            at_once: usize::MAX,
+            room: usize::MAX,
+            written: Vec::new(alloc),
+            closed: 0,
+            made: CallLog::new(),
+        }
+    }
+
+    /// The same whose reads fail behind the pieces.
+    pub fn stalled(self) -> MemoryWire {
+        MemoryWire {
+            ends: false,
+            ..self
+        }
+    }
+
+    /// The same whose writes fail behind so many bytes.
+    pub fn cut(self, room: usize) -> MemoryWire {
+        MemoryWire { room, ..self }
+    }
+
+    /// The same whose writes take so many bytes, at most.
+    pub fn slow(self, at_once: usize) -> MemoryWire {
+        MemoryWire { at_once, ..self }
+    }
+
+    pub fn written(&self) -> &[u8] {
+        &self.written
+    }
+
+    /// How often it was closed.
+    pub fn closed(&self) -> u32 {
+        self.closed
+    }
+}
+
+impl Wire for MemoryWire {
+    ghost calls = { λ wire. wire.made.calls };
+
+    fn read(&mut self, buffer: &mut [u8]) -> Result<usize, WireFault> {
+        let Some((first, rest)) = self.pieces.split_first() else {
+            if self.ends {
+                self.made.note(CallKind::Read, &buffer[..0]);
+                return Ok(0);
+            }
+            self.made.note(CallKind::ReadFailed, &[]);
+            return Err(WireFault);
+        };
+        let count = first.len();
+        if count > buffer.len() {
+            self.made.note(CallKind::ReadFailed, &[]);
+            return Err(WireFault);
+        }
+        self.pieces = rest;
+        buffer[..count].copy_from_slice(first);
+        self.made.note(CallKind::Read, &buffer[..count]);
+        Ok(count)
+    }
+
+    fn write(&mut self, bytes: &[u8]) -> Result<usize, WireFault> {
+        let left = self.room.saturating_sub(self.written.len());
+        let count = bytes.len().min(self.at_once).min(left);
+        if count == 0 || self.written.extend_from_slice(&bytes[..count]).is_err() {
+            self.made.note(CallKind::WriteFailed, &[]);
+            return Err(WireFault);
+        }
+        self.made.note(CallKind::Wrote, &bytes[..count]);
+        Ok(count)
+    }
+
+    fn close(&mut self) {
+        self.closed = self.closed.saturating_add(1);
+        self.made.note(CallKind::Closed, &[]);
+    }
+}
+
+/// A clock that always tells the start of 1970.
+#[derive(Drop)]
+pub struct StandingClock {
+    told: MomentLog,
+}
+
+impl StandingClock {
+    pub fn new() -> StandingClock {
+        StandingClock {
+            told: MomentLog::new(),
+        }
+    }
+}
+
+impl Clock for StandingClock {
+    ghost told = { λ clock. clock.told.moments };
+
+    fn now(&mut self) -> Stamp {
+        let now = Stamp::start();
+        self.told.note(now);
+        now
+    }
+}
