@@ -5,13 +5,13 @@ ghost use Rattle.session_core.specs.Hub.{keeper_of};
 ghost use Rattle.turns.specs.Runs.{HasRun};
 ghost use Rattle.socket_wires.specs.Rounds.{IsFresh, IsServing};
 
+use crate::SocketWire;
 use session_core::Hub;
 use std::alloc::Global;
 use std::net::{OpenListener, TcpListener};
 use thiserror::Error;
 use turns::{Clock, Connection, take_turns};
 use word_index::SearchKeeper;
-use crate::SocketWire;
 
 /// Why serving ends early.
 #[derive(Clone, Copy, Debug, PartialEq, Eq, Error)]

@@ -2,10 +2,10 @@
 // each is short, and tests on real connections hold it.
 ghost use Rattle.std.specs.Prelude.{◌≡◌, [], IfOk};
 
+use std::io::{Read, Write};
 use std::net::{OpenStream, Shutdown, TcpStream};
 use std::time::Duration;
 use turns::{CallKind, CallLog, Wire, WireFault};
-use std::io::{Read, Write};
 
 /// For how many seconds a read or a write may wait.
 const PATIENCE: u64 = 30;

@@ -23,11 +23,7 @@ fn wires_of(alloc: Global, name: &str) -> Result<Vec<MemoryWire>, NotReady> {
     let wire = |pieces| MemoryWire::new(alloc, pieces);
     match name {
         "post in three reads" => {
-            wires.push(wire(&[
-                b"/sign\t+\t1\r\n",
-                b"+-1\r\nAnn\r\n1\r\n",
-                b"Hi\r\n.\r\n",
-            ]))?;
+            wires.push(wire(&[b"/sign\t+\t1\r\n", b"+-1\r\nAnn\r\n1\r\n", b"Hi\r\n.\r\n"]))?;
             wires.push(wire(&[b"/book\r\n"]))?;
         }
         "post in one read" => {

@@ -70,7 +70,10 @@ pub fn test_site(alloc: Global) -> Result<MemSite, NotReady> {
         Title::new(b"Top")?,
         Stamp::start(),
     )?;
-    site.change(put(alloc, b"/about", b"About us", text(alloc)?)?, Stamp::start())?;
+    site.change(
+        put(alloc, b"/about", b"About us", text(alloc)?)?,
+        Stamp::start(),
+    )?;
     let board = Body::Board { cap: 100, next: 1 };
     site.change(put(alloc, b"/book", b"Book", board)?, Stamp::start())?;
     site.change(put(alloc, b"/sign", b"Sign", form(alloc)?)?, Stamp::start())?;

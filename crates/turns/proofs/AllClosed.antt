@@ -67,7 +67,7 @@ pub serves_closed : {W : Type 0} (calls : W → List WireCall) (old new : List (
 serves_closed {W} calls old new es os s =
     all_after (For calls Ends) IsOld (λ c. is_closed c.stage ≡ true) (λ x y fs ps p d. ends_closed x.stage _ y.stage p d.does) s.later.mid new s.later.later_events s.later.later_outcomes
     (times_keep (InOrder (For calls Turn)) (All IsOld) (λ xs ys fs ps p d. all_after (For calls Turn) IsOld IsOld (λ x y gs qs o t. turn_new x.stage _ y.stage o t.does) xs ys fs ps p d) s.later.first.count s.mid s.later.mid s.later.first_events s.later.first_outcomes
-        (all_after (For calls Joins) (λ c. Unit {0}) IsOld (λ x y fs ps p d. joins_new x.stage _ y.stage d.does) old s.mid s.first_events s.first_outcomes (anything old) s.first) s.later.first.passes)
+    (all_after (For calls Joins) (λ c. Unit {0}) IsOld (λ x y fs ps p d. joins_new x.stage _ y.stage d.does) old s.mid s.first_events s.first_outcomes (anything old) s.first) s.later.first.passes)
     s.later.later
   where
     IsOld : Connection W → Type 0

@@ -25,7 +25,7 @@ pub untold : {H : Type 0} (ran : H → List Event → List Outcome → H → Typ
 untold ran old new t P r = record { events = r.events; outcomes = r.outcomes; led = r.led; moments_are = sym (append-nil t) ∙ ap (λ l. t ++ l) r.moments_are; holds = r.holds }
 
 module _ {S L : Type 0} (site_state : S → SiteState) (lacks : S → Change → ℕ → SiteFault → Type 0) (crash_states : S → CrashStates L) (stands : L → Site → Type 0)
-  (law : (k : S) (c : L) → IsTrue (site_state k).honest → (site_state k).usable ≡ true → may_crash_to (crash_states k) c → stands c (site_state k).site) where
+    (law : (k : S) (c : L) → IsTrue (site_state k).honest → (site_state k).usable ≡ true → may_crash_to (crash_states k) c → stands c (site_state k).site) where
   -- no event
   pub run_none : {bound : _} (hub : Hub S bound) (t : List ℕ) (P : List Event → List Outcome → Type 0) → P [] [] → HasRun (HubRun site_state lacks crash_states stands) hub hub t t P
   run_none hub t P p = record { events = []; outcomes = []; led = hub_rests site_state lacks crash_states stands law hub; moments_are = sym (append-nil t); holds = p }

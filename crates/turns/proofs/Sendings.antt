@@ -40,27 +40,35 @@ taken_more bytes rest old now later n t some within wrote = record {
 
 -- all of them are taken
 pub sent_whole : (bytes rest : List ℕ) (old now : List WireCall) → IsTaken bytes rest old now → rest ≡ [] → HasMade old now (λ made. IsSent bytes made true)
-sent_whole bytes rest old now t none = (map Wrote t.taken, t.calls, record {
-  taken = t.taken;
-  left = [];
-  last = [];
-  bytes_are = t.bytes_are ∙ ap (λ l. concat t.taken ++ l) none;
-  each = t.each;
-  made_are = sym (append-nil (map Wrote t.taken));
-  ends = (refl, refl);
-})
+sent_whole bytes rest old now t none = (
+  map Wrote t.taken,
+  t.calls,
+  record {
+    taken = t.taken;
+    left = [];
+    last = [];
+    bytes_are = t.bytes_are ∙ ap (λ l. concat t.taken ++ l) none;
+    each = t.each;
+    made_are = sym (append-nil (map Wrote t.taken));
+    ends = (refl, refl);
+  },
+)
 
 -- a write failed, or took none
 pub sent_in_part : (bytes rest : List ℕ) (old now later : List WireCall) (call : WireCall) → IsTaken bytes rest old now → rest ≢ [] → later ≡ now ++ call ∷ [] → (call ≡ WriteFailed) ⊎ (call ≡ Wrote []) → HasMade old later (λ made. IsSent bytes made false)
-sent_in_part bytes rest old now later call t some wrote ends = (map Wrote t.taken ++ call ∷ [], wrote ∙ ap (λ l. l ++ call ∷ []) t.calls ∙ append_assoc old (map Wrote t.taken) (call ∷ []), record {
-  taken = t.taken;
-  left = rest;
-  last = call ∷ [];
-  bytes_are = t.bytes_are;
-  each = t.each;
-  made_are = refl;
-  ends = (some, last_of call ends);
-})
+sent_in_part bytes rest old now later call t some wrote ends = (
+  map Wrote t.taken ++ call ∷ [],
+  wrote ∙ ap (λ l. l ++ call ∷ []) t.calls ∙ append_assoc old (map Wrote t.taken) (call ∷ []),
+  record {
+    taken = t.taken;
+    left = rest;
+    last = call ∷ [];
+    bytes_are = t.bytes_are;
+    each = t.each;
+    made_are = refl;
+    ends = (some, last_of call ends);
+  },
+)
   where
     last_of : (x : WireCall) → (x ≡ WriteFailed) ⊎ (x ≡ Wrote []) → (x ∷ [] ≡ WriteFailed ∷ []) ⊎ (x ∷ [] ≡ Wrote [] ∷ [])
     last_of x (inl e) = inl (ap (λ y. y ∷ []) e)

@@ -38,19 +38,23 @@ heard_moment id now (b ∷ bytes) = refl
 -- a read, and the sending of a reply to it
 pub heard_made : (id : ℕ) (old mid new : List WireCall) (piece : List ℕ) (now : ℕ) (outcome : Outcome) (after : Stage) → length piece ≤ 512 → mid ≡ old ++ Read piece ∷ [] → HasMade mid new (λ made. (whole : Bool) × IsSent (heard_reply outcome) made whole) → after ≡ heard_stage id outcome →
     HasMade old new (λ made. Hears id (trace made (heard_event id piece now ∷ []) (outcome ∷ [])) after ⊎ HearsNothing (trace made (heard_event id piece now ∷ []) (outcome ∷ [])) after)
-heard_made id old mid new piece now outcome after room read sent is = (Read piece ∷ sent.0, sent.1 ∙ ap (λ l. l ++ sent.0) read ∙ append_assoc old (Read piece ∷ []) sent.0, inl (record {
-  piece = piece;
-  now = now;
-  outcome = outcome;
-  sent = sent.0;
-  whole = sent.2.0;
-  room = room;
-  calls_are = refl;
-  events_are = refl;
-  outcomes_are = refl;
-  reply = sent.2.1;
-  after_is = is;
-}))
+heard_made id old mid new piece now outcome after room read sent is = (
+  Read piece ∷ sent.0,
+  sent.1 ∙ ap (λ l. l ++ sent.0) read ∙ append_assoc old (Read piece ∷ []) sent.0,
+  inl (record {
+    piece = piece;
+    now = now;
+    outcome = outcome;
+    sent = sent.0;
+    whole = sent.2.0;
+    room = room;
+    calls_are = refl;
+    events_are = refl;
+    outcomes_are = refl;
+    reply = sent.2.1;
+    after_is = is;
+  }),
+)
 
 pub heard_nothing : (id : ℕ) (old new : List WireCall) (after : Stage) → new ≡ old ++ ReadFailed ∷ [] → after ≡ Left → HasMade old new (λ made. Hears id (trace made [] []) after ⊎ HearsNothing (trace made [] []) after)
 heard_nothing id old new after read is = (ReadFailed ∷ [], read, inr (record { is = refl; after_is = is }))
