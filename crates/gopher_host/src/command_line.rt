@@ -104,6 +104,19 @@ fn replay<'a>(alloc: Global) -> Result<Command<'a>, AllocError> {
         .arg(image)
 }
 
+fn serve<'a>(alloc: Global) -> Result<Command<'a>, AllocError> {
+    let together = "How many connections a round takes, which are served in turns, 1 to 32";
+    let rounds = "How many rounds are served";
+    Command::new(alloc, "serve")
+        .about(
+            "Serves the site of an image on 127.0.0.1, at the site's own port, and prints how many replies were written whole",
+        )
+        .after_help("Example: gopher_host serve site.img --together 1 --rounds 100")
+        .arg(image(alloc))?
+        .arg(number(alloc, "together", "K", together, 1, 32))?
+        .arg(number(alloc, "rounds", "N", rounds, 0, 4_294_967_295))
+}
+
 /// The whole command line.
 pub fn command_line<'a>(alloc: Global) -> Result<Command<'a>, AllocError> {
     Command::new(alloc, "gopher_host")
@@ -114,5 +127,6 @@ pub fn command_line<'a>(alloc: Global) -> Result<Command<'a>, AllocError> {
         .subcommand(apply(alloc)?)?
         .subcommand(show(alloc)?)?
         .subcommand(check(alloc)?)?
-        .subcommand(replay(alloc)?)
+        .subcommand(replay(alloc)?)?
+        .subcommand(serve(alloc)?)
 }

@@ -9,7 +9,9 @@ use image_changes::apply_on;
 use image_commands::{
     ImageFault, SiteNames, check_image, format_image, formatted_line, sectors_of, show_image,
 };
+use image_server::{serve_image, served_line};
 use image_sessions::{replay_on, replay_over};
+use socket_wires::SystemClock;
 use std::io::{BufWriter, Write};
 use std::{fs, io};
 
@@ -134,5 +136,19 @@ pub fn replay(rt: &HostRuntime, image: Option<&str>) -> Result<(), Fault> {
     match written {
         Ok(()) => Ok(()),
         Err(_) => Err(Fault::of_output()),
+    }
+}
+
+/// Serves so many rounds of connections over the site of an image, at the site's port on 127.0.0.1, and prints how many replies were written whole.
+pub fn serve(rt: &HostRuntime, image: &str, together: u32, rounds: u32) -> Result<(), Fault> {
+    let device = open(rt, image)?;
+    let mut clock = SystemClock::new(rt);
+    let served = match serve_image(rt.alloc(), rt, device, &mut clock, together, rounds) {
+        Ok((served, _)) => served?,
+        Err((fault, _)) => return Err(Fault::from(fault)),
+    };
+    match served_line(rt.alloc(), served) {
+        Ok(line) => print_line(rt, &line),
+        Err(_) => Err(Fault::of_memory()),
     }
 }

@@ -3,6 +3,8 @@ use change_file::{ApplyFault, ChangeFileFault, file_line};
 use host_script::fault_text;
 use image_changes::stopped_line;
 use image_commands::{ImageFault, advice, fault_line};
+use image_server::{ServingFault, round_line, serving_line};
+use socket_wires::ServeFault;
 use std::alloc::{AllocError, Global};
 use std::io;
 use std::process::ExitCode;
@@ -16,6 +18,10 @@ pub enum Fault {
     Changes(ChangeFileFault),
     /// A change that was not made.
     Stopped(ApplyFault),
+    /// An image or a port that is not served.
+    Serving(ServingFault),
+    /// A round of connections.
+    Round(ServeFault),
     /// The script, or lack of memory, or an output that takes no more.
     Script(host_script::Fault),
 }
@@ -44,6 +50,18 @@ impl From<ApplyFault> for Fault {
     }
 }
 
+impl From<ServingFault> for Fault {
+    fn from(fault: ServingFault) -> Self {
+        Fault::Serving(fault)
+    }
+}
+
+impl From<ServeFault> for Fault {
+    fn from(fault: ServeFault) -> Self {
+        Fault::Round(fault)
+    }
+}
+
 impl Fault {
     /// Standard output takes no more.
     pub fn of_output() -> Self {
@@ -60,6 +78,8 @@ impl Fault {
             Fault::Image(fault) => fault_line(alloc, *fault),
             Fault::Changes(fault) => file_line(alloc, *fault),
             Fault::Stopped(fault) => stopped_line(alloc, *fault),
+            Fault::Serving(fault) => serving_line(alloc, *fault),
+            Fault::Round(fault) => round_line(alloc, *fault),
             Fault::Script(fault) => fault_text(alloc, fault),
         }
     }
@@ -68,7 +88,8 @@ impl Fault {
     fn advice(&self) -> &'static str {
         match self {
             Fault::Image(fault) => advice(*fault),
-            Fault::Changes(_) | Fault::Stopped(_) | Fault::Script(_) => "",
+            Fault::Serving(ServingFault::Image(fault)) => advice(ImageFault::from(*fault)),
+            _ => "",
         }
     }
 

@@ -23,6 +23,11 @@ fn run(rt: &HostRuntime, task: Task<'_>) -> Result<(), Fault> {
         Task::Show { image } => commands::show(rt, image),
         Task::Check { image } => commands::check(rt, image),
         Task::Replay { image } => commands::replay(rt, image),
+        Task::Serve {
+            image,
+            together,
+            rounds,
+        } => commands::serve(rt, image, together, rounds),
     }
 }
 

@@ -148,6 +148,11 @@ fn task_of<'a>(name: &str, matches: &ArgMatches<'a>) -> Option<Task<'a>> {
         "show" => Some(Task::Show { image: image? }),
         "check" => Some(Task::Check { image: image? }),
         "replay" => Some(Task::Replay { image }),
+        "serve" => Some(Task::Serve {
+            image: image?,
+            together: matches.get_one::<u32>("together")?,
+            rounds: matches.get_one::<u32>("rounds")?,
+        }),
         _ => None,
     }
 }

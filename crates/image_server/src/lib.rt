@@ -1,0 +1,8 @@
+//! A server over the site of an image: rounds of connections.
+#![tactic(auto)]
+
+mod lines;
+mod serving;
+
+pub use lines::{round_line, served_line, serving_line};
+pub use serving::{ServingFault, serve_image, serve_over};

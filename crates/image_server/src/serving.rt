@@ -1,0 +1,84 @@
+// Serves connections over a site that is handed in, and over the site of an image.
+ghost use Rattle.std.specs.Prelude.{◌≡◌, true, IfOk, IfErr, IsTrue};
+ghost use Rattle.host_types.specs.CrashStates.{AddsNone};
+ghost use Rattle.page_store.specs.Steps.{crash_states_of};
+ghost use Rattle.page_store.specs.FlatSeen.{device_of};
+ghost use Rattle.site_store.specs.Seen.{keeper_of};
+ghost use Rattle.image_sessions.specs.ImageRuns.{OverSite, OnImage};
+ghost use Rattle.turns.specs.Runs.{HasRun};
+ghost use Rattle.image_server.specs.Serving.{IsServingFault};
+
+use host_on_disk::{OpenFault, open_site};
+use host_types::SiteKeeper;
+use page_store::FlatKeeper;
+use sector_device::Device;
+use session_core::Hub;
+use site_store::DiskSite;
+use socket_wires::{ServeFault, serve_on};
+use std::alloc::Global;
+use std::net::{Net, TcpListener};
+use turns::Clock;
+use word_index::SearchKeeper;
+
+/// Why nothing is served.
+#[derive(Clone, Copy, Debug, PartialEq, Eq)]
+pub enum ServingFault {
+    /// The image is not opened as a site.
+    Image(OpenFault),
+    /// The site's port can't be listened on.
+    Net,
+}
+
+/// Serves so many rounds of connections over a site in one hub, whose sessions count from 1, and hands the site back. `Memory` comes before the first connection.
+pub fn serve_over<S: SearchKeeper, C: Clock>(
+    alloc: Global,
+    site: S,
+    listener: &TcpListener,
+    clock: &mut C,
+    together: u32,
+    rounds: u32,
+) -> Result<(Result<u64, ServeFault>, S), (OpenFault, S)>
+    requires { (S.site_state site).usable ≡ true }
+    ensures ran { IfOk result (λ r. HasRun (OverSite S.site_state S.lacks S.crash_states S.represents) site r.1 (C.told clock.old) (C.told clock.new) (λ es os. Unit {0})) }
+    ensures err { IfErr result (λ e. (e.0 ≡ OpenFault.Memory) × (e.1 ≡ site)) }
+    ensures untold { IfErr result (λ e. clock.new ≡ clock.old) }
+{
+    let mut hub = match Hub::new(alloc, site, 1) {
+        Ok(hub) => hub,
+        Err((_, site)) => return Err((OpenFault::Memory, site)),
+    };
+    let served = serve_on(alloc, listener, &mut hub, clock, together, rounds);
+    Ok((served, hub.close()))
+}
+
+/// Opens the image on a device, serves so many rounds of connections over its site, at the site's port on 127.0.0.1, and hands the device back. It answers how many replies were written whole.
+///
+/// What a crash at any moment leaves on the device represents the site after some of the events that the connections made, with each change that was acknowledged by
+/// then, or the one with the change in flight, unacknowledged.
+pub fn serve_image<D: Device, R: Net<Listener = TcpListener>, C: Clock>(
+    alloc: Global,
+    net: &R,
+    device: D,
+    clock: &mut C,
+    together: u32,
+    rounds: u32,
+) -> Result<(Result<u64, ServeFault>, D), (ServingFault, D)>
+    ensures ran { IfOk result (λ r. HasRun (OnImage D.state (λ d. device_of (keeper_of d)) ⟦<DiskSite<FlatKeeper<D>> as SiteKeeper>⟧.site_state ⟦<DiskSite<FlatKeeper<D>> as SiteKeeper>⟧.lacks ⟦<DiskSite<FlatKeeper<D>> as SiteKeeper>⟧.crash_states ⟦<DiskSite<FlatKeeper<D>> as SiteKeeper>⟧.represents (crash_states_of D.moment D.possible_since)) device r.1 (C.told clock.old) (C.told clock.new) (λ es os. Unit {0})) }
+    ensures fault { IfErr result (λ e. IsServingFault (D.state device) (D.state e.1) e.0) }
+    ensures at_crash_on_fault { IsTrue (D.state device).honest → IfErr result (λ e. AddsNone (crash_states_of D.moment D.possible_since device) (crash_states_of D.moment D.possible_since e.1)) }
+    ensures handed_back { IfErr result (λ e. (D.state e.1).honest ≡ (D.state device).honest) }
+    ensures untold { IfErr result (λ e. clock.new ≡ clock.old) }
+{
+    let site = match open_site(alloc, device) {
+        Ok(site) => site,
+        Err((fault, device)) => return Err((ServingFault::Image(fault), device)),
+    };
+    let port = site.front().port;
+    let Ok(listener) = TcpListener::bind(net, ("127.0.0.1", port)) else {
+        return Err((ServingFault::Net, site.into_keeper().into_device()));
+    };
+    match serve_over(alloc, site, &listener, clock, together, rounds) {
+        Ok((served, site)) => Ok((served, site.into_keeper().into_device())),
+        Err((fault, site)) => Err((ServingFault::Image(fault), site.into_keeper().into_device())),
+    }
+}
