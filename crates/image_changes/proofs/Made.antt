@@ -15,13 +15,13 @@ use Rattle.image_changes.specs.ImageChanges.{HasMade}
 
 -- but for a failed write or sync the keeper stays usable
 not_shut : {S : Type 0} (state : S → SiteState) (lacks : S → SiteChange → ℕ → SiteFault → Type 0) (change : FileChange) (now : ℕ) (made new : S) (fault : SiteFault) → fault ≢ faults.Failed → IsStop state lacks change now made new fault → (state new).usable ≡ (state made).usable
-not_shut state lacks (Change change) now made new (faults.Refused r) no stop = stop.0.0.usable
-not_shut state lacks (Change change) now made new faults.Read no stop = stop.0.0.usable
-not_shut state lacks (Change change) now made new (faults.Full need free) no stop = stop.0.0.usable
-not_shut state lacks (Change change) now made new faults.Spent no stop = stop.0.0.usable
-not_shut state lacks (Change change) now made new faults.Failed no stop = absurd (no refl)
-not_shut state lacks (Change change) now made new faults.Memory no stop = stop.0.usable
-not_shut state lacks (Refused refused) now made new fault no stop = ap (λ k. (state k).usable) stop.1
+not_shut state lacks (Change change) now made new (faults.Refused r) other stop = stop.0.0.usable
+not_shut state lacks (Change change) now made new faults.Read other stop = stop.0.0.usable
+not_shut state lacks (Change change) now made new (faults.Full need free) other stop = stop.0.0.usable
+not_shut state lacks (Change change) now made new faults.Spent other stop = stop.0.0.usable
+not_shut state lacks (Change change) now made new faults.Failed other stop = absurd (other refl)
+not_shut state lacks (Change change) now made new faults.Memory other stop = stop.0.usable
+not_shut state lacks (Refused refused) now made new fault other stop = ap (λ k. (state k).usable) stop.1
 
 pub all_made : {L : Type 0} (represents : L → Site → Type 0) (states : CrashStates L) (old t : Site) (changes : List FileChange) (now : ℕ) (U : Type 0) (result : Result ℕ ApplyFault) →
     OnOk result (apply_all old changes now ≡ Ok t) → OnOk result U → (U → (c : L) → may_crash_to states c → represents c t) → OnOk result (HasMade represents states old changes now)
@@ -37,9 +37,9 @@ pub before_made : {S L : Type 0} (state : S → SiteState) (lacks : S → SiteCh
     IfErr result (λ e. apply_all (state old).site (take (e.number - 1) changes) now ≡ Ok (state new).site) →
     ((state new).usable ≡ true → (c : L) → may_crash_to states c → represents c (state new).site) →
     (e : ApplyFault) → result ≡ Err e → e.fault ≢ faults.Failed → HasMade represents states (state old).site (take (e.number - 1) changes) now
-before_made state lacks represents states old new changes now result usable stopped kept sure e is no =
+before_made state lacks represents states old new changes now result usable stopped kept sure e is other =
     let stop : IsStopped state lacks old new changes now e.number e.fault = at_err (λ e. IsStopped state lacks old new changes now e.number e.fault) result e is stopped in (
       (state new).site,
       at_err (λ e. apply_all (state old).site (take (e.number - 1) changes) now ≡ Ok (state new).site) result e is kept,
-      sure (not_shut state lacks stop.change now stop.made new e.fault no stop.stop ∙ stop.usable ∙ usable),
+      sure (not_shut state lacks stop.change now stop.made new e.fault other stop.stop ∙ stop.usable ∙ usable),
     )

@@ -22,7 +22,7 @@ pub record AppliesTo {S L : Type 0} (site_state : S → SiteState) (crash_states
   pub at_crash : AddsOnly (crash_states old) (crash_states new) (RepresentsFront represents (site_state old).site changes now)
 
 -- The same of the one site that reads of a device give at first. To open it writes nothing.
-pub record AppliesToImage {D : Type 0} (state : D → State) (crash_states : D → CrashStates Image) (old new : D) (changes : List FileChange) (now : ℕ) (result : Result ℕ ApplyFault) : Type 1 where
+pub record AppliesToImage {D : Type 0} (state : D → State) (crash_states : D → CrashStates Image) (old new : D) (changes : List FileChange) (now : ℕ) (result : Result ℕ ApplyFault) : Type 0 where
   pub site : Site
   pub stands : ImageRepresents (state old).disk.view site
   pub alone : (s : Site) → ImageRepresents (state old).disk.view s → s ≡ site

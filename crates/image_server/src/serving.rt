@@ -16,7 +16,7 @@ use session_core::Hub;
 use site_store::DiskSite;
 use socket_wires::{ServeFault, serve_on};
 use std::alloc::Global;
-use std::net::{Net, TcpListener};
+use std::net::{Net, TcpListener, TcpStream};
 use turns::Clock;
 use word_index::SearchKeeper;
 
@@ -55,7 +55,7 @@ pub fn serve_over<S: SearchKeeper, C: Clock>(
 ///
 /// What a crash at any moment leaves on the device represents the site after some of the events that the connections made, with each change that was acknowledged by
 /// then, or the one with the change in flight, unacknowledged.
-pub fn serve_image<D: Device, R: Net<Listener = TcpListener>, C: Clock>(
+pub fn serve_image<D: Device, R: Net<Listener = TcpListener, Stream = TcpStream>, C: Clock>(
     alloc: Global,
     net: &R,
     device: D,
