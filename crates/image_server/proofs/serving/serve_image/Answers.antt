@@ -11,8 +11,8 @@ pub returns-in-Ok-serve_over-clause-ran : goal.returns-in-Ok-serve_over-clause-r
 returns-in-Ok-serve_over-clause-ran g c =
     let state = g.D.Device.state in
     let opened = c.in-Ok.ensures in
-    let back = c.into_device.ensures ∙ ap (λ k. device_of k) c.into_keeper.ensures in
-    run_too _ _ _ _ c.args.device c.into_device.result
+    let back = c.into_device-in-Ok-serve_over.ensures ∙ ap (λ k. device_of k) c.into_keeper-in-Ok-serve_over.ensures in
+    run_too _ _ _ _ c.args.device c.into_device-in-Ok-serve_over.result
     (λ events outcomes over. record {
       calls = record {
         opened = c.in-Ok.site;
@@ -23,14 +23,14 @@ returns-in-Ok-serve_over-clause-ran g c =
         runs = over.calls;
         handed = back;
       };
-      survives = λ honest. survives state (crash_states_of g.D.Device.moment g.D.Device.possible_since) c.args.device c.in-Ok.site.keeper.device c.in-Ok-serve_over.site.keeper.device c.into_device.result 1 events outcomes (seen_site c.in-Ok.site)
+      survives = λ honest. survives state (crash_states_of g.D.Device.moment g.D.Device.possible_since) c.args.device c.in-Ok.site.keeper.device c.in-Ok-serve_over.site.keeper.device c.into_device-in-Ok-serve_over.result 1 events outcomes (seen_site c.in-Ok.site)
           (opened.site honest) (opened.alone honest) (opened.at_crash honest) (over.run (subst IsTrue (sym opened.honest) honest)) back;
       honest = ap (λ d. (state d).honest) back ∙ over.honest ∙ opened.honest;
     })
     _ _ _ c.in-Ok-serve_over.ensures.ran
 
-pub returns-in-Err-serve_over-clause-fault : goal.returns-in-Err-serve_over-clause-fault
-returns-in-Err-serve_over-clause-fault g c =
+pub returns-clause-fault : goal.returns-clause-fault
+returns-clause-fault g c =
     let state = g.D.Device.state in
     let opened = c.in-Ok.ensures in
     let same = c.in-Err-serve_over.ensures.err in

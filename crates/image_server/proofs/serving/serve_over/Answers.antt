@@ -12,11 +12,11 @@ returns-clause-ran g c =
     let s = g.S.SiteKeeper in
     let is = c.in-Ok.ensures.keeper in
     let held = c.in-Ok.hub.site in
-    let left = c.serve_on.new.hub.site in
+    let left = c.serve_on-served.new.hub.site in
     let first = world_of s.site_state c.in-Ok.hub in
-    let last = world_of s.site_state c.serve_on.new.hub in
+    let last = world_of s.site_state c.serve_on-served.new.hub in
     let usable : (s.site_state held).usable ≡ true = subst (λ x. (s.site_state x).usable ≡ true) (sym is) c.requires in
-    run_too (HubRun s.site_state s.lacks s.crash_states s.represents) (OverSite s.site_state s.lacks s.crash_states s.represents) c.in-Ok.hub c.serve_on.new.hub c.args.site c.close.result
+    run_too (HubRun s.site_state s.lacks s.crash_states s.represents) (OverSite s.site_state s.lacks s.crash_states s.represents) c.in-Ok.hub c.serve_on-served.new.hub c.args.site c.close.result
     (λ events outcomes run. record {
       calls = handed_on s.site_state s.lacks s.crash_states s.represents c.args.site held left c.close.result first last 1 events outcomes is c.in-Ok.ensures.world c.close.ensures run.calls;
       run = λ honest.
@@ -25,4 +25,4 @@ returns-clause-ran g c =
           (calls_run s.site_state s.lacks s.crash_states s.represents first last held left events outcomes honest1 run.calls) (run.at_crash honest1 usable);
       honest = ap (λ x. (s.site_state x).honest) c.close.ensures ∙ calls_honest s.site_state s.lacks s.crash_states s.represents first last held left events outcomes run.calls ∙ ap (λ x. (s.site_state x).honest) is;
     })
-    _ _ _ c.serve_on.ensures.ran
+    _ _ _ c.serve_on-served.ensures.ran
