@@ -92,6 +92,14 @@ module _ {S L : Type 0} (state : S → SiteState) (lacks : S → SiteChange → 
       (λ c left. longer represents (state old).site front (change ∷ rest) now c left)
       (λ c left. either represents (state old).site (state made).site front change rest now (so_far.applied honest) c left)
 
+  -- what a change that was refused leaves at a crash
+  pub crash_refused : (old made new : S) (front : List FileChange) (now : ℕ) → Between state crash_states represents old made front now → (IsTrue (state made).honest → AddsNone (crash_states made) (crash_states new))
+      → IsTrue (state old).honest → (state old).usable ≡ true → AddsOnly (crash_states old) (crash_states new) (RepresentsFront represents (state old).site front now)
+  crash_refused old made new front now so_far step honest usable =
+      let before = so_far.at_crash honest usable in
+      adds_both (crash_states old) (crash_states made) (crash_states new) (RepresentsFront represents (state old).site front now) (may_crash_to (crash_states made)) (RepresentsFront represents (state old).site front now)
+      before (step (honest_still old made so_far.tried honest)) (λ c left. left) (λ c left. before.now c left)
+
   pub closed_more : (old made new : S) (front : List FileChange) (now : ℕ) → Between state crash_states represents old made front now
       → (IsTrue (state made).honest → (state made).usable ≡ false → AddsNone (crash_states made) (crash_states new))
       → IsTrue (state old).honest → (state old).usable ≡ false → AddsNone (crash_states old) (crash_states new)

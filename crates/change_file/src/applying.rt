@@ -15,6 +15,7 @@ fn apply_one<S: SiteKeeper>(site: &mut S, change: FileChange, now: Stamp) -> Res
     ensures tried { HasTried (S.site_state site.old) (S.site_state site.new) }
     ensures at_crash { IsTrue (S.site_state site.old).honest → (S.site_state site.old).usable ≡ true →
         AddsOnly (S.crash_states site.old) (S.crash_states site.new) (RepresentsEither S.represents (S.site_state site.old).site change now) }
+    ensures no_new_crash_state { IsTrue (S.site_state site.old).honest → IfErr result (λ e. (S.site_state site.new).usable ≡ true → AddsNone (S.crash_states site.old) (S.crash_states site.new)) }
     ensures no_new_crash_state_when_closed { IsTrue (S.site_state site.old).honest → (S.site_state site.old).usable ≡ false → AddsNone (S.crash_states site.old) (S.crash_states site.new) }
 {
     match change {
@@ -40,6 +41,10 @@ pub fn apply_changes<S: SiteKeeper>(
     // A crash at any moment of it leaves what represents the site after some of the changes, from the front.
     ensures at_crash { IsTrue (S.site_state site.old).honest → (S.site_state site.old).usable ≡ true →
         AddsOnly (S.crash_states site.old) (S.crash_states site.new) (RepresentsFront S.represents (S.site_state site.old).site changes.items now) }
+
+    // Where no write failed, what ended it wrote nothing: a crash leaves what the changes before it may leave.
+    ensures at_crash_when_refused { IsTrue (S.site_state site.old).honest → (S.site_state site.old).usable ≡ true → IfErr result (λ e. (S.site_state site.new).usable ≡ true →
+        AddsOnly (S.crash_states site.old) (S.crash_states site.new) (RepresentsFront S.represents (S.site_state site.old).site (take (e.number - 1) changes.items) now)) }
     ensures no_new_crash_state_when_closed { IsTrue (S.site_state site.old).honest → (S.site_state site.old).usable ≡ false → AddsNone (S.crash_states site.old) (S.crash_states site.new) }
 {
     let count = changes.len() as u64;

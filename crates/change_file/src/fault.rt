@@ -28,16 +28,6 @@ pub enum ChangeFileFault {
     Memory,
 }
 
-impl From<AllocError> for ChangeFileFault {
-    ghost use Rattle.change_file.specs.declared.fault.ChangeFileFault.TheVariants.{Memory};
-
-    ghost from_gives = { λ _ e. e ≡ Memory };
-
-    fn from(_: AllocError) -> Self {
-        ChangeFileFault::Memory
-    }
-}
-
 impl<T: Drop> From<AllocFailed<T>> for ChangeFileFault {
     ghost use Rattle.change_file.specs.declared.fault.ChangeFileFault.TheVariants.{Memory};
 

@@ -1,4 +1,4 @@
-use Rattle.std.proofs.Common.{◌≡◌, ◌∙◌, ◌+◌, ◌++◌, ◌∷◌, [], sym, drop, length, rules, arith, subst, length-append}
+use Rattle.std.proofs.Common.{◌≡◌, ◌∙◌, ◌+◌, ◌-◌, ◌++◌, ◌∷◌, [], sym, ap, take, drop, length, rules, arith, subst, length-append}
 use Rattle.std.proofs.lemmas.List.{map-id}
 use Rattle.std.specs.Prelude.{List}
 use Rattle.std.proofs.lemmas.Iterator.Adapters.{YieldsList-from_vec}
@@ -7,7 +7,7 @@ use Rattle.common_types.specs.CrashStates.{AddsOnly}
 use Rattle.change_file.specs.declared.fault.FileChange.{FileChange}
 use Rattle.change_file.specs.Applied.{RepresentsFront}
 use Rattle.change_file.proofs.Lists.{parts_at}
-use Rattle.change_file.proofs.Fronts.{stopped, earlier_stay, crash_more, goes_on}
+use Rattle.change_file.proofs.Fronts.{take_front, stopped, earlier_stay, crash_more, crash_refused, goes_on}
 use Rattle.change_file.proofs.applying.apply_changes.Goals as goal
 
 -- the changes are those that were made, the one in hand, and those behind it
@@ -31,6 +31,14 @@ returns-in-Err-clause-at_crash g c = λ honest usable.
     subst (λ (l : List FileChange). AddsOnly (g.S.SiteKeeper.crash_states c.args.site.now) (g.S.SiteKeeper.crash_states c.apply_one.new.site) (RepresentsFront g.S.SiteKeeper.represents (g.S.SiteKeeper.site_state c.args.site.now).site l c.args.now)) (sym (parts g c))
     (crash_more g.S.SiteKeeper.site_state g.S.SiteKeeper.lacks g.S.SiteKeeper.crash_states g.S.SiteKeeper.represents c.args.site.now c.loop-change.site c.apply_one.new.site c.loop-change.yielded c.in-Some.change
     (drop (length c.loop-change.yielded + 1) c.args.changes.items) c.args.now c.loop-change.invariant.so_far c.in-Err.ensures.at_crash honest usable)
+
+pub returns-in-Err-clause-at_crash_when_refused : goal.returns-in-Err-clause-at_crash_when_refused
+returns-in-Err-clause-at_crash_when_refused g c = λ honest usable still.
+    let place : c.loop-change.number + 1 - 1 ≡ length c.loop-change.yielded = omega (arith, c.loop-change.invariant.counted) in
+    let front : take (c.loop-change.number + 1 - 1) c.args.changes.items ≡ c.loop-change.yielded = ap (take (c.loop-change.number + 1 - 1)) (parts g c) ∙ take_front c.loop-change.yielded _ (c.loop-change.number + 1 - 1) place in
+    subst (λ (l : List FileChange). AddsOnly (g.S.SiteKeeper.crash_states c.args.site.now) (g.S.SiteKeeper.crash_states c.apply_one.new.site) (RepresentsFront g.S.SiteKeeper.represents (g.S.SiteKeeper.site_state c.args.site.now).site l c.args.now)) (sym front)
+    (crash_refused g.S.SiteKeeper.site_state g.S.SiteKeeper.lacks g.S.SiteKeeper.crash_states g.S.SiteKeeper.represents c.args.site.now c.loop-change.site c.apply_one.new.site c.loop-change.yielded c.args.now c.loop-change.invariant.so_far
+    (λ h. c.in-Err.ensures.no_new_crash_state h still) honest usable)
 
 pub loop-change-preserved : goal.loop-change-preserved
 loop-change-preserved g c = record {
