@@ -8,9 +8,9 @@ use Rattle.turns.specs.declared.connection.Connection.{Connection}
 use Rattle.turns.specs.declared.connection.Stage.TheVariants.{New}
 use Rattle.socket_wires.specs.declared.socket_wire.SocketWire.{SocketWire}
 
--- At most so many connections, on which nothing was done yet.
+-- So many connections, on which nothing was done yet.
 pub record IsFresh (together : ℕ) (connections : List (Connection SocketWire)) : Type 0 where
-  pub few : length connections ≤ together
+  pub size : length connections ≡ together
   pub are_new : All (λ c. (c.stage ≡ New) × (c.wire.made.calls ≡ [])) connections
 
 -- One round: fresh connections are served, and those whose replies were written whole are counted.

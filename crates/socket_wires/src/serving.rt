@@ -16,14 +16,14 @@ use word_index::SearchKeeper;
 /// Why serving ends early.
 #[derive(Clone, Copy, Debug, PartialEq, Eq, Error)]
 pub enum ServeFault {
-    /// No connection could be accepted.
+    /// A connection could not be accepted or set up.
     #[error("net")]
     Net,
     #[error("memory")]
     Memory,
 }
 
-/// So many connections, but for those that are gone already.
+/// So many connections.
 fn accept(
     alloc: Global,
     listener: &TcpListener,
@@ -37,7 +37,7 @@ fn accept(
             return Err(ServeFault::Net);
         };
         let Ok(wire) = SocketWire::new(stream) else {
-            continue;
+            return Err(ServeFault::Net);
         };
         if connections.push(Connection::new(wire)).is_err() {
             return Err(ServeFault::Memory);

@@ -9,6 +9,8 @@ use turns::{CallKind, CallLog, Clock, MomentLog, Wire, WireFault};
 #[derive(Drop)]
 pub struct MemoryWire {
     pieces: &'static [&'static [u8]],
+    /// How many of them were read.
+    read: usize,
     /// Whether the input ends behind the pieces; else a further read fails.
     ends: bool,
     /// How many bytes a write takes, at most.
@@ -24,6 +26,7 @@ impl MemoryWire {
     pub fn new(alloc: Global, pieces: &'static [&'static [u8]]) -> MemoryWire {
         MemoryWire {
             pieces,
+            read: 0,
             ends: true,
             at_once: usize::MAX,
             room: usize::MAX,
@@ -65,7 +68,7 @@ impl Wire for MemoryWire {
     ghost calls = { λ wire. wire.made.calls };
 
     fn read(&mut self, buffer: &mut [u8]) -> Result<usize, WireFault> {
-        let Some((first, rest)) = self.pieces.split_first() else {
+        let Some(first) = self.pieces.get(self.read) else {
             if self.ends {
                 self.made.note(CallKind::Read, &buffer[..0]);
                 return Ok(0);
@@ -78,7 +81,7 @@ impl Wire for MemoryWire {
             self.made.note(CallKind::ReadFailed, &[]);
             return Err(WireFault);
         }
-        self.pieces = rest;
+        self.read = self.read.saturating_add(1);
         buffer[..count].copy_from_slice(first);
         self.made.note(CallKind::Read, &buffer[..count]);
         Ok(count)

@@ -1,3 +1,4 @@
 pub mod WireCalls
 pub mod Turns
 pub mod Runs
+pub mod TurnExamples

@@ -4,6 +4,7 @@
 mod call_log;
 mod clock;
 mod connection;
+mod laws;
 mod sending;
 mod turn;
 mod turns;
@@ -12,5 +13,6 @@ mod wire;
 pub use call_log::{CallKind, CallLog};
 pub use clock::{Clock, MomentLog};
 pub use connection::{Connection, Stage};
+pub use laws::worked_examples;
 pub use turns::{MOST_PASSES, take_turns};
 pub use wire::{Wire, WireFault};

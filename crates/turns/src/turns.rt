@@ -68,7 +68,7 @@ fn end_all<S: SearchKeeper, W: Wire>(hub: &mut Hub<S>, connections: &mut [Connec
 }
 
 /// A session joins on each connection that is new, and each open one gets one read or one draw in its turn, until all are closed.
-/// It answers how many replies were written whole. It takes no memory.
+/// It answers how many replies were written whole. It takes no memory but what the hub takes.
 pub fn take_turns<S: SearchKeeper, W: Wire, C: Clock>(
     hub: &mut Hub<S>,
     connections: &mut [Connection<W>],

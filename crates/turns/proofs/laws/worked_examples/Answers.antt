@@ -1,0 +1,20 @@
+use Rattle.std.proofs.Common.{refl}
+use Rattle.std.specs.Fmt.{digits}
+use Rattle.text_writer.specs.Errors.{plus_error, words_of}
+use Rattle.turns.proofs.laws.worked_examples.Goals as goal
+
+pub returns : goal.returns
+unfolding plus_error words_of digits
+returns c = record {
+  a_piece = refl;
+  the_end = refl;
+  no_room = refl;
+  no_memory = refl;
+  a_reply_stands = refl;
+  early = refl;
+  goes_on = refl;
+  not_taken = refl;
+  all_drawn = refl;
+  could_not_join = refl;
+  moments_of_events = refl;
+}

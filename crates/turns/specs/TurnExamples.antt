@@ -1,0 +1,21 @@
+-- Worked examples of what a session does in a turn.
+use Rattle.std.specs.Prelude.{◌≡◌, true, false, [], ◌∷◌, codes}
+use Rattle.session_core.specs.declared.event.Event.TheVariants.{Join, Bytes, End, Draw}
+use Rattle.session_core.specs.declared.event.Outcome.TheVariants as outcomes
+use Rattle.session_core.specs.declared.fault.HubFault.TheVariants.{Full, Memory, Failed}
+use Rattle.turns.specs.Runs.{moments}
+use Rattle.turns.specs.Turns.{heard_event, heard_stage, heard_reply, replied_stage, joined_stage}
+use Rattle.turns.specs.declared.connection.Stage.TheVariants.{Listening, Replying, Served, Left}
+
+pub record TurnExamples : Type 0 where
+  pub a_piece : heard_event 3 (codes "/ab") 5 ≡ Bytes 3 (codes "/ab") 5
+  pub the_end : heard_event 3 [] 5 ≡ End 3 5
+  pub no_room : heard_reply (outcomes.Fault (Full 9 4)) ≡ codes "--1\r\n2 Try again later\r\n.\r\n"
+  pub no_memory : heard_reply (outcomes.Fault Memory) ≡ []
+  pub a_reply_stands : heard_stage 3 outcomes.Ready ≡ Replying 3
+  pub early : heard_stage 3 outcomes.Finished ≡ Left
+  pub goes_on : replied_stage 3 (outcomes.Drawn (codes "Hello")) true ≡ Replying 3
+  pub not_taken : replied_stage 3 (outcomes.Drawn (codes "Hello")) false ≡ Left
+  pub all_drawn : replied_stage 3 outcomes.Finished true ≡ Served
+  pub could_not_join : joined_stage (outcomes.Fault Failed) ≡ Left
+  pub moments_of_events : moments (Join ∷ Bytes 1 [] 5 ∷ Draw 1 512 ∷ End 2 7 ∷ []) ≡ 5 ∷ 7 ∷ []
