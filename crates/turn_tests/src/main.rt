@@ -15,42 +15,50 @@ use std::io::{Read, Write};
 use std::net::{OpenListener, OpenStream, TcpListener, TcpStream};
 use turns::{Connection, take_turns};
 
-const POST: &[u8] = b"/sign\t+\t1\r\n+-1\r\nAnn\r\n1\r\nHi\r\n.\r\n";
+/// A wire on which a post comes.
+fn poster(alloc: Global) -> Result<MemoryWire, NotReady> {
+    Ok(MemoryWire::new(alloc, b"/sign\t+\t1\r\n+-1\r\nAnn\r\n1\r\nHi\r\n.\r\n")?)
+}
+
+/// A wire on which the board is asked for.
+fn reader(alloc: Global) -> Result<MemoryWire, NotReady> {
+    Ok(MemoryWire::new(alloc, b"/book\r\n")?)
+}
+
+/// A wire on which the text is asked for.
+fn asker(alloc: Global) -> Result<MemoryWire, NotReady> {
+    Ok(MemoryWire::new(alloc, b"/about\r\n")?)
+}
 
 /// A test by its name: wires that are served together.
 fn wires_of(alloc: Global, name: &str) -> Result<Vec<MemoryWire>, NotReady> {
     let mut wires = Vec::new(alloc);
-    let wire = |pieces| MemoryWire::new(alloc, pieces);
     match name {
         "post in three reads" => {
-            wires.push(wire(&[b"/sign\t+\t1\r\n", b"+-1\r\nAnn\r\n1\r\n", b"Hi\r\n.\r\n"]))?;
-            wires.push(wire(&[b"/book\r\n"]))?;
+            wires.push(poster(alloc)?.in_pieces(11))?;
+            wires.push(reader(alloc)?)?;
         }
         "post in one read" => {
-            wires.push(wire(&[POST]))?;
-            wires.push(wire(&[b"/book\r\n"]))?;
+            wires.push(poster(alloc)?)?;
+            wires.push(reader(alloc)?)?;
         }
         "post on the second wire" => {
-            wires.push(wire(&[b"/book\r\n"]))?;
-            wires.push(wire(&[POST]))?;
+            wires.push(reader(alloc)?)?;
+            wires.push(poster(alloc)?)?;
         }
         "failed write" => {
-            wires.push(wire(&[b"/about\r\n"]).cut(5))?;
-            wires.push(wire(&[b"/about\r\n"]))?;
+            wires.push(asker(alloc)?.cut(5))?;
+            wires.push(asker(alloc)?)?;
         }
         "stalled read" => {
-            wires.push(wire(&[b"/abo"]).stalled())?;
-            wires.push(wire(&[b"/about\r\n"]))?;
+            wires.push(MemoryWire::new(alloc, b"/abo")?.stalled())?;
+            wires.push(asker(alloc)?)?;
         }
-        "early end" => {
-            wires.push(wire(&[b"/abo"]))?;
-        }
-        "writes in part" => {
-            wires.push(wire(&[b"/about\r\n"]).slow(3))?;
-        }
+        "early end" => wires.push(MemoryWire::new(alloc, b"/abo")?)?,
+        "writes in part" => wires.push(asker(alloc)?.slow(3))?,
         _ => {
             for _ in 0..33 {
-                wires.push(wire(&[b"/none\r\n"]))?;
+                wires.push(MemoryWire::new(alloc, b"/none\r\n")?)?;
             }
         }
     }

@@ -2,16 +2,18 @@
 ghost use Rattle.std.specs.Prelude.{◌≡◌};
 
 use host_types::Stamp;
-use std::alloc::Global;
+use std::alloc::{AllocError, Global};
 use turns::{CallKind, CallLog, Clock, MomentLog, Wire, WireFault};
 
-/// A wire whose reads give some pieces, and which keeps what was written to it.
+/// A wire whose reads give some bytes, and which keeps what was written to it.
 #[derive(Drop)]
 pub struct MemoryWire {
-    pieces: &'static [&'static [u8]],
-    /// How many of them were read.
-    read: usize,
-    /// Whether the input ends behind the pieces; else a further read fails.
+    input: Vec<u8>,
+    /// How many bytes of the input were read.
+    place: usize,
+    /// How many bytes a read gives, at most.
+    piece: usize,
+    /// Whether the input ends; else a further read fails.
     ends: bool,
     /// How many bytes a write takes, at most.
     at_once: usize,
@@ -23,20 +25,26 @@ pub struct MemoryWire {
 }
 
 impl MemoryWire {
-    pub fn new(alloc: Global, pieces: &'static [&'static [u8]]) -> MemoryWire {
-        MemoryWire {
-            pieces,
-            read: 0,
+    pub fn new(alloc: Global, input: &[u8]) -> Result<MemoryWire, AllocError> {
+        Ok(MemoryWire {
+            input: input.to_vec(alloc)?,
+            place: 0,
+            piece: usize::MAX,
             ends: true,
             at_once: usize::MAX,
             room: usize::MAX,
             written: Vec::new(alloc),
             closed: 0,
             made: CallLog::new(),
-        }
+        })
     }
 
-    /// The same whose reads fail behind the pieces.
+    /// The same whose reads give so many bytes, at most.
+    pub fn in_pieces(self, piece: usize) -> MemoryWire {
+        MemoryWire { piece, ..self }
+    }
+
+    /// The same whose reads fail behind the input.
     pub fn stalled(self) -> MemoryWire {
         MemoryWire {
             ends: false,
@@ -68,21 +76,14 @@ impl Wire for MemoryWire {
     ghost calls = { λ wire. wire.made.calls };
 
     fn read(&mut self, buffer: &mut [u8]) -> Result<usize, WireFault> {
-        let Some(first) = self.pieces.get(self.read) else {
-            if self.ends {
-                self.made.note(CallKind::Read, &buffer[..0]);
-                return Ok(0);
-            }
-            self.made.note(CallKind::ReadFailed, &[]);
-            return Err(WireFault);
-        };
-        let count = first.len();
-        if count > buffer.len() {
+        let left = self.input.get(self.place..).unwrap_or(&[]);
+        let count = left.len().min(self.piece).min(buffer.len());
+        if count == 0 && !self.ends {
             self.made.note(CallKind::ReadFailed, &[]);
             return Err(WireFault);
         }
-        self.read = self.read.saturating_add(1);
-        buffer[..count].copy_from_slice(first);
+        buffer[..count].copy_from_slice(&left[..count]);
+        self.place = self.place.saturating_add(count);
         self.made.note(CallKind::Read, &buffer[..count]);
         Ok(count)
     }
