@@ -1,5 +1,5 @@
 -- What is done in a turn, put together.
-use Rattle.std.proofs.Common.{◌≡◌, ◌⊎◌, inl, inr, ⊎_elim, ℕ, zero, suc, ◌+◌, ◌≤◌, ◌<◌, ◌-◌, add-one, Bool, true, false, List, [], ◌∷◌, ◌++◌, length, take, drop, refl, sym, ap, subst, ◌∙◌, append_assoc, arith, Option, Result, Ok, Err, min}
+use Rattle.std.proofs.Common.{◌≡◌, ◌⊎◌, inl, inr, ⊎_elim, ℕ, suc, ◌+◌, ◌≤◌, ◌<◌, add-one, Bool, true, false, List, [], ◌∷◌, ◌++◌, length, take, refl, sym, ap, subst, ◌∙◌, append_assoc, arith, Result, Ok, Err, min}
 use Rattle.std.proofs.lemmas.List.{append-nil, take_all}
 use Rattle.std.proofs.lemmas.Bool.{cases_lt}
 use Rattle.session_core.specs.declared.event.Event.{Event}
@@ -14,8 +14,8 @@ use Rattle.session_core.specs.Outcomes.{join_outcome, heard_outcome, bytes_outco
 use Rattle.session_core.specs.declared.answer.Drawn.{Drawn}
 use Rattle.session_core.specs.declared.answer.Drawn.TheVariants as drawn
 use Rattle.turns.specs.Runs.{moment_of}
-use Rattle.turns.specs.WireCalls.{WireCall, Read, ReadFailed, Closed, HasMade, IsSent, read_call}
-use Rattle.turns.specs.Turns.{Trace, trace, nothing, then, is_closed, For, Turn, Ends, Joins, Takes, Follows, Leaves, Hears, HearsNothing, Replies, IsJoin, StepOf, InOrder, Times, Both, AreClosed, Passes, heard_event, heard_stage, heard_reply, drawn_bytes, replied_stage, joined_stage, joined_calls}
+use Rattle.turns.specs.WireCalls.{WireCall, Read, ReadFailed, Closed, HasMade, IsSent}
+use Rattle.turns.specs.Turns.{Trace, trace, nothing, is_closed, For, Turn, Ends, Joins, Takes, Follows, Leaves, Hears, HearsNothing, Replies, StepOf, InOrder, Times, Both, AreClosed, Passes, heard_event, heard_stage, heard_reply, drawn_bytes, replied_stage, joined_stage, joined_calls}
 use Rattle.turns.specs.declared.connection.Connection.{Connection}
 use Rattle.turns.specs.declared.connection.Stage.{Stage}
 use Rattle.turns.specs.declared.connection.Stage.TheVariants.{New, Listening, Replying, Served, Left}

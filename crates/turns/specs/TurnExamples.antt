@@ -5,7 +5,7 @@ use Rattle.session_core.specs.declared.event.Outcome.TheVariants as outcomes
 use Rattle.session_core.specs.declared.fault.HubFault.TheVariants.{Full, Memory, Failed}
 use Rattle.turns.specs.Runs.{moments}
 use Rattle.turns.specs.Turns.{heard_event, heard_stage, heard_reply, replied_stage, joined_stage}
-use Rattle.turns.specs.declared.connection.Stage.TheVariants.{Listening, Replying, Served, Left}
+use Rattle.turns.specs.declared.connection.Stage.TheVariants.{Replying, Served, Left}
 
 pub record TurnExamples : Type 0 where
   pub a_piece : heard_event 3 (codes "/ab") 5 ≡ Bytes 3 (codes "/ab") 5

@@ -1,10 +1,9 @@
-use Rattle.std.proofs.Common.{ap, refl, sym, ◌∙◌}
-use Rattle.std.proofs.lemmas.List.{append-nil}
+use Rattle.std.proofs.Common.{refl}
 use Rattle.session_core.specs.Outcomes.{join_outcome}
 use Rattle.session_core.specs.declared.event.Event.TheVariants.{Join}
 use Rattle.turns.specs.Turns.{Joins}
 use Rattle.turns.proofs.Runnings.{run_none, run_one}
-use Rattle.turns.proofs.TurnsMade.{joined_made, joined_well, joined_not, does_nothing, joins_rest}
+use Rattle.turns.proofs.TurnsMade.{joined_well, joined_not, does_nothing, joins_rest}
 use Rattle.turns.proofs.turn.join.Goals as goal
 
 pub returns-in-Ok : goal.returns-in-Ok

@@ -1,4 +1,3 @@
-use Rattle.std.proofs.Common.{[]}
 use Rattle.session_core.specs.Calls.{HubRun}
 use Rattle.turns.specs.Runs.{HasRun}
 use Rattle.turns.specs.Turns.{For, Turn}

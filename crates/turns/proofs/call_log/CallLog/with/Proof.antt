@@ -1,7 +1,7 @@
 -- `with` makes a value of no bytes, whose list has one call more.
 use mathlib.Core.Path.{refl}
 use mathlib.Core.List.{[], ◌∷◌}
-use Rattle.std.proofs.Common.{ℕ, ◌<◌, ◌^◌, ◌++◌, length}
+use Rattle.std.proofs.Common.{◌<◌, ◌^◌, ◌++◌, length}
 use seplogic.Ra.Ura.{Ura}
 use mir.Syntax.{named}
 use mir.Val.{Val, vptr, vstruct, vnil}
