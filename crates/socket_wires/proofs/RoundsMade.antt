@@ -1,9 +1,8 @@
 -- Rounds that go on.
-use Rattle.std.proofs.Common.{◌≡◌, ℕ, suc, ◌+◌, ◌-◌, ◌^◌, min, Bool, true, List, length, refl, sym, ap, subst, ◌∙◌, add-one}
+use Rattle.std.proofs.Common.{◌≡◌, ℕ, ◌+◌, ◌-◌, ◌^◌, min, Bool, List, length, sym, ap, subst, ◌∙◌, add-one}
 use Rattle.std.specs.Prelude.{filter}
 use Rattle.session_core.specs.declared.event.Event.{Event}
 use Rattle.session_core.specs.declared.event.Outcome.{Outcome}
-use Rattle.turns.specs.Runs.{HasRun}
 use Rattle.turns.specs.Turns.{Serves, is_served}
 use Rattle.turns.specs.declared.connection.Connection.{Connection}
 use Rattle.socket_wires.specs.Rounds.{IsFresh, Round, OneRound, Rounds}
