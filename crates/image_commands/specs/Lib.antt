@@ -3,3 +3,4 @@ pub mod Lines
 pub mod Formatted
 pub mod Faults
 pub mod FaultLines
+pub mod CommandExamples
