@@ -1,7 +1,8 @@
 // Sessions that ask, and what they are answered.
 use crate::fault::Fault;
-use host_script::{escaped, line_of};
+use host_script::line_of;
 use host_types::{Bytes, Stamp};
+use printed_names::escaped;
 use session_core::{Drawn, Event, Hub, InputStatus, Outcome};
 use std::alloc::Global;
 use word_index::SearchKeeper;
