@@ -15,6 +15,11 @@ use socket_wires::SystemClock;
 use std::io::{BufWriter, Write};
 use std::{fs, io};
 
+/// The moment of so many seconds since 1970-01-01, of which the words of the command line give no others.
+fn moment(seconds: u64) -> Result<Stamp, ImageFault> {
+    Ok(Stamp::new(seconds)?)
+}
+
 /// The image in a file.
 fn open(rt: &HostRuntime, image: &str) -> Result<FileDevice, ImageFault> {
     Ok(FileDevice::open(rt, image)?)
@@ -56,9 +61,9 @@ pub fn format(
     image: &str,
     site: NewSite<'_>,
     pages: u32,
-    now: Stamp,
+    now: u64,
 ) -> Result<(), Fault> {
-    let line = made(rt, image, site, pages, now)?;
+    let line = made(rt, image, site, pages, moment(now)?)?;
     print_line(rt, &line)
 }
 
@@ -72,7 +77,8 @@ fn read(rt: &HostRuntime, file: &str) -> Result<Vec<FileChange>, ChangeFileFault
 }
 
 /// Makes the changes of a file on the site of an image, and prints how many they are.
-pub fn apply(rt: &HostRuntime, image: &str, file: &str, now: Stamp) -> Result<(), Fault> {
+pub fn apply(rt: &HostRuntime, image: &str, file: &str, now: u64) -> Result<(), Fault> {
+    let now = moment(now)?;
     let changes = read(rt, file)?;
     let device = open(rt, image)?;
     let applied = match apply_on(rt.alloc(), device, changes, now) {

@@ -7,12 +7,11 @@ ghost use Rattle.gopher_host.specs.declared.words.Misread.TheVariants.{Memory};
 use crate::command_line::command_line;
 use clap::error::ErrorKind;
 use clap::{ArgMatches, Error};
-use host_types::Stamp;
 use std::alloc::{AllocError, Global};
 use std::io;
 use std::process::ExitCode;
 
-/// What the program is asked to do. Images are names of files.
+/// What the program is asked to do. Images are names of files, and moments seconds since 1970-01-01.
 #[derive(Clone, Copy, Debug)]
 pub enum Task<'a> {
     /// Makes an image.
@@ -20,13 +19,13 @@ pub enum Task<'a> {
         image: &'a str,
         site: NewSite<'a>,
         pages: u32,
-        now: Stamp,
+        now: u64,
     },
     /// Makes the changes of a file.
     Apply {
         image: &'a str,
         file: &'a str,
-        now: Stamp,
+        now: u64,
     },
     /// Lists the items of an image.
     Show {
@@ -39,6 +38,12 @@ pub enum Task<'a> {
     /// Runs the script on standard input, and prints its answers.
     Replay {
         image: Option<&'a str>,
+    },
+    /// Serves so many rounds of connections over an image.
+    Serve {
+        image: &'a str,
+        together: u32,
+        rounds: u32,
     },
 }
 
@@ -126,10 +131,6 @@ fn new_site<'a>(matches: &ArgMatches<'a>) -> Option<NewSite<'a>> {
     })
 }
 
-fn moment(matches: &ArgMatches<'_>) -> Option<Stamp> {
-    Stamp::new(matches.get_one::<u64>("now")?).ok()
-}
-
 /// What the words behind a command ask for.
 fn task_of<'a>(name: &str, matches: &ArgMatches<'a>) -> Option<Task<'a>> {
     let image = matches.get_str("IMAGE");
@@ -138,12 +139,12 @@ fn task_of<'a>(name: &str, matches: &ArgMatches<'a>) -> Option<Task<'a>> {
             image: image?,
             site: new_site(matches)?,
             pages: matches.get_one::<u32>("pages")?,
-            now: moment(matches)?,
+            now: matches.get_one::<u64>("now")?,
         }),
         "apply" => Some(Task::Apply {
             image: image?,
             file: matches.get_str("FILE")?,
-            now: moment(matches)?,
+            now: matches.get_one::<u64>("now")?,
         }),
         "show" => Some(Task::Show { image: image? }),
         "check" => Some(Task::Check { image: image? }),
