@@ -1,8 +1,37 @@
--- Why nothing is served.
+-- Rounds of connections over a site that is handed in and back, and over the site of an image; and why nothing is served.
+use Rattle.std.specs.Prelude.{◌≡◌, ℕ, List, IsTrue}
+use Rattle.host_types.specs.Site.{Site}
+use Rattle.host_types.specs.SiteState.{SiteState}
+use Rattle.host_types.specs.CrashStates.{CrashStates}
+use Rattle.host_types.specs.declared.change.Change.{Change}
+use Rattle.host_types.specs.declared.site_fault.SiteFault.{SiteFault}
 use Rattle.sector_device.specs.Device.{State, NothingCounted}
+use Rattle.session_core.specs.World.{started}
+use Rattle.session_core.specs.Hub.{keeper_of, world_of}
+use Rattle.session_core.specs.Calls.{HubRun}
+use Rattle.session_core.specs.declared.hub.Hub.{Hub}
+use Rattle.host_on_disk.specs.ImageSites.{ImageRepresents}
 use Rattle.host_on_disk.specs.OpenFaults.{IsOpeningFault}
+use Rattle.socket_wires.specs.Rounds.{IsServing}
 use Rattle.image_server.specs.declared.serving.ServingFault.{ServingFault}
 use Rattle.image_server.specs.declared.serving.ServingFault.TheVariants.{Image, Net}
+
+-- A site is handed to a hub whose sessions count from 1, so many rounds are served by it, and the site is handed back.
+pub record ServesOver {S L : Type 0} (bound : _) (site_state : S → SiteState) (lacks : S → Change → ℕ → SiteFault → Type 0) (crash_states : S → CrashStates L) (stands : L → Site → Type 0) (together rounds : ℕ) (old new : S) (told_before told_now : List ℕ) (served : ℕ) : Type 0 where
+  pub first : Hub S bound
+  pub last : Hub S bound
+  pub keeper : keeper_of first ≡ old
+  pub world : world_of site_state first ≡ started (site_state old).site 1
+  pub serves : IsServing (HubRun site_state lacks crash_states stands) (λ hub. (site_state (keeper_of hub)).usable) together rounds first last told_before told_now served
+  pub handed : new ≡ keeper_of last
+
+-- The same over the site that a device shows.
+pub record ServesImage {D S L : Type 0} (bound : _) (state : D → State) (device : S → D) (site_state : S → SiteState) (lacks : S → Change → ℕ → SiteFault → Type 0) (crash_states : S → CrashStates L) (stands : L → Site → Type 0) (together rounds : ℕ) (old new : D) (told_before told_now : List ℕ) (served : ℕ) : Type 0 where
+  pub opened : S
+  pub closed : S
+  pub shows : IsTrue (state old).honest → ImageRepresents (state old).disk.view (site_state opened).site
+  pub serves : ServesOver bound site_state lacks crash_states stands together rounds opened closed told_before told_now served
+  pub handed : new ≡ device closed
 
 -- The image's own fault, by its cause; or the port can't be listened on, and then the image was opened and nothing failed.
 abbrev pub IsServingFault : State → State → ServingFault → Type 0

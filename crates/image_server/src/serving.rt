@@ -6,7 +6,7 @@ ghost use Rattle.page_store.specs.FlatSeen.{device_of};
 ghost use Rattle.site_store.specs.Seen.{keeper_of};
 ghost use Rattle.image_sessions.specs.ImageRuns.{OverSite, OnImage};
 ghost use Rattle.turns.specs.Runs.{HasRun};
-ghost use Rattle.image_server.specs.Serving.{IsServingFault};
+ghost use Rattle.image_server.specs.Serving.{ServesOver, ServesImage, IsServingFault};
 
 use host_on_disk::{OpenFault, open_site};
 use host_types::SiteKeeper;
@@ -40,6 +40,7 @@ pub fn serve_over<S: SearchKeeper, C: Clock>(
 ) -> Result<(Result<u64, ServeFault>, S), (OpenFault, S)>
     requires { (S.site_state site).usable ≡ true }
     ensures ran { IfOk result (λ r. HasRun (OverSite S.site_state S.lacks S.crash_states S.represents) site r.1 (C.told clock.old) (C.told clock.new) (λ es os. Unit {0})) }
+    ensures serves { IfOk result (λ r. IfOk r.0 (ServesOver ⟦<S as SiteKeeper>⟧ S.site_state S.lacks S.crash_states S.represents together rounds site r.1 (C.told clock.old) (C.told clock.new))) }
     ensures err { IfErr result (λ e. (e.0 ≡ OpenFault.Memory) × (e.1 ≡ site)) }
     ensures untold { IfErr result (λ e. clock.new ≡ clock.old) }
 {
@@ -64,6 +65,7 @@ pub fn serve_image<D: Device, R: Net<Listener = TcpListener, Stream = TcpStream>
     rounds: u32,
 ) -> Result<(Result<u64, ServeFault>, D), (ServingFault, D)>
     ensures ran { IfOk result (λ r. HasRun (OnImage D.state (λ d. device_of (keeper_of d)) ⟦<DiskSite<FlatKeeper<D>> as SiteKeeper>⟧.site_state ⟦<DiskSite<FlatKeeper<D>> as SiteKeeper>⟧.lacks ⟦<DiskSite<FlatKeeper<D>> as SiteKeeper>⟧.crash_states ⟦<DiskSite<FlatKeeper<D>> as SiteKeeper>⟧.represents (crash_states_of D.moment D.possible_since)) device r.1 (C.told clock.old) (C.told clock.new) (λ es os. Unit {0})) }
+    ensures serves { IfOk result (λ r. IfOk r.0 (ServesImage ⟦<DiskSite<FlatKeeper<D>> as SiteKeeper>⟧ D.state (λ d. device_of (keeper_of d)) ⟦<DiskSite<FlatKeeper<D>> as SiteKeeper>⟧.site_state ⟦<DiskSite<FlatKeeper<D>> as SiteKeeper>⟧.lacks ⟦<DiskSite<FlatKeeper<D>> as SiteKeeper>⟧.crash_states ⟦<DiskSite<FlatKeeper<D>> as SiteKeeper>⟧.represents together rounds device r.1 (C.told clock.old) (C.told clock.new))) }
     ensures fault { IfErr result (λ e. IsServingFault (D.state device) (D.state e.1) e.0) }
     ensures at_crash_on_fault { IsTrue (D.state device).honest → IfErr result (λ e. AddsNone (crash_states_of D.moment D.possible_since device) (crash_states_of D.moment D.possible_since e.1)) }
     ensures handed_back { IfErr result (λ e. (D.state e.1).honest ≡ (D.state device).honest) }

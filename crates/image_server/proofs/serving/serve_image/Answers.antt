@@ -4,7 +4,7 @@ use Rattle.page_store.specs.Steps.{crash_states_of}
 use Rattle.site_store.specs.Seen.{keeper_of, seen_site}
 use Rattle.host_on_disk.proofs.Openings.{no_memory}
 use Rattle.host_on_disk.proofs.Runs.{survives}
-use Rattle.image_server.proofs.OtherRuns.{run_too}
+use Rattle.image_server.proofs.OtherRuns.{run_too, ok_too}
 use Rattle.image_server.proofs.serving.serve_image.Goals as goal
 
 pub returns-in-Ok-serve_over-clause-ran : goal.returns-in-Ok-serve_over-clause-ran
@@ -36,3 +36,14 @@ returns-clause-fault g c =
     let same = c.in-Err-serve_over.ensures.err in
     let back = c.into_device-in-Err-serve_over.ensures ∙ ap (λ k. device_of k) (c.into_keeper-in-Err-serve_over.ensures ∙ ap (λ d. keeper_of d) same.1) in
     rw (same.0, back) (no_memory (state c.args.device) (state c.in-Ok.site.keeper.device) (seen_site c.in-Ok.site) opened.large opened.counts opened.site)
+
+pub returns-in-Ok-serve_over-clause-serves : goal.returns-in-Ok-serve_over-clause-serves
+returns-in-Ok-serve_over-clause-serves g c = ok_too c.in-Ok-serve_over.served
+    (λ served is. record {
+      opened = c.in-Ok.site;
+      closed = c.in-Ok-serve_over.site;
+      shows = c.in-Ok.ensures.site;
+      serves = is;
+      handed = c.into_device-in-Ok-serve_over.ensures ∙ ap (λ k. device_of k) c.into_keeper-in-Ok-serve_over.ensures;
+    })
+    c.in-Ok-serve_over.ensures.serves

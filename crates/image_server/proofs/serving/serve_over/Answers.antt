@@ -4,7 +4,7 @@ use Rattle.session_core.specs.Hub.{world_of}
 use Rattle.session_core.proofs.CallLaws.{calls_run, calls_honest}
 use Rattle.host_on_disk.proofs.Runs.{handed_over, handed_on}
 use Rattle.image_sessions.specs.ImageRuns.{OverSite}
-use Rattle.image_server.proofs.OtherRuns.{run_too}
+use Rattle.image_server.proofs.OtherRuns.{run_too, ok_too}
 use Rattle.image_server.proofs.serving.serve_over.Goals as goal
 
 pub returns-clause-ran : goal.returns-clause-ran
@@ -26,3 +26,15 @@ returns-clause-ran g c =
       honest = ap (λ x. (s.site_state x).honest) c.close.ensures ∙ calls_honest s.site_state s.lacks s.crash_states s.represents first last held left events outcomes run.calls ∙ ap (λ x. (s.site_state x).honest) is;
     })
     _ _ _ c.serve_on-served.ensures.ran
+
+pub returns-clause-serves : goal.returns-clause-serves
+returns-clause-serves g c = ok_too c.serve_on-served.result
+    (λ served is. record {
+      first = c.in-Ok.hub;
+      last = c.serve_on-served.new.hub;
+      keeper = c.in-Ok.ensures.keeper;
+      world = c.in-Ok.ensures.world;
+      serves = is;
+      handed = c.close.ensures;
+    })
+    c.serve_on-served.ensures.serves
