@@ -18,3 +18,5 @@ pub mod EncodedPages
 pub mod PageForm
 pub mod WrittenChildren
 pub mod ListsOfSteps
+pub mod NodesRead
+pub mod BoundedPages

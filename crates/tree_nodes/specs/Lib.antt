@@ -9,3 +9,5 @@ pub mod PageBytes
 pub mod PageViews
 pub mod Supplied
 pub mod Steps
+pub mod Needs
+pub mod OwnedTrees

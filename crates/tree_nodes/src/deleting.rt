@@ -48,7 +48,11 @@ fn with_first_left(first: Box<Node>, others: Vec<(Bytes, Node)>, left: Option<No
 }
 
 /// The children with what is left of one of them.
-fn with_child_left(others: Vec<(Bytes, Node)>, at: usize, left: Option<Node>) -> Vec<(Bytes, Node)>
+pub(crate) fn with_child_left(
+    others: Vec<(Bytes, Node)>,
+    at: usize,
+    left: Option<Node>,
+) -> Vec<(Bytes, Node)>
     requires { at < length others.items }
     ensures { others_view result.items ≡ others_less (others_view others.items) at (left_of left) }
 {

@@ -1,5 +1,5 @@
 // The bytes of owned nodes.
-ghost use Rattle.std.specs.Prelude.{◌≡◌, ◌≤◌, ◌<◌, ◌^◌, ◌+◌, ◌++◌, ◌∷◌, [], IsTrue, IfOk, OnOk, length};
+ghost use Rattle.std.specs.Prelude.{◌≡◌, ◌↔◌, ◌≤◌, ◌<◌, ◌^◌, ◌+◌, ◌++◌, ◌∷◌, [], IsTrue, IfOk, OnOk, length};
 ghost use Rattle.std.specs.List.{list_all};
 ghost use Rattle.page_store.specs.Batch.{is_pair};
 ghost use Rattle.page_store.specs.Heads.{seen_child};
@@ -9,6 +9,7 @@ ghost use Rattle.tree_nodes.specs.NodeView.{tree_of, others_view};
 
 use crate::Node;
 use crate::page_views::PAGE_WORD;
+use crate::splitting::{branch_fits, leaf_fits};
 use common_types::Bytes;
 use page_store::{Pair, padded_page, put_entries};
 use std::alloc::{AllocError, Global};
@@ -98,6 +99,28 @@ fn branch_page(
     put_child(&mut bytes, &[], page_number(first))?;
     put_others(&mut bytes, others)?;
     padded_page(bytes)
+}
+
+/// Whether all of these have the sizes of a pair.
+#[tactic(auto, unfolding(page_store::specs::Batch::is_value))]
+fn are_pairs(pairs: &[Pair]) -> bool
+    ensures { result ≡ list_all is_pair pairs.now }
+{
+    pairs.iter().all(|pair| {
+        let (key, value) = (pair.key().len(), pair.value().len());
+        key >= 1 && key <= 300 && value <= 1024
+    })
+}
+
+/// Whether a node is owned and fits its page: `encode` asks for that. It takes no memory.
+pub fn is_writable(node: &Node) -> bool
+    ensures { IsTrue result ↔ IsWritable (tree_of node.now) }
+{
+    match node {
+        Node::Page(_) => false,
+        Node::Leaf(pairs) => are_pairs(pairs) && leaf_fits(pairs),
+        Node::Branch(_, others) => branch_fits(others),
+    }
 }
 
 /// The bytes of an owned node of a level, as a page of a number and a generation; a branch names the pages of its children.

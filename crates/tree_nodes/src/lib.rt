@@ -6,12 +6,14 @@ mod encoding;
 mod fault;
 mod laws;
 mod node;
+mod owned_tree;
 mod page_views;
 mod putting;
 mod splitting;
+mod supplying;
 
 pub use deleting::delete;
-pub use encoding::encode;
+pub use encoding::{encode, is_writable};
 pub use fault::NodeFault;
 pub use laws::{
     a_delete_changes_one_key, a_delete_makes_no_node, a_delete_stays_valid, a_leaf_grows,
@@ -20,5 +22,7 @@ pub use laws::{
     any_list_of_steps, pages_of_an_image,
 };
 pub use node::{Node, NodeGrown, needed};
+pub use owned_tree::{Answer, OwnedTree};
 pub use page_views::{Branch, ImageBounds, Leaf};
 pub use putting::put;
+pub use supplying::{read_node, supply};

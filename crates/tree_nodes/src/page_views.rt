@@ -1,16 +1,20 @@
 // Entries of a page, lent from its bytes.
-ghost use Rattle.std.specs.Prelude.{◌≡◌, ◌∷◌, ◌<◌, [], Some, None, IfOk, IfErr, MatchOption, option_map, map};
-ghost use Rattle.page_store.specs.Keys.{rises};
+ghost use Rattle.std.specs.Prelude.{◌≡◌, ◌∷◌, ◌<◌, [], Some, None, IfOk, IfErr, MatchOption, option_map, option_copied, map, drop};
+ghost use Rattle.page_store.specs.Keys.{rises, is_between};
 ghost use Rattle.page_store.specs.Pages.{pair_at, child_at, entries_at, key_of, child_key, fits_place, starts_empty, leaf_of, branch_of, is_inside};
 ghost use Rattle.page_store.specs.Batch.{value_at, pair_after};
 ghost use Rattle.page_store.specs.Content.{place_in};
 ghost use Rattle.page_store.specs.Heads.{seen_head, seen_child};
 ghost use Rattle.std.specs.List.{list_all};
+ghost use Rattle.tree_nodes.specs.NodeView.{others_view};
+ghost use Rattle.tree_nodes.specs.Supply.{others_named};
 ghost use Rattle.tree_nodes.specs.PageViews.{bounds_of, pairs_in, children_in, after_entries, are_children, page_on_path};
 ghost use Rattle.tree_nodes.specs.declared.fault.NodeFault.TheVariants.{Damaged};
 
-use crate::NodeFault;
-use page_store::{PageHead, are_zero, child_at, head_at, pair_at};
+use crate::{Node, NodeFault};
+use common_types::Bytes;
+use page_store::{PageHead, Pair, are_zero, child_at, head_at, pair_at};
+use std::alloc::{AllocError, Global};
 use std::cmp::Ordering;
 
 /// The first word of a tree page.
@@ -48,6 +52,19 @@ fn fits_place(bounds: ImageBounds, level: u16, page: u32, head: PageHead) -> boo
         && head.generation >= 1
         && head.generation <= bounds.seal
         && head.count >= 1
+}
+
+/// Whether a key is none below the first, and below the second, where there is one.
+fn is_between(low: &[u8], high: Option<&[u8]>, key: &[u8]) -> bool
+    ensures { result ≡ is_between low.now (option_copied high.entry) key.now }
+{
+    if key.cmp(low) == Ordering::Less {
+        return false;
+    }
+    match high {
+        Some(high) => key.cmp(high) == Ordering::Less,
+        None => true,
+    }
 }
 
 /// The bytes after so many pairs, where they have the form.
@@ -149,6 +166,56 @@ impl<'a> Leaf<'a> {
             left = others;
         }
         true
+    }
+}
+
+impl<'a> Leaf<'a> {
+    /// The pairs of a leaf whose keys lie between two keys, by the bytes of its page; `Damaged` exactly where they have not the form of that page, or a key lies elsewhere. It
+    /// takes no memory.
+    pub fn between(
+        bounds: ImageBounds,
+        page: u32,
+        low: &[u8],
+        high: Option<&[u8]>,
+        bytes: &'a [u8; 4096],
+    ) -> Result<Leaf<'a>, NodeFault>
+        ensures pairs { IfOk result (λ leaf. leaf_of (place_in (bounds_of bounds) 0 page) low.now (option_copied high.entry) bytes.now ≡ Some (pairs_in leaf.count leaf.entries.now)) }
+        ensures fault { IfErr result (λ e. (e ≡ Damaged page) × (leaf_of (place_in (bounds_of bounds) 0 page) low.now (option_copied high.entry) bytes.now ≡ None)) }
+    {
+        let leaf = Leaf::new(bounds, page, bytes)?;
+        if !leaf.lies_between(low, high) {
+            return Err(NodeFault::Damaged { page });
+        }
+        Ok(leaf)
+    }
+
+    /// Whether all its keys lie between two.
+    fn lies_between(&self, low: &[u8], high: Option<&[u8]>) -> bool
+        ensures { result ≡ list_all (is_between low.now (option_copied high.entry)) (map key_of (pairs_in self.now.count self.now.entries.now)) }
+    {
+        let mut left = *self;
+        while let Some((key, _, others)) = left.first() {
+            if !is_between(low, high, key) {
+                return false;
+            }
+            left = others;
+        }
+        true
+    }
+}
+
+impl<'a> Leaf<'a> {
+    /// Copies of its pairs.
+    pub(crate) fn to_pairs(&self, alloc: Global) -> Result<Vec<Pair>, AllocError>
+        ensures { IfOk result (λ pairs. pairs.items ≡ pairs_in self.now.count self.now.entries.now) }
+    {
+        let mut pairs = Vec::new(alloc);
+        let mut left = *self;
+        while let Some((key, value, others)) = left.first() {
+            pairs.push(Pair::from_slices(alloc, key, value)?)?;
+            left = others;
+        }
+        Ok(pairs)
     }
 }
 
@@ -272,6 +339,60 @@ impl<'a> Branch<'a> {
             Some((key, _, _)) => key.is_empty(),
             None => false,
         }
+    }
+}
+
+impl<'a> Branch<'a> {
+    /// The children of a branch of a level whose keys but the first lie between two keys, by the bytes of its page; `Damaged` exactly where they have not the form of that page,
+    /// or a key lies elsewhere. It takes no memory.
+    pub fn between(
+        bounds: ImageBounds,
+        level: u16,
+        page: u32,
+        low: &[u8],
+        high: Option<&[u8]>,
+        bytes: &'a [u8; 4096],
+    ) -> Result<Branch<'a>, NodeFault>
+        ensures children { IfOk result (λ branch. branch_of (place_in (bounds_of bounds) level page) low.now (option_copied high.entry) bytes.now ≡ Some (children_in branch.count branch.entries.now)) }
+        ensures fault { IfErr result (λ e. (e ≡ Damaged page) × (branch_of (place_in (bounds_of bounds) level page) low.now (option_copied high.entry) bytes.now ≡ None)) }
+    {
+        let branch = Branch::new(bounds, level, page, bytes)?;
+        if !branch.lies_between(low, high) {
+            return Err(NodeFault::Damaged { page });
+        }
+        Ok(branch)
+    }
+
+    /// Whether all its keys but the first lie between two.
+    fn lies_between(&self, low: &[u8], high: Option<&[u8]>) -> bool
+        ensures { result ≡ list_all (is_between low.now (option_copied high.entry)) (drop 1 (map child_key (children_in self.now.count self.now.entries.now))) }
+    {
+        let Some((_, _, others)) = self.first() else {
+            return true;
+        };
+        let mut left = others;
+        while let Some((key, _, others)) = left.first() {
+            if !is_between(low, high, key) {
+                return false;
+            }
+            left = others;
+        }
+        true
+    }
+}
+
+impl<'a> Branch<'a> {
+    /// Its children as pages of a tree, each with a copy of its key.
+    pub(crate) fn to_others(&self, alloc: Global) -> Result<Vec<(Bytes, Node)>, AllocError>
+        ensures { IfOk result (λ others. others_view others.items ≡ others_named (children_in self.now.count self.now.entries.now)) }
+    {
+        let mut children = Vec::new(alloc);
+        let mut left = *self;
+        while let Some((key, page, others)) = left.first() {
+            children.push((Bytes::from_slice(alloc, key)?, Node::Page(page)))?;
+            left = others;
+        }
+        Ok(children)
     }
 }
 

@@ -1,6 +1,7 @@
 // Entries that don't fit one page, split in two.
-ghost use Rattle.std.specs.Prelude.{◌≡◌, ◌≤◌, IfOk, length};
+ghost use Rattle.std.specs.Prelude.{◌≡◌, ◌↔◌, ◌≤◌, ◌+◌, IsTrue, IfOk, length};
 ghost use Rattle.page_store.specs.Encoding.{fitting};
+ghost use Rattle.tree_nodes.specs.Tree.{entry_room, leaf_bytes, other_bytes};
 ghost use Rattle.tree_nodes.specs.Put.{split_leaf, split_branch, fitting_others};
 ghost use Rattle.tree_nodes.specs.NodeView.{tree_of, others_view, grown_of};
 
@@ -55,6 +56,20 @@ fn fitting_others(room: usize, others: &[(Bytes, Node)]) -> usize
         count += 1;
     }
     count
+}
+
+/// Whether these pairs fit one page.
+pub(crate) fn leaf_fits(pairs: &[Pair]) -> bool
+    ensures { IsTrue result ↔ (leaf_bytes pairs.now ≤ entry_room) }
+{
+    fitting(ENTRY_ROOM, pairs) == pairs.len()
+}
+
+/// Whether these children, and a first one before them, fit one page.
+pub(crate) fn branch_fits(others: &[(Bytes, Node)]) -> bool
+    ensures { IsTrue result ↔ (6 + other_bytes (others_view others.now) ≤ entry_room) }
+{
+    fitting_others(ENTRY_ROOM - FIRST_ENTRY, others) == others.len()
 }
 
 /// A leaf of these pairs, or two where they don't fit one page.

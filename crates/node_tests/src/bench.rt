@@ -1,0 +1,171 @@
+// What the lines of a run share, and which call a word names.
+use crate::fields::{bytes_of, level_of, number, two_of};
+use crate::laws::laws;
+use crate::ledger::free_counts;
+use crate::random::Run;
+use crate::shown::Shown;
+use crate::store::Store;
+use crate::trouble::Trouble;
+use std::alloc::Global;
+use tree_nodes::{Answer, encode, is_writable, read_node};
+
+/// How many pages the image of a bench has.
+const PAGES: u32 = 64;
+
+/// A tree over an image.
+#[derive(Drop)]
+pub struct Bench {
+    alloc: Global,
+    store: Store,
+}
+
+impl Bench {
+    pub fn new(alloc: Global) -> Result<Bench, Trouble> {
+        Ok(Bench {
+            alloc,
+            store: Store::new(alloc, PAGES)?,
+        })
+    }
+
+    /// `put KEY VALUE`
+    fn put(&mut self, fields: &str, shown: &mut Shown) -> Result<(), Trouble> {
+        let (key, value) = two_of(fields)?;
+        let key = bytes_of(self.alloc, key)?;
+        let value = bytes_of(self.alloc, value)?;
+        shown.answer(self.store.try_put(&key, &value)?)
+    }
+
+    /// `delete KEY`
+    fn delete(&mut self, key: &str, shown: &mut Shown) -> Result<(), Trouble> {
+        let key = bytes_of(self.alloc, key)?;
+        shown.answer(self.store.tree.delete(&key))
+    }
+
+    /// `supply KEY PAGE`
+    fn supply(&mut self, fields: &str) -> Result<(), Trouble> {
+        let (key, page) = two_of(fields)?;
+        let key = bytes_of(self.alloc, key)?;
+        self.store.supply(&key, number(page)?)
+    }
+
+    /// `needed KEY`
+    fn needed(&self, key: &str, shown: &mut Shown) -> Result<(), Trouble> {
+        let key = bytes_of(self.alloc, key)?;
+        match self.store.tree.needed(&key) {
+            Some(page) => shown.answer(Answer::Need(page)),
+            None => shown.answer(Answer::Done),
+        }
+    }
+
+    /// The tree: its height, its nodes, and how many pages are free.
+    fn shape(&self, shown: &mut Shown) -> Result<(), Trouble> {
+        shown.number(self.store.tree.height() as usize)?;
+        match self.store.tree.root() {
+            Some(root) => shown.node(root)?,
+            None => shown.word("none")?,
+        }
+        shown.number(self.store.image.free())
+    }
+
+    /// `encode PAGE GENERATION`: the root, a leaf, as a page.
+    fn encode(&self, fields: &str, shown: &mut Shown) -> Result<(), Trouble> {
+        let (page, generation) = two_of(fields)?;
+        let (page, generation) = (number(page)?, number(generation)?);
+        match self.store.tree.root() {
+            Some(root) if is_writable(root) => {
+                shown.bytes(&encode(self.alloc, root, page, generation.into(), 0)?)
+            }
+            _ => Err(Trouble::Line),
+        }
+    }
+
+    /// `read PAGE LEVEL`: the node that a page says.
+    fn read(&self, fields: &str, shown: &mut Shown) -> Result<(), Trouble> {
+        let (page, level) = two_of(fields)?;
+        let (page, level) = (number(page)?, level_of(level)?);
+        let bytes = self.store.image.read(page)?;
+        let node = read_node(self.alloc, self.store.image.bounds(), level, page, bytes)?;
+        shown.node(&node)
+    }
+
+    /// `get PAGE KEY`, `after PAGE KEY` and `page_of PAGE KEY`
+    fn look(&self, word: &str, fields: &str, shown: &mut Shown) -> Result<(), Trouble> {
+        let (page, key) = two_of(fields)?;
+        let page = number(page)?;
+        let key = bytes_of(self.alloc, key)?;
+        match word {
+            "get" => self.store.image.show_value(page, &key, shown),
+            "after" => self.store.image.show_after(page, &key, shown),
+            "page_of" => self.store.image.show_page(page, &key, shown),
+            _ => Err(Trouble::Line),
+        }
+    }
+
+    /// `between PAGE LEVEL LOW HIGH`: how many entries a page has, where its keys lie between two. `none` is no bound.
+    fn between(&self, fields: &str, shown: &mut Shown) -> Result<(), Trouble> {
+        let (page, fields) = two_of(fields)?;
+        let (level, fields) = two_of(fields)?;
+        let (low, high) = two_of(fields)?;
+        let (page, level) = (number(page)?, level_of(level)?);
+        let low = bytes_of(self.alloc, low)?;
+        if high == "none" {
+            return shown.number(self.store.image.count_between(page, level, &low, None)?);
+        }
+        let high = bytes_of(self.alloc, high)?;
+        let count = self
+            .store
+            .image
+            .count_between(page, level, &low, Some(&high))?;
+        shown.number(count)
+    }
+
+    /// `random SEED CHANGES`
+    fn random(&self, fields: &str, shown: &mut Shown) -> Result<(), Trouble> {
+        let (seed, changes) = two_of(fields)?;
+        let mut run = Run::new(self.alloc, number(seed)?.into())?;
+        let figures = run.figures(number(changes)? as usize)?;
+        shown.numbers(&figures)
+    }
+
+    fn ledger(&self, shown: &mut Shown) -> Result<(), Trouble> {
+        shown.numbers(&free_counts(self.alloc)?)
+    }
+
+    /// A call that changes nothing.
+    fn show(&self, word: &str, fields: &str, shown: &mut Shown) -> Result<(), Trouble> {
+        match word {
+            "needed" => self.needed(fields, shown),
+            "shape" => self.shape(shown),
+            "encode" => self.encode(fields, shown),
+            "read" => self.read(fields, shown),
+            "between" => self.between(fields, shown),
+            "random" => self.random(fields, shown),
+            "ledger" => self.ledger(shown),
+            "laws" => {
+                laws();
+                Ok(())
+            }
+            _ => self.look(word, fields, shown),
+        }
+    }
+
+    /// Makes the call of a line, and adds its answer.
+    pub fn call(&mut self, text: &str, shown: &mut Shown) -> Result<(), Trouble> {
+        let (word, fields) = text.split_once(' ').unwrap_or((text, ""));
+        match word {
+            "new" => {
+                self.store = Store::new(self.alloc, PAGES)?;
+                Ok(())
+            }
+            "put" => self.put(fields, shown),
+            "delete" => self.delete(fields, shown),
+            "supply" => self.supply(fields),
+            "commit" => self.store.commit(),
+            "abandon" => {
+                self.store.abandon();
+                Ok(())
+            }
+            _ => self.show(word, fields, shown),
+        }
+    }
+}
