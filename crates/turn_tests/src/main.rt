@@ -1,9 +1,11 @@
-//! Tests of sessions over wires: wires in memory that are served together, and a connection over the loopback. Each test prints how many replies were written
-//! whole, and what each wire was given.
+//! Tests of sessions over wires: wires in memory that are served together, by calls that wait and by calls that don't, and a connection over the loopback. Each test
+//! prints how many replies were written whole, or how each session ended, and what each wire was given.
 #![tactic(auto)]
 
 mod memory_wire;
+mod shy_wire;
 mod site;
+mod visits;
 
 use memory_wire::{MemoryWire, StandingClock};
 use session_core::Hub;
@@ -14,6 +16,7 @@ use std::io;
 use std::io::{Read, Write};
 use std::net::{OpenListener, OpenStream, TcpListener, TcpStream};
 use turns::{Connection, take_turns};
+use visits::{all_passes, show_log_line, show_visits};
 
 /// A wire on which a post comes.
 fn poster(alloc: Global) -> Result<MemoryWire, NotReady> {
@@ -146,5 +149,10 @@ fn main(rt: HostRuntime) -> io::Result<()> {
     for name in NAMES {
         show(&rt, name)?;
     }
+    for name in NAMES {
+        show_visits(&rt, name, wires_of(rt.alloc(), name), all_passes())?;
+    }
+    show_visits(&rt, "time over", wires_of(rt.alloc(), "writes in part"), 4)?;
+    show_log_line(&rt)?;
     show_loopback(&rt)
 }

@@ -4,12 +4,13 @@ use Rattle.std.specs.List.{concat}
 use Rattle.turns.specs.declared.call_log.CallKind.{CallKind}
 use Rattle.turns.specs.declared.call_log.CallKind.TheVariants as kinds
 
--- A call of a wire, with what it gave: these bytes were read, none at the end; these were taken of what was offered.
+-- A call of a wire, with what it gave: these bytes were read, none at the end; these were taken of what was offered; or it would have had to wait, and did nothing.
 pub data WireCall : Type 0 where
   Read : List ℕ → WireCall
   ReadFailed : WireCall
   Wrote : List ℕ → WireCall
   WriteFailed : WireCall
+  Waited : WireCall
   Closed : WireCall
 
 -- a call that is noted by its kind and its bytes
@@ -18,6 +19,7 @@ call_of kinds.Read bytes = Read bytes
 call_of kinds.ReadFailed bytes = ReadFailed
 call_of kinds.Wrote bytes = Wrote bytes
 call_of kinds.WriteFailed bytes = WriteFailed
+call_of kinds.Waited bytes = Waited
 call_of kinds.Closed bytes = Closed
 
 -- a read into a buffer

@@ -14,6 +14,8 @@ pub enum CallKind {
     /// Bytes were taken.
     Wrote,
     WriteFailed,
+    /// It would have had to wait, and did nothing.
+    Waited,
     Closed,
 }
 

@@ -14,5 +14,6 @@ pub use call_log::{CallKind, CallLog};
 pub use clock::{Clock, MomentLog};
 pub use connection::{Connection, Stage};
 pub use laws::worked_examples;
+pub use turn::{PIECE, tell, try_again_later};
 pub use turns::{MOST_PASSES, take_turns};
 pub use wire::{Wire, WireFault};

@@ -17,11 +17,11 @@ use session_core::{Drawn, Hub, HubFault, InputStatus};
 use word_index::SearchKeeper;
 
 /// How many bytes are read or drawn in a turn, at most.
-const PIECE: usize = 512;
+pub const PIECE: usize = 512;
 
 /// What a client is told where there is no room for its post, by Gopher+.
 #[tactic(auto, unfolding(text_writer::specs::Errors::plus_error, text_writer::specs::Errors::words_of))]
-fn try_again_later() -> &'static [u8]
+pub fn try_again_later() -> &'static [u8]
     ensures { result.now ≡ error_reply true TryAgainLater [] }
 {
     b"--1\r\n2 Try again later\r\n.\r\n"
@@ -65,7 +65,7 @@ fn heard<W: Wire>(wire: &mut W, id: u64, answer: Result<InputStatus, HubFault>) 
 }
 
 /// The hub is told what was read: no bytes are the end.
-fn tell<S: SearchKeeper>(
+pub fn tell<S: SearchKeeper>(
     hub: &mut Hub<S>,
     id: u64,
     piece: &[u8],

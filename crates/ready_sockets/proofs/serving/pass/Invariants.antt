@@ -1,0 +1,11 @@
+use Rattle.session_core.specs.Calls.{HubRun}
+use Rattle.turns.specs.Runs.{HasRun}
+use Rattle.turns.proofs.Passing.{IsDoneTo}
+use Rattle.ready_sockets.specs.Visits.{HadTurn}
+use Rattle.ready_sockets.proofs.serving.pass.Given as goal
+
+-- so many of them are done
+abbrev pub invariant-loop-visit : goal.invariant-loop-visit
+invariant-loop-visit g l =
+    let s = g.S.SiteKeeper in
+    HasRun (HubRun s.site_state s.lacks s.crash_states s.represents) l.fn.hub l.hub (g.C.Clock.told l.fn.clock) (g.C.Clock.told l.clock) (λ es os. IsDoneTo HadTurn l.visit-index l.fn.visits es os l.visits)

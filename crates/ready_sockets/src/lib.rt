@@ -1,0 +1,19 @@
+//! Visits over sockets that never wait: whoever is ready has a turn, up to 32 clients at a time.
+#![tactic(auto)]
+
+mod head;
+mod laws;
+mod limits;
+mod lines;
+mod ready_socket;
+mod room;
+mod serving;
+mod visit;
+
+pub use head::Head;
+pub use laws::{head_of_pieces, worked_examples};
+pub use limits::{LONGEST_SILENCE, LONGEST_VISIT, is_over};
+pub use lines::{Record, log_line};
+pub use ready_socket::ReadySocket;
+pub use room::{MOST_VISITS, Room, VisitFault};
+pub use serving::serve_visits;

@@ -1,0 +1,97 @@
+// The calls of the system on a connection. Each function here makes one of them and notes it. That it makes the call which it notes, no clause can say: so
+// each is short, and tests on real connections hold it.
+ghost use Rattle.std.specs.Prelude.{◌≡◌, [], IfOk};
+
+use crate::Head;
+use mio::net::TcpStream;
+use ready_turns::ReadyWire;
+use std::io::{ErrorKind, Read, Write};
+use std::net::Shutdown;
+use turns::{CallKind, CallLog, WireFault};
+
+/// A connection that never waits, the calls that were made of it, and what the log says of it.
+#[derive(Drop)]
+pub struct ReadySocket {
+    stream: TcpStream,
+    made: CallLog,
+    head: Head,
+    taken: u64,
+}
+
+/// A call that a signal ended, or that would have to wait, can be made again once the connection is ready.
+fn is_for_later(kind: ErrorKind) -> bool {
+    matches!(kind, ErrorKind::WouldBlock | ErrorKind::Interrupted)
+}
+
+impl ReadySocket {
+    /// A connection of which no call was made.
+    pub fn new(stream: TcpStream) -> ReadySocket
+        ensures calls { result.made.calls ≡ [] }
+        ensures head { result.head.bytes.items ≡ [] }
+        ensures taken { result.taken ≡ 0 }
+    {
+        ReadySocket {
+            stream,
+            made: CallLog::new(),
+            head: Head::new(),
+            taken: 0,
+        }
+    }
+
+    /// The selector that was asked for, as far as the log looks at it.
+    pub fn selector(&self) -> &[u8] {
+        self.head.selector()
+    }
+
+    /// How many bytes the client took, at most the greatest u64.
+    pub fn taken(&self) -> u64
+        ensures { result ≡ self.now.taken }
+    {
+        self.taken
+    }
+}
+
+impl ReadyWire for ReadySocket {
+    ghost calls = { λ wire. wire.made.calls };
+
+    fn read(&mut self, buffer: &mut [u8]) -> Result<Option<usize>, WireFault> {
+        match self.stream.read(buffer) {
+            Ok(count) => {
+                self.made.note(CallKind::Read, &buffer[..count]);
+                self.head.hear(&buffer[..count]);
+                Ok(Some(count))
+            }
+            Err(error) if is_for_later(error.kind()) => {
+                self.made.note(CallKind::Waited, &[]);
+                Ok(None)
+            }
+            Err(_) => {
+                self.made.note(CallKind::ReadFailed, &[]);
+                Err(WireFault)
+            }
+        }
+    }
+
+    fn write(&mut self, bytes: &[u8]) -> Result<Option<usize>, WireFault> {
+        match self.stream.write(bytes) {
+            Ok(count) => {
+                self.made.note(CallKind::Wrote, &bytes[..count]);
+                self.taken = self.taken.saturating_add(count as u64);
+                Ok(Some(count))
+            }
+            Err(error) if is_for_later(error.kind()) => {
+                self.made.note(CallKind::Waited, &[]);
+                Ok(None)
+            }
+            Err(_) => {
+                self.made.note(CallKind::WriteFailed, &[]);
+                Err(WireFault)
+            }
+        }
+    }
+
+    fn close(&mut self) {
+        let _ = self.stream.shutdown(Shutdown::Both);
+        self.made.note(CallKind::Closed, &[]);
+    }
+}

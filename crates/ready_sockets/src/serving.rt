@@ -1,0 +1,167 @@
+// Serves whoever comes.
+ghost use Rattle.std.specs.Prelude.{◌≡◌, []};
+ghost use Rattle.session_core.specs.Calls.{HubRun};
+ghost use Rattle.turns.specs.Runs.{HasRun};
+ghost use Rattle.turns.specs.Turns.{InOrder};
+ghost use Rattle.ready_sockets.specs.Visits.{HadTurn, WasDismissed};
+
+use crate::ReadySocket;
+use crate::room::{MOST_VISITS, Room, VisitFault};
+use crate::visit::Visit;
+use host_types::Stamp;
+use mio::Token;
+use mio::net::TcpStream;
+use ready_turns::{dismiss, join, take_turn};
+use session_core::Hub;
+use socket_wires::SystemClock;
+use std::alloc::Global;
+use std::io::Write;
+use std::net::IpAddr;
+use std::time::{Clock as Time, Instant};
+use turns::Clock;
+use word_index::SearchKeeper;
+
+/// How many turns each client has before others are let in, at most.
+const TURNS: u32 = 16;
+
+/// A session joins for a client that came. It leaves at once where no memory is found for it.
+fn enter<S: SearchKeeper>(
+    visits: &mut Vec<Visit>,
+    hub: &mut Hub<S>,
+    next: (TcpStream, IpAddr, Token),
+    now: u64,
+)
+    ensures { HasRun (HubRun S.site_state S.lacks S.crash_states S.represents) hub.old hub.new [] [] (λ es os. Unit {0}) }
+{
+    let (stream, from, token) = next;
+    let visit = Visit {
+        seat: join(hub, ReadySocket::new(stream)),
+        from,
+        token,
+        came: now,
+        moved: now,
+    };
+    if let Err(failed) = visits.push(visit) {
+        let mut visit = failed.value;
+        dismiss(hub, &mut visit.seat);
+    }
+}
+
+/// A session joins for each client that comes, as long as there is room.
+fn admit<S: SearchKeeper>(room: &mut Room, hub: &mut Hub<S>, now: u64)
+    ensures { HasRun (HubRun S.site_state S.lacks S.crash_states S.represents) hub.old hub.new [] [] (λ es os. Unit {0}) }
+{
+    for _ in 0..MOST_VISITS {
+        let Some(next) = room.next() else {
+            return;
+        };
+        enter(&mut room.visits, hub, next, now);
+    }
+}
+
+/// One turn for a client.
+fn take_turn_of<S: SearchKeeper, C: Clock>(
+    visit: &mut Visit,
+    hub: &mut Hub<S>,
+    clock: &mut C,
+    now: u64,
+)
+    ensures { HasRun (HubRun S.site_state S.lacks S.crash_states S.represents) hub.old hub.new (C.told clock.old) (C.told clock.new) (λ es os. HadTurn visit.old es os visit.new) }
+{
+    take_turn(hub, &mut visit.seat, clock);
+    visit.note_move(now);
+}
+
+/// One turn for each client, in order.
+fn pass<S: SearchKeeper, C: Clock>(visits: &mut [Visit], hub: &mut Hub<S>, clock: &mut C, now: u64)
+    ensures { HasRun (HubRun S.site_state S.lacks S.crash_states S.represents) hub.old hub.new (C.told clock.old) (C.told clock.new) (λ es os. InOrder HadTurn visits.old es os visits.new) }
+{
+    for visit in visits.iter_mut() {
+        take_turn_of(visit, hub, clock, now);
+    }
+}
+
+/// A client goes whose time is over.
+fn dismiss_if_over<S: SearchKeeper>(visit: &mut Visit, hub: &mut Hub<S>, now: u64)
+    ensures { HasRun (HubRun S.site_state S.lacks S.crash_states S.represents) hub.old hub.new [] [] (λ es os. WasDismissed now visit.old es os visit.new) }
+{
+    if visit.is_over(now) {
+        dismiss(hub, &mut visit.seat);
+    }
+}
+
+/// Whose time is over goes.
+fn dismiss_late<S: SearchKeeper>(visits: &mut [Visit], hub: &mut Hub<S>, now: u64)
+    ensures { HasRun (HubRun S.site_state S.lacks S.crash_states S.represents) hub.old hub.new [] [] (λ es os. InOrder (WasDismissed now) visits.old es os visits.new) }
+{
+    for visit in visits.iter_mut() {
+        dismiss_if_over(visit, hub, now);
+    }
+}
+
+/// A line of the log for each client that has gone. One that can't be written is not.
+fn tell_gone<L: Write>(alloc: Global, visits: &[Visit], moment: Stamp, log: &mut L) {
+    for visit in visits.iter() {
+        let Some(ending) = visit.seat.stage().ending() else {
+            continue;
+        };
+        if let Ok(mut line) = visit.line(alloc, moment, ending) {
+            if line.push('\n').is_ok() {
+                let _ = log.write_all(line.as_bytes());
+            }
+        }
+    }
+}
+
+/// Who is ready comes in, and has turns; whose time is over goes.
+fn round<S: SearchKeeper, C: Clock>(room: &mut Room, hub: &mut Hub<S>, clock: &mut C, now: u64)
+    ensures { HasRun (HubRun S.site_state S.lacks S.crash_states S.represents) hub.old hub.new (C.told clock.old) (C.told clock.new) (λ es os. Unit {0}) }
+{
+    admit(room, hub, now);
+    for _turn in 0..TURNS {
+        if room.all_wait() {
+            break;
+        }
+        pass(&mut room.visits, hub, clock, now);
+    }
+    dismiss_late(&mut room.visits, hub, now);
+}
+
+/// The seconds since a moment, on a clock that only goes forward; 0 where it can't be read.
+fn seconds_since<R: Time>(rt: &R, start: &Option<Instant>) -> u64 {
+    let Some(start) = start else {
+        return 0;
+    };
+    match start.elapsed(rt) {
+        Ok(since) => since.as_secs(),
+        Err(_) => 0,
+    }
+}
+
+/// Serves whoever comes, up to 32 clients at a time, until a write or a sync of what the site is kept on has failed, or no socket can be waited for.
+/// For each client that has gone the log gets a line, but for one that finds no memory or can't be written.
+pub fn serve_visits<S: SearchKeeper, C: Clock, R: Time, L: Write>(
+    alloc: Global,
+    rt: &R,
+    room: &mut Room,
+    hub: &mut Hub<S>,
+    clock: &mut C,
+    log: &mut L,
+) -> Result<(), VisitFault>
+    ensures { HasRun (HubRun S.site_state S.lacks S.crash_states S.represents) hub.old hub.new (C.told clock.old) (C.told clock.new) (λ es os. Unit {0}) }
+{
+    let start = Instant::now(rt).ok();
+    let mut moments = SystemClock::new(rt);
+    for _round in 0..u64::MAX {
+        if !hub.is_usable() {
+            return Err(VisitFault::Failed);
+        }
+        room.wait()?;
+        round(room, hub, clock, seconds_since(rt, &start));
+        if room.has_closed() {
+            tell_gone(alloc, &room.visits, moments.now(), log);
+            room.sweep();
+        }
+    }
+    Ok(())
+}

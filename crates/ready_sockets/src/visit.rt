@@ -1,0 +1,75 @@
+// A client that came, and what the log will say of it.
+ghost use Rattle.std.specs.Prelude.{◌≡◌, if◌then◌else◌};
+ghost use Rattle.ready_sockets.specs.Limits as spec;
+
+use crate::ReadySocket;
+use crate::limits::is_over;
+use crate::lines::{Record, log_line};
+use host_types::Stamp;
+use mio::Token;
+use ready_turns::{Ending, Seat};
+use std::alloc::{AllocError, Global};
+use std::net::IpAddr;
+
+/// A client that came, at seconds of a clock that only goes forward.
+#[derive(Drop)]
+pub struct Visit {
+    pub(crate) seat: Seat<ReadySocket>,
+    pub(crate) from: IpAddr,
+    pub(crate) token: Token,
+    /// When it came.
+    pub(crate) came: u64,
+    /// When it last sent or took something.
+    pub(crate) moved: u64,
+}
+
+impl Visit {
+    /// Whether its time is over.
+    pub(crate) fn is_over(&self, now: u64) -> bool
+        ensures { result ≡ spec.is_over self.now.came self.now.moved now }
+    {
+        is_over(self.came, self.moved, now)
+    }
+
+    /// It sent or took something, where it doesn't rest.
+    pub(crate) fn note_move(&mut self, now: u64)
+        ensures seat { self.new.seat ≡ self.old.seat }
+        ensures moved { self.new.moved ≡ (if self.old.seat.waits then self.old.moved else now) }
+        ensures came { self.new.came ≡ self.old.came }
+    {
+        if !self.seat.waits() {
+            self.moved = now;
+        }
+    }
+
+    /// Whether its wire is closed.
+    pub(crate) fn is_closed(&self) -> bool {
+        self.seat.stage().ending().is_some()
+    }
+
+    /// Whether it would do something in its turn.
+    pub(crate) fn has_turn(&self) -> bool {
+        !self.seat.waits() && !self.is_closed()
+    }
+
+    /// The line of the log, without its LF.
+    pub(crate) fn line(
+        &self,
+        alloc: Global,
+        moment: Stamp,
+        ending: Ending,
+    ) -> Result<String, AllocError> {
+        let from = self.from.to_string(alloc)?;
+        let socket = self.seat.wire();
+        log_line(
+            alloc,
+            &Record {
+                moment,
+                from: &from,
+                selector: socket.selector(),
+                ending,
+                taken: socket.taken(),
+            },
+        )
+    }
+}

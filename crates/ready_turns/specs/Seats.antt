@@ -1,0 +1,182 @@
+-- What is done for a session in its turn, where its wire is ready.
+use Rattle.std.specs.Prelude.{◌≡◌, ◌≢◌, ◌⊎◌, ◌≤◌, ℕ, Bool, true, false, not, List, [], ◌∷◌, ◌++◌, length, Option, Some, None}
+use Rattle.text_writer.specs.Errors.{error_reply}
+use Rattle.text_writer.specs.declared.error.ErrorText.TheVariants.{TryAgainLater}
+use Rattle.session_core.specs.declared.event.Event.{Event}
+use Rattle.session_core.specs.declared.event.Event.TheVariants as events
+use Rattle.session_core.specs.declared.event.Outcome.{Outcome}
+use Rattle.session_core.specs.declared.event.Outcome.TheVariants as outcomes
+use Rattle.session_core.specs.declared.fault.HubFault.TheVariants as faults
+use Rattle.turns.specs.WireCalls.{WireCall, Read, ReadFailed, Wrote, WriteFailed, Waited, Closed}
+use Rattle.turns.specs.Turns.{Trace, trace, nothing, then, heard_event}
+use Rattle.ready_turns.specs.declared.seat.Ending.{Ending}
+use Rattle.ready_turns.specs.declared.seat.Ending.TheVariants.{Served, Full, Failed, Cut, Late}
+use Rattle.ready_turns.specs.declared.seat.Stage.{Stage}
+use Rattle.ready_turns.specs.declared.seat.Stage.TheVariants as stages
+use Rattle.ready_turns.specs.declared.seat.Seat.{Seat}
+
+-- How far a session is, which bytes its wire has not taken yet, and whether it rests until its wire is ready again.
+pub record SeatState : Type 0 where
+  pub stage : Stage
+  pub unsent : List ℕ
+  pub waits : Bool
+
+abbrev pub at : Stage → List ℕ → Bool → SeatState
+at stage unsent waits = record { stage = stage; unsent = unsent; waits = waits }
+
+abbrev pub state_of : {W : Type 0} → Seat W → SeatState
+state_of seat = at seat.stage seat.unsent.items seat.waits
+
+-- a session that goes no further: the rest is to be sent, and then its wire is closed
+abbrev pub leaving : Ending → List ℕ → SeatState
+leaving ending unsent = at (stages.Leaving ending) unsent false
+
+abbrev pub has_left : Stage → Bool
+has_left (stages.Listening id) = false
+has_left (stages.Replying id) = false
+has_left (stages.Leaving ending) = true
+has_left (stages.Closed ending) = true
+
+-- how the session of a closed wire ended
+abbrev pub ending_of : Stage → Option Ending
+ending_of (stages.Closed ending) = Some ending
+ending_of stage = None
+
+-- ---- what follows an outcome of the hub
+
+abbrev pub joined_state : Outcome → SeatState
+joined_state (outcomes.Joined id) = at (stages.Listening id) [] false
+joined_state outcome = leaving Failed []
+
+-- Where there is no room for its post the client is told to try again later; it is told of no other fault.
+abbrev pub heard_state : ℕ → Outcome → SeatState
+heard_state id outcomes.More = at (stages.Listening id) [] false
+heard_state id outcomes.Ready = at (stages.Replying id) [] false
+heard_state id outcomes.Finished = leaving Cut []
+heard_state id (outcomes.Fault (faults.Full need free)) = leaving Full (error_reply true TryAgainLater [])
+heard_state id outcome = leaving Failed []
+
+abbrev pub drawn_state : ℕ → Outcome → SeatState
+drawn_state id (outcomes.Drawn bytes) = at (stages.Replying id) bytes false
+drawn_state id outcomes.Finished = leaving Served []
+drawn_state id outcome = leaving Failed []
+
+-- ---- what is done in a turn
+
+-- One read of at most 512 bytes, which the hub is told as one event at a moment.
+pub record Hears (id : ℕ) (t : Trace) (after : SeatState) : Type 0 where
+  pub piece : List ℕ
+  pub now : ℕ
+  pub outcome : Outcome
+  pub room : length piece ≤ 512
+  pub is : t ≡ trace (Read piece ∷ []) (heard_event id piece now ∷ []) (outcome ∷ [])
+  pub after_is : after ≡ heard_state id outcome
+
+-- A read that failed: the hub is told nothing.
+abbrev pub FailsToRead : Trace → SeatState → Type 0
+FailsToRead t after = (t ≡ trace (ReadFailed ∷ []) [] []) × (after ≡ leaving Cut [])
+
+-- A read or a write that would have had to wait: the session rests.
+abbrev pub Waits : SeatState → Trace → SeatState → Type 0
+Waits before t after = (t ≡ trace (Waited ∷ []) [] []) × (after ≡ at before.stage before.unsent true)
+
+-- One draw of at most 4,096 bytes, which are to be sent.
+pub record Draws (id : ℕ) (t : Trace) (after : SeatState) : Type 0 where
+  pub outcome : Outcome
+  pub is : t ≡ trace [] (events.Draw id 4096 ∷ []) (outcome ∷ [])
+  pub after_is : after ≡ drawn_state id outcome
+
+-- One write, which takes the next of the bytes that are to be sent.
+pub record Sends (before : SeatState) (t : Trace) (after : SeatState) : Type 0 where
+  pub piece : List ℕ
+  pub rest : List ℕ
+  pub some : piece ≢ []
+  pub unsent : before.unsent ≡ piece ++ rest
+  pub is : t ≡ trace (Wrote piece ∷ []) [] []
+  pub after_is : after ≡ at before.stage rest false
+
+-- A write that failed, or that took none: nothing more is sent.
+abbrev pub FailsToSend : Trace → SeatState → Type 0
+FailsToSend t after = ((t ≡ trace (WriteFailed ∷ []) [] []) ⊎ (t ≡ trace (Wrote [] ∷ []) [] [])) × (after ≡ leaving Cut [])
+
+abbrev pub Writes : SeatState → Trace → SeatState → Type 0
+Writes before t after = Sends before t after ⊎ FailsToSend t after ⊎ Waits before t after
+
+-- What follows in the same turn: a session that goes no further leaves the hub.
+abbrev pub Follows : ℕ → Bool → Trace → Type 0
+Follows id true t = (outcome : Outcome) × (t ≡ trace [] (events.Leave id ∷ []) (outcome ∷ []))
+Follows id false t = t ≡ nothing
+
+-- One turn of a session in the hub: what it does, and what follows.
+pub record Takes (id : ℕ) (Does : Trace → SeatState → Type 0) (t : Trace) (after : SeatState) : Type 0 where
+  pub done : Trace
+  pub rest : Trace
+  pub is : t ≡ then done rest
+  pub does : Does done after
+  pub follows : Follows id (has_left after.stage) rest
+
+abbrev pub Rests : SeatState → Trace → SeatState → Type 0
+Rests before t after = (t ≡ nothing) × (after ≡ before)
+
+-- the wire is closed
+abbrev pub Closes : Ending → Trace → SeatState → Type 0
+Closes ending t after = (t ≡ trace (Closed ∷ []) [] []) × (after ≡ at (stages.Closed ending) [] false)
+
+-- A session that hears makes one read.
+abbrev pub Listens : ℕ → List ℕ → Trace → SeatState → Type 0
+Listens id unsent t after = Hears id t after ⊎ FailsToRead t after ⊎ Waits (at (stages.Listening id) unsent false) t after
+
+-- One that is replied to makes one draw, or one write of what is to be sent.
+abbrev pub Replies : ℕ → List ℕ → Trace → SeatState → Type 0
+Replies id [] t after = Draws id t after
+Replies id (b ∷ bytes) t after = Writes (at (stages.Replying id) (b ∷ bytes) false) t after
+
+-- One that has left makes one write of what is to be sent, and then its wire is closed.
+abbrev pub Finishes : Ending → List ℕ → Trace → SeatState → Type 0
+Finishes ending [] t after = Closes ending t after
+Finishes ending (b ∷ bytes) t after = Writes (leaving ending (b ∷ bytes)) t after
+
+-- One turn of a session that doesn't rest.
+abbrev pub Acts : Stage → List ℕ → Trace → SeatState → Type 0
+Acts (stages.Listening id) unsent t after = Takes id (Listens id unsent) t after
+Acts (stages.Replying id) unsent t after = Takes id (Replies id unsent) t after
+Acts (stages.Leaving ending) unsent t after = Finishes ending unsent t after
+Acts (stages.Closed ending) unsent t after = Rests (at (stages.Closed ending) unsent false) t after
+
+abbrev pub WhereReady : Bool → SeatState → Trace → SeatState → Type 0
+WhereReady true before t after = Acts before.stage before.unsent t after
+WhereReady false before t after = Rests before t after
+
+-- One turn of a session.
+abbrev pub Turn : SeatState → Trace → SeatState → Type 0
+Turn before t after = WhereReady (not before.waits) before t after
+
+-- the session leaves the hub, and its wire is closed
+abbrev pub LeavesLate : ℕ → Trace → SeatState → Type 0
+LeavesLate id t after = (outcome : Outcome) × (t ≡ trace (Closed ∷ []) (events.Leave id ∷ []) (outcome ∷ [])) × (after ≡ at (stages.Closed Late) [] false)
+
+abbrev pub DismissedAt : Stage → SeatState → Trace → SeatState → Type 0
+DismissedAt (stages.Listening id) before t after = LeavesLate id t after
+DismissedAt (stages.Replying id) before t after = LeavesLate id t after
+DismissedAt (stages.Leaving ending) before t after = Closes Late t after
+DismissedAt (stages.Closed ending) before t after = Rests before t after
+
+-- What is done for a session whose time is over.
+abbrev pub Dismissed : SeatState → Trace → SeatState → Type 0
+Dismissed before t after = DismissedAt before.stage before t after
+
+-- ---- seats
+
+-- This is done for a seat.
+pub record For {W : Type 0} (calls : W → List WireCall) (Does : SeatState → Trace → SeatState → Type 0) (old : Seat W) (es : List Event) (os : List Outcome) (new : Seat W) : Type 0 where
+  pub made : List WireCall
+  pub calls_are : calls new.wire ≡ calls old.wire ++ made
+  pub does : Does (state_of old) (trace made es os) (state_of new)
+
+-- A session joins on a wire, of which no call is made.
+pub record IsSeated {W : Type 0} (wire : W) (es : List Event) (os : List Outcome) (seat : Seat W) : Type 0 where
+  pub outcome : Outcome
+  pub events_are : es ≡ events.Join ∷ []
+  pub outcomes_are : os ≡ outcome ∷ []
+  pub wire_is : seat.wire ≡ wire
+  pub state_is : state_of seat ≡ joined_state outcome

@@ -1,0 +1,13 @@
+//! Sessions over wires that never wait: a session has a turn where its wire is ready.
+#![tactic(auto)]
+
+mod laws;
+mod ready_wire;
+mod seat;
+mod turn;
+mod writing;
+
+pub use laws::worked_examples;
+pub use ready_wire::ReadyWire;
+pub use seat::{Ending, ROOM, Seat, Stage};
+pub use turn::{dismiss, join, take_turn};

@@ -1,0 +1,112 @@
+// A wire and the session on it.
+ghost use Rattle.std.specs.Prelude.{◌≡◌, ◌≤◌, false, [], length, Option, Some, None};
+ghost use Rattle.ready_turns.specs.Seats.{at, has_left, ending_of, state_of};
+
+use arrayvec::ArrayVec;
+
+/// How many bytes are drawn in a turn, at most.
+pub const ROOM: usize = 4096;
+
+/// How a session ended.
+#[derive(Clone, Copy, Debug, PartialEq, Eq)]
+pub enum Ending {
+    /// All of a reply was drawn for it.
+    Served,
+    /// There was no room for its post.
+    Full,
+    /// The hub answered another fault.
+    Failed,
+    /// Its client went before that.
+    Cut,
+    /// Its time was over.
+    Late,
+}
+
+/// How far the session on a wire is.
+#[derive(Clone, Copy, Debug, PartialEq, Eq)]
+pub enum Stage {
+    /// The session of this number hears what is read.
+    Listening(u64),
+    /// The reply to the session of this number is drawn and sent.
+    Replying(u64),
+    /// It has left the hub, and the rest is sent.
+    Leaving(Ending),
+    /// The wire is closed.
+    Closed(Ending),
+}
+
+impl Stage {
+    /// Whether the session has left the hub.
+    pub fn has_left(self) -> bool
+        ensures { result ≡ has_left self }
+    {
+        match self {
+            Stage::Listening(_) | Stage::Replying(_) => false,
+            Stage::Leaving(_) | Stage::Closed(_) => true,
+        }
+    }
+
+    /// How the session of a closed wire ended.
+    pub fn ending(self) -> Option<Ending>
+        ensures { result ≡ ending_of self }
+    {
+        match self {
+            Stage::Closed(ending) => Some(ending),
+            _ => None,
+        }
+    }
+}
+
+/// A wire, how far the session on it is, and what is to be sent.
+#[derive(Drop)]
+pub struct Seat<W> {
+    pub(crate) wire: W,
+    pub(crate) stage: Stage,
+    pub(crate) unsent: ArrayVec<u8, ROOM>,
+    pub(crate) waits: bool,
+}
+
+impl<W> Seat<W> {
+    /// How far the session is.
+    pub fn stage(&self) -> Stage
+        ensures { result ≡ self.now.stage }
+    {
+        self.stage
+    }
+
+    /// Whether it rests until its wire is ready again.
+    pub fn waits(&self) -> bool
+        ensures { result ≡ self.now.waits }
+    {
+        self.waits
+    }
+
+    /// Its wire.
+    pub fn wire(&self) -> &W
+        ensures { result.now ≡ self.now.wire }
+    {
+        &self.wire
+    }
+
+    /// Its wire may be ready again.
+    pub fn wake(&mut self)
+        ensures state { state_of self.new ≡ at self.old.stage self.old.unsent.items false }
+        ensures wire { self.new.wire ≡ self.old.wire }
+    {
+        self.waits = false;
+    }
+
+    /// From here on the session is so far, with these bytes to be sent.
+    pub(crate) fn become_stage(&mut self, stage: Stage, unsent: &[u8])
+        requires { length unsent.now ≤ 4096 }
+        ensures state { state_of self.new ≡ at stage unsent.now false }
+        ensures wire { self.new.wire ≡ self.old.wire }
+    {
+        self.stage = stage;
+        self.unsent.clear();
+        if self.unsent.try_extend_from_slice(unsent).is_err() {
+            unreachable!();
+        }
+        self.waits = false;
+    }
+}

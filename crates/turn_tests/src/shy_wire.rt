@@ -1,0 +1,80 @@
+// A wire in memory that never waits: a call in two would have to.
+ghost use Rattle.std.specs.Prelude.{◌≡◌};
+
+use crate::memory_wire::MemoryWire;
+use ready_turns::ReadyWire;
+use turns::{CallKind, CallLog, Wire, WireFault};
+
+/// A wire of which every other call finds nothing ready, beginning with the first.
+#[derive(Drop)]
+pub struct ShyWire {
+    wire: MemoryWire,
+    is_ready: bool,
+    made: CallLog,
+}
+
+impl ShyWire {
+    pub fn new(wire: MemoryWire) -> ShyWire {
+        ShyWire {
+            wire,
+            is_ready: false,
+            made: CallLog::new(),
+        }
+    }
+
+    pub fn wire(&self) -> &MemoryWire {
+        &self.wire
+    }
+
+    /// Whether this call finds something; the next one does otherwise.
+    fn turns_ready(&mut self) -> bool
+        ensures { self.new.made ≡ self.old.made }
+    {
+        let was = self.is_ready;
+        self.is_ready = !was;
+        was
+    }
+}
+
+impl ReadyWire for ShyWire {
+    ghost calls = { λ wire. wire.made.calls };
+
+    fn read(&mut self, buffer: &mut [u8]) -> Result<Option<usize>, WireFault> {
+        if !self.turns_ready() {
+            self.made.note(CallKind::Waited, &[]);
+            return Ok(None);
+        }
+        match self.wire.read(buffer) {
+            Ok(count) => {
+                self.made.note(CallKind::Read, &buffer[..count]);
+                Ok(Some(count))
+            }
+            Err(fault) => {
+                self.made.note(CallKind::ReadFailed, &[]);
+                Err(fault)
+            }
+        }
+    }
+
+    fn write(&mut self, bytes: &[u8]) -> Result<Option<usize>, WireFault> {
+        if !self.turns_ready() {
+            self.made.note(CallKind::Waited, &[]);
+            return Ok(None);
+        }
+        match self.wire.write(bytes) {
+            Ok(count) => {
+                self.made.note(CallKind::Wrote, &bytes[..count]);
+                Ok(Some(count))
+            }
+            Err(fault) => {
+                self.made.note(CallKind::WriteFailed, &[]);
+                Err(fault)
+            }
+        }
+    }
+
+    fn close(&mut self) {
+        self.wire.close();
+        self.made.note(CallKind::Closed, &[]);
+    }
+}
