@@ -12,7 +12,3 @@ abbrev pub file_line : ChangeFileFault → List ℕ
 file_line NotToml = codes "file: not TOML"
 file_line (Table number) = codes "file: change " ++ decimal number
 file_line Memory = codes "memory"
-
--- the change of this number was not made, for this reason
-abbrev pub stopped_line : ℕ → List ℕ → List ℕ
-stopped_line number name = codes "change " ++ decimal number ++ codes ": " ++ name

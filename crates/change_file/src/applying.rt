@@ -1,8 +1,7 @@
 // Makes the changes of a file on a site.
-ghost use Rattle.std.specs.Prelude.{◌≡◌, ◌-◌, true, false, Ok, OnOk, IfOk, IfErr, IsTrue, length, take};
+ghost use Rattle.std.specs.Prelude.{◌≡◌, ◌-◌, true, Ok, OnOk, IfOk, IfErr, IsTrue, length, take};
 ghost use Rattle.common_types.specs.CrashStates.{AddsOnly, AddsNone};
-ghost use Rattle.host_types.specs.SiteState.{HasTried};
-ghost use Rattle.change_file.specs.Applied.{apply_one, apply_all, IsStop, IsStopped, RepresentsEither, RepresentsFront};
+ghost use Rattle.change_file.specs.Applied.{apply_one, apply_all, IsStop, IsStopped, RepresentsEither, RepresentsFront, Tries};
 
 use crate::fault::{ApplyFault, FileChange};
 use host_types::{SiteFault, SiteKeeper, Stamp};
@@ -12,11 +11,10 @@ fn apply_one<S: SiteKeeper>(site: &mut S, change: FileChange, now: Stamp) -> Res
     ensures done { IsTrue (S.site_state site.old).honest → OnOk result (apply_one (S.site_state site.old).site change now ≡ Ok (S.site_state site.new).site) }
     ensures usable { OnOk result ((S.site_state site.new).usable ≡ (S.site_state site.old).usable) }
     ensures stop { IfErr result (IsStop S.site_state S.lacks change now site.old site.new) }
-    ensures tried { HasTried (S.site_state site.old) (S.site_state site.new) }
+    ensures tried { Tries S.site_state S.crash_states site.old site.new }
     ensures at_crash { IsTrue (S.site_state site.old).honest → (S.site_state site.old).usable ≡ true →
         AddsOnly (S.crash_states site.old) (S.crash_states site.new) (RepresentsEither S.represents (S.site_state site.old).site change now) }
     ensures no_new_crash_state { IsTrue (S.site_state site.old).honest → IfErr result (λ e. (S.site_state site.new).usable ≡ true → AddsNone (S.crash_states site.old) (S.crash_states site.new)) }
-    ensures no_new_crash_state_when_closed { IsTrue (S.site_state site.old).honest → (S.site_state site.old).usable ≡ false → AddsNone (S.crash_states site.old) (S.crash_states site.new) }
 {
     match change {
         FileChange::Change(change) => site.change(change, now),
@@ -36,7 +34,7 @@ pub fn apply_changes<S: SiteKeeper>(
     ensures usable { OnOk result ((S.site_state site.new).usable ≡ (S.site_state site.old).usable) }
     ensures stopped { IfErr result (λ e. IsStopped S.site_state S.lacks site.old site.new changes.items now e.number e.fault) }
     ensures kept { IsTrue (S.site_state site.old).honest → IfErr result (λ e. apply_all (S.site_state site.old).site (take (e.number - 1) changes.items) now ≡ Ok (S.site_state site.new).site) }
-    ensures tried { HasTried (S.site_state site.old) (S.site_state site.new) }
+    ensures tried { Tries S.site_state S.crash_states site.old site.new }
 
     // A crash at any moment of it leaves what represents the site after some of the changes, from the front.
     ensures at_crash { IsTrue (S.site_state site.old).honest → (S.site_state site.old).usable ≡ true →
@@ -45,7 +43,6 @@ pub fn apply_changes<S: SiteKeeper>(
     // Where no write failed, what ended it wrote nothing: a crash leaves what the changes before it may leave.
     ensures at_crash_when_refused { IsTrue (S.site_state site.old).honest → (S.site_state site.old).usable ≡ true → IfErr result (λ e. (S.site_state site.new).usable ≡ true →
         AddsOnly (S.crash_states site.old) (S.crash_states site.new) (RepresentsFront S.represents (S.site_state site.old).site (take (e.number - 1) changes.items) now)) }
-    ensures no_new_crash_state_when_closed { IsTrue (S.site_state site.old).honest → (S.site_state site.old).usable ≡ false → AddsNone (S.crash_states site.old) (S.crash_states site.new) }
 {
     let count = changes.len() as u64;
     let mut number = 0;

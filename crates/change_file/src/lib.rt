@@ -17,4 +17,4 @@ pub use applying::apply_changes;
 pub use changes::read_changes;
 pub use fault::{ApplyFault, ChangeFileFault, FileChange};
 pub use laws::worked_examples;
-pub use printed::{applied_line, file_line, stopped_line};
+pub use printed::{applied_line, file_line};

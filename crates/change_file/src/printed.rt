@@ -23,12 +23,3 @@ pub fn file_line(alloc: Global, fault: ChangeFileFault) -> Result<String, AllocE
         ChangeFileFault::Memory => String::from_str(alloc, "memory"),
     }
 }
-
-/// What standard error gets of a change that was not made, by its number and the name of its fault, without its LF.
-pub fn stopped_line(alloc: Global, number: u64, name: &str) -> Result<String, AllocError>
-    ensures { IfOk result (λ t. string_bytes t ≡ spec.stopped_line number name.now) }
-{
-    let mut line = format!(in alloc; "change {number}: ")?;
-    line.push_str(name)?;
-    Ok(line)
-}

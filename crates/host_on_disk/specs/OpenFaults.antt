@@ -1,7 +1,9 @@
 -- Why a device isn't opened as a site.
-use Rattle.std.specs.Prelude.{◌≤◌, List, IsTrue}
+use Rattle.std.specs.Prelude.{◌≡◌, ◌≤◌, List, IsTrue}
+use Rattle.common_types.specs.CrashStates.{CrashStates, AddsNone}
 use Rattle.sector_device.specs.Device.{State, NothingCounted}
 use Rattle.page_store.specs.Pages.{Pair}
+use Rattle.page_store.specs.Sectors.{Image}
 use Rattle.page_store.specs.Content.{ImageHas}
 use Rattle.page_store.specs.FlatState.{IsOpenFault}
 use Rattle.page_store.specs.declared.banner.Banner.{Banner}
@@ -52,3 +54,9 @@ IsOpeningFault old new (Keeper kinds.Failed) = ⊥
 IsOpeningFault old new (Keeper kinds.Memory) = ⊥
 IsOpeningFault old new BadRecord = (128 ≤ old.size) × NothingCounted old new × ShowsContent old × ShowsNone old
 IsOpeningFault old new Memory = IsOpenFault old new kinds.Memory × NothingCounted old new
+
+-- A call that refuses hands its device back: the cause, whether it is honest as before, and that nothing was written, so that no crash state is added.
+pub record HandsBack {D F : Type 0} (cause : State → State → F → Type 0) (state : D → State) (crash_states : D → CrashStates Image) (old new : D) (fault : F) : Type 0 where
+  pub caused : cause (state old) (state new) fault
+  pub honest : (state new).honest ≡ (state old).honest
+  pub no_new_crash_state : IsTrue (state old).honest → AddsNone (crash_states old) (crash_states new)

@@ -1,6 +1,5 @@
 // Runs of events over a site on a disk, and what survives a crash.
 ghost use Rattle.std.specs.Prelude.{◌≡◌, true, IfOk, IfErr, IsTrue};
-ghost use Rattle.host_types.specs.CrashStates.{AddsNone};
 ghost use Rattle.page_store.specs.Steps.{crash_states_of};
 ghost use Rattle.page_store.specs.FlatSeen.{device_of};
 ghost use Rattle.site_store.specs.Seen.{keeper_of};
@@ -8,7 +7,7 @@ ghost use Rattle.session_core.specs.World.{World, started};
 ghost use Rattle.session_core.specs.Run.{Run};
 ghost use Rattle.session_core.specs.RunCrashStates.{HasCrashStates};
 ghost use Rattle.host_on_disk.specs.Headline.{Survives, RunsOver, RunsOn};
-ghost use Rattle.host_on_disk.specs.OpenFaults.{IsOpeningFault};
+ghost use Rattle.host_on_disk.specs.OpenFaults.{IsOpeningFault, HandsBack};
 ghost use Rattle.host_on_disk.specs.declared.open_fault.OpenFault.TheVariants.{Memory};
 
 use crate::open_fault::OpenFault;
@@ -57,9 +56,7 @@ pub fn run_on<D: Device>(
     ensures calls { IfOk result (λ r. RunsOn D.state (λ d. device_of (keeper_of d)) ⟦<DiskSite<FlatKeeper<D>> as SiteKeeper>⟧.site_state ⟦<DiskSite<FlatKeeper<D>> as SiteKeeper>⟧.lacks ⟦<DiskSite<FlatKeeper<D>> as SiteKeeper>⟧.crash_states ⟦<DiskSite<FlatKeeper<D>> as SiteKeeper>⟧.represents device r.1 first events.now r.0) }
     ensures survives { IsTrue (D.state device).honest → IfOk result (λ r. Survives D.state (crash_states_of D.moment D.possible_since) device r.1 first events.now r.0) }
     ensures honest { IfOk result (λ r. (D.state r.1).honest ≡ (D.state device).honest) }
-    ensures fault { IfErr result (λ e. IsOpeningFault (D.state device) (D.state e.1) e.0) }
-    ensures at_crash_on_fault { IsTrue (D.state device).honest → IfErr result (λ e. AddsNone (crash_states_of D.moment D.possible_since device) (crash_states_of D.moment D.possible_since e.1)) }
-    ensures handed_back { IfErr result (λ e. (D.state e.1).honest ≡ (D.state device).honest) }
+    ensures refused { IfErr result (λ e. HandsBack IsOpeningFault D.state (crash_states_of D.moment D.possible_since) device e.1 e.0) }
 {
     let site = match open_site(alloc, device) {
         Ok(site) => site,

@@ -8,7 +8,7 @@ ghost use Rattle.page_store.specs.declared.fault.KeeperFault.TheVariants.{Small}
 ghost use Rattle.page_store.specs.FlatSeen.{device_of, is_open};
 ghost use Rattle.site_store.specs.Seen.{keeper_of, seen_site};
 ghost use Rattle.host_on_disk.specs.ImageSites.{ImageRepresents};
-ghost use Rattle.host_on_disk.specs.OpenFaults.{IsOpeningFault};
+ghost use Rattle.host_on_disk.specs.OpenFaults.{IsOpeningFault, HandsBack};
 ghost use Rattle.host_on_disk.specs.declared.open_fault.OpenFault.TheVariants.{Keeper};
 
 use crate::open_fault::OpenFault;
@@ -30,11 +30,9 @@ pub fn open_site<D: Device>(
     ensures large { IfOk result (λ d. 128 ≤ (D.state device).size) }
     ensures counts { IfOk result (λ d. NothingCounted (D.state device) (D.state (device_of (keeper_of d)))) }
     ensures small { (D.state device).size < 128 → IsErrAnd result (λ e. (e.0 ≡ Keeper Small) × (e.1 ≡ device)) }
-    ensures fault { IfErr result (λ e. IsOpeningFault (D.state device) (D.state e.1) e.0) }
+    ensures refused { IfErr result (λ e. HandsBack IsOpeningFault D.state (crash_states_of D.moment D.possible_since) device e.1 e.0) }
     ensures at_crash { IsTrue (D.state device).honest → IfOk result (λ d. AddsNone (crash_states_of D.moment D.possible_since device) (crash_states_of D.moment D.possible_since (device_of (keeper_of d)))) }
-    ensures at_crash_on_fault { IsTrue (D.state device).honest → IfErr result (λ e. AddsNone (crash_states_of D.moment D.possible_since device) (crash_states_of D.moment D.possible_since e.1)) }
     ensures honest { IfOk result (λ d. (D.state (device_of (keeper_of d))).honest ≡ (D.state device).honest) }
-    ensures handed_back { IfErr result (λ e. (D.state e.1).honest ≡ (D.state device).honest) }
 {
     let keeper = match FlatKeeper::open(alloc, device) {
         Ok(keeper) => keeper,

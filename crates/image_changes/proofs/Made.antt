@@ -1,6 +1,6 @@
 -- From what changes answer to what a crash leaves of them.
-use Rattle.std.proofs.Common.{◌≡◌, ◌≢◌, ℕ, List, Ok, Err, refl, sym, ap, ◌∙◌, subst, true, ◌-◌, take}
-use Rattle.std.specs.Prelude.{Result, OnOk, IfErr, IsTrue}
+use Rattle.std.proofs.Common.{◌≡◌, ◌≢◌, ℕ, List, Ok, Err, refl, ap, ◌∙◌, subst, true, ◌-◌, take}
+use Rattle.std.specs.Prelude.{Result, OnOk, IfErr}
 use Rattle.host_types.specs.Site.{Site}
 use Rattle.host_types.specs.SiteState.{SiteState}
 use Rattle.host_types.specs.CrashStates.{CrashStates, may_crash_to}

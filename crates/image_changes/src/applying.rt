@@ -1,8 +1,7 @@
 // Makes changes on a site that is handed in, and on the site of an image.
 ghost use Rattle.std.specs.Prelude.{◌≡◌, true, IfOk, IfErr, IsTrue, length};
-ghost use Rattle.host_types.specs.CrashStates.{AddsNone};
 ghost use Rattle.page_store.specs.Steps.{crash_states_of};
-ghost use Rattle.host_on_disk.specs.OpenFaults.{IsOpeningFault};
+ghost use Rattle.host_on_disk.specs.OpenFaults.{IsOpeningFault, HandsBack};
 ghost use Rattle.image_changes.specs.ImageChanges.{AppliesTo, AppliesToImage};
 
 use change_file::{ApplyFault, FileChange, apply_changes};
@@ -40,9 +39,7 @@ pub fn apply_on<D: Device>(
     ensures applied { IsTrue (D.state device).honest → IfOk result (λ r. AppliesToImage D.state (crash_states_of D.moment D.possible_since) device r.1 changes.items now r.0) }
     ensures count { IfOk result (λ r. IfOk r.0 (λ n. n ≡ length changes.items)) }
     ensures honest { IfOk result (λ r. (D.state r.1).honest ≡ (D.state device).honest) }
-    ensures fault { IfErr result (λ e. IsOpeningFault (D.state device) (D.state e.1) e.0) }
-    ensures at_crash_on_fault { IsTrue (D.state device).honest → IfErr result (λ e. AddsNone (crash_states_of D.moment D.possible_since device) (crash_states_of D.moment D.possible_since e.1)) }
-    ensures handed_back { IfErr result (λ e. (D.state e.1).honest ≡ (D.state device).honest) }
+    ensures refused { IfErr result (λ e. HandsBack IsOpeningFault D.state (crash_states_of D.moment D.possible_since) device e.1 e.0) }
 {
     let site = match open_site(alloc, device) {
         Ok(site) => site,

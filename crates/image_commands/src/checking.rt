@@ -4,6 +4,7 @@ ghost use Rattle.host_types.specs.CrashStates.{AddsNone};
 ghost use Rattle.sector_device.specs.Device.{NothingCounted};
 ghost use Rattle.page_store.specs.Steps.{crash_states_of};
 ghost use Rattle.page_store.specs.declared.fault.KeeperFault.TheVariants.{Small};
+ghost use Rattle.host_on_disk.specs.OpenFaults.{HandsBack};
 ghost use Rattle.image_commands.specs.Faults.{IsReadingFault};
 ghost use Rattle.image_commands.specs.declared.fault.ImageFault.TheVariants.{Store};
 ghost use Rattle.std.specs.String.{string_bytes};
@@ -52,13 +53,11 @@ pub fn check_site<K: Keeper>(alloc: Global, site: &mut DiskSite<K>) -> Result<St
 /// Opens the image on a device, gives the line of its figures, and hands the device back. Nothing is written.
 pub fn check_image<D: Device>(alloc: Global, device: D) -> Result<(String, D), (ImageFault, D)>
     ensures checked { IsTrue (D.state device).honest → IfOk result (λ r. IsChecked D.state (crash_states_of D.moment D.possible_since) device (string_bytes r.0)) }
-    ensures fault { IfErr result (λ e. IsReadingFault (D.state device) (D.state e.1) e.0) }
+    ensures refused { IfErr result (λ e. HandsBack IsReadingFault D.state (crash_states_of D.moment D.possible_since) device e.1 e.0) }
     ensures small { (D.state device).size < 128 → IsErrAnd result (λ e. (e.0 ≡ Store Small) × (e.1 ≡ device)) }
     ensures counts { IfOk result (λ r. NothingCounted (D.state device) (D.state r.1)) }
     ensures at_crash { IsTrue (D.state device).honest → IfOk result (λ r. AddsNone (crash_states_of D.moment D.possible_since device) (crash_states_of D.moment D.possible_since r.1)) }
-    ensures at_crash_on_fault { IsTrue (D.state device).honest → IfErr result (λ e. AddsNone (crash_states_of D.moment D.possible_since device) (crash_states_of D.moment D.possible_since e.1)) }
     ensures honest { IfOk result (λ r. (D.state r.1).honest ≡ (D.state device).honest) }
-    ensures handed_back { IfErr result (λ e. (D.state e.1).honest ≡ (D.state device).honest) }
 {
     let mut site = match open_site(alloc, device) {
         Ok(site) => site,

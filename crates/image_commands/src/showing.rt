@@ -4,6 +4,7 @@ ghost use Rattle.host_types.specs.CrashStates.{AddsNone};
 ghost use Rattle.sector_device.specs.Device.{NothingCounted};
 ghost use Rattle.page_store.specs.Steps.{crash_states_of};
 ghost use Rattle.page_store.specs.declared.fault.KeeperFault.TheVariants.{Small};
+ghost use Rattle.host_on_disk.specs.OpenFaults.{HandsBack};
 ghost use Rattle.image_commands.specs.Faults.{IsReadingFault};
 ghost use Rattle.image_commands.specs.declared.fault.ImageFault.TheVariants.{Store};
 ghost use Rattle.host_types.specs.declared.site_fault.SiteFault.TheVariants.{Failed};
@@ -65,13 +66,11 @@ pub fn show_site<K: Keeper>(alloc: Global, site: &mut DiskSite<K>) -> Result<Vec
 /// Opens the image on a device, gives the lines of its items, and hands the device back. Nothing is written.
 pub fn show_image<D: Device>(alloc: Global, device: D) -> Result<(Vec<u8>, D), (ImageFault, D)>
     ensures shown { IsTrue (D.state device).honest → IfOk result (λ r. IsShown (D.state device).disk.view r.0.items) }
-    ensures fault { IfErr result (λ e. IsReadingFault (D.state device) (D.state e.1) e.0) }
+    ensures refused { IfErr result (λ e. HandsBack IsReadingFault D.state (crash_states_of D.moment D.possible_since) device e.1 e.0) }
     ensures small { (D.state device).size < 128 → IsErrAnd result (λ e. (e.0 ≡ Store Small) × (e.1 ≡ device)) }
     ensures counts { IfOk result (λ r. NothingCounted (D.state device) (D.state r.1)) }
     ensures at_crash { IsTrue (D.state device).honest → IfOk result (λ r. AddsNone (crash_states_of D.moment D.possible_since device) (crash_states_of D.moment D.possible_since r.1)) }
-    ensures at_crash_on_fault { IsTrue (D.state device).honest → IfErr result (λ e. AddsNone (crash_states_of D.moment D.possible_since device) (crash_states_of D.moment D.possible_since e.1)) }
     ensures honest { IfOk result (λ r. (D.state r.1).honest ≡ (D.state device).honest) }
-    ensures handed_back { IfErr result (λ e. (D.state e.1).honest ≡ (D.state device).honest) }
 {
     let mut site = match open_site(alloc, device) {
         Ok(site) => site,

@@ -1,11 +1,10 @@
 -- What holds of a script by one relation of runs holds by any other that follows from it.
-use Rattle.std.proofs.Common.{◌≡◌, ℕ, List, [], Option, Some, None}
+use Rattle.std.proofs.Common.{ℕ, List, [], Option, Some, None}
 use Rattle.std.specs.Prelude.{IfSome, Result, Ok, Err, OnOk}
 use Rattle.session_core.specs.declared.event.Event.{Event}
 use Rattle.session_core.specs.declared.event.Outcome.{Outcome}
-use Rattle.host_script.specs.Lines.{Ran, RanSo, IsReplayed, IsRunInPart, start}
+use Rattle.host_script.specs.Lines.{Ran, IsReplayed, IsRunInPart, start}
 use Rattle.host_script.specs.declared.fault.Fault.{Fault}
-use Rattle.host_script.specs.declared.fault.Fault.TheVariants.{Script}
 use Rattle.image_sessions.specs.ImageRuns.{Replays}
 
 some_too : {A : Type 0} {P Q : A → Type 0} (o : Option A) → ((a : A) → P a → Q a) → IfSome o P → IfSome o Q

@@ -1,10 +1,9 @@
 // A script over a site, and over the site of an image.
-ghost use Rattle.std.specs.Prelude.{◌≡◌, true, IfOk, IfErr, IsTrue};
-ghost use Rattle.host_types.specs.CrashStates.{AddsNone};
+ghost use Rattle.std.specs.Prelude.{◌≡◌, true, IfOk, IfErr};
 ghost use Rattle.page_store.specs.Steps.{crash_states_of};
 ghost use Rattle.page_store.specs.FlatSeen.{device_of};
 ghost use Rattle.site_store.specs.Seen.{keeper_of};
-ghost use Rattle.host_on_disk.specs.OpenFaults.{IsOpeningFault};
+ghost use Rattle.host_on_disk.specs.OpenFaults.{IsOpeningFault, HandsBack};
 ghost use Rattle.host_on_disk.specs.declared.open_fault.OpenFault.TheVariants.{Memory};
 ghost use Rattle.image_sessions.specs.ImageRuns.{OverSite, OnImage, Replays};
 
@@ -51,9 +50,7 @@ pub fn replay_on<D: Device, R: Read, W: Write>(
     writer: &mut W,
 ) -> Result<(Result<(), Fault>, D), (OpenFault, D)>
     ensures replayed { IfOk result (λ r. Replays (OnImage D.state (λ d. device_of (keeper_of d)) ⟦<DiskSite<FlatKeeper<D>> as SiteKeeper>⟧.site_state ⟦<DiskSite<FlatKeeper<D>> as SiteKeeper>⟧.lacks ⟦<DiskSite<FlatKeeper<D>> as SiteKeeper>⟧.crash_states ⟦<DiskSite<FlatKeeper<D>> as SiteKeeper>⟧.represents (crash_states_of D.moment D.possible_since)) device r.1 (R.remaining reader.old) (W.contents writer.old) (W.contents writer.new) r.0) }
-    ensures fault { IfErr result (λ e. IsOpeningFault (D.state device) (D.state e.1) e.0) }
-    ensures at_crash_on_fault { IsTrue (D.state device).honest → IfErr result (λ e. AddsNone (crash_states_of D.moment D.possible_since device) (crash_states_of D.moment D.possible_since e.1)) }
-    ensures handed_back { IfErr result (λ e. (D.state e.1).honest ≡ (D.state device).honest) }
+    ensures refused { IfErr result (λ e. HandsBack IsOpeningFault D.state (crash_states_of D.moment D.possible_since) device e.1 e.0) }
     ensures unread { IfErr result (λ e. (reader.new ≡ reader.old) × (writer.new ≡ writer.old)) }
 {
     let site = match open_site(alloc, device) {

@@ -43,6 +43,6 @@ returns-in-Err-clause-at_crash_when_refused g c = λ honest usable still.
 pub loop-change-preserved : goal.loop-change-preserved
 loop-change-preserved g c = record {
   so_far = goes_on g.S.SiteKeeper.site_state g.S.SiteKeeper.lacks g.S.SiteKeeper.crash_states g.S.SiteKeeper.represents c.args.site.now c.loop-change.site c.apply_one.new.site c.loop-change.yielded c.in-Some.change c.args.now c.loop-change.invariant.so_far
-      (λ honest. search (rules, c.apply_one.ensures.done honest)) (search rules) c.apply_one.ensures.tried c.apply_one.ensures.at_crash c.apply_one.ensures.no_new_crash_state_when_closed;
+      (λ honest. search (rules, c.apply_one.ensures.done honest)) (search rules) c.apply_one.ensures.tried.tried c.apply_one.ensures.at_crash c.apply_one.ensures.tried.no_new_crash_state_when_closed;
   counted = omega (arith, c.loop-change.invariant.counted, length-append c.loop-change.yielded (c.in-Some.change ∷ []));
 }

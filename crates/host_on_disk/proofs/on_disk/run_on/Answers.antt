@@ -14,13 +14,17 @@ returns-in-Ok-run_over-clause-survives g c = λ honest.
     survives g.D.Device.state (crash_states_of g.D.Device.moment g.D.Device.possible_since) c.args.device c.in-Ok.site.keeper.device c.in-Ok-run_over.site.keeper.device c.into_device.result c.args.first c.args.events.now c.in-Ok-run_over.outcomes (seen_site c.in-Ok.site)
     (opened.site honest) (opened.alone honest) (opened.at_crash honest) (c.in-Ok-run_over.ensures.run unchanged) back
 
-pub returns-in-Err-run_over-clause-fault : goal.returns-in-Err-run_over-clause-fault
-returns-in-Err-run_over-clause-fault g c =
+pub returns-in-Err-run_over-clause-refused : goal.returns-in-Err-run_over-clause-refused
+returns-in-Err-run_over-clause-refused g c =
     let state = g.D.Device.state in
     let opened = c.in-Ok.ensures in
     let same = c.in-Err-run_over.ensures.err in
     let back = c.into_device-in-Err-run_over.ensures ∙ ap (λ k. device_of k) (c.into_keeper-in-Err-run_over.ensures ∙ ap (λ d. keeper_of d) same.1) in
-    rw (same.0, back) (no_memory (state c.args.device) (state c.in-Ok.site.keeper.device) (seen_site c.in-Ok.site) opened.large opened.counts opened.site)
+    record {
+      caused = rw (same.0, back) (no_memory (state c.args.device) (state c.in-Ok.site.keeper.device) (seen_site c.in-Ok.site) opened.large opened.counts opened.site);
+      honest = rw back opened.honest;
+      no_new_crash_state = rw back opened.at_crash;
+    }
 
 pub returns-in-Ok-run_over-clause-calls : goal.returns-in-Ok-run_over-clause-calls
 returns-in-Ok-run_over-clause-calls g c = record {

@@ -1,23 +1,27 @@
-use Rattle.std.proofs.Common.{◌∙◌, refl, subst, sym, IsTrue}
+use Rattle.std.proofs.Common.{◌∙◌, refl, subst, sym, rules, IsTrue}
 use Rattle.page_store.specs.FlatSeen.{held}
 use Rattle.host_on_disk.proofs.Images.{one_site, kept_stands}
 use Rattle.host_on_disk.proofs.Openings.{keeper_refused, small_refused, site_refused}
 use Rattle.host_on_disk.proofs.opening.open_site.Goals as goal
 
-pub returns-in-Err-clause-fault : goal.returns-in-Err-clause-fault
-returns-in-Err-clause-fault g c =
+pub returns-in-Err-clause-refused : goal.returns-in-Err-clause-refused
+returns-in-Err-clause-refused g c =
     let d = g.met.D.Device in
     let device = c.args.device in
-    rw c.of_keeper.ensures
-    (keeper_refused (g.D.Device.state device) (g.D.Device.state c.in-Err.device) (λ honest. (d.view_is_image device honest).size ∙ d.base_has_size device honest) c.in-Err.fault c.in-Err.ensures.fault c.in-Err.ensures.counts_fault)
+    record {
+      caused = rw c.of_keeper.ensures
+          (keeper_refused (g.D.Device.state device) (g.D.Device.state c.in-Err.device) (λ honest. (d.view_is_image device honest).size ∙ d.base_has_size device honest) c.in-Err.fault c.in-Err.ensures.fault c.in-Err.ensures.counts_fault);
+      honest = c.in-Err.ensures.handed_back.1;
+      no_new_crash_state = c.in-Err.ensures.at_crash_on_fault;
+    }
 
 pub returns-in-Err-clause-small : goal.returns-in-Err-clause-small
 returns-in-Err-clause-small g c = λ small.
     let is = small_refused g.D.Device.state c.args.device c.in-Err.device c.in-Err.fault c.in-Err.ensures.fault c.in-Err.ensures.small small in
     (c.of_keeper.ensures ∙ is.0, is.1)
 
-pub returns-in-Err-open-clause-fault : goal.returns-in-Err-open-clause-fault
-returns-in-Err-open-clause-fault g c =
+pub returns-in-Err-open-clause-refused : goal.returns-in-Err-open-clause-refused
+returns-in-Err-open-clause-refused g c =
     let state = g.D.Device.state in
     let k = c.in-Ok.keeper in
     let back = c.in-Err-open.keeper in
@@ -31,7 +35,11 @@ returns-in-Err-open-clause-fault g c =
       content = opened.content;
       version = k.fitted.version;
     }) refl c.in-Err-open.ensures.handed_back.read.writes c.in-Err-open.fault c.in-Err-open.ensures.fault in
-    rw (c.of_site.ensures, c.into_device.ensures) refused
+    record {
+      caused = rw (c.of_site.ensures, c.into_device.ensures) refused;
+      honest = search (rules, c.into_device.ensures, c.in-Err-open.ensures.handed_back, opened.honest);
+      no_new_crash_state = λ honest. search (rules, c.into_device.ensures, c.in-Err-open.ensures.handed_back, opened.at_crash honest);
+    }
 
 pub returns-in-Ok-open-clause-site : goal.returns-in-Ok-open-clause-site
 returns-in-Ok-open-clause-site g c =

@@ -1,12 +1,10 @@
-use Rattle.std.proofs.Common.{◌≡◌, ◌≢◌, sym, subst, ap, ◌∙◌, Err, ◌-◌, take}
+use Rattle.std.proofs.Common.{sym, subst, ap, ◌∙◌, ◌-◌, take}
 use Rattle.std.specs.Prelude.{IsTrue, OnOk}
 use Rattle.host_types.specs.CrashStates.{AddsOnly}
-use Rattle.host_types.specs.declared.site_fault.SiteFault.TheVariants.{Failed}
 use Rattle.page_store.specs.FlatSeen.{device_of}
 use Rattle.page_store.specs.Steps.{crash_states_of}
-use Rattle.site_store.specs.Seen.{keeper_of, seen_site}
+use Rattle.site_store.specs.Seen.{seen_site}
 use Rattle.change_file.specs.Applied.{RepresentsFront}
-use Rattle.change_file.specs.declared.fault.ApplyFault.{ApplyFault}
 use Rattle.host_on_disk.specs.ImageSites.{ImageRepresents}
 use Rattle.image_changes.specs.ImageChanges.{HasMade}
 use Rattle.image_changes.proofs.applying.apply_on.Goals as goal

@@ -29,10 +29,14 @@ returns-in-Ok-replay_over-clause-replayed g c =
     })
     _ _ _ _ c.in-Ok-replay_over.ensures.replayed
 
-pub returns-in-Err-replay_over-clause-fault : goal.returns-in-Err-replay_over-clause-fault
-returns-in-Err-replay_over-clause-fault g c =
+pub returns-in-Err-replay_over-clause-refused : goal.returns-in-Err-replay_over-clause-refused
+returns-in-Err-replay_over-clause-refused g c =
     let state = g.D.Device.state in
     let opened = c.in-Ok.ensures in
     let same = c.in-Err-replay_over.ensures.err in
     let back = c.into_device-in-Err-replay_over.ensures ∙ ap (λ k. device_of k) (c.into_keeper-in-Err-replay_over.ensures ∙ ap (λ d. keeper_of d) same.1) in
-    rw (same.0, back) (no_memory (state c.args.device) (state c.in-Ok.site.keeper.device) (seen_site c.in-Ok.site) opened.large opened.counts opened.site)
+    record {
+      caused = rw (same.0, back) (no_memory (state c.args.device) (state c.in-Ok.site.keeper.device) (seen_site c.in-Ok.site) opened.large opened.counts opened.site);
+      honest = rw back opened.honest;
+      no_new_crash_state = rw back opened.at_crash;
+    }
