@@ -104,17 +104,48 @@ fn replay<'a>(alloc: Global) -> Result<Command<'a>, AllocError> {
         .arg(image)
 }
 
+/// A number of a server in rounds, which has another one with it.
+fn in_rounds<'a>(
+    alloc: Global,
+    name: &'a str,
+    value: &'a str,
+    help: &'a str,
+    least: u64,
+    most: u64,
+    other: &'a str,
+) -> Result<Arg<'a>, AllocError> {
+    number(alloc, name, value, help, least, most)
+        .required(false)
+        .requires_arg(other)
+}
+
 fn serve<'a>(alloc: Global) -> Result<Command<'a>, AllocError> {
     let together = "How many connections a round takes, which are served in turns, 1 to 32";
-    let rounds = "How many rounds are served";
+    let rounds = "How many rounds are served, after which the server ends";
+    let listen = "Where to listen, in place of 127.0.0.1 and the site's own port";
+    let quiet = "Writes no line of log for each request";
     Command::new(alloc, "serve")
         .about(
-            "Serves the site of an image on 127.0.0.1, at the site's own port, and prints how many replies were written whole",
+            "Serves the site of an image on 127.0.0.1, at the site's own port, until it is ended, which is harmless at any moment; or so many rounds of connections, and prints how many replies were written whole",
         )
-        .after_help("Example: gopher_host serve site.img --together 1 --rounds 100")
+        .after_help(
+            "Examples: gopher_host serve site.img --listen 0.0.0.0:70; gopher_host serve site.img --together 1 --rounds 100",
+        )
         .arg(image(alloc))?
-        .arg(number(alloc, "together", "K", together, 1, 32))?
-        .arg(number(alloc, "rounds", "N", rounds, 0, 4_294_967_295))
+        .arg(in_rounds(alloc, "together", "K", together, 1, 32, "rounds")?)?
+        .arg(in_rounds(alloc, "rounds", "N", rounds, 0, 4_294_967_295, "together")?)?
+        .arg(
+            text(alloc, "listen", "ADDRESS:PORT", listen)
+                .required(false)
+                .conflicts_with("rounds")?,
+        )?
+        .arg(
+            Arg::new(alloc, "quiet")
+                .long("quiet")
+                .help(quiet)
+                .action(ArgAction::SetTrue)
+                .conflicts_with("rounds")?,
+        )
 }
 
 /// The whole command line.

@@ -9,10 +9,11 @@ use image_changes::apply_on;
 use image_commands::{
     ImageFault, SiteNames, check_image, format_image, formatted_line, sectors_of, show_image,
 };
-use image_server::{serve_image, served_line};
+use image_server::{ServingFault, serve_clients, serve_image, served_line};
 use image_sessions::{replay_on, replay_over};
 use socket_wires::SystemClock;
 use std::io::{BufWriter, Write};
+use std::net::SocketAddr;
 use std::{fs, io};
 
 /// The moment of so many seconds since 1970-01-01, of which the words of the command line give no others.
@@ -146,7 +147,12 @@ pub fn replay(rt: &HostRuntime, image: Option<&str>) -> Result<(), Fault> {
 }
 
 /// Serves so many rounds of connections over the site of an image, at the site's port on 127.0.0.1, and prints how many replies were written whole.
-pub fn serve(rt: &HostRuntime, image: &str, together: u32, rounds: u32) -> Result<(), Fault> {
+pub fn serve_rounds(
+    rt: &HostRuntime,
+    image: &str,
+    together: u32,
+    rounds: u32,
+) -> Result<(), Fault> {
     let device = open(rt, image)?;
     let mut clock = SystemClock::new(rt);
     let served = match serve_image(rt.alloc(), rt, device, &mut clock, together, rounds) {
@@ -156,5 +162,28 @@ pub fn serve(rt: &HostRuntime, image: &str, together: u32, rounds: u32) -> Resul
     match served_line(rt.alloc(), served) {
         Ok(line) => print_line(rt, &line),
         Err(_) => Err(Fault::of_memory()),
+    }
+}
+
+/// Serves whoever comes over the site of an image, at an address or else the site's port on 127.0.0.1, until that can't go on. Standard error gets a line for each
+/// client that has gone, unless that is not wanted.
+pub fn serve(
+    rt: &HostRuntime,
+    image: &str,
+    listen: Option<SocketAddr>,
+    quiet: bool,
+) -> Result<(), Fault> {
+    let device = open(rt, image)?;
+    let alloc = rt.alloc();
+    let mut clock = SystemClock::new(rt);
+    let served = if quiet {
+        serve_clients(alloc, rt, device, listen, &mut clock, &mut io::sink())
+    } else {
+        serve_clients(alloc, rt, device, listen, &mut clock, &mut rt.stderr())
+    };
+    match served {
+        Ok((Ok(()), _)) => Ok(()),
+        Ok((Err(fault), _)) => Err(Fault::from(ServingFault::from(fault))),
+        Err((fault, _)) => Err(Fault::from(fault)),
     }
 }

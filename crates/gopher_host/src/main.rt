@@ -23,11 +23,16 @@ fn run(rt: &HostRuntime, task: Task<'_>) -> Result<(), Fault> {
         Task::Show { image } => commands::show(rt, image),
         Task::Check { image } => commands::check(rt, image),
         Task::Replay { image } => commands::replay(rt, image),
-        Task::Serve {
+        Task::ServeRounds {
             image,
             together,
             rounds,
-        } => commands::serve(rt, image, together, rounds),
+        } => commands::serve_rounds(rt, image, together, rounds),
+        Task::ServeClients {
+            image,
+            listen,
+            quiet,
+        } => commands::serve(rt, image, listen, quiet),
     }
 }
 

@@ -9,6 +9,7 @@ use clap::error::ErrorKind;
 use clap::{ArgMatches, Error};
 use std::alloc::{AllocError, Global};
 use std::io;
+use std::net::SocketAddr;
 use std::process::ExitCode;
 
 /// What the program is asked to do. Images are names of files, and moments seconds since 1970-01-01.
@@ -40,10 +41,16 @@ pub enum Task<'a> {
         image: Option<&'a str>,
     },
     /// Serves so many rounds of connections over an image.
-    Serve {
+    ServeRounds {
         image: &'a str,
         together: u32,
         rounds: u32,
+    },
+    /// Serves whoever comes, at an address or else the site's own port on 127.0.0.1, with a log or without.
+    ServeClients {
+        image: &'a str,
+        listen: Option<SocketAddr>,
+        quiet: bool,
     },
 }
 
@@ -63,7 +70,7 @@ pub enum Misread {
     Words(Error),
     /// A word is not UTF-8.
     NotUnicode,
-    /// A word that a command wants is missing.
+    /// A word that a command wants is missing, or is no address and port.
     Incomplete,
     Memory,
 }
@@ -86,7 +93,9 @@ impl Misread {
         match self {
             Misread::Words(error) => error.print(rt)?,
             Misread::NotUnicode => eprintln!(rt; "error: a word of the command line is not UTF-8")?,
-            Misread::Incomplete => eprintln!(rt; "error: a word is missing")?,
+            Misread::Incomplete => eprintln!(rt;
+                "error: a word is missing, or is no address and port"
+            )?,
             Misread::Memory => eprintln!(rt; "memory")?,
         }
         Ok(ExitCode::from(self.status()))
@@ -131,6 +140,27 @@ fn new_site<'a>(matches: &ArgMatches<'a>) -> Option<NewSite<'a>> {
     })
 }
 
+/// How an image is to be served.
+fn serving<'a>(image: &'a str, matches: &ArgMatches<'a>) -> Option<Task<'a>> {
+    let Some(rounds) = matches.get_one::<u32>("rounds") else {
+        let listen = match matches.get_str("listen") {
+            Some(address) => Some(address.parse::<SocketAddr>().ok()?),
+            None => None,
+        };
+        let quiet = matches.get_flag("quiet");
+        return Some(Task::ServeClients {
+            image,
+            listen,
+            quiet,
+        });
+    };
+    Some(Task::ServeRounds {
+        image,
+        together: matches.get_one::<u32>("together")?,
+        rounds,
+    })
+}
+
 /// What the words behind a command ask for.
 fn task_of<'a>(name: &str, matches: &ArgMatches<'a>) -> Option<Task<'a>> {
     let image = matches.get_str("IMAGE");
@@ -149,11 +179,7 @@ fn task_of<'a>(name: &str, matches: &ArgMatches<'a>) -> Option<Task<'a>> {
         "show" => Some(Task::Show { image: image? }),
         "check" => Some(Task::Check { image: image? }),
         "replay" => Some(Task::Replay { image }),
-        "serve" => Some(Task::Serve {
-            image: image?,
-            together: matches.get_one::<u32>("together")?,
-            rounds: matches.get_one::<u32>("rounds")?,
-        }),
+        "serve" => serving(image?, matches),
         _ => None,
     }
 }

@@ -12,6 +12,10 @@ use Rattle.session_core.specs.Calls.{HubRun}
 use Rattle.session_core.specs.declared.hub.Hub.{Hub}
 use Rattle.host_on_disk.specs.ImageSites.{ImageRepresents}
 use Rattle.host_on_disk.specs.OpenFaults.{IsOpeningFault}
+use Rattle.host_on_disk.specs.declared.open_fault.OpenFault.TheVariants as opening
+use Rattle.page_store.specs.declared.fault.KeeperFault.TheVariants as keeper
+use Rattle.ready_sockets.specs.declared.room.VisitFault.{VisitFault}
+use Rattle.ready_sockets.specs.declared.room.VisitFault.TheVariants as visits
 use Rattle.socket_wires.specs.Rounds.{IsServing}
 use Rattle.image_server.specs.declared.serving.ServingFault.{ServingFault}
 use Rattle.image_server.specs.declared.serving.ServingFault.TheVariants.{Image, Net}
@@ -37,3 +41,9 @@ pub record ServesImage {D S L : Type 0} (bound : _) (state : D → State) (devic
 abbrev pub IsServingFault : State → State → ServingFault → Type 0
 IsServingFault old new (Image fault) = IsOpeningFault old new fault
 IsServingFault old new Net = NothingCounted old new
+
+-- what is told of serving that ended
+abbrev pub of_visits : VisitFault → ServingFault
+of_visits visits.Net = Net
+of_visits visits.Failed = Image (opening.Keeper keeper.Failed)
+of_visits visits.Memory = Image opening.Memory

@@ -3,6 +3,8 @@
 
 mod lines;
 mod serving;
+mod visiting;
 
 pub use lines::{round_line, served_line, serving_line};
 pub use serving::{ServingFault, serve_image, serve_over};
+pub use visiting::{serve_clients, visits_over};

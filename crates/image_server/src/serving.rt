@@ -1,9 +1,9 @@
 // Serves connections over a site that is handed in, and over the site of an image.
-ghost use Rattle.std.specs.Prelude.{◌≡◌, true, IfOk, IfErr, IsTrue};
-ghost use Rattle.host_types.specs.CrashStates.{AddsNone};
+ghost use Rattle.std.specs.Prelude.{◌≡◌, true, IfOk, IfErr};
 ghost use Rattle.page_store.specs.Steps.{crash_states_of};
 ghost use Rattle.page_store.specs.FlatSeen.{device_of};
 ghost use Rattle.site_store.specs.Seen.{keeper_of};
+ghost use Rattle.host_on_disk.specs.OpenFaults.{HandsBack};
 ghost use Rattle.image_sessions.specs.ImageRuns.{OverSite, OnImage};
 ghost use Rattle.turns.specs.Runs.{HasRun};
 ghost use Rattle.image_server.specs.Serving.{ServesOver, ServesImage, IsServingFault};
@@ -66,9 +66,7 @@ pub fn serve_image<D: Device, R: Net<Listener = TcpListener, Stream = TcpStream>
 ) -> Result<(Result<u64, ServeFault>, D), (ServingFault, D)>
     ensures ran { IfOk result (λ r. HasRun (OnImage D.state (λ d. device_of (keeper_of d)) ⟦<DiskSite<FlatKeeper<D>> as SiteKeeper>⟧.site_state ⟦<DiskSite<FlatKeeper<D>> as SiteKeeper>⟧.lacks ⟦<DiskSite<FlatKeeper<D>> as SiteKeeper>⟧.crash_states ⟦<DiskSite<FlatKeeper<D>> as SiteKeeper>⟧.represents (crash_states_of D.moment D.possible_since)) device r.1 (C.told clock.old) (C.told clock.new) (λ es os. Unit {0})) }
     ensures serves { IfOk result (λ r. IfOk r.0 (ServesImage ⟦<DiskSite<FlatKeeper<D>> as SiteKeeper>⟧ D.state (λ d. device_of (keeper_of d)) ⟦<DiskSite<FlatKeeper<D>> as SiteKeeper>⟧.site_state ⟦<DiskSite<FlatKeeper<D>> as SiteKeeper>⟧.lacks ⟦<DiskSite<FlatKeeper<D>> as SiteKeeper>⟧.crash_states ⟦<DiskSite<FlatKeeper<D>> as SiteKeeper>⟧.represents together rounds device r.1 (C.told clock.old) (C.told clock.new))) }
-    ensures fault { IfErr result (λ e. IsServingFault (D.state device) (D.state e.1) e.0) }
-    ensures at_crash_on_fault { IsTrue (D.state device).honest → IfErr result (λ e. AddsNone (crash_states_of D.moment D.possible_since device) (crash_states_of D.moment D.possible_since e.1)) }
-    ensures handed_back { IfErr result (λ e. (D.state e.1).honest ≡ (D.state device).honest) }
+    ensures refused { IfErr result (λ e. HandsBack IsServingFault D.state (crash_states_of D.moment D.possible_since) device e.1 e.0) }
     ensures untold { IfErr result (λ e. clock.new ≡ clock.old) }
 {
     let site = match open_site(alloc, device) {

@@ -29,13 +29,17 @@ returns-in-Ok-serve_over-clause-ran g c =
     })
     _ _ _ c.in-Ok-serve_over.ensures.ran
 
-pub returns-clause-fault : goal.returns-clause-fault
-returns-clause-fault g c =
+pub returns-clause-refused : goal.returns-clause-refused
+returns-clause-refused g c =
     let state = g.D.Device.state in
     let opened = c.in-Ok.ensures in
     let same = c.in-Err-serve_over.ensures.err in
     let back = c.into_device-in-Err-serve_over.ensures ∙ ap (λ k. device_of k) (c.into_keeper-in-Err-serve_over.ensures ∙ ap (λ d. keeper_of d) same.1) in
-    rw (same.0, back) (no_memory (state c.args.device) (state c.in-Ok.site.keeper.device) (seen_site c.in-Ok.site) opened.large opened.counts opened.site)
+    record {
+      caused = rw (same.0, back) (no_memory (state c.args.device) (state c.in-Ok.site.keeper.device) (seen_site c.in-Ok.site) opened.large opened.counts opened.site);
+      honest = rw back opened.honest;
+      no_new_crash_state = rw back opened.at_crash;
+    }
 
 pub returns-in-Ok-serve_over-clause-serves : goal.returns-in-Ok-serve_over-clause-serves
 returns-in-Ok-serve_over-clause-serves g c = ok_too c.in-Ok-serve_over.served

@@ -1,0 +1,94 @@
+// Serves whoever comes, over a site that is handed in, and over the site of an image.
+ghost use Rattle.std.specs.Prelude.{◌≡◌, true, IfOk, IfErr};
+ghost use Rattle.page_store.specs.Steps.{crash_states_of};
+ghost use Rattle.page_store.specs.FlatSeen.{device_of};
+ghost use Rattle.site_store.specs.Seen.{keeper_of};
+ghost use Rattle.host_on_disk.specs.OpenFaults.{HandsBack};
+ghost use Rattle.image_sessions.specs.ImageRuns.{OverSite, OnImage};
+ghost use Rattle.turns.specs.Runs.{HasRun};
+ghost use Rattle.image_server.specs.Serving.{IsServingFault, of_visits};
+
+use crate::ServingFault;
+use host_on_disk::{OpenFault, open_site};
+use host_types::SiteKeeper;
+use page_store::{FlatKeeper, KeeperFault};
+use ready_sockets::{Room, VisitFault, serve_visits};
+use sector_device::Device;
+use session_core::Hub;
+use site_store::DiskSite;
+use std::alloc::Global;
+use std::io::Write;
+use std::net::{Ipv4Addr, Net, SocketAddr};
+use std::time::Clock as Time;
+use turns::Clock;
+use word_index::SearchKeeper;
+
+impl From<VisitFault> for ServingFault {
+    ghost from_gives = { λ visits fault. fault ≡ of_visits visits };
+
+    fn from(fault: VisitFault) -> Self {
+        match fault {
+            VisitFault::Net => ServingFault::Net,
+            VisitFault::Failed => ServingFault::Image(OpenFault::Keeper(KeeperFault::Failed)),
+            VisitFault::Memory => ServingFault::Image(OpenFault::Memory),
+        }
+    }
+}
+
+/// Serves whoever comes, over a site in one hub, whose sessions count from 1, and hands the site back once that has ended. `Memory` comes before the first client.
+pub fn visits_over<S: SearchKeeper, C: Clock, R: Time, L: Write>(
+    alloc: Global,
+    site: S,
+    rt: &R,
+    room: &mut Room,
+    clock: &mut C,
+    log: &mut L,
+) -> Result<(Result<(), VisitFault>, S), (OpenFault, S)>
+    requires { (S.site_state site).usable ≡ true }
+    ensures ran { IfOk result (λ r. HasRun (OverSite S.site_state S.lacks S.crash_states S.represents) site r.1 (C.told clock.old) (C.told clock.new) (λ es os. Unit {0})) }
+    ensures err { IfErr result (λ e. (e.0 ≡ OpenFault.Memory) × (e.1 ≡ site)) }
+    ensures untold { IfErr result (λ e. clock.new ≡ clock.old) }
+{
+    let mut hub = match Hub::new(alloc, site, 1) {
+        Ok(hub) => hub,
+        Err((_, site)) => return Err((OpenFault::Memory, site)),
+    };
+    let ended = serve_visits(alloc, rt, room, &mut hub, clock, log);
+    Ok((ended, hub.close()))
+}
+
+/// Opens the image on a device, and serves whoever comes over its site, at an address or else at the site's port on 127.0.0.1, until a write or a sync of the device has
+/// failed, or no socket can be waited for. Then it hands the device back.
+///
+/// What a crash at any moment leaves on the device represents the site after some of the events that the clients made, with each change that was acknowledged by
+/// then, or the one with the change in flight, unacknowledged.
+pub fn serve_clients<D: Device, R: Net + Time, C: Clock, L: Write>(
+    alloc: Global,
+    rt: &R,
+    device: D,
+    address: Option<SocketAddr>,
+    clock: &mut C,
+    log: &mut L,
+) -> Result<(Result<(), VisitFault>, D), (ServingFault, D)>
+    ensures ran { IfOk result (λ r. HasRun (OnImage D.state (λ d. device_of (keeper_of d)) ⟦<DiskSite<FlatKeeper<D>> as SiteKeeper>⟧.site_state ⟦<DiskSite<FlatKeeper<D>> as SiteKeeper>⟧.lacks ⟦<DiskSite<FlatKeeper<D>> as SiteKeeper>⟧.crash_states ⟦<DiskSite<FlatKeeper<D>> as SiteKeeper>⟧.represents (crash_states_of D.moment D.possible_since)) device r.1 (C.told clock.old) (C.told clock.new) (λ es os. Unit {0})) }
+    ensures refused { IfErr result (λ e. HandsBack IsServingFault D.state (crash_states_of D.moment D.possible_since) device e.1 e.0) }
+    ensures untold { IfErr result (λ e. clock.new ≡ clock.old) }
+{
+    let site = match open_site(alloc, device) {
+        Ok(site) => site,
+        Err((fault, device)) => return Err((ServingFault::Image(fault), device)),
+    };
+    let own = SocketAddr::from((Ipv4Addr::LOCALHOST, site.front().port));
+    let mut room = match Room::open(alloc, rt, address.unwrap_or(own)) {
+        Ok(room) => room,
+        Err(VisitFault::Memory) => return Err((
+            ServingFault::Image(OpenFault::Memory),
+            site.into_keeper().into_device(),
+        )),
+        Err(_) => return Err((ServingFault::Net, site.into_keeper().into_device())),
+    };
+    match visits_over(alloc, site, rt, &mut room, clock, log) {
+        Ok((ended, site)) => Ok((ended, site.into_keeper().into_device())),
+        Err((fault, site)) => Err((ServingFault::Image(fault), site.into_keeper().into_device())),
+    }
+}
