@@ -1,0 +1,161 @@
+"""Images for measurements: a site by the program's own commands, and an image that is written here, full to a given share, as docs/IMAGE.md says."""
+import functools
+import json
+import random
+import re
+import subprocess
+import time
+
+PAGE = 4096
+CHUNK = 1000
+BODY = 65536
+ROOT_PART = 488
+FIRST_GENERATION = 1
+HOST, ADMIN, TITLE = "localhost", "Ada <ada@localhost>", "Top"
+
+
+def run(program, *words):
+    """What a command of the host prints. It has to end well."""
+    ran = subprocess.run([program, *words], stdout=subprocess.PIPE, stderr=subprocess.PIPE, stdin=subprocess.DEVNULL, text=True, timeout=120)
+    if ran.returncode:
+        raise SystemExit(f"bench: '{' '.join(words)}' ended with {ran.returncode}: {ran.stderr}")
+    return ran.stdout
+
+
+def lines(count, width):
+    """A text of so many lines, each so many bytes wide with its LF."""
+    return "".join(f"{number:04} ".ljust(width - 1, "x") + "\n" for number in range(count))
+
+
+TEXTS = {"/1k": lines(16, 64), "/64k": lines(1024, 64)}
+MENU = [(f"/t/{number:02}", f"A text of a menu, number {number:02}") for number in range(100)]
+
+
+def put(selector, title, body):
+    return f'[[change]]\ndo = "put"\nselector = {json.dumps(selector)}\ntitle = {json.dumps(title)}\n{body}\n'
+
+
+def guest_book():
+    """A board of 100 posts and its form."""
+    return put("/book", "Book", "board = 100") + put("/sign", "Sign", 'form = {board = "/book", questions = [{ask = "Name"}]}')
+
+
+def short_text():
+    return put("/1k", "1k", f"text = {json.dumps(TEXTS['/1k'])}")
+
+
+def read_site():
+    """The texts and the menu that are asked for."""
+    texts = [put(selector, selector[1:], f"text = {json.dumps(text)}") for selector, text in TEXTS.items()]
+    entries = [put(selector, title, f'text = "{title}"') for selector, title in MENU]
+    menu = ", ".join("{local = " + json.dumps(selector) + "}" for selector, _ in MENU)
+    return "".join(texts + entries) + put("/menu", "A menu", f"menu = [{menu}]")
+
+
+def made(program, image, pages, port):
+    """A new image with an empty top menu."""
+    words = ["--host", HOST, "--port", str(port), "--admin", ADMIN, "--title", TITLE, "--now", str(int(time.time()))]
+    run(program, "format", image, "--pages", str(pages), *words)
+
+
+def applied(program, image, changes):
+    file = f"{image}.toml"
+    with open(file, "w", encoding="utf-8") as it:
+        it.write(changes)
+    run(program, "apply", image, file, "--now", str(int(time.time())))
+
+
+# ---- an image that is written whole
+
+
+def number(value, size):
+    return value.to_bytes(size, "big")
+
+
+def short(text):
+    return number(len(text), 1) + text
+
+
+@functools.lru_cache
+def words_of(text):
+    return list(dict.fromkeys(word.lower()[:32] for word in re.findall(rb"[0-9A-Za-z]+", text)))
+
+
+def index_words(title, body):
+    """The first 200 different words of an item, as its index has them."""
+    return list(dict.fromkeys(words_of(title) + words_of(body)))[:200]
+
+
+def record(letter, title, rest):
+    return letter + number(int(time.time()), 8) + short(title) + number(0, 2) + rest
+
+
+def document_pairs(selector, title, body):
+    view = short(b"Text/plain") + short(b"") + number(len(body), 4)
+    yield b"I" + selector, record(b"V", title, b"0" + number(1, 1) + view)
+    for place in range(0, len(body), CHUNK):
+        yield b"C" + short(selector) + number(0, 1) + number(place // CHUNK, 2), body[place : place + CHUNK]
+    for word in index_words(title, body):
+        yield b"W" + short(word) + selector, b""
+
+
+def prose(seed):
+    """Lines of random words, together at most as many bytes as a document has."""
+    source, vocabulary = random.Random(seed), [f"word{place}".encode() for place in range(2000)]
+    made = (b" ".join(source.choices(vocabulary, k=8)) for _ in range(BODY // 48))
+    return b"\n".join(made)[:BODY]
+
+
+def cost(pairs):
+    return sum(4 + len(key) + len(value) for key, value in pairs)
+
+
+def content(room):
+    """The pairs of an empty top menu and of as many documents as fit into so many bytes, and the count of documents."""
+    bodies = [prose(seed) for seed in range(8)]
+    pairs = [(b"I", record(b"M", TITLE.encode(), number(0, 4))), (b"W" + short(TITLE.lower().encode()), b"")]
+    documents = 0
+    while room > 2 * CHUNK:
+        body = bodies[documents % len(bodies)][: room // 2]
+        more = list(document_pairs(f"/d/{documents:05}".encode(), f"Document {documents}".encode(), body))
+        room -= cost(more)
+        pairs += more
+        documents += 1
+    return sorted(pairs), documents
+
+
+def page(place, pairs):
+    front = b"GOPHFLAT" + number(place, 4) + number(FIRST_GENERATION, 8) + number(0, 2) + number(len(pairs), 2)
+    return (front + b"".join(number(len(key), 2) + number(len(value), 2) + key + value for key, value in pairs)).ljust(PAGE, b"\0")
+
+
+def flat_pages(pairs):
+    """Pages from page 2 on: the next is begun where a pair doesn't fit."""
+    pages, held, left = [], [], PAGE - 24
+    for key, value in pairs:
+        size = 4 + len(key) + len(value)
+        if size > left:
+            pages.append(page(2 + len(pages), held))
+            held, left = [], PAGE - 24
+        held.append((key, value))
+        left -= size
+    return pages + [page(2 + len(pages), held)]
+
+
+def root_page(pages, pairs, port):
+    banner = short(HOST.encode()) + number(port, 2) + short(ADMIN.encode())
+    kept = (number(0, 2) + number(pages, 4) + number(2, 4) + number(0, 2) + number(pairs, 8) + banner).ljust(8 * ROOT_PART, b"\0")
+    parts = (kept[place : place + ROOT_PART] for place in range(0, len(kept), ROOT_PART))
+    return b"".join(b"GOPHROOT" + number(place, 8) + number(FIRST_GENERATION, 8) + part for place, part in enumerate(parts))
+
+
+def written(image, pages, port, bytes_of_pairs):
+    """Writes an image whose half in use has about so many bytes of pairs. Returns the count of its documents."""
+    pairs, documents = content(bytes_of_pairs)
+    flat = flat_pages(pairs)
+    if len(flat) > (pages - 2) // 2:
+        raise SystemExit(f"bench: {len(flat)} pages of pairs do not fit into half of {pages} pages")
+    with open(image, "wb") as it:
+        it.write(root_page(pages, len(pairs), port) + bytes(PAGE) + b"".join(flat))
+        it.truncate(pages * PAGE)
+    return documents

@@ -1,0 +1,135 @@
+"""The servers that are measured, each as a process of its own on a free port of 127.0.0.1, and what Linux says of a process."""
+import contextlib
+import os
+import shutil
+import signal
+import socket
+import subprocess
+import time
+
+HERE = os.path.dirname(os.path.realpath(__file__))
+TOP = os.path.dirname(HERE)
+ENDLESS = "4294967295"
+GREATEST = "2147483647"
+SHARED_MEMORY = "0xbeeb0008"
+
+
+def program():
+    """The program itself: the one that GOPHER_HOST names, else this clone's, which is built first."""
+    if named := os.environ.get("GOPHER_HOST"):
+        return os.path.abspath(named)
+    subprocess.run([f"{TOP}/gopher_host", "--version"], check=True, stdout=subprocess.DEVNULL)
+    return f"{TOP}/crates/gopher_host/out/gopher_host"
+
+
+def is_daily(host):
+    """Whether the program has the server for daily use."""
+    told = subprocess.run([host, "serve", "--help"], stdout=subprocess.PIPE, text=True, timeout=10, check=False).stdout
+    return "--quiet" in told
+
+
+def compiled(folder):
+    """The programs in C of this folder, by name."""
+    made = {}
+    for name in ("load", "bare", "inetd"):
+        made[name] = f"{folder}/{name}"
+        subprocess.run(["cc", "-O2", "-o", made[name], f"{HERE}/{name}.c"], check=True, timeout=60)
+    return made
+
+
+def free_port():
+    with socket.socket() as it:
+        it.bind(("127.0.0.1", 0))
+        return it.getsockname()[1]
+
+
+def asked(port, request):
+    with socket.create_connection(("127.0.0.1", port), timeout=10) as it:
+        it.sendall(request)
+        return b"".join(iter(lambda: it.recv(1 << 16), b""))
+
+
+def wait_for(server, port, patience):
+    """Waits until the server takes connections."""
+    end_of_patience = time.monotonic() + patience
+    while time.monotonic() < end_of_patience:
+        if server.poll() is not None:
+            raise SystemExit(f"bench: {server.args} ended with {server.returncode}")
+        with contextlib.suppress(OSError), socket.create_connection(("127.0.0.1", port), timeout=10):
+            return
+        time.sleep(0.001)
+    raise TimeoutError(f"{server.args} takes no connections")
+
+
+def end(server):
+    """Ends a server with the processes that it started."""
+    if server.poll() is not None:
+        return
+    os.killpg(server.pid, signal.SIGTERM)
+    try:
+        server.wait(timeout=5)
+    except subprocess.TimeoutExpired:
+        os.killpg(server.pid, signal.SIGKILL)
+        server.wait()
+
+
+@contextlib.contextmanager
+def running(words, port, patience=60):
+    """A server that takes connections, until the block ends."""
+    server = subprocess.Popen(words, stdin=subprocess.DEVNULL, stdout=subprocess.DEVNULL, start_new_session=True)
+    try:
+        wait_for(server, port, patience)
+        yield server
+    finally:
+        end(server)
+
+
+def serve_words(host, image, together, daily):
+    """The words that serve an image at the site's port."""
+    return [host, "serve", image, "--quiet"] if daily else [host, "serve", image, "--together", str(together), "--rounds", ENDLESS]
+
+
+def bare_words(bare, port, replies):
+    """The words of a bare socket server, where `replies` are files by selector."""
+    return [bare, str(port), *(word for pair in replies.items() for word in pair)]
+
+
+def gophernicus():
+    """The program of Debian's gophernicus, or nothing."""
+    return shutil.which("gophernicus", path="/usr/sbin:/usr/bin:" + os.environ.get("PATH", ""))
+
+
+def gophernicus_words(inetd, port, root):
+    """gophernicus as inetd runs it. Its log is off, header and footer of menus are, and it holds back no client that asks often."""
+    options = ["-h", "localhost", "-p", str(port), "-r", root, "-ns", "-nh", "-nf", "-nr", "-i", GREATEST, "-k", GREATEST]
+    return [inetd, str(port), gophernicus(), *options]
+
+
+def has_shared_memory():
+    told = subprocess.run(["ipcs", "-m"], stdout=subprocess.PIPE, text=True, timeout=10, check=False).stdout
+    return SHARED_MEMORY in told
+
+
+@contextlib.contextmanager
+def own_shared_memory():
+    """The processes of gophernicus share a piece of memory, which stays behind. It is removed where it was not there before."""
+    was_there = has_shared_memory()
+    try:
+        yield
+    finally:
+        time.sleep(0.5)
+        if not was_there and has_shared_memory():
+            subprocess.run(["ipcrm", "-M", SHARED_MEMORY], timeout=10, check=False)
+
+
+def processor_seconds(pid):
+    """How long a process has used a processor, in its own code and in the system's."""
+    with open(f"/proc/{pid}/stat", encoding="ascii") as it:
+        fields = it.read().rpartition(")")[2].split()
+    return (int(fields[11]) + int(fields[12])) / os.sysconf("SC_CLK_TCK")
+
+
+def peak_memory(pid):
+    """The most memory that a process has had resident, in KiB."""
+    with open(f"/proc/{pid}/status", encoding="ascii") as it:
+        return next(int(line.split()[1]) for line in it if line.startswith("VmHWM:"))
