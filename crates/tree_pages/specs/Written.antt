@@ -1,0 +1,51 @@
+-- The owned nodes of a tree as new pages: each has a number of its own, and a branch names its children's.
+use Rattle.std.specs.Prelude.{◌≡◌, ℕ, zero, suc, ◌≤◌, ◌<◌, List, [], ◌∷◌, ◌++◌}
+use Rattle.page_store.specs.declared.commit.NewPage.{NewPage}
+use Rattle.tree_nodes.specs.Tree.{Tree, Others, page, leaf, branch, none, other}
+use Rattle.tree_nodes.specs.PageBytes.{page_of_tree}
+
+-- a tree, written as a page
+abbrev pub page_for : ℕ → ℕ → ℕ → Tree → NewPage
+page_for n generation level tree = record { number = n; bytes = page_of_tree n generation level tree }
+
+-- A tree of a level stands at a page of this number once these pages are written: at the page that it is, or at a new one, behind those of the nodes under it.
+abbrev mutual
+  pub IsWritten : ℕ → ℕ → Tree → ℕ → List NewPage → Type 0
+  IsWritten generation level (page m) n pages = (n ≡ m) × (pages ≡ [])
+  IsWritten generation level (leaf pairs) n pages = pages ≡ page_for n generation level (leaf pairs) ∷ []
+  IsWritten generation zero (branch first others) n pages = ⊥
+  IsWritten generation (suc level) (branch first others) n pages =
+      (child : ℕ) × (under : List NewPage) × (named : Others) × (rest : List NewPage) × IsWritten generation level first child under × AreWritten generation level others named rest
+      × (pages ≡ (under ++ rest) ++ page_for n generation (suc level) (branch (page child) named) ∷ [])
+
+  -- the children after the first, and the same children by the numbers at which they stand
+  pub AreWritten : ℕ → ℕ → Others → Others → List NewPage → Type 0
+  AreWritten generation level none named pages = (named ≡ none) × (pages ≡ [])
+  AreWritten generation level (other key tree others) named pages =
+      (child : ℕ) × (here : List NewPage) × (more : Others) × (rest : List NewPage) × IsWritten generation level tree child here × AreWritten generation level others more rest
+      × (named ≡ other key (page child) more) × (pages ≡ here ++ rest)
+
+-- these pages have these bytes
+abbrev pub ArePut : (ℕ → List ℕ) → List NewPage → Type 0
+ArePut bytes [] = Unit {0}
+ArePut bytes (new ∷ pages) = (bytes new.number ≡ new.bytes) × ArePut bytes pages
+
+-- a page of an image of so many that is no root slot
+abbrev pub IsTreePage : ℕ → ℕ → Type 0
+IsTreePage pages n = (2 ≤ n) × (n < pages)
+
+abbrev pub AreTreePages : ℕ → List NewPage → Type 0
+AreTreePages count [] = Unit {0}
+AreTreePages count (new ∷ pages) = IsTreePage count new.number × AreTreePages count pages
+
+-- it holds of each page that a tree of a level names, at its own level
+abbrev mutual
+  pub AllNamed : (ℕ → ℕ → Type 0) → ℕ → Tree → Type 0
+  AllNamed P level (page n) = P level n
+  AllNamed P level (leaf pairs) = Unit {0}
+  AllNamed P zero (branch tree others) = Unit {0}
+  AllNamed P (suc level) (branch tree others) = AllNamed P level tree × AllNamedBy P level others
+
+  pub AllNamedBy : (ℕ → ℕ → Type 0) → ℕ → Others → Type 0
+  AllNamedBy P level none = Unit {0}
+  AllNamedBy P level (other key tree others) = AllNamed P level tree × AllNamedBy P level others

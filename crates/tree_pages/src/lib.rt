@@ -1,0 +1,6 @@
+//! The pages that a commit writes for the owned nodes of a tree.
+#![tactic(auto)]
+
+mod laws;
+
+pub use laws::a_written_tree_is_found;
