@@ -1,8 +1,9 @@
 -- The owned nodes of a tree as new pages: each has a number of its own, and a branch names its children's.
-use Rattle.std.specs.Prelude.{◌≡◌, ℕ, zero, suc, ◌≤◌, ◌<◌, List, [], ◌∷◌, ◌++◌}
+use Rattle.std.specs.Prelude.{◌≡◌, ℕ, zero, suc, ◌+◌, ◌≤◌, ◌<◌, List, [], ◌∷◌, ◌++◌, length, take, drop}
+use Rattle.page_store.specs.Commit.{numbers}
 use Rattle.page_store.specs.declared.commit.NewPage.{NewPage}
-use Rattle.tree_nodes.specs.Tree.{Tree, Others, page, leaf, branch, none, other}
-use Rattle.tree_nodes.specs.PageBytes.{page_of_tree}
+use Rattle.tree_nodes.specs.Tree.{Tree, Others, page, leaf, branch, none, other, other_bytes, entry_room}
+use Rattle.tree_nodes.specs.PageBytes.{page_of_tree, IsWritable}
 
 -- a tree, written as a page
 abbrev pub page_for : ℕ → ℕ → ℕ → Tree → NewPage
@@ -49,3 +50,38 @@ abbrev mutual
   pub AllNamedBy : (ℕ → ℕ → Type 0) → ℕ → Others → Type 0
   AllNamedBy P level none = Unit {0}
   AllNamedBy P level (other key tree others) = AllNamed P level tree × AllNamedBy P level others
+
+-- how many nodes of a tree are owned
+abbrev mutual
+  pub owned_nodes : Tree → ℕ
+  owned_nodes (page n) = 0
+  owned_nodes (leaf pairs) = 1
+  owned_nodes (branch tree others) = owned_nodes tree + row_owned_nodes others + 1
+
+  pub row_owned_nodes : Others → ℕ
+  row_owned_nodes none = 0
+  row_owned_nodes (other key tree others) = owned_nodes tree + row_owned_nodes others
+
+-- each owned node fits its page, and no branch stands at level 0
+abbrev mutual
+  pub AllFit : ℕ → Tree → Type 0
+  AllFit level (page n) = Unit {0}
+  AllFit level (leaf pairs) = IsWritable (leaf pairs)
+  AllFit zero (branch tree others) = ⊥
+  AllFit (suc level) (branch tree others) = AllFit level tree × RowFits level others × (6 + other_bytes others ≤ entry_room)
+
+  pub RowFits : ℕ → Others → Type 0
+  RowFits level none = Unit {0}
+  RowFits level (other key tree others) = AllFit level tree × RowFits level others
+
+-- Pages were added behind others, under the next numbers of a list that has one for each.
+pub record Adds (given : List ℕ) (old new more : List NewPage) : Type 0 where
+  pub pages : new ≡ old ++ more
+  pub numbered : numbers more ≡ take (length more) (drop (length old) given)
+
+-- The owned nodes of a tree were added as pages, and it stands at this number.
+abbrev pub AddsTree : List ℕ → ℕ → ℕ → List NewPage → List NewPage → Tree → ℕ → Type 0
+AddsTree given generation level old new tree n = (more : List NewPage) × Adds given old new more × IsWritten generation level tree n more
+
+abbrev pub AddsRow : List ℕ → ℕ → ℕ → List NewPage → List NewPage → Others → Others → Type 0
+AddsRow given generation level old new others named = (more : List NewPage) × Adds given old new more × AreWritten generation level others named more

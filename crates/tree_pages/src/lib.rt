@@ -2,5 +2,7 @@
 #![tactic(auto)]
 
 mod laws;
+mod writing;
 
 pub use laws::a_written_tree_is_found;
+pub use writing::write_node;
