@@ -191,7 +191,7 @@ branch_level place low high bytes children e =
     let f = bind_some (entries_of child_at place bytes) (λ cs. where_true (are_branch place.pages low high cs) (Some cs)) children e in
     entries_level child_at place bytes f.0 f.1
 
-walk_level : (a : ℕ → List ℕ) (bounds : Bounds) (level page : ℕ) (low : List ℕ) (high : Option (List ℕ)) (found : Found) → walk a bounds level page low high ≡ Some found → head_level (head_at page_word (a page)) ≡ level
+pub walk_level : (a : ℕ → List ℕ) (bounds : Bounds) (level page : ℕ) (low : List ℕ) (high : Option (List ℕ)) (found : Found) → walk a bounds level page low high ≡ Some found → head_level (head_at page_word (a page)) ≡ level
 walk_level a bounds zero page low high found e =
     let f = bind_some (leaf_of (place_in bounds 0 page) low high (a page)) (λ pairs. Some (record { pages = page ∷ []; pairs = pairs })) found e in
     leaf_level (place_in bounds 0 page) low high (a page) f.0 f.1

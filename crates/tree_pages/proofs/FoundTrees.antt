@@ -1,5 +1,5 @@
 -- A walk finds a tree of which the owned nodes are written as pages.
-use Rattle.std.proofs.Common.{◌≡◌, ℕ, zero, suc, ◌+◌, ◌≤◌, ◌<◌, ◌^◌, Bool, true, false, List, [], ◌∷◌, ◌++◌, length, Option, Some, None, is_some, refl, sym, ap, subst, ◌∙◌, arith}
+use Rattle.std.proofs.Common.{◌≡◌, ℕ, zero, suc, ◌+◌, ◌≤◌, ◌<◌, ◌^◌, Bool, true, false, List, [], ◌∷◌, ◌++◌, length, Option, Some, None, is_some, refl, sym, ap, subst, ◌∙◌, arith, append_assoc}
 use Rattle.std.specs.Prelude.{◌&&◌, ◌==◌, nat_le, nat_lt, if◌then◌else◌, IsTrue}
 use Rattle.std.specs.List.{list_all}
 use Rattle.std.proofs.lemmas.Bool.{le-leb, lt-ltb}
@@ -13,15 +13,15 @@ use Rattle.page_store.specs.declared.commit.NewPage.{NewPage}
 use Rattle.page_store.proofs.Fields.{bind_again}
 use Rattle.page_store.proofs.ReachedPages.{walk-local}
 use Rattle.page_store.proofs.Seals.{walk_later}
-use Rattle.tree_nodes.specs.Tree.{Tree, Others, page, leaf, branch, none, other, pairs_of, row_pairs, other_bytes, entry_room}
+use Rattle.tree_nodes.specs.Tree.{Tree, Others, page, leaf, branch, none, other, pairs_of, row_pairs, pages_of, row_pages, other_bytes, entry_room}
 use Rattle.tree_nodes.specs.Valid.{IsValid, IsValidRow, IsValidLeaf, others_high}
 use Rattle.tree_nodes.specs.Image.{old_of}
 use Rattle.tree_nodes.specs.PageBytes.{leaf_page, branch_page, branch_entries, other_entries}
 use Rattle.page_store.specs.Keys.{precedes, is_below}
-use Rattle.tree_nodes.proofs.WalksWithinBounds.{is_found, old_pairs, walk_wider, not_below_nothing}
+use Rattle.tree_nodes.proofs.WalksWithinBounds.{is_found, old_pairs, walk_level, walk_wider, not_below_nothing}
 use Rattle.tree_nodes.proofs.EncodedPages.{leaf_again, valid_branch_again}
-use Rattle.tree_pages.specs.Written.{IsWritten, AreWritten, ArePut, AreTreePages, IsTreePage, AllNamed, AllNamedBy, page_for}
-use Rattle.tree_pages.specs.Reached.{times, found_pages, pages_under, reached, row_reached, until, IsLater, IsKept, FindsTree}
+use Rattle.tree_pages.specs.Written.{IsWritten, AreWritten, ArePut, AreTreePages, IsTreePage, page_for}
+use Rattle.tree_pages.specs.Reached.{times, found_pages, pages_under, all_under, reached, until, IsLater, IsKept, AreKept, FindsTree}
 use Rattle.tree_pages.proofs.Counted.{times_joined, numbers_joined}
 
 put_left : (now : ℕ → List ℕ) (xs ys : List NewPage) → ArePut now (xs ++ ys) → ArePut now xs
@@ -39,6 +39,18 @@ inside_left count (x ∷ xs) ys h = (h.0, inside_left count xs ys h.1)
 inside_right : (count : ℕ) (xs ys : List NewPage) → AreTreePages count (xs ++ ys) → AreTreePages count ys
 inside_right count [] ys h = h
 inside_right count (x ∷ xs) ys h = inside_right count xs ys h.1
+
+kept_left : (old now : ℕ → List ℕ) (bounds : Bounds) (xs ys : List ℕ) → AreKept old now bounds (xs ++ ys) → AreKept old now bounds xs
+kept_left old now bounds [] ys h = tt
+kept_left old now bounds (x ∷ xs) ys h = (h.0, kept_left old now bounds xs ys h.1)
+
+kept_right : (old now : ℕ → List ℕ) (bounds : Bounds) (xs ys : List ℕ) → AreKept old now bounds (xs ++ ys) → AreKept old now bounds ys
+kept_right old now bounds [] ys h = h
+kept_right old now bounds (x ∷ xs) ys h = kept_right old now bounds xs ys h.1
+
+under_joined : (bytes : ℕ → List ℕ) (bounds : Bounds) (xs ys : List ℕ) → all_under bytes bounds (xs ++ ys) ≡ all_under bytes bounds xs ++ all_under bytes bounds ys
+under_joined bytes bounds [] ys = refl
+under_joined bytes bounds (x ∷ xs) ys = ap (λ (l : List ℕ). pages_under bytes bounds x ++ l) (under_joined bytes bounds xs ys) ∙ sym (append_assoc (pages_under bytes bounds x) (all_under bytes bounds xs) (all_under bytes bounds ys))
 
 low_is : (low key : List ℕ) → is_key key ≡ true → low_of low key ≡ key
 low_is low [] h = absurd (cc h)
@@ -60,17 +72,17 @@ pub record FindsRow (old now : ℕ → List ℕ) (bounds : Bounds) (generation l
   pub found : Found
   pub walked : (from : List ℕ) → fan (walk now (until bounds generation) level) from high (other_entries named) ≡ Some found
   pub pairs : found.pairs ≡ row_pairs (old_of old bounds) others
-  pub reaches : (m : ℕ) → times m found.pages ≡ times m (numbers pages) + times m (row_reached old bounds level others)
+  pub reaches : (m : ℕ) → times m found.pages ≡ times m (numbers pages) + times m (all_under old bounds (row_pages others))
   pub valid : IsValidRow (old_of now (until bounds generation)) level named low high
   pub bytes : other_bytes named ≡ other_bytes others
   pub same_high : others_high named high ≡ others_high others high
   pub inside : list_all (is_inside bounds.pages) (other_entries named) ≡ true
 
-under_is : (bytes : ℕ → List ℕ) (bounds : Bounds) (level n : ℕ) (low : List ℕ) (high : Option (List ℕ)) (found : Found) → walk bytes bounds level n low high ≡ Some found → pages_under bytes bounds level n ≡ found.pages
-under_is bytes bounds level n low high found e = ap found_pages (walk_wider bytes bounds level n low [] high None found (not_below_nothing low) (λ key h. refl) e)
+under_is : (bytes : ℕ → List ℕ) (bounds : Bounds) (level n : ℕ) (low : List ℕ) (high : Option (List ℕ)) (found : Found) → walk bytes bounds level n low high ≡ Some found → pages_under bytes bounds n ≡ found.pages
+under_is bytes bounds level n low high found e = ap (λ (l : ℕ). found_pages (walk bytes bounds l n [] None)) (walk_level bytes bounds level n low high found e) ∙ ap found_pages (walk_wider bytes bounds level n low [] high None found (not_below_nothing low) (λ key h. refl) e)
 
 module _ (old now : ℕ → List ℕ) (bounds : Bounds) (generation : ℕ) (later : IsLater bounds generation) where
-  named_page : (level m : ℕ) (low : List ℕ) (high : Option (List ℕ)) → is_some (walk old bounds level m low high) ≡ true → IsKept old now bounds level m → Finds old now bounds generation level (page m) low high m []
+  named_page : (level m : ℕ) (low : List ℕ) (high : Option (List ℕ)) → is_some (walk old bounds level m low high) ≡ true → IsKept old now bounds m → Finds old now bounds generation level (page m) low high m []
   named_page level m low high stands kept =
       let f = is_found (walk old bounds level m low high) stands in
       let under = under_is old bounds level m low high f.0 f.1 in (
@@ -78,7 +90,7 @@ module _ (old now : ℕ → List ℕ) (bounds : Bounds) (generation : ℕ) (late
           found = f.0;
           walked = walk_later now bounds generation level m low high f.0 later.later (walk-local old now bounds level m low high f.0 f.1 (subst (λ (l : List ℕ). Agree l old now) under kept.1));
           pairs = sym (old_pairs old bounds level m low high f.0 f.1);
-          reaches = λ k. let same = ap (times k) under in omega (arith, same);
+          reaches = λ k. let same = ap (times k) under in let all = times_joined k (pages_under old bounds m) [] in omega (arith, same, all);
         },
         kept.0,
       )
@@ -131,11 +143,12 @@ module _ (old now : ℕ → List ℕ) (bounds : Bounds) (generation : ℕ) (late
         reaches = λ m.
             let a = times_joined m f.found.pages row.found.pages in
             let b = times_joined m (numbers here) (numbers rest) in
-            let c = times_joined m (reached old bounds level tree) (row_reached old bounds level others) in
+            let c = times_joined m (reached old bounds tree) (all_under old bounds (row_pages others)) in
+            let k = ap (times m) (under_joined old bounds (pages_of tree) (row_pages others)) in
             let d = ap (times m) (numbers_joined here rest) in
             let x = f.reaches m in
             let y = row.reaches m in
-            omega (arith, a, b, c, d, x, y);
+            omega (arith, a, b, c, d, k, x, y);
         valid = (above, below, is, ap (λ (h : Option (List ℕ)). is_some (walk now (until bounds generation) level child key h)) row.same_high ∙ stands_at level child key (others_high others high) f.found f.walked, row.valid);
         bytes = let more = row.bytes in omega (arith, more);
         same_high = refl;
@@ -171,24 +184,25 @@ module _ (old now : ℕ → List ℕ) (bounds : Bounds) (generation : ℕ) (late
           reaches = λ m.
               let a = times_joined m f.found.pages row.found.pages in
               let b = times_joined m (numbers under) (numbers rest) in
-              let c = times_joined m (reached old bounds level first) (row_reached old bounds level others) in
+              let c = times_joined m (reached old bounds first) (all_under old bounds (row_pages others)) in
+              let k = ap (times m) (under_joined old bounds (pages_of first) (row_pages others)) in
               let d = ap (times m) (numbers_joined under rest) in
               let e = ap (times m) (numbers_joined (under ++ rest) (page_for n generation (suc level) (branch (page child) named) ∷ [])) in
               let g = times_joined m (numbers (under ++ rest)) (n ∷ []) in
               let x = f.reaches m in
               let y = row.reaches m in
-              omega (arith, a, b, c, d, e, g, x, y);
+              omega (arith, a, b, c, d, e, g, k, x, y);
         },
         inside,
       )
 
 mutual
   pub finds : (tree : Tree) (old now : ℕ → List ℕ) (bounds : Bounds) (generation level : ℕ) (low : List ℕ) (high : Option (List ℕ)) (n : ℕ) (pages : List NewPage) → IsLater bounds generation → level < 2 ^ 16
-      → IsValid (old_of old bounds) level tree low high → IsWritten generation level tree n pages → ArePut now pages → AreTreePages bounds.pages pages → AllNamed (IsKept old now bounds) level tree
+      → IsValid (old_of old bounds) level tree low high → IsWritten generation level tree n pages → ArePut now pages → AreTreePages bounds.pages pages → AreKept old now bounds (pages_of tree)
       → Finds old now bounds generation level tree low high n pages
   finds (page m) old now bounds generation level low high n pages later small valid written put inside kept =
       subst (λ (ps : List NewPage). Finds old now bounds generation level (page m) low high n ps) (sym written.1)
-      (subst (λ (k : ℕ). Finds old now bounds generation level (page m) low high k []) (sym written.0) (named_page old now bounds generation later level m low high valid kept))
+      (subst (λ (k : ℕ). Finds old now bounds generation level (page m) low high k []) (sym written.0) (named_page old now bounds generation later level m low high valid kept.0))
   finds (leaf pairs) old now bounds generation zero low high n pages later small valid written put inside kept =
       let here = subst (λ (ps : List NewPage). ArePut now ps) written put in
       let at = subst (λ (ps : List NewPage). AreTreePages bounds.pages ps) written inside in
@@ -203,13 +217,13 @@ mutual
       let at_under = inside_left bounds.pages (under ++ rest) (last ∷ []) ats in
       let put_last = put_right now (under ++ rest) (last ∷ []) puts in
       let at_last = inside_right bounds.pages (under ++ rest) (last ∷ []) ats in
-      let here = finds first old now bounds generation level low (others_high others high) child under later (omega (arith, small)) valid.0 first_written (put_left now under rest put_under) (inside_left bounds.pages under rest at_under) kept.0 in
-      let row = finds_row others old now bounds generation level low high named rest later (omega (arith, small)) valid.1 row_written (put_right now under rest put_under) (inside_right bounds.pages under rest at_under) kept.1 in
+      let here = finds first old now bounds generation level low (others_high others high) child under later (omega (arith, small)) valid.0 first_written (put_left now under rest put_under) (inside_left bounds.pages under rest at_under) (kept_left old now bounds (pages_of first) (row_pages others) kept) in
+      let row = finds_row others old now bounds generation level low high named rest later (omega (arith, small)) valid.1 row_written (put_right now under rest put_under) (inside_right bounds.pages under rest at_under) (kept_right old now bounds (pages_of first) (row_pages others) kept) in
       subst (λ (ps : List NewPage). Finds old now bounds generation (suc level) (branch first others) low high n ps) (sym all)
       (new_branch old now bounds generation later level first others named low high n child under rest small valid.2 here row put_last.0 at_last.0)
 
   finds_row : (others : Others) (old now : ℕ → List ℕ) (bounds : Bounds) (generation level : ℕ) (low : List ℕ) (high : Option (List ℕ)) (named : Others) (pages : List NewPage) → IsLater bounds generation → level < 2 ^ 16
-      → IsValidRow (old_of old bounds) level others low high → AreWritten generation level others named pages → ArePut now pages → AreTreePages bounds.pages pages → AllNamedBy (IsKept old now bounds) level others
+      → IsValidRow (old_of old bounds) level others low high → AreWritten generation level others named pages → ArePut now pages → AreTreePages bounds.pages pages → AreKept old now bounds (row_pages others)
       → FindsRow old now bounds generation level others named low high pages
   finds_row none old now bounds generation level low high named pages later small valid written put inside kept =
       subst (λ (ps : List NewPage). FindsRow old now bounds generation level none named low high ps) (sym written.1)
@@ -217,13 +231,13 @@ mutual
   finds_row (other key tree others) old now bounds generation level low high named pages later small valid (child, here, more, rest, tree_written, row_written, names, all) put inside kept =
       let puts = subst (λ (ps : List NewPage). ArePut now ps) all put in
       let ats = subst (λ (ps : List NewPage). AreTreePages bounds.pages ps) all inside in
-      let first = finds tree old now bounds generation level key (others_high others high) child here later small valid.3 tree_written (put_left now here rest puts) (inside_left bounds.pages here rest ats) kept.0 in
-      let row = finds_row others old now bounds generation level key high more rest later small valid.4 row_written (put_right now here rest puts) (inside_right bounds.pages here rest ats) kept.1 in
+      let first = finds tree old now bounds generation level key (others_high others high) child here later small valid.3 tree_written (put_left now here rest puts) (inside_left bounds.pages here rest ats) (kept_left old now bounds (pages_of tree) (row_pages others) kept) in
+      let row = finds_row others old now bounds generation level key high more rest later small valid.4 row_written (put_right now here rest puts) (inside_right bounds.pages here rest ats) (kept_right old now bounds (pages_of tree) (row_pages others) kept) in
       subst (λ (ps : List NewPage). FindsRow old now bounds generation level (other key tree others) named low high ps) (sym all)
       (subst (λ (os : Others). FindsRow old now bounds generation level (other key tree others) os low high (here ++ rest)) (sym names)
       (one_more old now bounds generation later level key tree others more low high child here rest valid.0 valid.1 valid.2 first row))
 
 pub found_tree : (tree : Tree) (old now : ℕ → List ℕ) (bounds : Bounds) (generation level : ℕ) (low : List ℕ) (high : Option (List ℕ)) (n : ℕ) (pages : List NewPage) → IsLater bounds generation → level < 2 ^ 16
-    → IsValid (old_of old bounds) level tree low high → IsWritten generation level tree n pages → ArePut now pages → AreTreePages bounds.pages pages → AllNamed (IsKept old now bounds) level tree
+    → IsValid (old_of old bounds) level tree low high → IsWritten generation level tree n pages → ArePut now pages → AreTreePages bounds.pages pages → AreKept old now bounds (pages_of tree)
     → FindsTree old now bounds generation level tree low high n pages
 found_tree tree old now bounds generation level low high n pages later small valid written put inside kept = (finds tree old now bounds generation level low high n pages later small valid written put inside kept).0

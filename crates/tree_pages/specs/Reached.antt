@@ -1,11 +1,12 @@
 -- Which pages a walk reaches.
-use Rattle.std.specs.Prelude.{◌≡◌, ℕ, zero, suc, ◌+◌, ◌<◌, ◌≤◌, ◌^◌, List, [], ◌∷◌, ◌++◌, Option, Some, None, ◌==◌, if◌then◌else◌}
+use Rattle.std.specs.Prelude.{◌≡◌, ℕ, ◌+◌, ◌<◌, ◌≤◌, ◌^◌, List, [], ◌∷◌, ◌++◌, Option, Some, None, ◌==◌, if◌then◌else◌}
 use Rattle.page_store.specs.Content.{Found, Bounds, walk}
 use Rattle.page_store.specs.Same.{Agree}
 use Rattle.page_store.specs.Commit.{numbers}
 use Rattle.page_store.specs.declared.commit.NewPage.{NewPage}
-use Rattle.tree_nodes.specs.Tree.{Tree, Others, page, leaf, branch, none, other, pairs_of}
-use Rattle.tree_nodes.specs.Image.{old_of}
+use Rattle.page_store.specs.Pages.{head_at, page_word}
+use Rattle.tree_nodes.specs.Tree.{Tree, pairs_of, pages_of}
+use Rattle.tree_nodes.specs.Image.{head_level, old_of}
 use Rattle.tree_pages.specs.Written.{IsTreePage}
 
 -- how often a number stands in a list
@@ -17,21 +18,18 @@ abbrev pub found_pages : Option Found → List ℕ
 found_pages None = []
 found_pages (Some found) = found.pages
 
--- the pages at and under a page of a level
-abbrev pub pages_under : (ℕ → List ℕ) → Bounds → ℕ → ℕ → List ℕ
-pages_under bytes bounds level n = found_pages (walk bytes bounds level n [] None)
+-- the pages at and under a page of an image, which says its level
+abbrev pub pages_under : (ℕ → List ℕ) → Bounds → ℕ → List ℕ
+pages_under bytes bounds n = found_pages (walk bytes bounds (head_level (head_at page_word (bytes n))) n [] None)
 
--- the pages of an image that a tree of a level reaches by the pages that it names
-abbrev mutual
-  pub reached : (ℕ → List ℕ) → Bounds → ℕ → Tree → List ℕ
-  reached bytes bounds level (page n) = pages_under bytes bounds level n
-  reached bytes bounds level (leaf pairs) = []
-  reached bytes bounds zero (branch tree others) = []
-  reached bytes bounds (suc level) (branch tree others) = reached bytes bounds level tree ++ row_reached bytes bounds level others
+-- the pages at and under each of these
+abbrev pub all_under : (ℕ → List ℕ) → Bounds → List ℕ → List ℕ
+all_under bytes bounds [] = []
+all_under bytes bounds (n ∷ ns) = pages_under bytes bounds n ++ all_under bytes bounds ns
 
-  pub row_reached : (ℕ → List ℕ) → Bounds → ℕ → Others → List ℕ
-  row_reached bytes bounds level none = []
-  row_reached bytes bounds level (other key tree others) = reached bytes bounds level tree ++ row_reached bytes bounds level others
+-- the pages of an image that a tree reaches by the pages that it names
+abbrev pub reached : (ℕ → List ℕ) → Bounds → Tree → List ℕ
+reached bytes bounds tree = all_under bytes bounds (pages_of tree)
 
 -- bounds for pages of a later generation
 abbrev pub until : Bounds → ℕ → Bounds
@@ -45,12 +43,16 @@ pub record IsLater (bounds : Bounds) (generation : ℕ) : Type 0 where
   pub last : generation < 2 ^ 64
 
 -- a page of the image that is there still, with all that is under it
-abbrev pub IsKept : (ℕ → List ℕ) → (ℕ → List ℕ) → Bounds → ℕ → ℕ → Type 0
-IsKept old now bounds level n = IsTreePage bounds.pages n × Agree (pages_under old bounds level n) old now
+abbrev pub IsKept : (ℕ → List ℕ) → (ℕ → List ℕ) → Bounds → ℕ → Type 0
+IsKept old now bounds n = IsTreePage bounds.pages n × Agree (pages_under old bounds n) old now
+
+abbrev pub AreKept : (ℕ → List ℕ) → (ℕ → List ℕ) → Bounds → List ℕ → Type 0
+AreKept old now bounds [] = Unit {0}
+AreKept old now bounds (n ∷ ns) = IsKept old now bounds n × AreKept old now bounds ns
 
 -- A walk from a page finds the pairs of a tree, and reaches the new pages and those that the tree reaches, each as often as they have it.
 pub record FindsTree (old now : ℕ → List ℕ) (bounds : Bounds) (generation level : ℕ) (tree : Tree) (low : List ℕ) (high : Option (List ℕ)) (n : ℕ) (pages : List NewPage) : Type 0 where
   pub found : Found
   pub walked : walk now (until bounds generation) level n low high ≡ Some found
   pub pairs : found.pairs ≡ pairs_of (old_of old bounds) tree
-  pub reaches : (m : ℕ) → times m found.pages ≡ times m (numbers pages) + times m (reached old bounds level tree)
+  pub reaches : (m : ℕ) → times m found.pages ≡ times m (numbers pages) + times m (reached old bounds tree)

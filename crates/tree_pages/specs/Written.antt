@@ -39,18 +39,6 @@ abbrev pub AreTreePages : ℕ → List NewPage → Type 0
 AreTreePages count [] = Unit {0}
 AreTreePages count (new ∷ pages) = IsTreePage count new.number × AreTreePages count pages
 
--- it holds of each page that a tree of a level names, at its own level
-abbrev mutual
-  pub AllNamed : (ℕ → ℕ → Type 0) → ℕ → Tree → Type 0
-  AllNamed P level (page n) = P level n
-  AllNamed P level (leaf pairs) = Unit {0}
-  AllNamed P zero (branch tree others) = Unit {0}
-  AllNamed P (suc level) (branch tree others) = AllNamed P level tree × AllNamedBy P level others
-
-  pub AllNamedBy : (ℕ → ℕ → Type 0) → ℕ → Others → Type 0
-  AllNamedBy P level none = Unit {0}
-  AllNamedBy P level (other key tree others) = AllNamed P level tree × AllNamedBy P level others
-
 -- how many nodes of a tree are owned
 abbrev mutual
   pub owned_nodes : Tree → ℕ
