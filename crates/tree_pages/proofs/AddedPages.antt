@@ -1,17 +1,16 @@
 -- Pages that are added one after another.
-use Rattle.std.proofs.Common.{◌≡◌, ℕ, zero, suc, ◌+◌, ◌-◌, ◌≤◌, ◌<◌, List, [], ◌∷◌, ◌++◌, length, take, drop, get_or, refl, sym, ap, subst, ◌∙◌, arith, append_assoc, length-append}
-use Rattle.std.proofs.lemmas.List.{drop-drop, take_more, append-nil, take-append-drop}
+use Rattle.std.proofs.Common.{◌≡◌, ℕ, zero, suc, ◌+◌, ◌≤◌, ◌<◌, List, [], ◌∷◌, ◌++◌, length, take, drop, get_or, refl, sym, ap, subst, ◌∙◌, arith, append_assoc, length-append}
+use Rattle.std.proofs.lemmas.List.{drop-drop, append-nil}
 use Rattle.std.proofs.Math.Seq.{take-add}
 use Rattle.std.specs.Prelude.{Result, Ok, Err, IfOk}
 use Rattle.page_store.specs.Commit.{numbers}
 use Rattle.page_store.specs.declared.commit.NewPage.{NewPage}
 use Rattle.tree_nodes.specs.Tree.{Tree, Others, page, leaf, branch, none, other, other_bytes, entry_room}
-use Rattle.tree_nodes.specs.PageBytes.{IsWritable}
 use Rattle.tree_nodes.specs.NodeView.{tree_of, others_view}
 use Rattle.tree_nodes.specs.declared.node.Node.{Node, Page}
 use Rattle.tree_nodes.proofs.NodesAsTrees.{Children}
 use Rattle.tree_nodes.proofs.NodesRead.{tree_page}
-use Rattle.tree_pages.specs.Written.{IsWritten, AreWritten, page_for, AllFit, RowFits, Adds, AddsTree, AddsRow, owned_nodes, row_owned_nodes}
+use Rattle.tree_pages.specs.Written.{IsWritten, AreWritten, page_for, AllFit, RowFits, Adds, owned_nodes, row_owned_nodes}
 use Rattle.tree_pages.proofs.Counted.{numbers_joined}
 
 -- ---- how many pages

@@ -1,12 +1,12 @@
 -- A walk finds a tree of which the owned nodes are written as pages.
-use Rattle.std.proofs.Common.{◌≡◌, ℕ, zero, suc, ◌+◌, ◌≤◌, ◌<◌, ◌^◌, Bool, true, false, List, [], ◌∷◌, ◌++◌, length, Option, Some, None, is_some, refl, sym, ap, subst, ◌∙◌, arith, append_assoc}
-use Rattle.std.specs.Prelude.{◌&&◌, ◌==◌, nat_le, nat_lt, if◌then◌else◌, IsTrue}
+use Rattle.std.proofs.Common.{◌≡◌, ℕ, zero, suc, ◌+◌, ◌≤◌, ◌<◌, ◌^◌, true, List, [], ◌∷◌, ◌++◌, Option, Some, None, is_some, refl, sym, ap, subst, ◌∙◌, arith, append_assoc}
+use Rattle.std.specs.Prelude.{◌&&◌, nat_le, nat_lt}
 use Rattle.std.specs.List.{list_all}
 use Rattle.std.proofs.lemmas.Bool.{le-leb, lt-ltb}
 use Rattle.page_store.specs.Reading.{◌>>=◌}
-use Rattle.page_store.specs.Pages.{Pair, Child, leaf_of, branch_of, is_inside}
+use Rattle.page_store.specs.Pages.{Pair, leaf_of, branch_of, is_inside}
 use Rattle.page_store.specs.Batch.{is_key}
-use Rattle.page_store.specs.Content.{Found, Bounds, place_in, joined, low_of, high_of, fan, walk, is_among}
+use Rattle.page_store.specs.Content.{Found, Bounds, place_in, joined, low_of, high_of, fan, walk}
 use Rattle.page_store.specs.Commit.{numbers}
 use Rattle.page_store.specs.Same.{Agree}
 use Rattle.page_store.specs.declared.commit.NewPage.{NewPage}

@@ -1,3 +1,4 @@
 pub mod Counted
 pub mod FoundTrees
 pub mod AddedPages
+pub mod RootsWritten

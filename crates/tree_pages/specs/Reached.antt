@@ -1,6 +1,7 @@
 -- Which pages a walk reaches.
 use Rattle.std.specs.Prelude.{◌≡◌, ℕ, ◌+◌, ◌<◌, ◌≤◌, ◌^◌, List, [], ◌∷◌, ◌++◌, Option, Some, None, ◌==◌, if◌then◌else◌}
-use Rattle.page_store.specs.Content.{Found, Bounds, walk}
+use Rattle.page_store.specs.Content.{Found, Bounds, walk, content_under}
+use Rattle.page_store.specs.declared.slot.Slot.{Slot}
 use Rattle.page_store.specs.Same.{Agree}
 use Rattle.page_store.specs.Commit.{numbers}
 use Rattle.page_store.specs.declared.commit.NewPage.{NewPage}
@@ -54,5 +55,12 @@ AreKept old now bounds (n ∷ ns) = IsKept old now bounds n × AreKept old now b
 pub record FindsTree (old now : ℕ → List ℕ) (bounds : Bounds) (generation level : ℕ) (tree : Tree) (low : List ℕ) (high : Option (List ℕ)) (n : ℕ) (pages : List NewPage) : Type 0 where
   pub found : Found
   pub walked : walk now (until bounds generation) level n low high ≡ Some found
+  pub pairs : found.pairs ≡ pairs_of (old_of old bounds) tree
+  pub reaches : (m : ℕ) → times m found.pages ≡ times m (numbers pages) + times m (reached old bounds tree)
+
+-- Under a slot stand the pairs of a tree, and the pages are the new ones and those that the tree reaches.
+pub record HoldsTree (old now : ℕ → List ℕ) (bounds : Bounds) (slot : Slot) (tree : Tree) (pages : List NewPage) : Type 0 where
+  pub found : Found
+  pub content : content_under slot now ≡ Some found
   pub pairs : found.pairs ≡ pairs_of (old_of old bounds) tree
   pub reaches : (m : ℕ) → times m found.pages ≡ times m (numbers pages) + times m (reached old bounds tree)

@@ -4,5 +4,5 @@
 mod laws;
 mod writing;
 
-pub use laws::a_written_tree_is_found;
+pub use laws::{a_found_tree_is_content, a_written_tree_is_found};
 pub use writing::write_node;

@@ -1,11 +1,10 @@
-use Rattle.std.proofs.Common.{◌≡◌, ◌≤◌, ◌<◌, ◌+◌, ◌++◌, ◌∷◌, [], List, ℕ, suc, length, take, get_or, refl, sym, ap, subst, ◌∙◌, arith, length-append}
+use Rattle.std.proofs.Common.{◌≡◌, ◌+◌, ◌++◌, ◌∷◌, [], List, ℕ, suc, length, take, get_or, sym, ap, subst, ◌∙◌, arith, length-append}
 use Rattle.std.proofs.lemmas.List.{take_more}
-use Rattle.page_store.specs.declared.commit.NewPage.{NewPage}
-use Rattle.tree_nodes.specs.Tree.{Tree, Others, branch, page, other_bytes}
+use Rattle.tree_nodes.specs.Tree.{Tree, branch, page, other_bytes}
 use Rattle.tree_nodes.specs.NodeView.{tree_of, others_view}
 use Rattle.tree_nodes.specs.declared.node.Node.{Node, Page}
 use Rattle.tree_nodes.proofs.NodesAsTrees.{Children, tree_branch}
-use Rattle.tree_pages.specs.Written.{AllFit, RowFits, Adds, AddsTree, AddsRow, IsWritten, AreWritten, page_for, owned_nodes, row_owned_nodes}
+use Rattle.tree_pages.specs.Written.{AllFit, RowFits, IsWritten, AreWritten, page_for, owned_nodes, row_owned_nodes}
 use Rattle.tree_pages.proofs.AddedPages.{written_count, row_count, both_added, branch_parts, row_fits_at, owned_before, row_more, named_bytes, branch_written, if_ok}
 use Rattle.tree_pages.proofs.writing.+writes.Goals as goal
 
