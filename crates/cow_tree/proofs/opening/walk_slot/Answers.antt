@@ -1,0 +1,31 @@
+use Rattle.std.proofs.Common.{subst, Err}
+use Rattle.std.proofs.lemmas.Result.{err_from_is_err_and}
+use Rattle.page_alloc.specs.LedgerState.{LedgerState}
+use Rattle.page_store.specs.Sectors.{page_of}
+use Rattle.page_store.specs.Content.{tree_of}
+use Rattle.cow_tree.specs.Walks.{IsWalked, Tells}
+use Rattle.cow_tree.specs.Opening.{bounds_under}
+use Rattle.cow_tree.proofs.Finding.{is_reached, keys_differ, finds_fault}
+use Rattle.cow_tree.proofs.opening.walk_slot.Goals as goal
+
+pub returns-in_err-count-clause-found : goal.returns-in_err-count-clause-found
+returns-in_err-count-clause-found g c = λ keeps.
+    let a = page_of (g.D.Device.state c.args.device.now).disk.view in
+    let slot = c.args.slot.now in
+    let p = err_from_is_err_and c.from_residual.result c.from_residual.ensures.1 in
+    let told = subst (λ (s : LedgerState). Tells (tree_of a (bounds_under slot) slot.root.height slot.root.tree) s c.count_tree.new.ledger (Err c.in_err-count.field-0.0)) c.requires.fresh (c.in_err-count.ensures.told keeps) in
+    rw (p.1, p.2) (finds_fault slot a c.count_tree.new.ledger (Unit {0}) c.in_err-count.field-0.0 told)
+
+pub returns-then-count-slot-clause-found : goal.returns-then-count-slot-clause-found
+returns-then-count-slot-clause-found g c = λ keeps.
+    let a = page_of (g.D.Device.state c.args.device.now).disk.view in
+    let slot = c.args.slot.now in
+    let w = subst (λ (s : LedgerState). IsWalked (tree_of a (bounds_under slot) slot.root.height slot.root.tree) s c.count_tree.new.ledger c.in_ok-count.count) c.requires.fresh (c.in_ok-count.ensures.told keeps) in
+    keys_differ slot a c.count_tree.new.ledger c.in_ok-count.count c.requires.small w c.if-count-slot.true
+
+pub returns-clause-found : goal.returns-clause-found
+returns-clause-found g c = λ keeps.
+    let a = page_of (g.D.Device.state c.args.device.now).disk.view in
+    let slot = c.args.slot.now in
+    let w = subst (λ (s : LedgerState). IsWalked (tree_of a (bounds_under slot) slot.root.height slot.root.tree) s c.count_tree.new.ledger c.in_ok-count.count) c.requires.fresh (c.in_ok-count.ensures.told keeps) in
+    is_reached slot a c.count_tree.new.ledger c.in_ok-count.count c.requires.small w c.if-count-slot.false

@@ -1,0 +1,106 @@
+use Rattle.std.proofs.Common.{◌≡◌, ◌∙◌, ◌-◌, ap, sym, subst, List, ℕ, Bool, true, false, None, refl, rules}
+use Rattle.std.specs.Prelude.{not, option_copied, if◌then◌else◌, Result, Err}
+use Rattle.std.specs.List.{list_all}
+use Rattle.std.proofs.lemmas.Result.{err_from_is_err_and}
+use Rattle.sector_device.specs.Disk.{Disk}
+use Rattle.page_alloc.specs.LedgerState.{LedgerState, is_free}
+use Rattle.page_alloc.specs.Calls.{holding}
+use Rattle.page_store.specs.Sectors.{page_of}
+use Rattle.page_store.specs.Pages.{Child, is_inside, branch_of}
+use Rattle.page_store.specs.Heads.{seen_child}
+use Rattle.page_store.specs.Content.{walk, fan, low_of, high_of, place_in}
+use Rattle.page_store.proofs.DeviceSequences.{still_honest}
+use Rattle.tree_nodes.specs.PageViews.{bounds_of, children_in}
+use Rattle.tree_nodes.proofs.KeyOrder.{both_true}
+use Rattle.cow_tree.specs.Walks.{Tells, IsWalked, IsWalkedTo}
+use Rattle.cow_tree.specs.declared.page_fault.PageFault.{PageFault}
+use Rattle.cow_tree.proofs.ReadsInTurn.{reads_again}
+use Rattle.cow_tree.proofs.Walking.{start, go_on, breaks_off, tells_branch, no_branch, at_child}
+use Rattle.cow_tree.proofs.opening_walk.+walks.Goals as goal
+
+not_true : (b : Bool) → not b ≡ true → b ≡ false
+not_true true e = absurd (cc e)
+not_true false e = refl
+
+-- once a page was reached
+reached : (b : Bool) (free : Bool) (now old : LedgerState) (page : ℕ) → b ≡ free → now ≡ (if b then holding page old else old) → b ≡ true → (free ≡ true) × (now ≡ holding page old)
+reached true free now old page is held t = (sym is, held)
+reached false free now old page is held t = absurd (cc t)
+
+pub walk_children-loop-key-init : goal.walk_children-loop-key-init
+walk_children-loop-key-init g t c =
+    let d = g.D.Device in
+    let children = children_in c.args.branch.now.count c.args.branch.now.entries.now in
+    record {
+      lives = refl;
+      inside = c.requires.inside;
+      device = search rules;
+      reads = refl;
+      so_far = λ keeps. start (walk (page_of (d.state c.args.device.now).disk.view) (bounds_of c.args.bounds) c.args.level) c.args.low.now (option_copied c.args.high) children c.args.ledger.now;
+    }
+
+pub walk_children-returns-in_err-more-clause-told : goal.walk_children-returns-in_err-more-clause-told
+walk_children-returns-in_err-more-clause-told g t c = λ keeps.
+    let d = g.D.Device in
+    let v = page_of (d.state c.args.device.now).disk.view in
+    let i = c.loop-key.invariant in
+    let p = err_from_is_err_and c.from_residual.result c.from_residual.ensures.1 in
+    let others = children_in c.in-Some.others.count c.in-Some.others.entries.now in
+    let child : Child = seen_child c.in-Some.key.now c.in-Some.page in
+    let under = walk v (bounds_of c.args.bounds) c.args.level in
+    let children = children_in c.args.branch.now.count c.args.branch.now.entries.now in
+    let keeps1 = still_honest (d.state c.args.device.now) (d.state c.loop-key.device) i.device.only.same keeps in
+    let so_far = subst (λ (cs : List Child). IsWalkedTo (fan under c.args.low.now (option_copied c.args.high)) children cs c.args.ledger.now c.loop-key.ledger c.loop-key.count) c.in-Some.ensures.children (i.so_far keeps) in
+    let one = at_child (λ x. Tells x c.loop-key.ledger c.walk_tree.new.ledger (Err c.in_err-more.field-0.0)) (page_of (d.state c.loop-key.device).disk.view) v (bounds_of c.args.bounds) c.args.level c.in-Some.page c.lower-from.result.now (low_of c.args.low.now c.in-Some.key.now)
+    (option_copied c.upper-to.result) (high_of others (option_copied c.args.high)) (ap (λ (x : Disk). page_of x.view) (i.device.only.disk keeps)) c.lower-from.ensures c.upper-to.ensures (c.in_err-more.ensures.told keeps1) in
+    subst (λ (r : Result ℕ PageFault). Tells (fan under c.args.low.now (option_copied c.args.high) children) c.args.ledger.now c.walk_tree.new.ledger r) (sym (p.1 ∙ ap (λ (e : PageFault). err e) p.2))
+    (breaks_off under c.args.low.now (option_copied c.args.high) children c.args.ledger.now c.in_err-more.field-0.0 c.loop-key.count c.loop-key.ledger c.walk_tree.new.ledger c.walk_tree.new.ledger child others so_far one)
+  where
+    err : PageFault → Result ℕ PageFault
+    err e = Err e
+
+pub walk_children-loop-key-preserved : goal.walk_children-loop-key-preserved
+walk_children-loop-key-preserved g t c =
+    let d = g.D.Device in
+    let v = page_of (d.state c.args.device.now).disk.view in
+    let i = c.loop-key.invariant in
+    let others = children_in c.in-Some.others.count c.in-Some.others.entries.now in
+    let child : Child = seen_child c.in-Some.key.now c.in-Some.page in
+    let under = walk v (bounds_of c.args.bounds) c.args.level in
+    let children = children_in c.args.branch.now.count c.args.branch.now.entries.now in
+    let inside = subst (λ (cs : List Child). list_all (is_inside c.args.bounds.pages) cs ≡ true) c.in-Some.ensures.children i.inside in
+    record {
+      lives = c.in_ok-more.ensures.lives ∙ i.lives;
+      inside = (both_true (is_inside c.args.bounds.pages child) (list_all (is_inside c.args.bounds.pages) others) inside).1;
+      device = reads_again i.device c.in_ok-more.ensures.reads.device;
+      reads = c.in_ok-more.ensures.reads.reads ∙ i.reads;
+      so_far = λ keeps.
+          let keeps1 = still_honest (d.state c.args.device.now) (d.state c.loop-key.device) i.device.only.same keeps in
+          let so_far = subst (λ (cs : List Child). IsWalkedTo (fan under c.args.low.now (option_copied c.args.high)) children cs c.args.ledger.now c.loop-key.ledger c.loop-key.count) c.in-Some.ensures.children (i.so_far keeps) in
+          let one = at_child (λ x. IsWalked x c.loop-key.ledger c.walk_tree.new.ledger c.in_ok-more.more) (page_of (d.state c.loop-key.device).disk.view) v (bounds_of c.args.bounds) c.args.level c.in-Some.page c.lower-from.result.now (low_of c.args.low.now c.in-Some.key.now)
+          (option_copied c.upper-to.result) (high_of others (option_copied c.args.high)) (ap (λ (x : Disk). page_of x.view) (i.device.only.disk keeps)) c.lower-from.ensures c.upper-to.ensures (c.in_ok-more.ensures.told keeps1) in
+          subst (λ (n : ℕ). IsWalkedTo (fan under c.args.low.now (option_copied c.args.high)) children others c.args.ledger.now c.walk_tree.new.ledger n) (sym c.saturating_add-count.ensures)
+          (go_on under c.args.low.now (option_copied c.args.high) children c.args.ledger.now c.loop-key.count c.in_ok-more.more c.loop-key.ledger c.walk_tree.new.ledger child others so_far one);
+    }
+
+pub walk_tree-returns-in_err-branch-clause-told : goal.walk_tree-returns-in_err-branch-clause-told
+walk_tree-returns-in_err-branch-clause-told g t c = λ keeps.
+    let d = g.D.Device in
+    let v = page_of (d.state c.args.device.now).disk.view in
+    let p = err_from_is_err_and c.from_residual-in_err-branch.result c.from_residual-in_err-branch.ensures.1 in
+    let none : branch_of (place_in (bounds_of c.args.bounds) c.args.level c.args.page) c.args.low.now (option_copied c.args.high) (v c.args.page) ≡ None =
+    ap (branch_of (place_in (bounds_of c.args.bounds) c.args.level c.args.page) c.args.low.now (option_copied c.args.high)) (c.in_ok-load_page.ensures.page keeps) ∙ c.in_err-branch.ensures.fault.1 in
+    rw (p.1, p.2, c.in_err-branch.ensures.fault.0) (no_branch v (bounds_of c.args.bounds) c.args.level c.args.page c.args.low.now (option_copied c.args.high) c.args.ledger.now c.if-level-eq0.false none)
+
+pub walk_tree-returns-clause-told : goal.walk_tree-returns-clause-told
+walk_tree-returns-clause-told g t c = λ keeps.
+    let d = g.D.Device in
+    let v = page_of (d.state c.args.device.now).disk.view in
+    let bounds = bounds_of c.args.bounds in
+    let high = option_copied c.args.high in
+    let r = reached c.reach.result (is_free c.args.ledger.now c.args.page) c.reach.new.ledger c.args.ledger.now c.args.page c.reach.ensures.is c.reach.ensures.held c.if-not-reach.false in
+    let keeps1 = still_honest (d.state c.args.device.now) (d.state c.load_page.new.device) c.in_ok-load_page.ensures.reads.device.only.same keeps in
+    let children = children_in c.in_ok-branch.branch.count c.in_ok-branch.branch.entries.now in
+    let told = subst (λ (x : Disk). Tells (fan (walk (page_of x.view) bounds (c.args.level - 1)) c.args.low.now high children) c.reach.new.ledger c.walk_children.new.ledger c.walk_children.result) (c.in_ok-load_page.ensures.reads.device.only.disk keeps) (c.walk_children.ensures.told keeps1) in
+    tells_branch c.walk_children.result v bounds c.args.level c.args.page c.args.low.now high c.args.ledger.now c.reach.new.ledger c.walk_children.new.ledger children c.if-level-eq0.false r.0 r.1
+    (ap (branch_of (place_in bounds c.args.level c.args.page) c.args.low.now high) (c.in_ok-load_page.ensures.page keeps) ∙ c.in_ok-branch.ensures.children) told

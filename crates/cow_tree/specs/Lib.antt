@@ -1,0 +1,5 @@
+pub mod Reached
+pub mod Walks
+pub mod Opening
+pub mod TreeState
+pub mod TreeSeen

@@ -1,0 +1,30 @@
+-- A keeper of a tree as its callers see it.
+use Rattle.std.specs.Prelude.{ℕ, Bool}
+use Rattle.sector_device.specs.Device.{State}
+use Rattle.page_alloc.specs.LedgerState.{LedgerState}
+use Rattle.page_store.specs.StoreState.{StoreState}
+use Rattle.page_store.specs.declared.slot.Slot.{Slot}
+use Rattle.cow_tree.specs.TreeState.{tree_holding}
+use Rattle.cow_tree.specs.declared.tree_keeper.TreeKeeper.{TreeKeeper}
+
+abbrev pub device_of : {D : Type 0} {dict : _} → TreeKeeper D dict → D
+device_of k = k.device
+
+abbrev pub slot_of : {D : Type 0} {dict : _} → TreeKeeper D dict → Slot
+slot_of k = k.slot
+
+-- which pages are held and free
+abbrev pub ledger_of : {D : Type 0} {dict : _} → TreeKeeper D dict → LedgerState
+ledger_of k = k.ledger
+
+-- the greatest generation that was found or tried
+abbrev pub top_of : {D : Type 0} {dict : _} → TreeKeeper D dict → ℕ
+top_of k = k.top
+
+-- no write or sync has failed
+abbrev pub is_open : {D : Type 0} {dict : _} → TreeKeeper D dict → Bool
+is_open k = k.usable
+
+-- what its trait tells
+abbrev pub held : {D : Type 0} {dict : _} → (D → State) → TreeKeeper D dict → StoreState
+held state k = tree_holding (state k.device) k.slot k.ledger k.top k.usable

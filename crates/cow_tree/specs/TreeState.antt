@@ -1,0 +1,50 @@
+-- What a keeper of a tree is, and what its callers see of it.
+use Rattle.std.specs.Prelude.{◌≡◌, ◌≤◌, ◌<◌, ◌*◌, ℕ, Bool, List, length, Option, Some, None}
+use Rattle.sector_device.specs.Device.{State}
+use Rattle.sector_device.specs.Disk.{Disk, IsImage}
+use Rattle.page_alloc.specs.LedgerState.{LedgerState, is_alive, free_count}
+use Rattle.page_store.specs.Sectors.{Image, page_of}
+use Rattle.page_store.specs.Roots.{greatest_seal}
+use Rattle.page_store.specs.Content.{Found, nothing_found, content, tree_found, is_among}
+use Rattle.page_store.specs.StoreState.{StoreState}
+use Rattle.page_store.specs.declared.slot.Slot.{Slot}
+use Rattle.cow_tree.specs.Opening.{IsRooted}
+
+-- a slot of an image of a tree on a device of so many sectors, and the ledger of its pages
+pub record IsFitted (sectors : ℕ) (slot : Slot) (ledger : LedgerState) : Type 0 where
+  pub number : slot.number < 2
+  pub least : 16 ≤ slot.root.pages
+  pub most : slot.root.pages ≤ 65536
+  pub fits : 8 * slot.root.pages ≤ sectors
+  pub version : slot.root.banner.version ≡ 1
+  pub rooted : IsRooted slot.root
+  pub lives : length ledger.lives ≡ slot.root.pages
+
+abbrev pub or_nothing : Option Found → Found
+or_nothing None = nothing_found
+or_nothing (Some found) = found
+
+-- the pages and the pairs of the tree under a slot of an image
+abbrev pub found_under : Slot → Image → Found
+found_under slot image = or_nothing (tree_found slot (page_of image))
+
+-- Each image of the disk is what reads give; that has a content under the slot, of which the ledger has exactly the pages; no seal is above the top.
+pub record IsSettled (disk : Disk) (slot : Slot) (ledger : LedgerState) (top : ℕ) : Type 0 where
+  pub images : (c : List (List ℕ)) → IsImage disk c → c ≡ disk.view
+  pub content_is : content disk.view ≡ Some (slot, found_under slot disk.view)
+  pub alive : (n : ℕ) → is_alive ledger n ≡ is_among n (found_under slot disk.view).pages
+  pub seals : greatest_seal disk.view 16 ≤ top
+
+-- a keeper as it is seen through its trait
+abbrev pub tree_holding : State → Slot → LedgerState → ℕ → Bool → StoreState
+tree_holding state slot ledger top usable = record {
+  pairs = (found_under slot state.disk.view).pairs;
+  banner = slot.root.banner;
+  honest = state.honest;
+  usable = usable;
+  failed_reads = state.failed_reads;
+  failed_writes = state.failed_writes;
+  generation = slot.seal;
+  top = top;
+  free = free_count ledger;
+}

@@ -1,0 +1,62 @@
+-- What a walk over a tree tells.
+use Rattle.std.specs.Prelude.{◌≡◌, ◌≤◌, ◌<◌, ◌-◌, ◌*◌, ◌^◌, min, ℕ, true, false, List, length, Option, Some, Result, Ok, Err}
+use Rattle.common_types.specs.Counts.{counted}
+use Rattle.common_types.specs.CrashStates.{CrashStates}
+use Rattle.sector_device.specs.Device.{State}
+use Rattle.page_alloc.specs.LedgerState.{LedgerState}
+use Rattle.page_store.specs.Sectors.{Image}
+use Rattle.page_store.specs.DeviceEffects.{IsReadCall}
+use Rattle.page_store.specs.Reading.{◌>>=◌}
+use Rattle.page_store.specs.Pages.{Child}
+use Rattle.page_store.specs.Content.{Found, joined}
+use Rattle.cow_tree.specs.Reached.{are_fresh, holding_all}
+use Rattle.cow_tree.specs.declared.page_fault.PageFault.{PageFault}
+use Rattle.cow_tree.specs.declared.page_fault.PageFault.TheVariants.{Device, Damaged}
+
+-- The pages that were reached were free, and are held now. No page has more than 65,535 pairs.
+pub record IsWalked (what : Option Found) (old new : LedgerState) (count : ℕ) : Type 0 where
+  pub found : Found
+  pub is : what ≡ Some found
+  pub fresh : are_fresh old found.pages ≡ true
+  pub held : new ≡ holding_all old found.pages
+  pub pairs : count ≡ min (length found.pairs) (2 ^ 64 - 1)
+  pub most : length found.pairs ≤ 65535 * length found.pages
+
+-- Nothing stands there, or a page of it was reached before.
+pub record IsBroken (what : Option Found) (old : LedgerState) : Type 0 where
+  pub each : (found : Found) → what ≡ Some found → are_fresh old found.pages ≡ false
+
+-- what a walk tells, by what stands there
+abbrev pub Tells : Option Found → LedgerState → LedgerState → Result ℕ PageFault → Type 0
+Tells what old new (Ok count) = IsWalked what old new count
+Tells what old new (Err Device) = Unit {0}
+Tells what old new (Err (Damaged page)) = IsBroken what old
+
+-- a page of an image of so many
+abbrev pub NamesInside : ℕ → PageFault → Type 0
+NamesInside pages Device = Unit {0}
+NamesInside pages (Damaged page) = (2 ≤ page) × (page < pages)
+
+-- A read that fails is counted, and nothing else.
+abbrev pub CountsPages : {T : Type 0} → Result T PageFault → ℕ → ℕ → Type 0
+CountsPages (Ok _) before now = now ≡ before
+CountsPages (Err Device) before now = now ≡ counted before
+CountsPages (Err (Damaged page)) before now = now ≡ before
+
+-- What a call that reads pages does to a device.
+pub record ReadsPages {T D : Type 0} (state : D → State) (crash_states : D → CrashStates Image) (old new : D) (result : Result T PageFault) : Type 0 where
+  pub device : IsReadCall state crash_states old new
+  pub reads : CountsPages result (state old).failed_reads (state new).failed_reads
+
+-- what was found in front of more
+abbrev pub with_front : Found → Option Found → Option Found
+with_front front found = found >>= λ x. Some (joined front x)
+
+-- What was found of some children, before the others.
+pub record IsWalkedTo (fan_of : List Child → Option Found) (children others : List Child) (old now : LedgerState) (count : ℕ) : Type 0 where
+  pub front : Found
+  pub is : fan_of children ≡ with_front front (fan_of others)
+  pub fresh : are_fresh old front.pages ≡ true
+  pub held : now ≡ holding_all old front.pages
+  pub pairs : count ≡ min (length front.pairs) (2 ^ 64 - 1)
+  pub most : length front.pairs ≤ 65535 * length front.pages

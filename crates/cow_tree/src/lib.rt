@@ -1,0 +1,9 @@
+//! A key-value store in a tree of pages that are never overwritten.
+#![tactic(auto)]
+
+mod opening;
+mod opening_walk;
+mod page_fault;
+mod tree_keeper;
+
+pub use tree_keeper::TreeKeeper;

@@ -1,0 +1,205 @@
+// Opening an image of a tree.
+ghost use Rattle.std.specs.Prelude.{◌≡◌, ◌≤◌, ◌<◌, ◌*◌, ℕ, true, Some, None, IsTrue, IfOk, OnOk, IfErr, length};
+ghost use Rattle.common_types.specs.CrashStates.{AddsNone};
+ghost use Rattle.sector_device.specs.Device.{State, NothingCounted};
+ghost use Rattle.page_alloc.specs.Calls.{fresh};
+ghost use Rattle.page_store.specs.Counting.{CountsReads, CountsRefusal};
+ghost use Rattle.page_store.specs.Sectors.{page_of};
+ghost use Rattle.page_store.specs.Roots.{FitsDevice, current, greatest_seal};
+ghost use Rattle.page_store.specs.Steps.{crash_states_of};
+ghost use Rattle.page_store.specs.DeviceEffects.{KeepsDevice, IsReadCall};
+ghost use Rattle.page_store.specs.Content.{tree_of, tree_found, HasContent};
+ghost use Rattle.page_store.specs.declared.fault.KeeperFault.TheVariants.{Small, Memory};
+ghost use Rattle.cow_tree.specs.Walks.{Tells, ReadsPages};
+ghost use Rattle.cow_tree.specs.Opening.{bounds_under, IsRooted, MayName, Finds, Holds, IsSlotOpened, IsOpened, IsSlotFault, IsOpenFault};
+ghost use Rattle.cow_tree.specs.TreeState.{IsFitted};
+ghost use Rattle.cow_tree.specs.TreeSeen.{device_of, slot_of, ledger_of, top_of, is_open, held};
+
+use crate::TreeKeeper;
+use crate::opening_walk::walk_tree;
+use crate::page_fault::PageFault;
+use page_alloc::Ledger;
+use page_store::{KeeperFault, Roots, Slot, open_roots, sync_all};
+use sector_device::Device;
+use std::alloc::Global;
+use tree_nodes::ImageBounds;
+
+/// Finds the current slot of an image of a tree, and the greatest seal.
+fn tree_slot<D: Device>(device: &mut D) -> Result<(Slot, u64), KeeperFault>
+    requires { 128 ≤ (D.state device.old).size }
+    ensures slot { IsTrue (D.state device.old).honest → IfOk result (λ found. current (D.state device.old).disk.view ≡ Some found.0) }
+    ensures top { IsTrue (D.state device.old).honest → IfOk result (λ found. greatest_seal (D.state device.old).disk.view 16 ≡ found.1) }
+    ensures fits { IfOk result (λ found. (found.0.number < 2) × FitsDevice (D.state device.old).size found.0.root) }
+    ensures version { IfOk result (λ found. found.0.root.banner.version ≡ 1) }
+    ensures fault { IfErr result (IsSlotFault (D.state device.old)) }
+    ensures device { IsReadCall D.state (crash_states_of D.moment D.possible_since) device.old device.new }
+    ensures reads { CountsReads result (D.state device.old).failed_reads (D.state device.new).failed_reads }
+{
+    let Ok(roots) = open_roots(device) else {
+        return Err(KeeperFault::Device);
+    };
+    let Roots { current, greatest } = roots;
+    let Some(slot) = current else {
+        return Err(KeeperFault::NoImage);
+    };
+    if slot.root.banner.version != 1 {
+        return Err(KeeperFault::Version);
+    }
+    Ok((slot, greatest))
+}
+
+/// Makes sure of what is there, and finds the current slot of an image of a tree and the greatest seal.
+fn open_slot<D: Device>(device: &mut D) -> Result<(Slot, u64), KeeperFault>
+    ensures opened { IfOk result (λ found. IsSlotOpened (D.state device.old) (D.state device.new) (crash_states_of D.moment D.possible_since device.new) found.0 found.1) }
+    ensures fits { IfOk result (λ found. (found.0.number < 2) × FitsDevice (D.state device.old).size found.0.root) }
+    ensures version { IfOk result (λ found. found.0.root.banner.version ≡ 1) }
+    ensures large { IfOk result (λ found. 128 ≤ (D.state device.old).size) }
+    ensures fault { IfErr result (IsOpenFault (D.state device.old) (D.state device.new)) }
+    ensures device { KeepsDevice D.state (crash_states_of D.moment D.possible_since) device.old device.new }
+    ensures counts { OnOk result (NothingCounted (D.state device.old) (D.state device.new)) }
+    ensures counts_fault { IfErr result (λ e. CountsRefusal e (D.state device.old) (D.state device.new)) }
+    ensures small { IfErr result (λ e. e ≡ Small → device.new ≡ device.old) }
+{
+    if device.sectors() < 128 {
+        return Err(KeeperFault::Small);
+    }
+    if sync_all(device).is_err() {
+        return Err(KeeperFault::Device);
+    }
+    let found = tree_slot(device)?;
+    Ok(found)
+}
+
+/// Walks the tree that a slot names, if it names one as it may, and counts its pairs.
+fn count_tree<D: Device>(device: &mut D, ledger: &mut Ledger, slot: &Slot) -> Result<u64, PageFault>
+    requires pages { length ledger.old.lives ≡ slot.now.root.pages }
+    requires fits { 8 * slot.now.root.pages ≤ (D.state device.old).size }
+    ensures told { IsTrue (D.state device.old).honest → Tells (tree_of (page_of (D.state device.old).disk.view) (bounds_under slot.now) slot.now.root.height slot.now.root.tree) ledger.old ledger.new result }
+    ensures rooted { OnOk result (IsRooted slot.now.root) }
+    ensures lives { length ledger.new.lives ≡ length ledger.old.lives }
+    ensures named { IfErr result (MayName slot.now) }
+    ensures reads { ReadsPages D.state (crash_states_of D.moment D.possible_since) device.old device.new result }
+{
+    let root = &slot.root;
+    if root.height == 0 {
+        if root.tree != 0 {
+            return Err(PageFault::Damaged { page: slot.number });
+        }
+        return Ok(0);
+    }
+    if root.height > 16 || root.tree < 2 || root.tree >= root.pages {
+        return Err(PageFault::Damaged { page: slot.number });
+    }
+    let bounds = ImageBounds {
+        pages: root.pages,
+        seal: slot.seal,
+    };
+    walk_tree(
+        device,
+        ledger,
+        bounds,
+        root.height - 1,
+        root.tree,
+        &[],
+        None,
+    )
+}
+
+/// Walks the tree of a slot, and tests the count of its keys.
+fn walk_slot<D: Device>(device: &mut D, ledger: &mut Ledger, slot: &Slot) -> Result<(), PageFault>
+    requires fresh { ledger.old ≡ fresh slot.now.root.pages slot.now.seal }
+    requires small { slot.now.root.pages ≤ 65536 }
+    requires fits { 8 * slot.now.root.pages ≤ (D.state device.old).size }
+    ensures found { IsTrue (D.state device.old).honest → Finds (tree_found slot.now (page_of (D.state device.old).disk.view)) slot.now ledger.new result }
+    ensures rooted { OnOk result (IsRooted slot.now.root) }
+    ensures lives { length ledger.new.lives ≡ slot.now.root.pages }
+    ensures named { IfErr result (MayName slot.now) }
+    ensures reads { ReadsPages D.state (crash_states_of D.moment D.possible_since) device.old device.new result }
+{
+    let count = count_tree(device, ledger, slot)?;
+    if count != slot.root.keys {
+        return Err(PageFault::Damaged { page: slot.number });
+    }
+    Ok(())
+}
+
+/// A ledger for the image of a slot, of which no page is held.
+fn new_ledger(alloc: Global, slot: &Slot) -> Result<Ledger, KeeperFault>
+    requires { 2 ≤ slot.now.root.pages }
+    ensures fresh { IfOk result (λ ledger. ledger ≡ fresh slot.now.root.pages slot.now.seal) }
+    ensures memory { IfErr result (λ e. e ≡ Memory) }
+{
+    match Ledger::new(alloc, slot.root.pages, slot.seal) {
+        Ok(ledger) => Ok(ledger),
+        Err(_) => Err(KeeperFault::Memory),
+    }
+}
+
+/// Finds the current slot of an image of a tree, which of its pages are held and the greatest seal, and tests everything.
+fn open_parts<D: Device>(alloc: Global, device: &mut D) -> Result<(Slot, Ledger, u64), KeeperFault>
+    ensures opened { IfOk result (λ parts. IsOpened (D.state device.old) (D.state device.new) (crash_states_of D.moment D.possible_since device.new) parts.0 parts.1 parts.2) }
+    ensures fitted { IfOk result (λ parts. IsFitted (D.state device.old).size parts.0 parts.1) }
+    ensures large { IfOk result (λ parts. 128 ≤ (D.state device.old).size) }
+    ensures fault { IfErr result (IsOpenFault (D.state device.old) (D.state device.new)) }
+    ensures device { KeepsDevice D.state (crash_states_of D.moment D.possible_since) device.old device.new }
+    ensures counts { OnOk result (NothingCounted (D.state device.old) (D.state device.new)) }
+    ensures counts_fault { IfErr result (λ e. CountsRefusal e (D.state device.old) (D.state device.new)) }
+    ensures small { IfErr result (λ e. e ≡ Small → device.new ≡ device.old) }
+{
+    let (slot, top) = open_slot(device)?;
+    let mut ledger = new_ledger(alloc, &slot)?;
+    match walk_slot(device, &mut ledger, &slot) {
+        Ok(()) => Ok((slot, ledger, top)),
+        Err(fault) => Err(KeeperFault::from(fault)),
+    }
+}
+
+impl<D: Device> TreeKeeper<D> {
+    /// Opens the image on a device. A refusal hands the device back, `Small` before anything was asked of it.
+    ///
+    /// Refusals in order: `Small` under 128 sectors; `Device` where a read or the sync failed; `NoImage` where no root slot is valid; `Version` where the current one isn't of a
+    /// tree; `Damaged` where the image has no content. `Memory` may stand in place of `Damaged` and of success.
+    pub fn open(alloc: Global, device: D) -> Result<TreeKeeper<D>, (KeeperFault, D)>
+        ensures content { IsTrue (D.state device).honest → IfOk result (λ k. HasContent (D.state device).disk.view (held D.state k).pairs (held D.state k).banner) }
+        // The slot is the current one, the ledger has exactly the pages of its tree, and there are as many pairs as the slot says.
+        ensures holds { IsTrue (D.state device).honest → IfOk result (λ k. Holds (D.state device).disk.view (slot_of k) (ledger_of k)) }
+        ensures top { IsTrue (D.state device).honest → IfOk result (λ k. top_of k ≡ greatest_seal (D.state device).disk.view 16) }
+        ensures usable { IfOk result (λ k. is_open k ≡ true) }
+        ensures honest { IfOk result (λ k. (D.state (device_of k)).honest ≡ (D.state device).honest) }
+        ensures large { IfOk result (λ k. 128 ≤ (D.state device).size) }
+        ensures counts { IfOk result (λ k. NothingCounted (D.state device) (D.state (device_of k))) }
+        ensures fault { IfErr result (λ e. IsOpenFault (D.state device) (D.state e.1) e.0) }
+        ensures counts_fault { IfErr result (λ e. CountsRefusal e.0 (D.state device) (D.state e.1)) }
+        ensures small { IfErr result (λ e. e.0 ≡ Small → e.1 ≡ device) }
+        // Nothing is written: a crash within the call leaves what one before it might have left.
+        ensures at_crash { IsTrue (D.state device).honest → IfOk result (λ k. AddsNone (crash_states_of D.moment D.possible_since device) (crash_states_of D.moment D.possible_since (device_of k))) }
+        ensures at_crash_on_fault { IsTrue (D.state device).honest → IfErr result (λ e. AddsNone (crash_states_of D.moment D.possible_since device) (crash_states_of D.moment D.possible_since e.1)) }
+        ensures handed_back { IfErr result (λ e. ((D.state e.1).size ≡ (D.state device).size) × ((D.state e.1).honest ≡ (D.state device).honest)) }
+    {
+        let mut device = device;
+        match open_parts(alloc, &mut device) {
+            Ok((slot, ledger, top)) => Ok(TreeKeeper {
+                device,
+                slot,
+                ledger,
+                top,
+                usable: true,
+            }),
+            Err(fault) => Err((fault, device)),
+        }
+    }
+
+    /// The device, whether a write or a sync has failed or not.
+    pub fn into_device(self) -> D
+        ensures { result ≡ device_of self }
+    {
+        let TreeKeeper {
+            device,
+            slot: _,
+            ledger: _,
+            top: _,
+            usable: _,
+        } = self;
+        device
+    }
+}

@@ -1,0 +1,21 @@
+// A key-value store in a tree of pages.
+ghost use Rattle.std.specs.Prelude.{IsTrue};
+ghost use Rattle.cow_tree.specs.TreeState.{IsFitted, IsSettled};
+
+use page_alloc::Ledger;
+use page_store::Slot;
+use sector_device::Device;
+
+/// A key-value store in a tree of pages, on any device. No page that the current root reaches is written: a change goes to free pages.
+///
+/// The pairs stand in the pages alone, so that looking one up reads the pages on the way to it.
+#[derive(Drop)]
+pub struct TreeKeeper<D: Device> {
+    pub(crate) device: D,
+    pub(crate) slot: Slot,
+    pub(crate) ledger: Ledger,
+    pub(crate) top: u64,
+    pub(crate) usable: bool,
+    ghost fitted: { IsFitted (D.state device).size slot ledger },
+    ghost settled: { IsTrue (D.state device).honest → IsTrue usable → IsSettled (D.state device).disk slot ledger top },
+}
