@@ -4,3 +4,9 @@ pub mod Reaching
 pub mod Walking
 pub mod Finding
 pub mod Openings
+pub mod FilledWalks
+pub mod PairSizes
+pub mod OnTheWay
+pub mod AnswersGiven
+pub mod RootWalks
+pub mod KeeperReads

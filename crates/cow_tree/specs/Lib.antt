@@ -3,3 +3,4 @@ pub mod Walks
 pub mod Opening
 pub mod TreeState
 pub mod TreeSeen
+pub mod Ways

@@ -6,6 +6,7 @@ ghost use Rattle.page_alloc.specs.Calls.{holding};
 ghost use Rattle.page_store.specs.Sectors.{page_of};
 ghost use Rattle.page_store.specs.Steps.{crash_states_of};
 ghost use Rattle.page_store.specs.Pages.{leaf_of, branch_of, is_inside};
+ghost use Rattle.page_store.specs.Batch.{is_pair};
 ghost use Rattle.page_store.specs.Content.{place_in, walk, fan, low_of, high_of};
 ghost use Rattle.tree_nodes.specs.PageViews.{bounds_of, pairs_in, children_in};
 ghost use Rattle.cow_tree.specs.Walks.{Tells, NamesInside, ReadsPages};
@@ -43,6 +44,7 @@ pub(crate) fn leaf_in<'a>(
     bytes: &'a [u8; 4096],
 ) -> Result<Leaf<'a>, PageFault>
     ensures pairs { IfOk result (λ leaf. leaf_of (place_in (bounds_of bounds) 0 page) low.now (option_copied high.entry) bytes.now ≡ Some (pairs_in leaf.count leaf.entries.now)) }
+    ensures sizes { IfOk result (λ leaf. IsTrue (list_all is_pair (pairs_in leaf.count leaf.entries.now))) }
     ensures fault { IfErr result (λ e. (e ≡ Damaged page) × (leaf_of (place_in (bounds_of bounds) 0 page) low.now (option_copied high.entry) bytes.now ≡ None)) }
 {
     match Leaf::between(bounds, page, low, high, bytes) {

@@ -1,0 +1,35 @@
+-- The way of a key through a tree of pages, and what reading along it answers.
+use Rattle.std.specs.Prelude.{◌≡◌, ℕ, List, [], ◌∷◌, Option, Some, None, Result, Ok, Err, if◌then◌else◌}
+use Rattle.std.specs.Option.{option_or}
+use Rattle.page_store.specs.Keys.{precedes}
+use Rattle.page_store.specs.Pages.{Pair, Child}
+use Rattle.page_store.specs.Batch.{value_at, pair_after}
+use Rattle.page_store.specs.Content.{Found, Bounds, walk}
+use Rattle.cow_tree.specs.declared.page_fault.PageFault.{PageFault}
+use Rattle.cow_tree.specs.declared.page_fault.PageFault.TheVariants.{Device, Damaged}
+
+-- the page under which a key stands, that of the last child whose key isn't above it, and the page of the child after it
+abbrev pub pages_around : List ℕ → List Child → Option (ℕ × Option ℕ)
+pages_around key [] = None
+pages_around key (child ∷ []) = Some (child.page, None)
+pages_around key (child ∷ next ∷ children) = if precedes key next.key then Some (child.page, Some next.page) else pages_around key (next ∷ children)
+
+-- An answer from the pages of a tree, of which none is damaged.
+abbrev pub IsAnswer : {T : Type 0} → Result T PageFault → (T → Type 0) → Type 0
+IsAnswer (Ok x) P = P x
+IsAnswer (Err Device) P = Unit {0}
+IsAnswer (Err (Damaged page)) P = ⊥
+
+-- the pair after a key that stands at and under a page, or nothing where there is no page
+abbrev pub IsNext : (ℕ → List ℕ) → Bounds → ℕ → List ℕ → Option ℕ → Option Pair → Type 0
+IsNext bytes bounds level key None pair = pair ≡ None
+IsNext bytes bounds level key (Some page) pair = (found : Found) × (walk bytes bounds level page [] None ≡ Some found) × (pair_after found.pairs key ≡ pair) × (pair ≡ None → ⊥)
+
+-- A key's value stands under the first page. The pair after the key stands there too, or else under the second page.
+pub record IsOnWay (bytes : ℕ → List ℕ) (bounds : Bounds) (level : ℕ) (key : List ℕ) (pairs : List Pair) (around : ℕ × Option ℕ) : Type 0 where
+  pub here : Found
+  pub here_is : walk bytes bounds level around.0 [] None ≡ Some here
+  pub value : value_at pairs key ≡ value_at here.pairs key
+  pub rest : Option Pair
+  pub after : pair_after pairs key ≡ option_or (pair_after here.pairs key) rest
+  pub next : IsNext bytes bounds level key around.1 rest

@@ -1,0 +1,220 @@
+// Pages on the way of a key, and the buffers that an answer goes to.
+ghost use Rattle.std.specs.Prelude.{◌≡◌, ◌≤◌, ◌<◌, ◌-◌, ◌*◌, ◌+◌, ℕ, [], Option, None, Some, IsTrue, IfOk, IfErr, IfSome, length, option_map, take};
+ghost use Rattle.page_store.specs.Sectors.{page_of};
+ghost use Rattle.page_store.specs.Steps.{crash_states_of};
+ghost use Rattle.std.specs.List.{list_all};
+ghost use Rattle.page_store.specs.Pages.{Pair};
+ghost use Rattle.page_store.specs.Batch.{value_at, pair_after, is_pair};
+ghost use Rattle.page_store.specs.StoreState.{IsFilled};
+ghost use Rattle.page_store.specs.Content.{Found, walk};
+ghost use Rattle.tree_nodes.specs.PageViews.{bounds_of, pairs_in, children_in};
+ghost use Rattle.cow_tree.specs.Walks.{ReadsPages};
+ghost use Rattle.cow_tree.specs.Ways.{pages_around, IsNext, IsAnswer, IsOnWay};
+
+use crate::opening_walk::{branch_in, leaf_in, load_page};
+use crate::page_fault::PageFault;
+use sector_device::Device;
+use std::cmp::Ordering;
+use tree_nodes::{Branch, ImageBounds, Leaf};
+
+/// The page under which a key stands, and the page after it.
+fn pages_around(branch: &Branch<'_>, key: &[u8]) -> Option<(u32, Option<u32>)>
+    ensures { result ≡ pages_around key.now (children_in branch.now.count branch.now.entries.now) }
+{
+    let (_, first, others) = branch.first()?;
+    let mut page = first;
+    let mut left = others;
+    while let Some((next, after, others)) = left.first() {
+        if key.cmp(next) == Ordering::Less {
+            return Some((page, Some(after)));
+        }
+        page = after;
+        left = others;
+    }
+    Some((page, None))
+}
+
+/// The page under a branch's page under which a key stands, and the page after it.
+fn children_around<D: Device>(
+    device: &mut D,
+    bounds: ImageBounds,
+    level: u16,
+    page: u32,
+    key: &[u8],
+) -> Result<(u32, Option<u32>), PageFault>
+    requires level { 0 < level }
+    requires fits { 8 * bounds.pages ≤ (D.state device.old).size }
+    requires most { page < bounds.pages }
+    ensures way { IsTrue (D.state device.old).honest → (found : Found) → walk (page_of (D.state device.old).disk.view) (bounds_of bounds) level page [] None ≡ Some found →
+        IsAnswer result (IsOnWay (page_of (D.state device.old).disk.view) (bounds_of bounds) (level - 1) key.now found.pairs) }
+    ensures first { IfOk result (λ around. around.0 < bounds.pages) }
+    ensures second { IfOk result (λ around. IfSome around.1 (λ page. page < bounds.pages)) }
+    ensures reads { ReadsPages D.state (crash_states_of D.moment D.possible_since) device.old device.new result }
+{
+    let mut bytes = [0; 4096];
+    load_page(device, page, &mut bytes)?;
+    let branch = branch_in(bounds, level, page, &[], None, &bytes)?;
+    match pages_around(&branch, key) {
+        Some(around) => Ok(around),
+        None => Err(PageFault::Damaged { page }),
+    }
+}
+
+/// The value at a key of a leaf.
+fn value_of<'a>(leaf: &Leaf<'a>, key: &[u8]) -> Option<&'a [u8]>
+    requires { IsTrue (list_all is_pair (pairs_in leaf.now.count leaf.now.entries.now)) }
+    ensures value { option_map (λ v. v.now) result ≡ value_at (pairs_in leaf.now.count leaf.now.entries.now) key.now }
+    ensures size { IfSome result (λ v. length v.now ≤ 1024) }
+{
+    let value = leaf.get(key)?;
+    Some(value)
+}
+
+/// The pair of a leaf after a key.
+fn pair_of<'a>(leaf: &Leaf<'a>, after: &[u8]) -> Option<(&'a [u8], &'a [u8])>
+    requires { IsTrue (list_all is_pair (pairs_in leaf.now.count leaf.now.entries.now)) }
+    ensures pair { option_map (λ p. (p.0.now, p.1.now)) result ≡ pair_after (pairs_in leaf.now.count leaf.now.entries.now) after.now }
+    ensures key { IfSome result (λ p. length p.0.now ≤ 300) }
+    ensures value { IfSome result (λ p. length p.1.now ≤ 1024) }
+{
+    let (key, value) = leaf.after(after)?;
+    Some((key, value))
+}
+
+/// Puts the value at a key of a leaf into the buffer.
+fn get_in_leaf<D: Device>(
+    device: &mut D,
+    bounds: ImageBounds,
+    page: u32,
+    key: &[u8],
+    buffer: &mut [u8; 1024],
+) -> Result<Option<usize>, PageFault>
+    requires fits { 8 * bounds.pages ≤ (D.state device.old).size }
+    requires most { page < bounds.pages }
+    ensures within { IfOk result (λ found. IfSome found (λ n. n ≤ 1024)) }
+    ensures value { IsTrue (D.state device.old).honest → (found : Found) → walk (page_of (D.state device.old).disk.view) (bounds_of bounds) 0 page [] None ≡ Some found →
+        IsAnswer result (λ size. option_map (λ n. take n buffer.new) size ≡ value_at found.pairs key.now) }
+    ensures buffer { IsFilled (λ n. n) result buffer.old buffer.new }
+    ensures reads { ReadsPages D.state (crash_states_of D.moment D.possible_since) device.old device.new result }
+{
+    let mut bytes = [0; 4096];
+    load_page(device, page, &mut bytes)?;
+    let leaf = leaf_in(bounds, page, &[], None, &bytes)?;
+    let Some(value) = value_of(&leaf, key) else {
+        return Ok(None);
+    };
+    buffer[..value.len()].copy_from_slice(value);
+    Ok(Some(value.len()))
+}
+
+/// Puts the pair of a leaf after a key into the buffers.
+fn next_in_leaf<D: Device>(
+    device: &mut D,
+    bounds: ImageBounds,
+    page: u32,
+    after: &[u8],
+    key: &mut [u8; 300],
+    value: &mut [u8; 1024],
+) -> Result<Option<(usize, usize)>, PageFault>
+    requires fits { 8 * bounds.pages ≤ (D.state device.old).size }
+    requires most { page < bounds.pages }
+    ensures within { IfOk result (λ found. IfSome found (λ n. (n.0 ≤ 300) × (n.1 ≤ 1024))) }
+    ensures pair { IsTrue (D.state device.old).honest → (found : Found) → walk (page_of (D.state device.old).disk.view) (bounds_of bounds) 0 page [] None ≡ Some found →
+        IsAnswer result (λ sizes. option_map (λ n. (take n.0 key.new, take n.1 value.new)) sizes ≡ pair_after found.pairs after.now) }
+    ensures key { IsFilled (λ n. n.0) result key.old key.new }
+    ensures value { IsFilled (λ n. n.1) result value.old value.new }
+    ensures reads { ReadsPages D.state (crash_states_of D.moment D.possible_since) device.old device.new result }
+{
+    let mut bytes = [0; 4096];
+    load_page(device, page, &mut bytes)?;
+    let leaf = leaf_in(bounds, page, &[], None, &bytes)?;
+    let Some((found, stored)) = pair_of(&leaf, after) else {
+        return Ok(None);
+    };
+    key[..found.len()].copy_from_slice(found);
+    value[..stored.len()].copy_from_slice(stored);
+    Ok(Some((found.len(), stored.len())))
+}
+
+/// Puts the value at a key that stands under a page into the buffer.
+pub(crate) fn get_under<D: Device>(
+    device: &mut D,
+    bounds: ImageBounds,
+    level: u16,
+    page: u32,
+    key: &[u8],
+    buffer: &mut [u8; 1024],
+) -> Result<Option<usize>, PageFault>
+    requires fits { 8 * bounds.pages ≤ (D.state device.old).size }
+    requires most { page < bounds.pages }
+    ensures within { IfOk result (λ found. IfSome found (λ n. n ≤ 1024)) }
+    ensures value { IsTrue (D.state device.old).honest → (found : Found) → walk (page_of (D.state device.old).disk.view) (bounds_of bounds) level page [] None ≡ Some found →
+        IsAnswer result (λ size. option_map (λ n. take n buffer.new) size ≡ value_at found.pairs key.now) }
+    ensures buffer { IsFilled (λ n. n) result buffer.old buffer.new }
+    ensures reads { ReadsPages D.state (crash_states_of D.moment D.possible_since) device.old device.new result }
+{
+    if level == 0 {
+        return get_in_leaf(device, bounds, page, key, buffer);
+    }
+    let (child, _) = children_around(device, bounds, level, page, key)?;
+    get_under(device, bounds, level - 1, child, key, buffer)
+}
+
+/// Puts the pair after a key that stands under a page into the buffers, where there is such a page.
+#[cycle(next)]
+fn next_in_sibling<D: Device>(
+    device: &mut D,
+    bounds: ImageBounds,
+    level: u16,
+    sibling: Option<u32>,
+    after: &[u8],
+    key: &mut [u8; 300],
+    value: &mut [u8; 1024],
+) -> Result<Option<(usize, usize)>, PageFault>
+    requires fits { 8 * bounds.pages ≤ (D.state device.old).size }
+    requires most { IfSome sibling (λ page. page < bounds.pages) }
+    ensures within { IfOk result (λ found. IfSome found (λ n. (n.0 ≤ 300) × (n.1 ≤ 1024))) }
+    ensures pair { IsTrue (D.state device.old).honest → (rest : Option Pair) → IsNext (page_of (D.state device.old).disk.view) (bounds_of bounds) level after.now sibling rest →
+        IsAnswer result (λ sizes. option_map (λ n. (take n.0 key.new, take n.1 value.new)) sizes ≡ rest) }
+    ensures key { IsFilled (λ n. n.0) result key.old key.new }
+    ensures value { IsFilled (λ n. n.1) result value.old value.new }
+    ensures reads { ReadsPages D.state (crash_states_of D.moment D.possible_since) device.old device.new result }
+{
+    let Some(page) = sibling else {
+        return Ok(None);
+    };
+    match next_under(device, bounds, level, page, after, key, value)? {
+        Some(found) => Ok(Some(found)),
+        None => Err(PageFault::Damaged { page }),
+    }
+}
+
+/// Puts the pair after a key that stands under a page into the buffers.
+#[cycle(next)]
+pub(crate) fn next_under<D: Device>(
+    device: &mut D,
+    bounds: ImageBounds,
+    level: u16,
+    page: u32,
+    after: &[u8],
+    key: &mut [u8; 300],
+    value: &mut [u8; 1024],
+) -> Result<Option<(usize, usize)>, PageFault>
+    requires fits { 8 * bounds.pages ≤ (D.state device.old).size }
+    requires most { page < bounds.pages }
+    ensures within { IfOk result (λ found. IfSome found (λ n. (n.0 ≤ 300) × (n.1 ≤ 1024))) }
+    ensures pair { IsTrue (D.state device.old).honest → (found : Found) → walk (page_of (D.state device.old).disk.view) (bounds_of bounds) level page [] None ≡ Some found →
+        IsAnswer result (λ sizes. option_map (λ n. (take n.0 key.new, take n.1 value.new)) sizes ≡ pair_after found.pairs after.now) }
+    ensures key { IsFilled (λ n. n.0) result key.old key.new }
+    ensures value { IsFilled (λ n. n.1) result value.old value.new }
+    ensures reads { ReadsPages D.state (crash_states_of D.moment D.possible_since) device.old device.new result }
+{
+    if level == 0 {
+        return next_in_leaf(device, bounds, page, after, key, value);
+    }
+    let (child, sibling) = children_around(device, bounds, level, page, after)?;
+    match next_under(device, bounds, level - 1, child, after, key, value)? {
+        Some(found) => Ok(Some(found)),
+        None => next_in_sibling(device, bounds, level - 1, sibling, after, key, value),
+    }
+}
