@@ -1,21 +1,25 @@
 -- What a keeper of a tree is after its device was read.
-use Rattle.std.proofs.Common.{◌≡◌, ℕ, ◌≤◌, Bool, true, false, Err, Some, refl, sym, ap, subst, arith, IsTrue}
+use Rattle.std.proofs.Common.{◌∙◌, List, length, ◌≡◌, ℕ, ◌≤◌, Bool, true, false, Err, Some, refl, sym, ap, subst, arith, IsTrue}
 use Rattle.common_types.specs.Counts.{counted_rises}
 use Rattle.sector_device.specs.Device.{State}
 use Rattle.sector_device.specs.Disk.{Disk}
 use Rattle.sector_device.specs.Effects.{OnlyReads}
 use Rattle.page_alloc.specs.LedgerState.{LedgerState}
-use Rattle.page_store.specs.Sectors.{page_of}
-use Rattle.page_store.specs.Content.{tree_found}
+use Rattle.std.specs.Prelude.{◌&&◌, ◌==◌}
+use Rattle.std.proofs.lemmas.Bool.{eqb-true}
+use Rattle.page_store.specs.Reading.{where_true}
+use Rattle.page_store.proofs.Fields.{bind_some, test_passed}
+use Rattle.tree_nodes.proofs.KeyOrder.{both_true}
+use Rattle.tree_nodes.proofs.WalksWithinBounds.{some_is}
+use Rattle.page_store.specs.Content.{Found, tree_of, tree_found, are_distinct}
 use Rattle.page_store.specs.StoreState.{HasRead, IsReadFault}
 use Rattle.page_store.specs.declared.slot.Slot.{Slot}
 use Rattle.cow_tree.specs.Walks.{CountsPages}
 use Rattle.cow_tree.specs.Ways.{IsAnswer}
-use Rattle.cow_tree.specs.Opening.{fault_of}
-use Rattle.cow_tree.specs.TreeState.{IsFitted, IsSettled, found_under, tree_holding}
+use Rattle.cow_tree.specs.Opening.{fault_of, bounds_under}
+use Rattle.cow_tree.specs.TreeState.{found_under, tree_holding}
 use Rattle.cow_tree.specs.declared.page_fault.PageFault.{PageFault}
 use Rattle.cow_tree.specs.declared.page_fault.PageFault.TheVariants.{Device, Damaged}
-use Rattle.cow_tree.proofs.Openings.{tree_is}
 
 module _ (old new : State) (slot : Slot) (ledger : LedgerState) (top : ℕ) (usable : Bool) (only : OnlyReads old new) where
   pub has_read : old.failed_reads ≤ new.failed_reads → HasRead (tree_holding old slot ledger top usable) (tree_holding new slot ledger top usable)
@@ -46,6 +50,11 @@ pub counts_rise : (T : Type 0) (e : PageFault) (before now : ℕ) → CountsPage
 counts_rise T Device before now h = subst (λ (n : ℕ). before ≤ n) (sym h) (counted_rises before)
 counts_rise T (Damaged page) before now h = omega (arith, h)
 
--- the tree of a keeper that is settled
-pub settled_tree : (disk : Disk) (sectors : ℕ) (slot : Slot) (ledger : LedgerState) (top : ℕ) → IsFitted sectors slot ledger → IsSettled disk slot ledger top → tree_found slot (page_of disk.view) ≡ Some (found_under slot disk.view)
-settled_tree disk sectors slot ledger top fitted s = (tree_is disk.view slot (found_under slot disk.view) s.content_is fitted.version).1
+-- a slot whose tree is there tells how many pairs it has
+pub keys_told : (slot : Slot) (a : ℕ → List ℕ) (found : Found) → tree_found slot a ≡ Some found → slot.root.keys ≡ length found.pairs
+unfolding tree_found
+keys_told slot a found e =
+    let f = bind_some (tree_of a (bounds_under slot) slot.root.height slot.root.tree) (λ x. where_true (are_distinct x.pages && (length x.pairs == slot.root.keys)) (Some x)) found e in
+    let t = test_passed (are_distinct f.0.pages && (length f.0.pairs == slot.root.keys)) (Some f.0) found f.2 in
+    let keys = eqb-true (length f.0.pairs) slot.root.keys (both_true (are_distinct f.0.pages) (length f.0.pairs == slot.root.keys) t.0).1 in
+    sym keys ∙ ap (λ (x : Found). length x.pairs) (some_is f.0 found t.1)

@@ -10,3 +10,4 @@ pub mod OnTheWay
 pub mod AnswersGiven
 pub mod RootWalks
 pub mod KeeperReads
+pub mod TreesAreMaps

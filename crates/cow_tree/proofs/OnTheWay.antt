@@ -70,7 +70,7 @@ left_above : (p q : List ℕ → Bool) (xs ys : List Pair) → AllKeys p (xs ++ 
 left_above p q [] ys h = tt
 left_above p q (x ∷ xs) ys h = (h.0, left_above p q xs ys h.1)
 
-low_is : (low from key : List ℕ) → precedes from key ≡ true → low_of low key ≡ key
+pub low_is : (low from key : List ℕ) → precedes from key ≡ true → low_of low key ≡ key
 low_is low from [] h = let n = not_below_nothing from in absurd (cc (n, h))
 low_is low from (b ∷ bs) h = refl
 
@@ -80,7 +80,7 @@ rises_lower from key (k ∷ ks) h r = let b = both_true (precedes key k) (rises 
 
 module _ (a : ℕ → List ℕ) (bounds : Bounds) (level : ℕ) where
   -- a key below the first child's is below all keys
-  fan_above : (children : List Child) (key low : List ℕ) (high : Option (List ℕ)) (under : Found) → rises (key ∷ map child_key children) ≡ true → fan (walk a bounds level) low high children ≡ Some under → AllKeys (precedes key) under.pairs
+  pub fan_above : (children : List Child) (key low : List ℕ) (high : Option (List ℕ)) (under : Found) → rises (key ∷ map child_key children) ≡ true → fan (walk a bounds level) low high children ≡ Some under → AllKeys (precedes key) under.pairs
   fan_above [] key low high under r e = subst (λ (x : Found). AllKeys (precedes key) x.pairs) (some_is nothing_found under e) tt
   fan_above (child ∷ children) key low high under r e =
       let b = both_true (precedes key child.key) (rises (child.key ∷ map child_key children)) r in
@@ -156,7 +156,7 @@ module _ (a : ℕ → List ℕ) (bounds : Bounds) (level : ℕ) where
 
 -- ---- a branch
 
-branch_keys : (place : Place) (low : List ℕ) (high : Option (List ℕ)) (bytes : List ℕ) (children : List Child) → branch_of place low high bytes ≡ Some children → (starts_empty (map child_key children) ≡ true) × (rises (map child_key children) ≡ true)
+pub branch_keys : (place : Place) (low : List ℕ) (high : Option (List ℕ)) (bytes : List ℕ) (children : List Child) → branch_of place low high bytes ≡ Some children → (starts_empty (map child_key children) ≡ true) × (rises (map child_key children) ≡ true)
 unfolding branch_of
 branch_keys place low high bytes children e =
     let f = bind_some (entries_of child_at place bytes) (λ cs. where_true (are_branch place.pages low high cs) (Some cs)) children e in

@@ -8,10 +8,13 @@ use Rattle.page_alloc.specs.declared.life.Life.{Life}
 use Rattle.page_alloc.specs.declared.life.Life.TheVariants.{Never, Since}
 use Rattle.page_alloc.specs.Lives.{lives_at}
 use Rattle.page_alloc.specs.LedgerState.{LedgerState, Mark, Untouched, mark_of, life_of, has_page, is_taken, is_retired, is_held, is_free, is_alive, free_count, count_below, generations_in_use}
-use Rattle.page_alloc.specs.Calls.{fresh, holding}
+use Rattle.page_alloc.specs.Calls.{fresh, holding, unmarked}
 use Rattle.page_alloc.proofs.Counting.{count_more}
 use Rattle.page_store.specs.Content.{is_among, are_distinct}
 use Rattle.tree_nodes.proofs.KeyOrder.{both_true}
+use Rattle.page_store.specs.declared.slot.Slot.{Slot}
+use Rattle.cow_tree.specs.Walks.{OnlyHolds}
+use Rattle.cow_tree.specs.TreeState.{IsAtRest}
 use Rattle.cow_tree.specs.Reached.{are_fresh, holding_all}
 
 not_is : (b : Bool) → not b ≡ true → b ≡ false
@@ -240,3 +243,23 @@ alive_exactly pages generation ns m f =
     or_none : (b : Bool) → (b || false) ≡ b
     or_none true = refl
     or_none false = refl
+
+-- ---- all else of a ledger
+
+pub holds_again : {a b c : LedgerState} → OnlyHolds a b → OnlyHolds b c → OnlyHolds a c
+holds_again first second = record { pages = second.pages ∙ first.pages; marks = second.marks ∙ first.marks; generation = second.generation ∙ first.generation; pins = second.pins ∙ first.pins }
+
+no_marks : (pages : ℕ) → unmarked (replicate pages Untouched) ≡ replicate pages Untouched
+no_marks zero = refl
+no_marks (suc n) = ap (λ (ms : List Mark). Untouched ∷ ms) (no_marks n)
+
+-- what was held of a new ledger is at rest
+pub at_rest : (slot : Slot) (first new : LedgerState) → first ≡ fresh slot.root.pages slot.seal → OnlyHolds first new → IsAtRest slot new
+at_rest slot first new is only = record {
+  pages = only.pages ∙ ap (λ (s : LedgerState). length s.lives) is ∙ length-replicate slot.root.pages Never;
+  generation = only.generation ∙ ap (λ (s : LedgerState). s.generation) is;
+  unmarked = ap unmarked marks ∙ no_marks slot.root.pages ∙ sym marks;
+}
+  where
+    marks : new.marks ≡ replicate slot.root.pages Untouched
+    marks = only.marks ∙ ap (λ (s : LedgerState). s.marks) is

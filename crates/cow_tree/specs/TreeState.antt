@@ -3,12 +3,19 @@ use Rattle.std.specs.Prelude.{◌≡◌, ◌≤◌, ◌<◌, ◌*◌, ℕ, Bool,
 use Rattle.sector_device.specs.Device.{State}
 use Rattle.sector_device.specs.Disk.{Disk, IsImage}
 use Rattle.page_alloc.specs.LedgerState.{LedgerState, is_alive, free_count}
+use Rattle.page_alloc.specs.Calls.{unmarked as without_marks}
 use Rattle.page_store.specs.Sectors.{Image, page_of}
-use Rattle.page_store.specs.Roots.{greatest_seal}
-use Rattle.page_store.specs.Content.{Found, nothing_found, content, tree_found, is_among}
+use Rattle.page_store.specs.Roots.{current, greatest_seal}
+use Rattle.page_store.specs.Content.{Found, nothing_found, tree_found, is_among}
 use Rattle.page_store.specs.StoreState.{StoreState}
 use Rattle.page_store.specs.declared.slot.Slot.{Slot}
 use Rattle.cow_tree.specs.Opening.{IsRooted}
+
+-- The ledger is of the slot's image and generation, and no commit runs.
+pub record IsAtRest (slot : Slot) (ledger : LedgerState) : Type 0 where
+  pub pages : length ledger.lives ≡ slot.root.pages
+  pub generation : ledger.generation ≡ slot.seal
+  pub unmarked : without_marks ledger.marks ≡ ledger.marks
 
 -- a slot of an image of a tree on a device of so many sectors, and the ledger of its pages
 pub record IsFitted (sectors : ℕ) (slot : Slot) (ledger : LedgerState) : Type 0 where
@@ -18,7 +25,7 @@ pub record IsFitted (sectors : ℕ) (slot : Slot) (ledger : LedgerState) : Type 
   pub fits : 8 * slot.root.pages ≤ sectors
   pub version : slot.root.banner.version ≡ 1
   pub rooted : IsRooted slot.root
-  pub lives : length ledger.lives ≡ slot.root.pages
+  pub rest : IsAtRest slot ledger
 
 abbrev pub or_nothing : Option Found → Found
 or_nothing None = nothing_found
@@ -28,11 +35,15 @@ or_nothing (Some found) = found
 abbrev pub found_under : Slot → Image → Found
 found_under slot image = or_nothing (tree_found slot (page_of image))
 
--- Each image of the disk is what reads give; that has a content under the slot, of which the ledger has exactly the pages; no seal is above the top.
-pub record IsSettled (disk : Disk) (slot : Slot) (ledger : LedgerState) (top : ℕ) : Type 0 where
+-- The tree under the slot stands in the image, and the ledger has exactly its pages.
+pub record IsThere (image : Image) (slot : Slot) (ledger : LedgerState) : Type 0 where
+  pub found_is : tree_found slot (page_of image) ≡ Some (found_under slot image)
+  pub alive : (n : ℕ) → is_alive ledger n ≡ is_among n (found_under slot image).pages
+
+-- Each image of the disk is what reads give; the slot is current there, and no seal is above the top.
+pub record IsSettled (disk : Disk) (slot : Slot) (top : ℕ) : Type 0 where
   pub images : (c : List (List ℕ)) → IsImage disk c → c ≡ disk.view
-  pub content_is : content disk.view ≡ Some (slot, found_under slot disk.view)
-  pub alive : (n : ℕ) → is_alive ledger n ≡ is_among n (found_under slot disk.view).pages
+  pub current_is : current disk.view ≡ Some slot
   pub seals : greatest_seal disk.view 16 ≤ top
 
 -- a keeper as it is seen through its trait

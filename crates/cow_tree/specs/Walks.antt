@@ -37,6 +37,13 @@ abbrev pub NamesInside : ℕ → PageFault → Type 0
 NamesInside pages Device = Unit {0}
 NamesInside pages (Damaged page) = (2 ≤ page) × (page < pages)
 
+-- Of a ledger only lives have changed.
+pub record OnlyHolds (old new : LedgerState) : Type 0 where
+  pub pages : length new.lives ≡ length old.lives
+  pub marks : new.marks ≡ old.marks
+  pub generation : new.generation ≡ old.generation
+  pub pins : new.pins ≡ old.pins
+
 -- A read that fails is counted, and nothing else.
 abbrev pub CountsPages : {T : Type 0} → Result T PageFault → ℕ → ℕ → Type 0
 CountsPages (Ok _) before now = now ≡ before

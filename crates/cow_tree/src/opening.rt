@@ -10,9 +10,9 @@ ghost use Rattle.page_store.specs.Steps.{crash_states_of};
 ghost use Rattle.page_store.specs.DeviceEffects.{KeepsDevice, IsReadCall};
 ghost use Rattle.page_store.specs.Content.{tree_of, tree_found, HasContent};
 ghost use Rattle.page_store.specs.declared.fault.KeeperFault.TheVariants.{Small, Memory};
-ghost use Rattle.cow_tree.specs.Walks.{Tells, ReadsPages};
+ghost use Rattle.cow_tree.specs.Walks.{Tells, OnlyHolds, ReadsPages};
 ghost use Rattle.cow_tree.specs.Opening.{bounds_under, IsRooted, MayName, Finds, Holds, IsSlotOpened, IsOpened, IsSlotFault, IsOpenFault};
-ghost use Rattle.cow_tree.specs.TreeState.{IsFitted};
+ghost use Rattle.cow_tree.specs.TreeState.{IsAtRest, IsFitted};
 ghost use Rattle.cow_tree.specs.TreeSeen.{device_of, slot_of, ledger_of, top_of, is_open, held};
 
 use crate::TreeKeeper;
@@ -31,6 +31,7 @@ fn tree_slot<D: Device>(device: &mut D) -> Result<(Slot, u64), KeeperFault>
     ensures top { IsTrue (D.state device.old).honest → IfOk result (λ found. greatest_seal (D.state device.old).disk.view 16 ≡ found.1) }
     ensures fits { IfOk result (λ found. (found.0.number < 2) × FitsDevice (D.state device.old).size found.0.root) }
     ensures version { IfOk result (λ found. found.0.root.banner.version ≡ 1) }
+    ensures sealed { IfOk result (λ found. found.0.seal ≤ found.1) }
     ensures fault { IfErr result (IsSlotFault (D.state device.old)) }
     ensures device { IsReadCall D.state (crash_states_of D.moment D.possible_since) device.old device.new }
     ensures reads { CountsReads result (D.state device.old).failed_reads (D.state device.new).failed_reads }
@@ -45,7 +46,12 @@ fn tree_slot<D: Device>(device: &mut D) -> Result<(Slot, u64), KeeperFault>
     if slot.root.banner.version != 1 {
         return Err(KeeperFault::Version);
     }
-    Ok((slot, greatest))
+    let top = if greatest < slot.seal {
+        slot.seal
+    } else {
+        greatest
+    };
+    Ok((slot, top))
 }
 
 /// Makes sure of what is there, and finds the current slot of an image of a tree and the greatest seal.
@@ -53,6 +59,7 @@ fn open_slot<D: Device>(device: &mut D) -> Result<(Slot, u64), KeeperFault>
     ensures opened { IfOk result (λ found. IsSlotOpened (D.state device.old) (D.state device.new) (crash_states_of D.moment D.possible_since device.new) found.0 found.1) }
     ensures fits { IfOk result (λ found. (found.0.number < 2) × FitsDevice (D.state device.old).size found.0.root) }
     ensures version { IfOk result (λ found. found.0.root.banner.version ≡ 1) }
+    ensures sealed { IfOk result (λ found. found.0.seal ≤ found.1) }
     ensures large { IfOk result (λ found. 128 ≤ (D.state device.old).size) }
     ensures fault { IfErr result (IsOpenFault (D.state device.old) (D.state device.new)) }
     ensures device { KeepsDevice D.state (crash_states_of D.moment D.possible_since) device.old device.new }
@@ -76,7 +83,7 @@ fn count_tree<D: Device>(device: &mut D, ledger: &mut Ledger, slot: &Slot) -> Re
     requires fits { 8 * slot.now.root.pages ≤ (D.state device.old).size }
     ensures told { IsTrue (D.state device.old).honest → Tells (tree_of (page_of (D.state device.old).disk.view) (bounds_under slot.now) slot.now.root.height slot.now.root.tree) ledger.old ledger.new result }
     ensures rooted { OnOk result (IsRooted slot.now.root) }
-    ensures lives { length ledger.new.lives ≡ length ledger.old.lives }
+    ensures ledger { OnlyHolds ledger.old ledger.new }
     ensures named { IfErr result (MayName slot.now) }
     ensures reads { ReadsPages D.state (crash_states_of D.moment D.possible_since) device.old device.new result }
 {
@@ -112,7 +119,7 @@ fn walk_slot<D: Device>(device: &mut D, ledger: &mut Ledger, slot: &Slot) -> Res
     requires fits { 8 * slot.now.root.pages ≤ (D.state device.old).size }
     ensures found { IsTrue (D.state device.old).honest → Finds (tree_found slot.now (page_of (D.state device.old).disk.view)) slot.now ledger.new result }
     ensures rooted { OnOk result (IsRooted slot.now.root) }
-    ensures lives { length ledger.new.lives ≡ slot.now.root.pages }
+    ensures rest { IsAtRest slot.now ledger.new }
     ensures named { IfErr result (MayName slot.now) }
     ensures reads { ReadsPages D.state (crash_states_of D.moment D.possible_since) device.old device.new result }
 {
@@ -139,6 +146,7 @@ fn new_ledger(alloc: Global, slot: &Slot) -> Result<Ledger, KeeperFault>
 fn open_parts<D: Device>(alloc: Global, device: &mut D) -> Result<(Slot, Ledger, u64), KeeperFault>
     ensures opened { IfOk result (λ parts. IsOpened (D.state device.old) (D.state device.new) (crash_states_of D.moment D.possible_since device.new) parts.0 parts.1 parts.2) }
     ensures fitted { IfOk result (λ parts. IsFitted (D.state device.old).size parts.0 parts.1) }
+    ensures sealed { IfOk result (λ parts. parts.0.seal ≤ parts.2) }
     ensures large { IfOk result (λ parts. 128 ≤ (D.state device.old).size) }
     ensures fault { IfErr result (IsOpenFault (D.state device.old) (D.state device.new)) }
     ensures device { KeepsDevice D.state (crash_states_of D.moment D.possible_since) device.old device.new }

@@ -9,7 +9,7 @@ ghost use Rattle.page_store.specs.Pages.{leaf_of, branch_of, is_inside};
 ghost use Rattle.page_store.specs.Batch.{is_pair};
 ghost use Rattle.page_store.specs.Content.{place_in, walk, fan, low_of, high_of};
 ghost use Rattle.tree_nodes.specs.PageViews.{bounds_of, pairs_in, children_in};
-ghost use Rattle.cow_tree.specs.Walks.{Tells, NamesInside, ReadsPages};
+ghost use Rattle.cow_tree.specs.Walks.{Tells, NamesInside, OnlyHolds, ReadsPages};
 ghost use Rattle.cow_tree.specs.declared.page_fault.PageFault.TheVariants.{Device as NoRead, Damaged};
 
 use crate::page_fault::PageFault;
@@ -107,6 +107,7 @@ fn count_pairs(leaf: Leaf<'_>) -> u64
 fn reach(ledger: &mut Ledger, page: u32) -> bool
     ensures is { result ≡ is_free ledger.old page }
     ensures held { ledger.new ≡ (if result then holding page ledger.old else ledger.old) }
+    ensures only { OnlyHolds ledger.old ledger.new }
 {
     if !ledger.is_free(page) {
         return false;
@@ -130,7 +131,7 @@ fn walk_children<D: Device>(
     requires fits { 8 * bounds.pages ≤ (D.state device.old).size }
     requires inside { list_all (is_inside bounds.pages) (children_in branch.now.count branch.now.entries.now) ≡ true }
     ensures told { IsTrue (D.state device.old).honest → Tells (fan (walk (page_of (D.state device.old).disk.view) (bounds_of bounds) level) low.now (option_copied high.entry) (children_in branch.now.count branch.now.entries.now)) ledger.old ledger.new result }
-    ensures lives { length ledger.new.lives ≡ length ledger.old.lives }
+    ensures ledger { OnlyHolds ledger.old ledger.new }
     ensures named { IfErr result (NamesInside bounds.pages) }
     ensures reads { ReadsPages D.state (crash_states_of D.moment D.possible_since) device.old device.new result }
 {
@@ -162,7 +163,7 @@ pub(crate) fn walk_tree<D: Device>(
     requires least { 2 ≤ page }
     requires most { page < bounds.pages }
     ensures told { IsTrue (D.state device.old).honest → Tells (walk (page_of (D.state device.old).disk.view) (bounds_of bounds) level page low.now (option_copied high.entry)) ledger.old ledger.new result }
-    ensures lives { length ledger.new.lives ≡ length ledger.old.lives }
+    ensures ledger { OnlyHolds ledger.old ledger.new }
     ensures named { IfErr result (NamesInside bounds.pages) }
     ensures reads { ReadsPages D.state (crash_states_of D.moment D.possible_since) device.old device.new result }
 {

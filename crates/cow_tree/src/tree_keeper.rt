@@ -1,6 +1,6 @@
 // A key-value store in a tree of pages.
-ghost use Rattle.std.specs.Prelude.{IsTrue};
-ghost use Rattle.cow_tree.specs.TreeState.{IsFitted, IsSettled};
+ghost use Rattle.std.specs.Prelude.{◌≤◌, IsTrue};
+ghost use Rattle.cow_tree.specs.TreeState.{IsFitted, IsThere, IsSettled};
 
 use page_alloc::Ledger;
 use page_store::Slot;
@@ -17,5 +17,7 @@ pub struct TreeKeeper<D: Device> {
     pub(crate) top: u64,
     pub(crate) usable: bool,
     ghost fitted: { IsFitted (D.state device).size slot ledger },
-    ghost settled: { IsTrue (D.state device).honest → IsTrue usable → IsSettled (D.state device).disk slot ledger top },
+    ghost sealed: { slot.seal ≤ top },
+    ghost there: { IsTrue (D.state device).honest → IsThere (D.state device).disk.view slot ledger },
+    ghost settled: { IsTrue (D.state device).honest → IsTrue usable → IsSettled (D.state device).disk slot top },
 }

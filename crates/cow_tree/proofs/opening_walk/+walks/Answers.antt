@@ -14,6 +14,7 @@ use Rattle.tree_nodes.specs.PageViews.{bounds_of, children_in}
 use Rattle.tree_nodes.proofs.KeyOrder.{both_true}
 use Rattle.cow_tree.specs.Walks.{Tells, IsWalked, IsWalkedTo}
 use Rattle.cow_tree.specs.declared.page_fault.PageFault.{PageFault}
+use Rattle.cow_tree.proofs.Reaching.{holds_again}
 use Rattle.cow_tree.proofs.ReadsInTurn.{reads_again}
 use Rattle.cow_tree.proofs.Walking.{start, go_on, breaks_off, tells_branch, no_branch, at_child}
 use Rattle.cow_tree.proofs.opening_walk.+walks.Goals as goal
@@ -32,7 +33,7 @@ walk_children-loop-key-init g t c =
     let d = g.D.Device in
     let children = children_in c.args.branch.now.count c.args.branch.now.entries.now in
     record {
-      lives = refl;
+      ledger = record { pages = refl; marks = refl; generation = refl; pins = refl };
       inside = c.requires.inside;
       device = search rules;
       reads = refl;
@@ -70,7 +71,7 @@ walk_children-loop-key-preserved g t c =
     let children = children_in c.args.branch.now.count c.args.branch.now.entries.now in
     let inside = subst (λ (cs : List Child). list_all (is_inside c.args.bounds.pages) cs ≡ true) c.in-Some.ensures.children i.inside in
     record {
-      lives = c.in_ok-more.ensures.lives ∙ i.lives;
+      ledger = holds_again c.loop-key.invariant.ledger c.in_ok-more.ensures.ledger;
       inside = (both_true (is_inside c.args.bounds.pages child) (list_all (is_inside c.args.bounds.pages) others) inside).1;
       device = reads_again i.device c.in_ok-more.ensures.reads.device;
       reads = c.in_ok-more.ensures.reads.reads ∙ i.reads;

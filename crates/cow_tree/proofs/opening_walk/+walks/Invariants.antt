@@ -1,4 +1,4 @@
-use Rattle.std.proofs.Common.{◌≡◌, ◌*◌, ◌+◌, true, length, IsTrue}
+use Rattle.std.proofs.Common.{◌≡◌, ◌*◌, ◌+◌, true, IsTrue}
 use Rattle.std.specs.Prelude.{option_copied}
 use Rattle.std.specs.List.{list_all}
 use Rattle.page_store.specs.Sectors.{page_of}
@@ -7,7 +7,7 @@ use Rattle.page_store.specs.DeviceEffects.{IsReadCall}
 use Rattle.page_store.specs.Pages.{is_inside}
 use Rattle.page_store.specs.Content.{walk, fan}
 use Rattle.tree_nodes.specs.PageViews.{bounds_of, children_in}
-use Rattle.cow_tree.specs.Walks.{IsWalkedTo}
+use Rattle.cow_tree.specs.Walks.{IsWalkedTo, OnlyHolds}
 use Rattle.cow_tree.proofs.opening_walk.+walks.Given as goal
 
 abbrev pub decreases-walk_children : goal.decreases-walk_children
@@ -20,7 +20,7 @@ abbrev pub invariant-walk_children-loop-key : goal.invariant-walk_children-loop-
 invariant-walk_children-loop-key g l =
     let d = g.D.Device in
     record {
-      lives : length l.ledger.lives ≡ length l.fn.ledger.lives;
+      ledger : OnlyHolds l.fn.ledger l.ledger;
       inside : list_all (is_inside l.bounds.pages) (children_in l.left.count l.left.entries.now) ≡ true;
       device : IsReadCall d.state (crash_states_of d.moment d.possible_since) l.fn.device l.device;
       reads : (d.state l.device).failed_reads ≡ (d.state l.fn.device).failed_reads;

@@ -2,8 +2,8 @@ use Rattle.std.proofs.Common.{◌≡◌, ℕ, IsTrue, sym, subst, ap, ◌∙◌,
 use Rattle.page_store.specs.Content.{Found, is_among}
 use Rattle.page_store.specs.Roots.{greatest_seal}
 use Rattle.page_store.specs.Sectors.{Image}
-use Rattle.cow_tree.specs.TreeState.{IsFitted}
-use Rattle.cow_tree.proofs.Openings.{settled_content, under_now}
+use Rattle.cow_tree.specs.TreeState.{IsFitted, found_under}
+use Rattle.cow_tree.proofs.Openings.{tree_is, settled_content, under_now, has_content}
 use Rattle.cow_tree.proofs.tree_keeper.TreeKeeper.open.Goals as goal
 
 pub invariant_of-result : goal.invariant_of-result
@@ -12,14 +12,29 @@ invariant_of-result g c =
     let opened = c.in-Ok.ensures.opened in
     record {
       fitted = subst (λ (n : ℕ). IsFitted n c.in-Ok.slot c.in-Ok.ledger) (sym c.open_parts.ensures.device.same.size) c.in-Ok.ensures.fitted;
+      there = λ keeps1.
+          let keeps : IsTrue (g.D.Device.state c.args.device).honest = subst IsTrue c.open_parts.ensures.device.same.honest keeps1 in
+          let holds = opened.holds keeps in
+          let version = c.in-Ok.ensures.fitted.version in
+          let view = (g.D.Device.state c.open_parts.new.device).disk.view in
+          record {
+            found_is = (tree_is view c.in-Ok.slot (found_under c.in-Ok.slot view) (settled_content view _ c.in-Ok.slot c.in-Ok.ledger (opened.view keeps) version holds) version).1;
+            alive = λ n. holds.alive n ∙ ap (λ (f : Found). is_among n f.pages) (sym (under_now view _ c.in-Ok.slot c.in-Ok.ledger (opened.view keeps) version holds));
+          };
+      sealed = c.in-Ok.ensures.sealed;
       settled = λ keeps1 up.
           let keeps : IsTrue (g.D.Device.state c.args.device).honest = subst IsTrue c.open_parts.ensures.device.same.honest keeps1 in
           let holds = opened.holds keeps in
           let version = c.in-Ok.ensures.fitted.version in
+          let view = (g.D.Device.state c.open_parts.new.device).disk.view in
           record {
             images = λ i image. opened.all keeps i (d.each_image_is_a_crash_state c.open_parts.new.device i keeps1 image);
-            content_is = settled_content _ _ c.in-Ok.slot c.in-Ok.ledger (opened.view keeps) version holds;
-            alive = λ n. holds.alive n ∙ ap (λ (f : Found). is_among n f.pages) (sym (under_now _ _ c.in-Ok.slot c.in-Ok.ledger (opened.view keeps) version holds));
-            seals = let e : greatest_seal (g.D.Device.state c.open_parts.new.device).disk.view 16 ≡ c.in-Ok.top = ap (λ (i : Image). greatest_seal i 16) (opened.view keeps) ∙ opened.top_is keeps in omega (arith, e);
+            current_is = (tree_is view c.in-Ok.slot (found_under c.in-Ok.slot view) (settled_content view _ c.in-Ok.slot c.in-Ok.ledger (opened.view keeps) version holds) version).0;
+            seals = let e : greatest_seal view 16 ≡ c.in-Ok.top = ap (λ (i : Image). greatest_seal i 16) (opened.view keeps) ∙ opened.top_is keeps in omega (arith, e);
           };
     }
+
+pub returns-in-Ok-clause-content : goal.returns-in-Ok-clause-content
+returns-in-Ok-clause-content g c = λ keeps.
+    let opened = c.in-Ok.ensures.opened in
+    has_content (g.D.Device.state c.args.device).disk.view (g.D.Device.state c.open_parts.new.device).disk.view c.in-Ok.slot c.in-Ok.ledger (opened.view keeps) c.in-Ok.ensures.fitted.version (opened.holds keeps)
