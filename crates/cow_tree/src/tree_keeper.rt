@@ -6,7 +6,7 @@ use page_alloc::Ledger;
 use page_store::Slot;
 use sector_device::Device;
 
-/// A key-value store in a tree of pages, on any device. No page that the current root reaches is written: a change goes to free pages.
+/// A key-value store in a tree of pages, on any device. It opens an image and looks pairs up; it writes nothing.
 ///
 /// The pairs stand in the pages alone, so that looking one up reads the pages on the way to it.
 #[derive(Drop)]
