@@ -57,16 +57,17 @@ impl ReadyWire for ReadySocket {
     fn read(&mut self, buffer: &mut [u8]) -> Result<Option<usize>, WireFault> {
         match self.stream.read(buffer) {
             Ok(count) => {
-                self.made.note(CallKind::Read, &buffer[..count]);
+                self.made
+                    .note(CallKind::Read(buffer.len()), &buffer[..count]);
                 self.head.hear(&buffer[..count]);
                 Ok(Some(count))
             }
             Err(error) if is_for_later(error.kind()) => {
-                self.made.note(CallKind::Waited, &[]);
+                self.made.note(CallKind::ReadWaited(buffer.len()), &[]);
                 Ok(None)
             }
             Err(_) => {
-                self.made.note(CallKind::ReadFailed, &[]);
+                self.made.note(CallKind::ReadFailed(buffer.len()), &[]);
                 Err(WireFault)
             }
         }
@@ -75,16 +76,16 @@ impl ReadyWire for ReadySocket {
     fn write(&mut self, bytes: &[u8]) -> Result<Option<usize>, WireFault> {
         match self.stream.write(bytes) {
             Ok(count) => {
-                self.made.note(CallKind::Wrote, &bytes[..count]);
+                self.made.note(CallKind::Wrote(count), bytes);
                 self.taken = self.taken.saturating_add(count as u64);
                 Ok(Some(count))
             }
             Err(error) if is_for_later(error.kind()) => {
-                self.made.note(CallKind::Waited, &[]);
+                self.made.note(CallKind::WriteWaited, bytes);
                 Ok(None)
             }
             Err(_) => {
-                self.made.note(CallKind::WriteFailed, &[]);
+                self.made.note(CallKind::WriteFailed, bytes);
                 Err(WireFault)
             }
         }

@@ -11,7 +11,7 @@ use Rattle.session_core.specs.declared.event.Event.TheVariants as events
 use Rattle.session_core.specs.declared.event.Outcome.{Outcome}
 use Rattle.session_core.specs.declared.fault.HubFault.{HubFault}
 use Rattle.session_core.specs.Outcomes.{join_outcome}
-use Rattle.turns.specs.WireCalls.{WireCall, HasMade, Read, Wrote, Waited}
+use Rattle.turns.specs.WireCalls.{WireCall, HasMade, Read, ReadWaited, Wrote}
 use Rattle.turns.specs.Turns.{Trace, trace, nothing, heard_event}
 use Rattle.ready_turns.specs.Tries.{write_try, read_try}
 use Rattle.ready_turns.specs.declared.seat.Seat.{Seat}
@@ -23,13 +23,13 @@ use Rattle.ready_turns.specs.Seats.{SeatState, at, state_of, leaving, has_left, 
 abbrev ok_of : {E : Type 0} → Option ℕ → Result (Option ℕ) E
 ok_of field = Ok field
 
-pub wrote_is : {E : Type 0} (result : Result (Option ℕ) E) (field : Option ℕ) (count : ℕ) (bytes : List ℕ) → result ≡ Ok field → field ≡ Some count → write_try result bytes ≡ Wrote (take count bytes)
+pub wrote_is : {E : Type 0} (result : Result (Option ℕ) E) (field : Option ℕ) (count : ℕ) (bytes : List ℕ) → result ≡ Ok field → field ≡ Some count → write_try result bytes ≡ Wrote bytes count
 wrote_is {E = E} result field count bytes is which = ap (λ r. write_try r bytes) is ∙ ap (λ f. write_try (ok_of {E = E} f) bytes) which
 
-pub read_is : {E : Type 0} (result : Result (Option ℕ) E) (field : Option ℕ) (count : ℕ) (bytes : List ℕ) → result ≡ Ok field → field ≡ Some count → read_try result bytes ≡ Read (take count bytes)
+pub read_is : {E : Type 0} (result : Result (Option ℕ) E) (field : Option ℕ) (count : ℕ) (bytes : List ℕ) → result ≡ Ok field → field ≡ Some count → read_try result bytes ≡ Read (length bytes) (take count bytes)
 read_is {E = E} result field count bytes is which = ap (λ r. read_try r bytes) is ∙ ap (λ f. read_try (ok_of {E = E} f) bytes) which
 
-pub no_read_is : {E : Type 0} (result : Result (Option ℕ) E) (field : Option ℕ) (bytes : List ℕ) → result ≡ Ok field → field ≡ None → read_try result bytes ≡ Waited
+pub no_read_is : {E : Type 0} (result : Result (Option ℕ) E) (field : Option ℕ) (bytes : List ℕ) → result ≡ Ok field → field ≡ None → read_try result bytes ≡ ReadWaited (length bytes)
 no_read_is {E = E} result field bytes is which = ap (λ r. read_try r bytes) is ∙ ap (λ f. read_try (ok_of {E = E} f) bytes) which
 
 pub within_some : (field : Option ℕ) (count : ℕ) (P : ℕ → Type 0) → IfSome field P → field ≡ Some count → P count
@@ -42,16 +42,16 @@ pub at_same : (stage other : Stage) (u v : List ℕ) (w x : Bool) → stage ≡ 
 at_same stage other u v w x is are same = ap (λ s. at s u w) is ∙ ap (λ l. at other l w) are ∙ ap (λ b. at other v b) same
 
 -- a write that took some
-pub sent_some : (before : SeatState) (count : ℕ) (old new : List WireCall) (after : SeatState) → (count ≡ 0 → ⊥) → count ≤ length before.unsent → new ≡ old ++ Wrote (take count before.unsent) ∷ [] → after ≡ at before.stage (drop count before.unsent) false → HasMade old new (λ made. Writes before (trace made [] []) after)
+pub sent_some : (before : SeatState) (count : ℕ) (old new : List WireCall) (after : SeatState) → (count ≡ 0 → ⊥) → count ≤ length before.unsent → new ≡ old ++ Wrote before.unsent count ∷ [] → after ≡ at before.stage (drop count before.unsent) false → HasMade old new (λ made. Writes before (trace made [] []) after)
 sent_some before count old new after some within called is = (
-  Wrote (take count before.unsent) ∷ [],
+  Wrote before.unsent count ∷ [],
   called,
   inl (record {
     piece = take count before.unsent;
     rest = drop count before.unsent;
     some = λ none. some (sym (length-take-le count before.unsent within) ∙ ap length none);
     unsent = sym (take-append-drop count before.unsent);
-    is = refl;
+    is = ap (λ n. trace (Wrote before.unsent n ∷ []) [] []) (sym (length-take-le count before.unsent within));
     after_is = is;
   }),
 )
@@ -74,9 +74,9 @@ joined_at result stage unsent is none = ap (λ u. at stage u false) none ∙ is
 pub drawn_made : (id : ℕ) (outcome : Outcome) (after : SeatState) → after ≡ drawn_state id outcome → Draws id (trace [] (events.Draw id 4096 ∷ []) (outcome ∷ [])) after
 drawn_made id outcome after is = record { outcome = outcome; is = refl; after_is = is }
 
-pub heard_made : (id : ℕ) (unsent : List ℕ) (old new : List WireCall) (piece : List ℕ) (now : ℕ) (outcome : Outcome) (after : SeatState) → length piece ≤ 512 → new ≡ old ++ Read piece ∷ [] → after ≡ heard_state id outcome →
+pub heard_made : (id : ℕ) (unsent : List ℕ) (old new : List WireCall) (piece : List ℕ) (now : ℕ) (outcome : Outcome) (after : SeatState) → length piece ≤ 512 → new ≡ old ++ Read 512 piece ∷ [] → after ≡ heard_state id outcome →
     HasMade old new (λ made. Listens id unsent (trace made (heard_event id piece now ∷ []) (outcome ∷ [])) after)
-heard_made id unsent old new piece now outcome after room read is = (Read piece ∷ [], read, inl (record { piece = piece; now = now; outcome = outcome; room = room; is = refl; after_is = is }))
+heard_made id unsent old new piece now outcome after room read is = (Read 512 piece ∷ [], read, inl (record { piece = piece; now = now; outcome = outcome; room = room; is = refl; after_is = is }))
 
 -- the text fits
 pub later_fits : (text : List ℕ) → text ≡ error_reply true TryAgainLater [] → length text ≤ 4096

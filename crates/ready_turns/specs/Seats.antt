@@ -7,7 +7,7 @@ use Rattle.session_core.specs.declared.event.Event.TheVariants as events
 use Rattle.session_core.specs.declared.event.Outcome.{Outcome}
 use Rattle.session_core.specs.declared.event.Outcome.TheVariants as outcomes
 use Rattle.session_core.specs.declared.fault.HubFault.TheVariants as faults
-use Rattle.turns.specs.WireCalls.{WireCall, Read, ReadFailed, Wrote, WriteFailed, Waited, Closed}
+use Rattle.turns.specs.WireCalls.{WireCall, Read, ReadFailed, ReadWaited, Wrote, WriteFailed, WriteWaited, Closed}
 use Rattle.turns.specs.Turns.{Trace, trace, nothing, then, heard_event}
 use Rattle.ready_turns.specs.declared.seat.Ending.{Ending}
 use Rattle.ready_turns.specs.declared.seat.Ending.TheVariants.{Served, Full, Failed, Cut, Late}
@@ -63,22 +63,22 @@ drawn_state id outcome = leaving Failed []
 
 -- ---- what is done in a turn
 
--- One read of at most 512 bytes, which the hub is told as one event at a moment.
+-- One read into room for 512 bytes, which the hub is told as one event at a moment.
 pub record Hears (id : ℕ) (t : Trace) (after : SeatState) : Type 0 where
   pub piece : List ℕ
   pub now : ℕ
   pub outcome : Outcome
   pub room : length piece ≤ 512
-  pub is : t ≡ trace (Read piece ∷ []) (heard_event id piece now ∷ []) (outcome ∷ [])
+  pub is : t ≡ trace (Read 512 piece ∷ []) (heard_event id piece now ∷ []) (outcome ∷ [])
   pub after_is : after ≡ heard_state id outcome
 
 -- A read that failed: the hub is told nothing.
 abbrev pub FailsToRead : Trace → SeatState → Type 0
-FailsToRead t after = (t ≡ trace (ReadFailed ∷ []) [] []) × (after ≡ leaving Cut [])
+FailsToRead t after = (t ≡ trace (ReadFailed 512 ∷ []) [] []) × (after ≡ leaving Cut [])
 
 -- A read or a write that would have had to wait: the session rests.
-abbrev pub Waits : SeatState → Trace → SeatState → Type 0
-Waits before t after = (t ≡ trace (Waited ∷ []) [] []) × (after ≡ at before.stage before.unsent true)
+abbrev pub Waits : WireCall → SeatState → Trace → SeatState → Type 0
+Waits call before t after = (t ≡ trace (call ∷ []) [] []) × (after ≡ at before.stage before.unsent true)
 
 -- One draw of at most 4,096 bytes, which are to be sent.
 pub record Draws (id : ℕ) (t : Trace) (after : SeatState) : Type 0 where
@@ -86,21 +86,21 @@ pub record Draws (id : ℕ) (t : Trace) (after : SeatState) : Type 0 where
   pub is : t ≡ trace [] (events.Draw id 4096 ∷ []) (outcome ∷ [])
   pub after_is : after ≡ drawn_state id outcome
 
--- One write, which takes the next of the bytes that are to be sent.
+-- One write of all the bytes that are to be sent, which takes the next of them.
 pub record Sends (before : SeatState) (t : Trace) (after : SeatState) : Type 0 where
   pub piece : List ℕ
   pub rest : List ℕ
   pub some : piece ≢ []
   pub unsent : before.unsent ≡ piece ++ rest
-  pub is : t ≡ trace (Wrote piece ∷ []) [] []
+  pub is : t ≡ trace (Wrote before.unsent (length piece) ∷ []) [] []
   pub after_is : after ≡ at before.stage rest false
 
--- A write that failed, or that took none: nothing more is sent.
-abbrev pub FailsToSend : Trace → SeatState → Type 0
-FailsToSend t after = ((t ≡ trace (WriteFailed ∷ []) [] []) ⊎ (t ≡ trace (Wrote [] ∷ []) [] [])) × (after ≡ leaving Cut [])
+-- A write of all of them that failed, or that took none: nothing more is sent.
+abbrev pub FailsToSend : List ℕ → Trace → SeatState → Type 0
+FailsToSend unsent t after = ((t ≡ trace (WriteFailed unsent ∷ []) [] []) ⊎ (t ≡ trace (Wrote unsent 0 ∷ []) [] [])) × (after ≡ leaving Cut [])
 
 abbrev pub Writes : SeatState → Trace → SeatState → Type 0
-Writes before t after = Sends before t after ⊎ FailsToSend t after ⊎ Waits before t after
+Writes before t after = Sends before t after ⊎ FailsToSend before.unsent t after ⊎ Waits (WriteWaited before.unsent) before t after
 
 -- What follows in the same turn: a session that goes no further leaves the hub.
 abbrev pub Follows : ℕ → Bool → Trace → Type 0
@@ -124,7 +124,7 @@ Closes ending t after = (t ≡ trace (Closed ∷ []) [] []) × (after ≡ at (st
 
 -- A session that hears makes one read.
 abbrev pub Listens : ℕ → List ℕ → Trace → SeatState → Type 0
-Listens id unsent t after = Hears id t after ⊎ FailsToRead t after ⊎ Waits (at (stages.Listening id) unsent false) t after
+Listens id unsent t after = Hears id t after ⊎ FailsToRead t after ⊎ Waits (ReadWaited 512) (at (stages.Listening id) unsent false) t after
 
 -- One that is replied to makes one draw, or one write of what is to be sent.
 abbrev pub Replies : ℕ → List ℕ → Trace → SeatState → Type 0

@@ -44,11 +44,12 @@ impl Wire for SocketWire {
     fn read(&mut self, buffer: &mut [u8]) -> Result<usize, WireFault> {
         match self.stream.read(buffer) {
             Ok(count) => {
-                self.made.note(CallKind::Read, &buffer[..count]);
+                self.made
+                    .note(CallKind::Read(buffer.len()), &buffer[..count]);
                 Ok(count)
             }
             Err(_) => {
-                self.made.note(CallKind::ReadFailed, &[]);
+                self.made.note(CallKind::ReadFailed(buffer.len()), &[]);
                 Err(WireFault)
             }
         }
@@ -57,11 +58,11 @@ impl Wire for SocketWire {
     fn write(&mut self, bytes: &[u8]) -> Result<usize, WireFault> {
         match self.stream.write(bytes) {
             Ok(count) => {
-                self.made.note(CallKind::Wrote, &bytes[..count]);
+                self.made.note(CallKind::Wrote(count), bytes);
                 Ok(count)
             }
             Err(_) => {
-                self.made.note(CallKind::WriteFailed, &[]);
+                self.made.note(CallKind::WriteFailed, bytes);
                 Err(WireFault)
             }
         }

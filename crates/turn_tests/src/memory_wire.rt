@@ -79,12 +79,13 @@ impl Wire for MemoryWire {
         let left = self.input.get(self.place..).unwrap_or(&[]);
         let count = left.len().min(self.piece).min(buffer.len());
         if count == 0 && !self.ends {
-            self.made.note(CallKind::ReadFailed, &[]);
+            self.made.note(CallKind::ReadFailed(buffer.len()), &[]);
             return Err(WireFault);
         }
         buffer[..count].copy_from_slice(&left[..count]);
         self.place = self.place.saturating_add(count);
-        self.made.note(CallKind::Read, &buffer[..count]);
+        self.made
+            .note(CallKind::Read(buffer.len()), &buffer[..count]);
         Ok(count)
     }
 
@@ -92,10 +93,10 @@ impl Wire for MemoryWire {
         let left = self.room.saturating_sub(self.written.len());
         let count = bytes.len().min(self.at_once).min(left);
         if count == 0 || self.written.extend_from_slice(&bytes[..count]).is_err() {
-            self.made.note(CallKind::WriteFailed, &[]);
+            self.made.note(CallKind::WriteFailed, bytes);
             return Err(WireFault);
         }
-        self.made.note(CallKind::Wrote, &bytes[..count]);
+        self.made.note(CallKind::Wrote(count), bytes);
         Ok(count)
     }
 

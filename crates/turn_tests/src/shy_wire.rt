@@ -41,16 +41,17 @@ impl ReadyWire for ShyWire {
 
     fn read(&mut self, buffer: &mut [u8]) -> Result<Option<usize>, WireFault> {
         if !self.turns_ready() {
-            self.made.note(CallKind::Waited, &[]);
+            self.made.note(CallKind::ReadWaited(buffer.len()), &[]);
             return Ok(None);
         }
         match self.wire.read(buffer) {
             Ok(count) => {
-                self.made.note(CallKind::Read, &buffer[..count]);
+                self.made
+                    .note(CallKind::Read(buffer.len()), &buffer[..count]);
                 Ok(Some(count))
             }
             Err(fault) => {
-                self.made.note(CallKind::ReadFailed, &[]);
+                self.made.note(CallKind::ReadFailed(buffer.len()), &[]);
                 Err(fault)
             }
         }
@@ -58,16 +59,16 @@ impl ReadyWire for ShyWire {
 
     fn write(&mut self, bytes: &[u8]) -> Result<Option<usize>, WireFault> {
         if !self.turns_ready() {
-            self.made.note(CallKind::Waited, &[]);
+            self.made.note(CallKind::WriteWaited, bytes);
             return Ok(None);
         }
         match self.wire.write(bytes) {
             Ok(count) => {
-                self.made.note(CallKind::Wrote, &bytes[..count]);
+                self.made.note(CallKind::Wrote(count), bytes);
                 Ok(Some(count))
             }
             Err(fault) => {
-                self.made.note(CallKind::WriteFailed, &[]);
+                self.made.note(CallKind::WriteFailed, bytes);
                 Err(fault)
             }
         }

@@ -36,11 +36,11 @@ heard_moment id now [] = refl
 heard_moment id now (b ∷ bytes) = refl
 
 -- a read, and the sending of a reply to it
-pub heard_made : (id : ℕ) (old mid new : List WireCall) (piece : List ℕ) (now : ℕ) (outcome : Outcome) (after : Stage) → length piece ≤ 512 → mid ≡ old ++ Read piece ∷ [] → HasMade mid new (λ made. (whole : Bool) × IsSent (heard_reply outcome) made whole) → after ≡ heard_stage id outcome →
+pub heard_made : (id : ℕ) (old mid new : List WireCall) (piece : List ℕ) (now : ℕ) (outcome : Outcome) (after : Stage) → length piece ≤ 512 → mid ≡ old ++ Read 512 piece ∷ [] → HasMade mid new (λ made. (whole : Bool) × IsSent (heard_reply outcome) made whole) → after ≡ heard_stage id outcome →
     HasMade old new (λ made. Hears id (trace made (heard_event id piece now ∷ []) (outcome ∷ [])) after ⊎ HearsNothing (trace made (heard_event id piece now ∷ []) (outcome ∷ [])) after)
 heard_made id old mid new piece now outcome after room read sent is = (
-  Read piece ∷ sent.0,
-  sent.1 ∙ ap (λ l. l ++ sent.0) read ∙ append_assoc old (Read piece ∷ []) sent.0,
+  Read 512 piece ∷ sent.0,
+  sent.1 ∙ ap (λ l. l ++ sent.0) read ∙ append_assoc old (Read 512 piece ∷ []) sent.0,
   inl (record {
     piece = piece;
     now = now;
@@ -56,8 +56,8 @@ heard_made id old mid new piece now outcome after room read sent is = (
   }),
 )
 
-pub heard_nothing : (id : ℕ) (old new : List WireCall) (after : Stage) → new ≡ old ++ ReadFailed ∷ [] → after ≡ Left → HasMade old new (λ made. Hears id (trace made [] []) after ⊎ HearsNothing (trace made [] []) after)
-heard_nothing id old new after read is = (ReadFailed ∷ [], read, inr (record { is = refl; after_is = is }))
+pub heard_nothing : (id : ℕ) (old new : List WireCall) (after : Stage) → new ≡ old ++ ReadFailed 512 ∷ [] → after ≡ Left → HasMade old new (λ made. Hears id (trace made [] []) after ⊎ HearsNothing (trace made [] []) after)
+heard_nothing id old new after read is = (ReadFailed 512 ∷ [], read, inr (record { is = refl; after_is = is }))
 
 -- a draw, and its sending
 pub replied_made : (id : ℕ) (old new : List WireCall) (outcome : Outcome) (whole : Bool) (after : Stage) → HasMade old new (λ made. IsSent (drawn_bytes outcome) made whole) → after ≡ replied_stage id outcome whole → HasMade old new (λ made. Replies id (trace made (events.Draw id 512 ∷ []) (outcome ∷ [])) after)

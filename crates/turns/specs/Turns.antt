@@ -72,7 +72,7 @@ abbrev pub heard_reply : Outcome → List ℕ
 heard_reply (outcomes.Fault (Full need free)) = error_reply true TryAgainLater []
 heard_reply outcome = []
 
--- One read of at most 512 bytes, which the hub is told as one event at a moment.
+-- One read into room for 512 bytes, which the hub is told as one event at a moment.
 pub record Hears (id : ℕ) (t : Trace) (after : Stage) : Type 0 where
   pub piece : List ℕ
   pub now : ℕ
@@ -80,7 +80,7 @@ pub record Hears (id : ℕ) (t : Trace) (after : Stage) : Type 0 where
   pub sent : List WireCall
   pub whole : Bool
   pub room : length piece ≤ 512
-  pub calls_are : t.calls ≡ Read piece ∷ sent
+  pub calls_are : t.calls ≡ Read 512 piece ∷ sent
   pub events_are : t.events ≡ heard_event id piece now ∷ []
   pub outcomes_are : t.outcomes ≡ outcome ∷ []
   pub reply : IsSent (heard_reply outcome) sent whole
@@ -88,7 +88,7 @@ pub record Hears (id : ℕ) (t : Trace) (after : Stage) : Type 0 where
 
 -- A read that failed: the hub is told nothing.
 pub record HearsNothing (t : Trace) (after : Stage) : Type 0 where
-  pub is : t ≡ trace (ReadFailed ∷ []) [] []
+  pub is : t ≡ trace (ReadFailed 512 ∷ []) [] []
   pub after_is : after ≡ Left
 
 abbrev pub drawn_bytes : Outcome → List ℕ

@@ -8,14 +8,17 @@ use std::marker::Model;
 /// Which call of a wire it was, without its bytes.
 #[derive(Clone, Copy, Debug, PartialEq, Eq)]
 pub enum CallKind {
-    /// Bytes were read, or none at the end.
-    Read,
-    ReadFailed,
-    /// Bytes were taken.
-    Wrote,
+    /// Bytes were read into so much room, or none at the end.
+    Read(usize),
+    /// A read into so much room failed.
+    ReadFailed(usize),
+    /// A read into so much room would have had to wait, and did nothing.
+    ReadWaited(usize),
+    /// So many of the bytes were taken.
+    Wrote(usize),
     WriteFailed,
-    /// It would have had to wait, and did nothing.
-    Waited,
+    /// A write would have had to wait, and did nothing.
+    WriteWaited,
     Closed,
 }
 
@@ -44,7 +47,7 @@ impl CallLog {
         CallLog {}
     }
 
-    /// Notes a call that was made, with its bytes where it has some.
+    /// Notes a call that was made, with the bytes that were read or offered.
     pub fn note(&mut self, kind: CallKind, bytes: &[u8])
         ensures { self.new.calls ≡ self.old.calls ++ call_of kind bytes.now ∷ [] }
     {

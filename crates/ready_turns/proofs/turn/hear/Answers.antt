@@ -1,6 +1,6 @@
 use Rattle.std.proofs.Common.{take, ap, sym, ◌∙◌, ◌++◌, arith, refl, length-take, inl, inr, ◌∷◌, []}
 use Rattle.session_core.specs.Outcomes.{bytes_outcome}
-use Rattle.turns.specs.WireCalls.{ReadFailed, Waited}
+use Rattle.turns.specs.WireCalls.{Read, ReadFailed, ReadWaited}
 use Rattle.turns.specs.Turns.{heard_event}
 use Rattle.turns.proofs.Runnings.{run_none, run_one}
 use Rattle.turns.proofs.TurnsMade.{heard_moment}
@@ -13,11 +13,13 @@ returns-in-Ok-Some g c =
     run_one _ _ _ _ g.met.S.SiteKeeper.crash_states_represent _ _ (heard_event c.args.id piece c.now.result) (bytes_outcome c.tell-answer.result) _ _ _ c.tell-answer.ensures
     (c.now.ensures ∙ ap (λ l. g.C.Clock.told c.args.clock.now ++ l) (sym (heard_moment c.args.id c.now.result piece)))
     (heard_made c.args.id _ _ _ piece c.now.result _ _ (omega (arith, length-take c.in-Ok-Some.count c.read.new.buffer, c.read.auto.buffer))
-    (ap g.W.ReadyWire.calls c.heard.ensures.wire ∙ c.read.ensures.calls ∙ ap (λ w. g.W.ReadyWire.calls c.args.seat.now.wire ++ w ∷ []) (read_is c.read.result c.in-Ok-Some.field-0 c.in-Ok-Some.count c.read.new.buffer c.in-Ok-Some.is c.in-Ok-Some.field-0-is)) c.heard.ensures.state)
+    (ap g.W.ReadyWire.calls c.heard.ensures.wire ∙ c.read.ensures.calls ∙ ap (λ w. g.W.ReadyWire.calls c.args.seat.now.wire ++ w ∷ []) (read_is c.read.result c.in-Ok-Some.field-0 c.in-Ok-Some.count c.read.new.buffer c.in-Ok-Some.is c.in-Ok-Some.field-0-is)
+    ∙ ap (λ n. g.W.ReadyWire.calls c.args.seat.now.wire ++ Read n piece ∷ []) c.read.auto.buffer)
+    c.heard.ensures.state)
 
 pub returns-in-Ok-None : goal.returns-in-Ok-None
 returns-in-Ok-None g c = run_none _ _ _ _ g.met.S.SiteKeeper.crash_states_represent _ _ _
-    (Waited ∷ [], c.read.ensures.calls ∙ ap (λ w. g.W.ReadyWire.calls c.args.seat.now.wire ++ w ∷ []) (no_read_is c.read.result c.in-Ok-None.field-0 c.read.new.buffer c.in-Ok-None.is c.in-Ok-None.field-0-is), inr (inr (refl, at_same _ _ _ _ _ _ c.requires refl refl)))
+    (ReadWaited 512 ∷ [], c.read.ensures.calls ∙ ap (λ w. g.W.ReadyWire.calls c.args.seat.now.wire ++ w ∷ []) (no_read_is c.read.result c.in-Ok-None.field-0 c.read.new.buffer c.in-Ok-None.is c.in-Ok-None.field-0-is ∙ ap (λ n. ReadWaited n) c.read.auto.buffer), inr (inr (refl, at_same _ _ _ _ _ _ c.requires refl refl)))
 
 pub returns-in-Err : goal.returns-in-Err
-returns-in-Err g c = run_none _ _ _ _ g.met.S.SiteKeeper.crash_states_represent _ _ _ (ReadFailed ∷ [], ap g.W.ReadyWire.calls c.become_stage.ensures.wire ∙ c.in-Err.ensures.calls, inr (inl (refl, c.become_stage.ensures.state)))
+returns-in-Err g c = run_none _ _ _ _ g.met.S.SiteKeeper.crash_states_represent _ _ _ (ReadFailed 512 ∷ [], ap g.W.ReadyWire.calls c.become_stage.ensures.wire ∙ c.in-Err.ensures.calls ∙ ap (λ n. g.W.ReadyWire.calls c.args.seat.now.wire ++ ReadFailed n ∷ []) c.read.auto.buffer, inr (inl (refl, c.become_stage.ensures.state)))
