@@ -1,11 +1,19 @@
 -- What is done for clients that are in.
-use Rattle.std.specs.Prelude.{◌≡◌, ℕ, Bool, true, false, List, []}
+use Rattle.std.specs.Prelude.{◌≡◌, ℕ, Bool, true, false, not, ◌&&◌, is_some, List, []}
 use Rattle.session_core.specs.declared.event.Event.{Event}
 use Rattle.session_core.specs.declared.event.Outcome.{Outcome}
-use Rattle.ready_turns.specs.Seats.{For, Turn, Dismissed}
+use Rattle.ready_turns.specs.Seats.{For, Turn, Dismissed, ending_of}
 use Rattle.ready_sockets.specs.Limits.{is_over}
 use Rattle.ready_sockets.specs.declared.ready_socket.ReadySocket.{ReadySocket}
 use Rattle.ready_sockets.specs.declared.visit.Visit.{Visit}
+
+-- its wire is closed
+abbrev pub has_gone : Visit → Bool
+has_gone visit = is_some (ending_of visit.seat.stage)
+
+-- it would do something in its turn
+abbrev pub has_turn : Visit → Bool
+has_turn visit = not visit.seat.waits && not (has_gone visit)
 
 -- a turn of its session
 abbrev pub HadTurn : Visit → List Event → List Outcome → Visit → Type 0

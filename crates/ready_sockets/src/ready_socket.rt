@@ -1,6 +1,7 @@
 // The calls of the system on a connection. Each function here makes one of them and notes it. That it makes the call which it notes, no clause can say: so
 // each is short, and tests on real connections hold it.
 ghost use Rattle.std.specs.Prelude.{◌≡◌, [], IfOk};
+ghost use Rattle.ready_sockets.specs.Heads.{selector_in};
 
 use crate::Head;
 use mio::net::TcpStream;
@@ -39,7 +40,9 @@ impl ReadySocket {
     }
 
     /// The selector that was asked for, as far as the log looks at it.
-    pub fn selector(&self) -> &[u8] {
+    pub fn selector(&self) -> &[u8]
+        ensures { result.now ≡ selector_in self.now.head.bytes.items }
+    {
         self.head.selector()
     }
 

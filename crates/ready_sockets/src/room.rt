@@ -1,5 +1,7 @@
 // The listener, the clients that are in, and the wait for whoever is ready.
-ghost use Rattle.std.specs.Prelude.{◌≡◌};
+ghost use Rattle.std.specs.Prelude.{◌≡◌, ◌<◌, not, length, filter, IfSome};
+ghost use Rattle.std.specs.List.{list_all, list_any};
+ghost use Rattle.ready_sockets.specs.Visits.{has_gone, has_turn};
 
 use crate::visit::Visit;
 use mio::net::{TcpListener, TcpStream};
@@ -133,7 +135,8 @@ impl Room {
     /// The next connection, where there is room for it. Where none comes, none is asked for until the listener is ready; where one can't be had, the next is asked for
     /// after the next wait.
     pub(crate) fn next(&mut self) -> Option<(TcpStream, IpAddr, Token)>
-        ensures { self.new.visits ≡ self.old.visits }
+        ensures visits { self.new.visits ≡ self.old.visits }
+        ensures room { IfSome result (λ _. length self.old.visits.items < 32) }
     {
         if !self.may_accept || self.visits.len() >= MOST_VISITS {
             return None;
@@ -150,17 +153,23 @@ impl Room {
     }
 
     /// Whether nobody has a turn.
-    pub(crate) fn all_wait(&self) -> bool {
-        !self.visits.iter().any(|visit| visit.has_turn())
+    pub(crate) fn all_wait(&self) -> bool
+        ensures { result ≡ list_all (λ visit. not (has_turn visit)) self.now.visits.items }
+    {
+        self.visits.iter().all(|visit| !visit.has_turn())
     }
 
     /// Whether somebody has gone.
-    pub(crate) fn has_closed(&self) -> bool {
+    pub(crate) fn has_closed(&self) -> bool
+        ensures { result ≡ list_any has_gone self.now.visits.items }
+    {
         self.visits.iter().any(|visit| visit.is_closed())
     }
 
     /// Those that have gone are in no more.
-    pub(crate) fn sweep(&mut self) {
+    pub(crate) fn sweep(&mut self)
+        ensures { self.new.visits.items ≡ filter (λ visit. not (has_gone visit)) self.old.visits.items }
+    {
         self.visits.retain(|visit| !visit.is_closed());
     }
 }

@@ -1,6 +1,7 @@
 // A client that came, and what the log will say of it.
 ghost use Rattle.std.specs.Prelude.{◌≡◌, if◌then◌else◌};
 ghost use Rattle.ready_sockets.specs.Limits as spec;
+ghost use Rattle.ready_sockets.specs.Visits.{has_gone, has_turn};
 
 use crate::ReadySocket;
 use crate::limits::is_over;
@@ -43,12 +44,16 @@ impl Visit {
     }
 
     /// Whether its wire is closed.
-    pub(crate) fn is_closed(&self) -> bool {
+    pub(crate) fn is_closed(&self) -> bool
+        ensures { result ≡ has_gone self.now }
+    {
         self.seat.stage().ending().is_some()
     }
 
     /// Whether it would do something in its turn.
-    pub(crate) fn has_turn(&self) -> bool {
+    pub(crate) fn has_turn(&self) -> bool
+        ensures { result ≡ has_turn self.now }
+    {
         !self.seat.waits() && !self.is_closed()
     }
 
