@@ -48,7 +48,7 @@ fn add_branch(
 }
 
 /// Adds the owned nodes of a tree of a level as pages of a generation, each under the next number of a list, those under a branch before it. Answers the number of the
-/// page at which the tree then stands. The list has a number for each.
+/// page at which the tree then stands. The list has a number for each. Where memory lacks some of the pages may have been added.
 #[cycle(writes)]
 pub fn write_node(
     alloc: Global,
