@@ -1,3 +1,4 @@
 pub mod ClientReads
 pub mod Joins
 pub mod MenuLines
+pub mod Runs

@@ -1,5 +1,6 @@
 -- Text in one pass over a body. What a byte gives depends on its place in its line alone.
-use Rattle.std.specs.Prelude.{ℕ, true, false, List, [], ◌∷◌, ◌==◌, ◌&&◌, if◌then◌else◌}
+use Rattle.std.specs.Prelude.{ℕ, Bool, true, false, List, [], ◌∷◌, ◌==◌, ◌&&◌, ◌||◌, if◌then◌else◌}
+use Rattle.std.specs.List.{position_or_len}
 use Rattle.text_writer.specs.Text.{text_end}
 use Rattle.text_writer.specs.declared.place.Place.{Place}
 
@@ -25,3 +26,11 @@ closing p =
     if p.held then 13 ∷ 13 ∷ 10 ∷ text_end
     else if p.at_start then text_end
     else 13 ∷ 10 ∷ text_end
+
+-- LF or CR
+abbrev pub may_end_line : ℕ → Bool
+may_end_line b = b == 10 || b == 13
+
+-- How many of the next bytes are sent as they are: those before a CR or an LF, once a line has begun.
+abbrev pub run_length : Place → List ℕ → ℕ
+run_length p bytes = if p.held || p.at_start then 0 else position_or_len may_end_line bytes

@@ -1,7 +1,9 @@
 // Where in a line a body is, and what its next byte gives.
-ghost use Rattle.std.specs.Prelude.{◌≡◌, ◌++◌, OnOk};
+ghost use Rattle.std.specs.Prelude.{◌≡◌, ◌≤◌, ◌++◌, OnOk, length};
+ghost use Rattle.std.specs.List.{position_or_len};
 ghost use Rattle.text_writer.specs.Place as spec;
 
+use memchr::memchr2;
 use std::alloc::AllocError;
 
 /// Whether no byte of the line has been given, and whether a CR is held back.
@@ -52,6 +54,30 @@ pub fn after(place: Place, byte: u8) -> Place
             at_start: false,
             held: false,
         },
+    }
+}
+
+/// How many bytes stand before the first CR or LF.
+#[tactic(auto, using(crate::proofs::Runs::place_of_first, crate::proofs::Runs::place_of_none))]
+fn plain_length(bytes: &[u8]) -> usize
+    ensures place { result ≡ position_or_len spec.may_end_line bytes.now }
+    ensures within { result ≤ length bytes.now }
+{
+    match memchr2(b'\n', b'\r', bytes) {
+        Some(at) => at,
+        None => bytes.len(),
+    }
+}
+
+/// How many of the next bytes are sent as they are.
+pub fn run_length(place: Place, bytes: &[u8]) -> usize
+    ensures run { result ≡ spec.run_length place bytes.now }
+    ensures within { result ≤ length bytes.now }
+{
+    if place.held || place.at_start {
+        0
+    } else {
+        plain_length(bytes)
     }
 }
 

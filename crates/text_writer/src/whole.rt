@@ -3,7 +3,7 @@ ghost use Rattle.std.specs.Prelude.{◌≡◌, IfOk};
 ghost use Rattle.host_types.specs.Lines.{lines};
 ghost use Rattle.text_writer.specs.Text as spec;
 
-use crate::place::{Place, after, send_byte, send_closing};
+use crate::place::{Place, after, run_length, send_byte, send_closing};
 use host_types::Bytes;
 use std::alloc::{AllocError, Global};
 
@@ -13,14 +13,20 @@ pub fn text(alloc: Global, body: &[u8]) -> Result<Bytes, AllocError>
     ensures bytes { IfOk result (λ t. t ≡ spec.text body.now) }
     ensures client { IfOk result (λ t. spec.client t ≡ lines body.now) }
 {
-    let mut sent = Vec::new(alloc);
+    let mut sent = Vec::with_capacity(alloc, body.len())?;
     let mut place = Place {
         at_start: true,
         held: false,
     };
-    for byte in body {
-        send_byte(&mut sent, place, *byte)?;
-        place = after(place, *byte);
+    let mut at = 0;
+    while at < body.len() {
+        let byte = body[at];
+        send_byte(&mut sent, place, byte)?;
+        place = after(place, byte);
+        let later = &body[at + 1..];
+        let run = run_length(place, later);
+        sent.extend_from_slice(&later[..run])?;
+        at += 1 + run;
     }
     send_closing(&mut sent, place)?;
     Ok(Bytes::from(sent))
