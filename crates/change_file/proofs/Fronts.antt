@@ -126,6 +126,7 @@ module _ {S L : Type 0} (state : S → SiteState) (lacks : S → SiteChange → 
   keeps (Change change) now made new faults.Read stop honest = stop.0.0.site honest
   keeps (Change change) now made new (faults.Full need free) stop honest = stop.0.0.site honest
   keeps (Change change) now made new faults.Spent stop honest = stop.0.0.site honest
+  keeps (Change change) now made new faults.Deep stop honest = stop.0.0.site honest
   keeps (Change change) now made new faults.Failed stop honest = stop.0.site honest
   keeps (Change change) now made new faults.Memory stop honest = stop.0.site honest
   keeps (Refused refused) now made new fault stop honest = ap (λ (k : S). (state k).site) stop.1

@@ -24,6 +24,7 @@ fault_comes shows failed old new applied (faults.Refused r) never h = absurd (ne
 fault_comes shows failed old new applied faults.Read never h = h
 fault_comes shows failed old new applied (faults.Full need free) never h = h
 fault_comes shows failed old new applied faults.Spent never h = h
+fault_comes shows failed old new applied faults.Deep never h = h
 fault_comes shows failed old new applied faults.Failed never h = h
 fault_comes shows failed old new applied faults.Memory never h = h
 
@@ -33,6 +34,7 @@ unless_failed P failed old new (faults.Refused r) never h = absurd (never r h)
 unless_failed P failed old new faults.Read never h = tt
 unless_failed P failed old new (faults.Full need free) never h = tt
 unless_failed P failed old new faults.Spent never h = tt
+unless_failed P failed old new faults.Deep never h = tt
 unless_failed P failed old new faults.Failed never h = tt
 unless_failed P failed old new faults.Memory never h = tt
 
@@ -106,5 +108,6 @@ items_fault found (Err fault) shows failed old new change now applied same h err
     by faults.Read h = h
     by (faults.Full need free) h = h
     by faults.Spent h = h
+    by faults.Deep h = h
     by faults.Failed h = h
     by faults.Memory h = h

@@ -42,6 +42,7 @@ IsPlanFault shows failed old new applied (faults.Refused r) = (s : Site) → sho
 IsPlanFault shows failed old new applied faults.Read = failed old new faults.Read
 IsPlanFault shows failed old new applied (faults.Full need free) = failed old new (faults.Full need free)
 IsPlanFault shows failed old new applied faults.Spent = failed old new faults.Spent
+IsPlanFault shows failed old new applied faults.Deep = failed old new faults.Deep
 IsPlanFault shows failed old new applied faults.Failed = failed old new faults.Failed
 IsPlanFault shows failed old new applied faults.Memory = failed old new faults.Memory
 
@@ -51,6 +52,7 @@ IfRefused (faults.Refused r) P = P
 IfRefused faults.Read P = Unit {0}
 IfRefused (faults.Full need free) P = Unit {0}
 IfRefused faults.Spent P = Unit {0}
+IfRefused faults.Deep P = Unit {0}
 IfRefused faults.Failed P = Unit {0}
 IfRefused faults.Memory P = Unit {0}
 

@@ -30,6 +30,7 @@ pub fn all_told(alloc: Global) -> Result<String, AllocError> {
         ImageFault::Store(KeeperFault::Spent),
         ImageFault::Store(KeeperFault::Full { need: 9, free: 4 }),
         ImageFault::Store(KeeperFault::Failed),
+        ImageFault::Store(KeeperFault::Deep),
         ImageFault::Memory,
     ] {
         text.push('\n')?;

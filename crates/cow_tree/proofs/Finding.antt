@@ -56,7 +56,7 @@ walk_inside a bounds (suc level) page low high found least most e =
     subst (λ (x : Found). AreWithin bounds.pages x.pages) (some_is _ found g.2)
     (least, most, fan_within bounds.pages (walk a bounds level) (λ p lo hi x l m i. walk_inside a bounds level p lo hi x l m i) f.0 low high g.0 inside g.1)
 
-tree_inside : (a : ℕ → List ℕ) (bounds : Bounds) (height page : ℕ) (found : Found) → tree_of a bounds height page ≡ Some found → AreWithin bounds.pages found.pages
+pub tree_inside : (a : ℕ → List ℕ) (bounds : Bounds) (height page : ℕ) (found : Found) → tree_of a bounds height page ≡ Some found → AreWithin bounds.pages found.pages
 tree_inside a bounds zero page found e =
     let t = test_passed (page == 0) (Some nothing_found) found e in
     subst (λ (x : Found). AreWithin bounds.pages x.pages) (some_is nothing_found found t.1) tt

@@ -31,6 +31,8 @@ module _ (old new : State) (slot : Slot) (ledger : LedgerState) (top : ℕ) (usa
       generation = refl;
       top = refl;
       free = λ keeps. refl;
+      height = refl;
+      pins = λ keeps. refl;
     };
     honest = only.same.honest;
     reads = rises;

@@ -11,3 +11,15 @@ pub mod AnswersGiven
 pub mod RootWalks
 pub mod KeeperReads
 pub mod TreesAreMaps
+pub mod DraftSteps
+pub mod PathReads
+pub mod KeyCounts
+pub mod DraftEdits
+pub mod RootsPlaced
+pub mod Taken
+pub mod DraftsBegin
+pub mod PlansMade
+pub mod Planned
+pub mod CommitsWritten
+pub mod TreeCommits
+pub mod FirstImages

@@ -1,19 +1,16 @@
 -- What an opening finds, and why it is refused.
-use Rattle.std.proofs.Common.{◌⊎◌, inr, ◌<◌, ◌+◌, ◌*◌, arith, Bool, true, false, ◌≡◌, ℕ, ◌≤◌, Option, Some, None, sym, ap, subst, ◌∙◌, IsTrue, inl}
+use Rattle.std.proofs.Common.{◌≡◌, ℕ, ◌≤◌, Option, Some, None, sym, ap, subst, ◌∙◌, IsTrue, inl}
 use Rattle.common_types.specs.Counts.{counted}
 use Rattle.sector_device.specs.Device.{State, NothingCounted}
 use Rattle.page_alloc.specs.LedgerState.{LedgerState}
 use Rattle.page_store.specs.Reading.{◌>>=◌}
 use Rattle.page_store.specs.Sectors.{Image, page_of}
-use Rattle.page_store.specs.Roots.{current, newer, slot_of, greatest_seal}
+use Rattle.page_store.specs.Roots.{current}
 use Rattle.page_store.specs.Content.{Found, content, content_under, found_as, tree_found, pairs_and_banner, HasContent}
 use Rattle.page_store.specs.declared.slot.Slot.{Slot}
 use Rattle.page_store.proofs.Fields.{bind_some, bind_again}
-use Rattle.page_store.proofs.CurrentSlots.{one_seal}
-use Rattle.page_store.proofs.OtherHalfCommits.{greatest_ge}
-use Rattle.std.specs.Prelude.{nat_lt, if◌then◌else◌}
 use Rattle.cow_tree.specs.Walks.{CountsPages}
-use Rattle.cow_tree.specs.Opening.{fault_of, IsReached, Finds, Holds, MayName, IsOpenFault}
+use Rattle.cow_tree.specs.Opening.{fault_of, IsReached, Finds, AreWhole, Holds, MayName, IsOpenFault}
 use Rattle.cow_tree.specs.TreeState.{or_nothing, found_under}
 use Rattle.cow_tree.specs.declared.page_fault.PageFault.{PageFault}
 use Rattle.cow_tree.specs.declared.page_fault.PageFault.TheVariants.{Device, Damaged}
@@ -53,12 +50,13 @@ pub under_is : (image : Image) (slot : Slot) (found : Found) → content image �
 under_is image slot found e version = ap or_nothing (tree_is image slot found e version).1
 
 -- what the walk told of the tree is told of the image
-pub holds_now : (image : Image) (slot : Slot) (ledger : LedgerState) → current image ≡ Some slot → slot.root.banner.version ≡ 1 → IsReached (tree_found slot (page_of image)) slot ledger → Holds image slot ledger
-holds_now image slot ledger now version r = record {
+pub holds_now : (image : Image) (slot : Slot) (ledger : LedgerState) → current image ≡ Some slot → slot.root.banner.version ≡ 1 → IsReached (tree_found slot (page_of image)) slot ledger → AreWhole image ledger → Holds image slot ledger
+holds_now image slot ledger now version r whole = record {
   found = r.found;
   content_is = content_is image slot (Some r.found) now version r.is;
   ledger_is = r.ledger_is;
   alive = r.alive;
+  whole = whole;
   keys = r.keys;
 }
 
@@ -85,20 +83,3 @@ walk_fault T old mid new slot ledger (Damaged page) large keeps view now version
   λ honest.
       (slot, (now honest, version), content_is old.disk.view slot None (now honest) version (subst (λ (i : Image). tree_found slot (page_of i) ≡ None) (view honest) (told (keeps honest))), named),
 )
-
--- ---- the seal of the current slot
-
-newer_is : (a b : Option Slot) (slot : Slot) → newer a b ≡ Some slot → (a ≡ Some slot) ⊎ (b ≡ Some slot)
-newer_is None b slot e = inr e
-newer_is (Some x) None slot e = inl e
-newer_is (Some x) (Some y) slot e = go (nat_lt x.seal y.seal) e
-  where
-    go : (t : Bool) → (if t then Some y else Some x) ≡ Some slot → (Some x ≡ Some slot) ⊎ (Some y ≡ Some slot)
-    go true e = inr e
-    go false e = inl e
-
-seal_among : (image : Image) (s : ℕ) (slot : Slot) → s < 2 → slot_of image s ≡ Some slot → slot.seal ≤ greatest_seal image 16
-seal_among image s slot lt e = greatest_ge image 16 (8 * s + 0) slot.seal (omega (arith, lt)) (one_seal image s 0 slot e (omega arith))
-
-pub at_most_greatest : (image : Image) (slot : Slot) → current image ≡ Some slot → slot.seal ≤ greatest_seal image 16
-at_most_greatest image slot e = elim (newer_is (slot_of image 0) (slot_of image 1) slot e) [ inl h ↦ seal_among image 0 slot (omega arith) h | inr h ↦ seal_among image 1 slot (omega arith) h ]

@@ -13,7 +13,9 @@ use Rattle.page_alloc.proofs.Counting.{count_more}
 use Rattle.page_store.specs.Content.{is_among, are_distinct}
 use Rattle.tree_nodes.proofs.KeyOrder.{both_true}
 use Rattle.page_store.specs.declared.slot.Slot.{Slot}
-use Rattle.cow_tree.specs.Walks.{OnlyHolds}
+use Rattle.page_store.specs.Sectors.{Image, page_of}
+use Rattle.cow_tree.specs.Walks.{OnlyHolds, HoldsWhole}
+use Rattle.cow_tree.specs.Opening.{AreWhole}
 use Rattle.cow_tree.specs.TreeState.{IsAtRest}
 use Rattle.cow_tree.specs.Reached.{are_fresh, holding_all}
 
@@ -116,7 +118,7 @@ fresh_are_distinct s (n ∷ ns) f =
     let alone : is_among n ns ≡ false = elim (cases_Bool (is_among n ns)) [ inl t ↦ let u = was_free (holding n s) ns n b.1 t in absurd (cc (u, gone)) | inr e ↦ e ] in
     both (not (is_among n ns)) (are_distinct ns) (ap not alone) (fresh_are_distinct (holding n s) ns b.1)
 
-count_most : (f : ℕ → Bool) (n : ℕ) → count_below f n ≤ n
+pub count_most : (f : ℕ → Bool) (n : ℕ) → count_below f n ≤ n
 count_most f zero = omega arith
 count_most f (suc n) = step (f n) (count_below f n) (count_most f n)
   where
@@ -171,7 +173,7 @@ pub within_both : (pages : ℕ) (xs ys : List ℕ) → AreWithin pages xs → Ar
 within_both pages [] ys h k = k
 within_both pages (x ∷ xs) ys h k = (h.0, h.1, within_both pages xs ys h.2 k)
 
-among_within : (pages m : ℕ) (ns : List ℕ) → AreWithin pages ns → IsTrue (is_among m ns) → (2 ≤ m) × (m < pages)
+pub among_within : (pages m : ℕ) (ns : List ℕ) → AreWithin pages ns → IsTrue (is_among m ns) → (2 ≤ m) × (m < pages)
 among_within pages m [] w h = absurd (cc h)
 among_within pages m (n ∷ ns) w h =
     elim (cases_eq m n) [
@@ -233,16 +235,48 @@ alive_are s (n ∷ ns) m marks f =
     swap false true c = refl
     swap false false c = refl
 
+not_alive : (pages generation m : ℕ) → is_alive (fresh pages generation) m ≡ false
+not_alive pages generation m = ap (λ (l : Life). lives_at generation l && not (is_retired (mark_of (fresh pages generation) m))) (no_life pages generation m)
+
 -- of a new ledger, exactly the pages that were reached
 pub alive_exactly : (pages generation : ℕ) (ns : List ℕ) (m : ℕ) → are_fresh (fresh pages generation) ns ≡ true → is_alive (holding_all (fresh pages generation) ns) m ≡ is_among m ns
 alive_exactly pages generation ns m f =
     alive_are (fresh pages generation) ns m (λ k. ap is_retired (no_mark pages generation k)) f
-    ∙ ap (λ (t : Bool). is_among m ns || t) (ap (λ (l : Life). lives_at generation l && not (is_retired (mark_of (fresh pages generation) m))) (no_life pages generation m))
+    ∙ ap (λ (t : Bool). is_among m ns || t) (not_alive pages generation m)
     ∙ or_none (is_among m ns)
   where
     or_none : (b : Bool) → (b || false) ≡ b
     or_none true = refl
     or_none false = refl
+
+-- ---- pages that were read whole
+
+pub holds_none : (image : Image) (s : LedgerState) → HoldsWhole image s s
+holds_none image s = record { each = λ m t. inl t }
+
+-- one page that was read
+pub holds_read : (image : Image) (s now : LedgerState) (n : ℕ) → now ≡ holding n s → length (page_of image n) ≡ 4096 → HoldsWhole image s now
+holds_read image s now n held long = record {
+  each = λ m t.
+      elim (cases_eq m n) [
+        | inl e ↦ inr (ap (λ (k : ℕ). length (page_of image k)) e ∙ long)
+        | inr ne ↦ inl (sym (there m ne) ∙ t)
+      ];
+}
+  where
+    there : (m : ℕ) → m ≢ n → is_alive now m ≡ is_alive s m
+    there m ne = ap (λ (l : LedgerState). is_alive l m) held ∙ ap (λ (l : Life). lives_at s.generation l && not (is_retired (mark_of s m))) (life_there s n m ne)
+
+pub wholes_again : {image : Image} {a b c : LedgerState} → HoldsWhole image a b → HoldsWhole image b c → HoldsWhole image a c
+wholes_again first second = record { each = λ m t. elim (second.each m t) [ inl before ↦ first.each m before | inr long ↦ inr long ] }
+
+-- of a new ledger, all pages that are alive
+pub all_whole : (image : Image) (pages generation : ℕ) (first now : LedgerState) → first ≡ fresh pages generation → HoldsWhole image first now → AreWhole image now
+all_whole image pages generation first now is w m t =
+    elim (w.each m t) [
+      | inl before ↦ let none : is_alive first m ≡ false = ap (λ (s : LedgerState). is_alive s m) is ∙ not_alive pages generation m in absurd (cc (before, none))
+      | inr long ↦ long
+    ]
 
 -- ---- all else of a ledger
 
@@ -258,6 +292,7 @@ pub at_rest : (slot : Slot) (first new : LedgerState) → first ≡ fresh slot.r
 at_rest slot first new is only = record {
   pages = only.pages ∙ ap (λ (s : LedgerState). length s.lives) is ∙ length-replicate slot.root.pages Never;
   generation = only.generation ∙ ap (λ (s : LedgerState). s.generation) is;
+  marked = ap (λ (ms : List Mark). length ms) marks ∙ length-replicate slot.root.pages Untouched;
   unmarked = ap unmarked marks ∙ no_marks slot.root.pages ∙ sym marks;
 }
   where

@@ -4,3 +4,9 @@ pub mod Opening
 pub mod TreeState
 pub mod TreeSeen
 pub mod Ways
+pub mod Plans
+pub mod Drafts
+pub mod Taken
+pub mod Committed
+pub mod KeeperLaws
+pub mod Formatting

@@ -4,7 +4,7 @@ use Rattle.common_types.specs.CrashStates.{CrashStates}
 use Rattle.sector_device.specs.Device.{State, OneCounted}
 use Rattle.page_alloc.specs.LedgerState.{LedgerState, is_alive}
 use Rattle.page_alloc.specs.Calls.{fresh}
-use Rattle.page_store.specs.Sectors.{Image}
+use Rattle.page_store.specs.Sectors.{Image, page_of}
 use Rattle.page_store.specs.Roots.{current, greatest_seal}
 use Rattle.page_store.specs.Steps.{AllAre}
 use Rattle.page_store.specs.Content.{Found, Bounds, content, is_among}
@@ -51,12 +51,17 @@ Finds what slot ledger (Ok _) = IsReached what slot ledger
 Finds what slot ledger (Err Device) = Unit {0}
 Finds what slot ledger (Err (Damaged page)) = what ≡ None
 
--- An image has a content of this slot, and the ledger has exactly its pages.
+-- each page that is alive is a whole page of the image
+abbrev pub AreWhole : Image → LedgerState → Type 0
+AreWhole image ledger = (n : ℕ) → IsTrue (is_alive ledger n) → length (page_of image n) ≡ 4096
+
+-- An image has a content of this slot, and the ledger has exactly its pages, each of them whole.
 pub record Holds (image : Image) (slot : Slot) (ledger : LedgerState) : Type 0 where
   pub found : Found
   pub content_is : content image ≡ Some (slot, found)
   pub ledger_is : ledger ≡ holding_all (fresh slot.root.pages slot.seal) found.pages
   pub alive : (n : ℕ) → is_alive ledger n ≡ is_among n found.pages
+  pub whole : AreWhole image ledger
   pub keys : slot.root.keys ≡ length found.pairs
 
 -- the current slot is of a tree

@@ -1,21 +1,31 @@
 -- What a keeper of a tree is, and what its callers see of it.
-use Rattle.std.specs.Prelude.{◌≡◌, ◌≤◌, ◌<◌, ◌*◌, ℕ, Bool, List, length, Option, Some, None}
+use Rattle.std.specs.Prelude.{◌≡◌, ◌≤◌, ◌<◌, ◌*◌, ℕ, Bool, true, List, [], length, Option, Some, None}
 use Rattle.sector_device.specs.Device.{State}
 use Rattle.sector_device.specs.Disk.{Disk, IsImage}
 use Rattle.page_alloc.specs.LedgerState.{LedgerState, is_alive, free_count}
 use Rattle.page_alloc.specs.Calls.{unmarked as without_marks}
 use Rattle.page_store.specs.Sectors.{Image, page_of}
 use Rattle.page_store.specs.Roots.{current, greatest_seal}
+use Rattle.page_store.specs.Batch.{is_map}
 use Rattle.page_store.specs.Content.{Found, nothing_found, tree_found, is_among}
 use Rattle.page_store.specs.StoreState.{StoreState}
 use Rattle.page_store.specs.declared.slot.Slot.{Slot}
-use Rattle.cow_tree.specs.Opening.{IsRooted}
+use Rattle.cow_tree.specs.Opening.{IsRooted, AreWhole}
 
 -- The ledger is of the slot's image and generation, and no commit runs.
 pub record IsAtRest (slot : Slot) (ledger : LedgerState) : Type 0 where
   pub pages : length ledger.lives ≡ slot.root.pages
   pub generation : ledger.generation ≡ slot.seal
+  pub marked : length ledger.marks ≡ slot.root.pages
   pub unmarked : without_marks ledger.marks ≡ ledger.marks
+
+-- a slot of an image of a tree
+pub record IsFittedSlot (slot : Slot) : Type 0 where
+  pub number : slot.number < 2
+  pub least : 16 ≤ slot.root.pages
+  pub most : slot.root.pages ≤ 65536
+  pub version : slot.root.banner.version ≡ 1
+  pub rooted : IsRooted slot.root
 
 -- a slot of an image of a tree on a device of so many sectors, and the ledger of its pages
 pub record IsFitted (sectors : ℕ) (slot : Slot) (ledger : LedgerState) : Type 0 where
@@ -35,10 +45,12 @@ or_nothing (Some found) = found
 abbrev pub found_under : Slot → Image → Found
 found_under slot image = or_nothing (tree_found slot (page_of image))
 
--- The tree under the slot stands in the image, and the ledger has exactly its pages.
+-- The tree under the slot stands in the image, and the ledger has exactly its pages, each of them whole.
 pub record IsThere (image : Image) (slot : Slot) (ledger : LedgerState) : Type 0 where
   pub found_is : tree_found slot (page_of image) ≡ Some (found_under slot image)
+  pub map : is_map (found_under slot image).pairs ≡ true
   pub alive : (n : ℕ) → is_alive ledger n ≡ is_among n (found_under slot image).pages
+  pub whole : AreWhole image ledger
 
 -- Each image of the disk is what reads give; the slot is current there, and no seal is above the top.
 pub record IsSettled (disk : Disk) (slot : Slot) (top : ℕ) : Type 0 where
@@ -58,4 +70,6 @@ tree_holding state slot ledger top usable = record {
   generation = slot.seal;
   top = top;
   free = free_count ledger;
+  height = slot.root.height;
+  pins = [];
 }

@@ -1,10 +1,10 @@
 -- What a walk over a tree tells.
-use Rattle.std.specs.Prelude.{◌≡◌, ◌≤◌, ◌<◌, ◌-◌, ◌*◌, ◌^◌, min, ℕ, true, false, List, length, Option, Some, Result, Ok, Err}
+use Rattle.std.specs.Prelude.{◌≡◌, ◌⊎◌, ◌≤◌, ◌<◌, ◌-◌, ◌*◌, ◌^◌, min, ℕ, true, false, List, length, Option, Some, Result, Ok, Err, IsTrue}
 use Rattle.common_types.specs.Counts.{counted}
 use Rattle.common_types.specs.CrashStates.{CrashStates}
 use Rattle.sector_device.specs.Device.{State}
-use Rattle.page_alloc.specs.LedgerState.{LedgerState}
-use Rattle.page_store.specs.Sectors.{Image}
+use Rattle.page_alloc.specs.LedgerState.{LedgerState, is_alive}
+use Rattle.page_store.specs.Sectors.{Image, page_of}
 use Rattle.page_store.specs.DeviceEffects.{IsReadCall}
 use Rattle.page_store.specs.Reading.{◌>>=◌}
 use Rattle.page_store.specs.Pages.{Child}
@@ -43,6 +43,10 @@ pub record OnlyHolds (old new : LedgerState) : Type 0 where
   pub marks : new.marks ≡ old.marks
   pub generation : new.generation ≡ old.generation
   pub pins : new.pins ≡ old.pins
+
+-- Each page that is newly alive was read whole.
+pub record HoldsWhole (image : Image) (old new : LedgerState) : Type 0 where
+  pub each : (n : ℕ) → IsTrue (is_alive new n) → IsTrue (is_alive old n) ⊎ (length (page_of image n) ≡ 4096)
 
 -- A read that fails is counted, and nothing else.
 abbrev pub CountsPages : {T : Type 0} → Result T PageFault → ℕ → ℕ → Type 0

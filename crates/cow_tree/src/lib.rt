@@ -1,14 +1,22 @@
 //! A key-value store in a tree of pages that are never overwritten.
 #![tactic(auto)]
 
+mod commits;
+mod drafts;
+mod formatting;
 mod laws;
 mod lookups;
 mod opening;
 mod opening_walk;
+mod page_bounds;
 mod page_fault;
 mod page_reads;
+mod plans;
+mod taking;
+mod tree_calls;
 mod tree_figures;
 mod tree_keeper;
 
+pub use formatting::{a_first_leaf, format};
 pub use laws::pairs_of_a_tree_are_a_map;
 pub use tree_keeper::TreeKeeper;

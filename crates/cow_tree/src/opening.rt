@@ -10,8 +10,8 @@ ghost use Rattle.page_store.specs.Steps.{crash_states_of};
 ghost use Rattle.page_store.specs.DeviceEffects.{KeepsDevice, IsReadCall};
 ghost use Rattle.page_store.specs.Content.{tree_of, tree_found, HasContent};
 ghost use Rattle.page_store.specs.declared.fault.KeeperFault.TheVariants.{Small, Memory};
-ghost use Rattle.cow_tree.specs.Walks.{Tells, OnlyHolds, ReadsPages};
-ghost use Rattle.cow_tree.specs.Opening.{bounds_under, IsRooted, MayName, Finds, Holds, IsSlotOpened, IsOpened, IsSlotFault, IsOpenFault};
+ghost use Rattle.cow_tree.specs.Walks.{Tells, OnlyHolds, HoldsWhole, ReadsPages};
+ghost use Rattle.cow_tree.specs.Opening.{bounds_under, IsRooted, MayName, Finds, AreWhole, Holds, IsSlotOpened, IsOpened, IsSlotFault, IsOpenFault};
 ghost use Rattle.cow_tree.specs.TreeState.{IsAtRest, IsFitted};
 ghost use Rattle.cow_tree.specs.TreeSeen.{device_of, slot_of, ledger_of, top_of, is_open, held};
 
@@ -83,6 +83,7 @@ fn count_tree<D: Device>(device: &mut D, ledger: &mut Ledger, slot: &Slot) -> Re
     requires fits { 8 * slot.now.root.pages ≤ (D.state device.old).size }
     ensures told { IsTrue (D.state device.old).honest → Tells (tree_of (page_of (D.state device.old).disk.view) (bounds_under slot.now) slot.now.root.height slot.now.root.tree) ledger.old ledger.new result }
     ensures rooted { OnOk result (IsRooted slot.now.root) }
+    ensures whole { IsTrue (D.state device.old).honest → OnOk result (HoldsWhole (D.state device.old).disk.view ledger.old ledger.new) }
     ensures ledger { OnlyHolds ledger.old ledger.new }
     ensures named { IfErr result (MayName slot.now) }
     ensures reads { ReadsPages D.state (crash_states_of D.moment D.possible_since) device.old device.new result }
@@ -119,6 +120,7 @@ fn walk_slot<D: Device>(device: &mut D, ledger: &mut Ledger, slot: &Slot) -> Res
     requires fits { 8 * slot.now.root.pages ≤ (D.state device.old).size }
     ensures found { IsTrue (D.state device.old).honest → Finds (tree_found slot.now (page_of (D.state device.old).disk.view)) slot.now ledger.new result }
     ensures rooted { OnOk result (IsRooted slot.now.root) }
+    ensures whole { IsTrue (D.state device.old).honest → OnOk result (AreWhole (D.state device.old).disk.view ledger.new) }
     ensures rest { IsAtRest slot.now ledger.new }
     ensures named { IfErr result (MayName slot.now) }
     ensures reads { ReadsPages D.state (crash_states_of D.moment D.possible_since) device.old device.new result }
@@ -169,7 +171,7 @@ impl<D: Device> TreeKeeper<D> {
     /// tree; `Damaged` where the image has no content. `Memory` may stand in place of `Damaged` and of success.
     pub fn open(alloc: Global, device: D) -> Result<TreeKeeper<D>, (KeeperFault, D)>
         ensures content { IsTrue (D.state device).honest → IfOk result (λ k. HasContent (D.state device).disk.view (held D.state k).pairs (held D.state k).banner) }
-        // The slot is the current one, the ledger has exactly the pages of its tree, and there are as many pairs as the slot says.
+        // The slot is the current one, the ledger has exactly the pages of its tree, each of them whole, and there are as many pairs as the slot says.
         ensures holds { IsTrue (D.state device).honest → IfOk result (λ k. Holds (D.state device).disk.view (slot_of k) (ledger_of k)) }
         ensures top { IsTrue (D.state device).honest → IfOk result (λ k. top_of k ≡ greatest_seal (D.state device).disk.view 16) }
         ensures usable { IfOk result (λ k. is_open k ≡ true) }
@@ -187,6 +189,7 @@ impl<D: Device> TreeKeeper<D> {
         let mut device = device;
         match open_parts(alloc, &mut device) {
             Ok((slot, ledger, top)) => Ok(TreeKeeper {
+                alloc,
                 device,
                 slot,
                 ledger,
@@ -202,6 +205,7 @@ impl<D: Device> TreeKeeper<D> {
         ensures { result ≡ device_of self }
     {
         let TreeKeeper {
+            alloc: _,
             device,
             slot: _,
             ledger: _,

@@ -23,6 +23,7 @@ fn show_keeper_faults(alloc: Global, line: &mut Line) -> Result<(), Trouble> {
         KeeperFault::Full { need: 8, free: 7 },
         KeeperFault::Failed,
         KeeperFault::Memory,
+        KeeperFault::Deep,
     ] {
         let text = format!(in alloc; "{fault}/{}", OpenFault::Keeper(fault))?;
         line.word(&text)?;

@@ -33,6 +33,7 @@ keeper_refused old new size (kinds.Damaged page) is counts = (is, counts, λ hon
 keeper_refused old new size kinds.Small is counts = (is, counts, λ honest. too_small old.disk.view (omega (arith, size honest, is)))
 keeper_refused old new size kinds.Memory is counts = (is, counts)
 keeper_refused old new size kinds.Spent is counts = absurd is
+keeper_refused old new size kinds.Deep is counts = absurd is
 keeper_refused old new size (kinds.Full need free) is counts = absurd is
 keeper_refused old new size kinds.Failed is counts = absurd is
 
@@ -45,6 +46,7 @@ small_refused state device back kinds.Version is same small = let large = is.0 i
 small_refused state device back (kinds.Damaged page) is same small = let large = is.0 in absurd (omega (arith, large, small))
 small_refused state device back kinds.Memory is same small = let large = is.0 in absurd (omega (arith, large, small))
 small_refused state device back kinds.Spent is same small = absurd is
+small_refused state device back kinds.Deep is same small = absurd is
 small_refused state device back (kinds.Full need free) is same small = absurd is
 small_refused state device back kinds.Failed is same small = absurd is
 
@@ -87,6 +89,7 @@ site_refused old new before after opened reads writes fault is = by fault is
     by (reading.Keeper kinds.Version) is = absurd is
     by (reading.Keeper kinds.Small) is = absurd is
     by (reading.Keeper kinds.Spent) is = absurd is
+    by (reading.Keeper kinds.Deep) is = absurd is
     by (reading.Keeper (kinds.Full need free)) is = absurd is
     by (reading.Keeper kinds.Memory) is = absurd is
     by reading.Memory is = ((opened.large, λ honest. flat_slot old.disk.view before.pairs before.banner (opened.content honest) opened.version), nothing is.1)

@@ -24,6 +24,7 @@ of_keeper kinds.Version = Keeper kinds.Version
 of_keeper (kinds.Damaged page) = Keeper (kinds.Damaged page)
 of_keeper kinds.Small = Keeper kinds.Small
 of_keeper kinds.Spent = Keeper kinds.Spent
+of_keeper kinds.Deep = Keeper kinds.Deep
 of_keeper (kinds.Full need free) = Keeper (kinds.Full need free)
 of_keeper kinds.Failed = Keeper kinds.Failed
 
@@ -49,6 +50,7 @@ IsOpeningFault old new (Keeper kinds.Version) = IsOpenFault old new kinds.Versio
 IsOpeningFault old new (Keeper (kinds.Damaged page)) = IsOpenFault old new (kinds.Damaged page) × NothingCounted old new × ShowsNone old
 IsOpeningFault old new (Keeper kinds.Small) = IsOpenFault old new kinds.Small × NothingCounted old new × ShowsNone old
 IsOpeningFault old new (Keeper kinds.Spent) = ⊥
+IsOpeningFault old new (Keeper kinds.Deep) = ⊥
 IsOpeningFault old new (Keeper (kinds.Full need free)) = ⊥
 IsOpeningFault old new (Keeper kinds.Failed) = ⊥
 IsOpeningFault old new (Keeper kinds.Memory) = ⊥

@@ -17,6 +17,7 @@ abbrev pub fault_name : HubFault → List ℕ
 fault_name hub.Unknown = codes "Unknown"
 fault_name hub.Crowded = codes "Crowded"
 fault_name hub.Spent = codes "Spent"
+fault_name hub.Deep = codes "Deep"
 fault_name (hub.Refused refused) = refused_name refused
 fault_name (hub.Full need free) = full_name need free
 fault_name hub.Broken = codes "Broken"

@@ -39,6 +39,7 @@ pub fn fault_line(alloc: Global, fault: HubFault) -> Result<String, AllocError>
         HubFault::Failed => "fault Failed",
         HubFault::Memory => "fault Memory",
         HubFault::NotReady => "fault NotReady",
+        HubFault::Deep => "fault Deep",
     };
     String::from_str(alloc, line)
 }

@@ -49,6 +49,7 @@ fn hub_faults(alloc: Global, line: &mut Line) -> Result<(), Trouble> {
         HubFault::Failed,
         HubFault::Memory,
         HubFault::NotReady,
+        HubFault::Deep,
     ] {
         agrees(alloc, fault)?;
         line.bytes(fault.to_string(alloc)?.as_bytes())?;

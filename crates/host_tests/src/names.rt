@@ -40,6 +40,7 @@ fn faults(alloc: Global, line: &mut Line) -> Result<(), Trouble> {
         SiteFault::Read,
         SiteFault::Failed,
         SiteFault::Memory,
+        SiteFault::Deep,
     ] {
         line.word(&fault.to_string(alloc)?)?;
     }

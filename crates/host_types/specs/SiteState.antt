@@ -31,6 +31,7 @@ IsReadFault may_lack_memory old new (faults.Refused r) = ⊥
 IsReadFault may_lack_memory old new faults.Read = IsTrue old.honest → Rose old.failed_reads new.failed_reads
 IsReadFault may_lack_memory old new (faults.Full need free) = ⊥
 IsReadFault may_lack_memory old new faults.Spent = ⊥
+IsReadFault may_lack_memory old new faults.Deep = ⊥
 IsReadFault may_lack_memory old new faults.Failed = old.usable ≡ false
 IsReadFault may_lack_memory old new faults.Memory = IsTrue may_lack_memory
 
@@ -61,6 +62,7 @@ IsChangeFault lacks old new applied (faults.Refused r) = HasNotChanged old new �
 IsChangeFault lacks old new applied faults.Read = HasNotChanged old new × (IsTrue old.honest → Rose old.failed_reads new.failed_reads)
 IsChangeFault lacks old new applied (faults.Full need free) = HasNotChanged old new × (free < need) × (IsTrue old.honest → (free ≡ old.free) × IsOk applied × lacks (faults.Full need free))
 IsChangeFault lacks old new applied faults.Spent = HasNotChanged old new × (IsTrue old.honest → IsOk applied × lacks faults.Spent)
+IsChangeFault lacks old new applied faults.Deep = HasNotChanged old new × (IsTrue old.honest → IsOk applied × lacks faults.Deep)
 IsChangeFault lacks old new applied faults.Failed = HasFailed old new applied
 IsChangeFault lacks old new applied faults.Memory = HasNotChanged old new
 

@@ -26,6 +26,9 @@ pub enum SiteFault {
     /// What the site is kept on takes no further change.
     #[error("Spent")]
     Spent,
+    /// What the site is kept on would grow too many levels.
+    #[error("Deep")]
+    Deep,
     /// A write or a sync failed, in this call or before.
     #[error("Failed")]
     Failed,

@@ -39,7 +39,7 @@ pub trait SiteKeeper {
     /// The site, the flags and the counts of failed calls.
     ghost site_state: { Self → SiteState };
 
-    /// For lack of what a valid change at a moment may be refused: room, or a further change at all.
+    /// For lack of what a valid change at a moment may be refused: room, a further change at all, or levels.
     ghost lacks: { Self → ChangeValue → ℕ → SiteFaultValue → Type 0 };
 
     /// A crash state.

@@ -19,6 +19,7 @@ not_shut state lacks (Change change) now made new (faults.Refused r) other stop 
 not_shut state lacks (Change change) now made new faults.Read other stop = stop.0.0.usable
 not_shut state lacks (Change change) now made new (faults.Full need free) other stop = stop.0.0.usable
 not_shut state lacks (Change change) now made new faults.Spent other stop = stop.0.0.usable
+not_shut state lacks (Change change) now made new faults.Deep other stop = stop.0.0.usable
 not_shut state lacks (Change change) now made new faults.Failed other stop = absurd (other refl)
 not_shut state lacks (Change change) now made new faults.Memory other stop = stop.0.usable
 not_shut state lacks (Refused refused) now made new fault other stop = ap (λ k. (state k).usable) stop.1

@@ -13,6 +13,7 @@ line_of number (site.Refused refused) = change_line number (refused_name refused
 line_of number site.Read = fault_line (of_site site.Read)
 line_of number (site.Full need free) = fault_line (of_site (site.Full need free))
 line_of number site.Spent = fault_line (of_site site.Spent)
+line_of number site.Deep = fault_line (of_site site.Deep)
 line_of number site.Failed = fault_line (of_site site.Failed)
 line_of number site.Memory = fault_line (of_site site.Memory)
 

@@ -25,6 +25,7 @@ of_store store.Version = Store store.Version
 of_store (store.Damaged page) = Store (store.Damaged page)
 of_store store.Small = Store store.Small
 of_store store.Spent = Store store.Spent
+of_store store.Deep = Store store.Deep
 of_store (store.Full need free) = Store (store.Full need free)
 of_store store.Failed = Store store.Failed
 
@@ -40,6 +41,7 @@ of_site (sites.Refused refused) = Refused refused
 of_site sites.Read = Store store.Device
 of_site (sites.Full need free) = Store (store.Full need free)
 of_site sites.Spent = Store store.Spent
+of_site sites.Deep = Store store.Deep
 of_site sites.Failed = Store store.Failed
 of_site sites.Memory = Memory
 

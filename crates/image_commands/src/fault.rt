@@ -70,6 +70,7 @@ impl From<SiteFault> for ImageFault {
             SiteFault::Read => ImageFault::Store(KeeperFault::Device),
             SiteFault::Full { need, free } => ImageFault::Store(KeeperFault::Full { need, free }),
             SiteFault::Spent => ImageFault::Store(KeeperFault::Spent),
+            SiteFault::Deep => ImageFault::Store(KeeperFault::Deep),
             SiteFault::Failed => ImageFault::Store(KeeperFault::Failed),
             SiteFault::Memory => ImageFault::Memory,
         }

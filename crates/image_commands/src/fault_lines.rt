@@ -18,6 +18,7 @@ fn store_line(alloc: Global, fault: KeeperFault) -> Result<String, AllocError>
         KeeperFault::Damaged { page } => format!(in alloc; "image: Damaged {page}"),
         KeeperFault::Small => String::from_str(alloc, "image: Small"),
         KeeperFault::Spent => String::from_str(alloc, "image: Spent"),
+        KeeperFault::Deep => String::from_str(alloc, "image: Deep"),
         KeeperFault::Full { need, free } => {
             let name = full_name(alloc, need, free)?;
             format!(in alloc; "image: {name}")
@@ -50,6 +51,7 @@ fn store_advice(fault: KeeperFault) -> &'static str
         KeeperFault::Device
         | KeeperFault::Damaged { .. }
         | KeeperFault::Spent
+        | KeeperFault::Deep
         | KeeperFault::Full { .. }
         | KeeperFault::Failed
         | KeeperFault::Memory => "",

@@ -11,5 +11,6 @@ IsMemoryFault (faults.Refused r) applied = applied ≡ Err r
 IsMemoryFault faults.Read applied = ⊥
 IsMemoryFault (faults.Full need free) applied = ⊥
 IsMemoryFault faults.Spent applied = ⊥
+IsMemoryFault faults.Deep applied = ⊥
 IsMemoryFault faults.Failed applied = ⊥
 IsMemoryFault faults.Memory applied = Unit {0}

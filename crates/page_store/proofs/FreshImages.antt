@@ -33,15 +33,22 @@ same_holds : (f g : ℕ → List ℕ) (pages : List NewPage) (low : ℕ) → ((n
 same_holds f g pages low same le seal [] is h = tt
 same_holds f g pages low same le seal (group ∷ groups) is h = (same low le ∙ h.0, same_holds f g (flat_pages seal (suc low) groups) (suc low) same (omega arith) seal groups refl h.1)
 
-pub fresh_current : (slot : Slot) (bytes : List ℕ) (a b c d : Image) (pages : List NewPage) (pairs : List Pair) → slot.number ≡ 0 → bytes ≡ replicate 4096 0 → AreWritten (8 * 1) 8 bytes a b → pages ≡ flat_pages 1 2 (by_pages pairs) → ArePatched pages b c → IsSwitched slot c d → current d ≡ Some slot
-fresh_current slot bytes a b c d pages pairs number zeros cleared is patch done =
+-- once the second slot is cleared and a switch to the first is done, the first is current
+pub cleared_current : (slot : Slot) (bytes : List ℕ) (a b c d : Image) (pages : List NewPage) → slot.number ≡ 0 → bytes ≡ replicate 4096 0 → AreWritten (8 * 1) 8 bytes a b → is_among 1 (numbers pages) ≡ false → ArePatched pages b c → IsSwitched slot c d → current d ≡ Some slot
+cleared_current slot bytes a b c d pages number zeros cleared out patch done =
     let zero_sector : sector b 8 ≡ replicate 512 0 = cleared.here 0 (omega arith) ∙ ap (λ (l : List ℕ). chunk l 0) zeros in
-    let out : is_among 1 (numbers pages) ≡ false = ap (λ (p : List NewPage). is_among 1 (numbers p)) is ∙ ap (is_among 1) (numbers_flat 1 2 (by_pages pairs)) ∙ before_first 1 2 (length (by_pages pairs)) (omega arith) in
     let kept : sector c 8 ≡ sector b 8 = patch.outside.each 1 0 out (omega arith) in
     let last : sector d 8 ≡ sector c 8 = done.others 8 (inr (omega (arith, number))) in
     let none : slot_of d 1 ≡ None = no_slot (length d) d (last ∙ kept ∙ zero_sector) in
     let first : slot_of d 0 ≡ Some slot = subst (λ (n : ℕ). slot_of d n ≡ Some slot) number done.here in
     rw (first, none) refl
+
+-- flat pages of the first half are no page of a slot
+flat_out : (pages : List NewPage) (pairs : List Pair) → pages ≡ flat_pages 1 2 (by_pages pairs) → is_among 1 (numbers pages) ≡ false
+flat_out pages pairs is = ap (λ (p : List NewPage). is_among 1 (numbers p)) is ∙ ap (is_among 1) (numbers_flat 1 2 (by_pages pairs)) ∙ before_first 1 2 (length (by_pages pairs)) (omega arith)
+
+pub fresh_current : (slot : Slot) (bytes : List ℕ) (a b c d : Image) (pages : List NewPage) (pairs : List Pair) → slot.number ≡ 0 → bytes ≡ replicate 4096 0 → AreWritten (8 * 1) 8 bytes a b → pages ≡ flat_pages 1 2 (by_pages pairs) → ArePatched pages b c → IsSwitched slot c d → current d ≡ Some slot
+fresh_current slot bytes a b c d pages pairs number zeros cleared is patch done = cleared_current slot bytes a b c d pages number zeros cleared (flat_out pages pairs is) patch done
 
 zero_chunk : (k : ℕ) → k < 8 → chunk (replicate 4096 0) k ≡ replicate 512 0
 zero_chunk zero lt = refl
@@ -60,10 +67,9 @@ some x = Some x
 some_is : (x y : ℕ) → some x ≡ some y → x ≡ y
 some_is x y e = cc
 
--- no seal of a fresh image is above 1
-pub fresh_greatest : (slot : Slot) (bytes : List ℕ) (a b c d : Image) (pages : List NewPage) (pairs : List Pair) → slot.number ≡ 0 → slot.seal ≡ 1 → bytes ≡ replicate 4096 0 → AreWritten (8 * 1) 8 bytes a b → pages ≡ flat_pages 1 2 (by_pages pairs) → ArePatched pages b c → IsSwitched slot c d → greatest_seal d 16 ≡ 1
-fresh_greatest slot bytes a b c d pages pairs number seal zeros cleared is patch done =
-    let out : is_among 1 (numbers pages) ≡ false = ap (λ (p : List NewPage). is_among 1 (numbers p)) is ∙ ap (is_among 1) (numbers_flat 1 2 (by_pages pairs)) ∙ before_first 1 2 (length (by_pages pairs)) (omega arith) in
+-- no seal of such an image is above 1
+pub cleared_greatest : (slot : Slot) (bytes : List ℕ) (a b c d : Image) (pages : List NewPage) → slot.number ≡ 0 → slot.seal ≡ 1 → bytes ≡ replicate 4096 0 → AreWritten (8 * 1) 8 bytes a b → is_among 1 (numbers pages) ≡ false → ArePatched pages b c → IsSwitched slot c d → greatest_seal d 16 ≡ 1
+cleared_greatest slot bytes a b c d pages number seal zeros cleared out patch done =
     let shares = slot_shares (length d) d slot.number slot done.here in
     let first : (k : ℕ) → k < 8 → seal_of k (sector d k) ≡ Some 1 = λ k lt.
     let at : 8 * slot.number + k ≡ k = omega (arith, number) in
@@ -79,6 +85,9 @@ fresh_greatest slot bytes a b c d pages pairs number seal zeros cleared is patch
     ]) in
     let least = greatest_ge d 16 0 1 (omega arith) (first 0 (omega arith)) in
     omega (arith, most, least)
+
+pub fresh_greatest : (slot : Slot) (bytes : List ℕ) (a b c d : Image) (pages : List NewPage) (pairs : List Pair) → slot.number ≡ 0 → slot.seal ≡ 1 → bytes ≡ replicate 4096 0 → AreWritten (8 * 1) 8 bytes a b → pages ≡ flat_pages 1 2 (by_pages pairs) → ArePatched pages b c → IsSwitched slot c d → greatest_seal d 16 ≡ 1
+fresh_greatest slot bytes a b c d pages pairs number seal zeros cleared is patch done = cleared_greatest slot bytes a b c d pages number seal zeros cleared (flat_out pages pairs is) patch done
 
 pub fresh_content : (slot : Slot) (b c d : Image) (pages : List NewPage) (pairs : List Pair) → slot.number ≡ 0 → slot.seal ≡ 1 → slot.root.tree ≡ 2 → slot.root.height ≡ 0 → slot.root.keys ≡ length pairs → slot.root.banner.version ≡ 0 → 16 ≤ slot.root.pages → slot.root.pages ≤ 65536
     → is_map pairs ≡ true → pages_needed pairs ≤ 1 → current d ≡ Some slot → pages ≡ flat_pages 1 2 (by_pages pairs) → ArePatched pages b c → IsSwitched slot c d → HasContent d pairs slot.root.banner

@@ -84,6 +84,7 @@ half_counts old mid new faults.Version before reads writes = record { reads = re
 half_counts old mid new (faults.Damaged page) before reads writes = record { reads = reads ∙ before.reads; writes = writes ∙ before.writes }
 half_counts old mid new faults.Small before reads writes = record { reads = reads ∙ before.reads; writes = writes ∙ before.writes }
 half_counts old mid new faults.Spent before reads writes = record { reads = reads ∙ before.reads; writes = writes ∙ before.writes }
+half_counts old mid new faults.Deep before reads writes = record { reads = reads ∙ before.reads; writes = writes ∙ before.writes }
 half_counts old mid new (faults.Full need free) before reads writes = record { reads = reads ∙ before.reads; writes = writes ∙ before.writes }
 half_counts old mid new faults.Failed before reads writes = record { reads = reads ∙ before.reads; writes = writes ∙ before.writes }
 half_counts old mid new faults.Memory before reads writes = record { reads = reads ∙ before.reads; writes = writes ∙ before.writes }
@@ -98,6 +99,7 @@ half_fault old mid new slot (faults.Damaged page) large keeps view now version a
     (large, λ honest. (slot, (now honest, version), no_walk old.disk.view slot (now honest) version (subst (λ (i : Image). flat_walk (page_of i) slot.seal (half_size slot.root.pages) slot.root.tree 0 slot.root.keys ≡ None) (view honest) (h.0 (keeps honest))), h.1))
 half_fault old mid new slot faults.Small large keeps view now version a b h = absurd h
 half_fault old mid new slot faults.Spent large keeps view now version a b h = absurd h
+half_fault old mid new slot faults.Deep large keeps view now version a b h = absurd h
 half_fault old mid new slot (faults.Full need free) large keeps view now version a b h = absurd h
 half_fault old mid new slot faults.Failed large keeps view now version a b h = absurd h
 half_fault old mid new slot faults.Memory large keeps view now version a b h = (large, λ honest. (slot, (now honest, version)))

@@ -1,5 +1,5 @@
 -- What a keeper of flat pages is.
-use Rattle.std.specs.Prelude.{None, ◌-◌, ◌==◌, if◌then◌else◌, Bool, ◌≡◌, ◌≤◌, ◌<◌, ◌*◌, ◌+◌, ℕ, List, Some, true, IsTrue, length}
+use Rattle.std.specs.Prelude.{None, ◌-◌, ◌==◌, if◌then◌else◌, Bool, ◌≡◌, ◌≤◌, ◌<◌, ◌*◌, ◌+◌, ℕ, List, [], Some, true, IsTrue, length}
 use Rattle.sector_device.specs.Disk.{Disk, IsImage}
 use Rattle.page_store.specs.Pages.{Pair}
 use Rattle.page_store.specs.Roots.{current, greatest_seal}
@@ -77,6 +77,8 @@ flat_holding state slot pairs top usable = record {
   generation = slot.seal;
   top = top;
   free = half_size slot.root.pages;
+  height = 0;
+  pins = [];
 }
 
 -- ---- opening
@@ -115,5 +117,6 @@ IsOpenFault old new faults.Version = (128 ≤ old.size) × (IsTrue old.honest �
 IsOpenFault old new (faults.Damaged page) = (128 ≤ old.size) × (IsTrue old.honest → (slot : Slot) × IsFlat old.disk.view slot × (content old.disk.view ≡ None) × MayBeNamed slot page)
 IsOpenFault old new faults.Memory = (128 ≤ old.size) × (IsTrue old.honest → (slot : Slot) × IsFlat old.disk.view slot)
 IsOpenFault old new faults.Spent = ⊥
+IsOpenFault old new faults.Deep = ⊥
 IsOpenFault old new (faults.Full need free) = ⊥
 IsOpenFault old new faults.Failed = ⊥

@@ -25,6 +25,7 @@ IsFormatFault pages old new faults.Version = ⊥
 IsFormatFault pages old new (faults.Damaged page) = ⊥
 IsFormatFault pages old new faults.Small = (pages < 16) ⊎ ((65536 < pages) ⊎ (old.size < 8 * pages))
 IsFormatFault pages old new faults.Spent = ⊥
+IsFormatFault pages old new faults.Deep = ⊥
 IsFormatFault pages old new (faults.Full need free) = ⊥
 IsFormatFault pages old new faults.Failed = (new.failed_reads ≡ old.failed_reads) × (new.failed_writes ≡ counted old.failed_writes)
 IsFormatFault pages old new faults.Memory = new ≡ old

@@ -19,6 +19,7 @@ IsHalfFault slot honest before now read faults.Version = ⊥
 IsHalfFault slot honest before now read (faults.Damaged page) = (IsTrue honest → read ≡ None) × MayBeNamed slot page
 IsHalfFault slot honest before now read faults.Small = ⊥
 IsHalfFault slot honest before now read faults.Spent = ⊥
+IsHalfFault slot honest before now read faults.Deep = ⊥
 IsHalfFault slot honest before now read (faults.Full need free) = ⊥
 IsHalfFault slot honest before now read faults.Failed = ⊥
 IsHalfFault slot honest before now read faults.Memory = Unit {0}

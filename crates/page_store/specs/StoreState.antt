@@ -1,5 +1,5 @@
 -- What a key-value store holds, and what its calls have in common.
-use Rattle.std.specs.Prelude.{◌≡◌, ◌⊎◌, ◌<◌, ◌≤◌, ◌+◌, ◌-◌, ◌^◌, ℕ, Bool, false, List, length, drop, Option, Some, None, Result, Ok, Err, IsTrue}
+use Rattle.std.specs.Prelude.{◌≡◌, ◌⊎◌, ◌<◌, ◌≤◌, ◌+◌, ◌-◌, ◌^◌, ◌/◌, ℕ, Bool, false, List, length, drop, Option, Some, None, Result, Ok, Err, IsTrue}
 use Rattle.common_types.specs.Counts.{counted}
 use Rattle.page_store.specs.Pages.{Pair}
 use Rattle.page_store.specs.declared.banner.Banner.{Banner}
@@ -8,7 +8,7 @@ use Rattle.page_store.specs.declared.figures.Figures.{Figures}
 use Rattle.page_store.specs.declared.fault.KeeperFault.{KeeperFault}
 use Rattle.page_store.specs.declared.fault.KeeperFault.TheVariants as faults
 
--- The pairs stand in byte order of their keys. `honest`: the device keeps its written meaning. `usable`: no write or sync has failed. `generation`: that of the current root slot. `top`: the greatest generation that was found at opening or tried since. `free`: how many pages a commit may write.
+-- The pairs stand in byte order of their keys. `honest`: the device keeps its written meaning. `usable`: no write or sync has failed. `generation`: that of the current root slot. `top`: the greatest generation that was found at opening or tried since. `free`: how many pages a commit may write. `height`: how many levels the tree of pages has, none where the pages are flat. `pins`: the number of each pin that is out, and the pairs that it keeps.
 pub record StoreState : Type 0 where
   pub pairs : List Pair
   pub banner : Banner
@@ -19,10 +19,20 @@ pub record StoreState : Type 0 where
   pub generation : ℕ
   pub top : ℕ
   pub free : ℕ
+  pub height : ℕ
+  pub pins : List (ℕ × List Pair)
 
 -- no generation is above
 abbrev pub last_generation : ℕ
 last_generation = 2 ^ 64 - 1
+
+-- a tree has no more levels
+abbrev pub most_levels : ℕ
+most_levels = 16
+
+-- A commit of so many edits may give a tree too many levels. Flat pages, of version 0, have none.
+abbrev pub MayBeDeep : StoreState → ℕ → Type 0
+MayBeDeep h edits = (0 < h.banner.version) × (most_levels < h.height + 2 + edits / 8)
 
 -- What a store says of its size.
 pub record IsFigures (h : StoreState) (figures : Figures) : Type 0 where
@@ -38,6 +48,8 @@ pub record HasStayed (old new : StoreState) : Type 0 where
   pub generation : new.generation ≡ old.generation
   pub top : new.top ≡ old.top
   pub free : IsTrue old.honest → new.free ≡ old.free
+  pub height : new.height ≡ old.height
+  pub pins : IsTrue old.honest → new.pins ≡ old.pins
 
 -- What a call that only reads leaves: reads may have failed.
 pub record HasRead (old new : StoreState) : Type 0 where
@@ -65,6 +77,7 @@ IsReadFault old new faults.Version = ⊥
 IsReadFault old new (faults.Damaged page) = old.honest ≡ false
 IsReadFault old new faults.Small = ⊥
 IsReadFault old new faults.Spent = ⊥
+IsReadFault old new faults.Deep = ⊥
 IsReadFault old new (faults.Full need free) = ⊥
 IsReadFault old new faults.Failed = old.usable ≡ false
 IsReadFault old new faults.Memory = ⊥
@@ -75,20 +88,23 @@ pub record HasFailed (old new : StoreState) : Type 0 where
   pub banner : new.banner ≡ old.banner
   pub shut : new.usable ≡ false
   pub generation : new.generation ≡ old.generation
+  pub height : new.height ≡ old.height
+  pub pins : IsTrue old.honest → new.pins ≡ old.pins
   pub cause : IsTrue old.usable → new.failed_writes ≡ counted old.failed_writes
   pub top : (new.top ≡ old.top) ⊎ (new.top ≡ old.top + 1)
 
--- When a fault may come of a commit, and what stands then; `may_need` says how much the batch may need.
-abbrev pub IsCommitFault : StoreState → StoreState → (ℕ → Type 0) → KeeperFault → Type 0
-IsCommitFault old new may_need faults.Device = HasStayed old new × (new.failed_reads ≡ counted old.failed_reads)
-IsCommitFault old new may_need faults.NoImage = ⊥
-IsCommitFault old new may_need faults.Version = ⊥
-IsCommitFault old new may_need (faults.Damaged page) = HasStayed old new × (old.honest ≡ false)
-IsCommitFault old new may_need faults.Small = ⊥
-IsCommitFault old new may_need faults.Spent = HasStayed old new × (old.top ≡ last_generation)
-IsCommitFault old new may_need (faults.Full need free) = HasStayed old new × (free < need) × (IsTrue old.honest → (free ≡ old.free) × may_need need)
-IsCommitFault old new may_need faults.Failed = HasFailed old new
-IsCommitFault old new may_need faults.Memory = HasStayed old new
+-- When a fault may come of a commit of so many edits, and what stands then; `may_need` says how much the batch may need.
+abbrev pub IsCommitFault : StoreState → StoreState → ℕ → (ℕ → Type 0) → KeeperFault → Type 0
+IsCommitFault old new edits may_need faults.Device = HasStayed old new × (new.failed_reads ≡ counted old.failed_reads)
+IsCommitFault old new edits may_need faults.NoImage = ⊥
+IsCommitFault old new edits may_need faults.Version = ⊥
+IsCommitFault old new edits may_need (faults.Damaged page) = HasStayed old new × (old.honest ≡ false)
+IsCommitFault old new edits may_need faults.Small = ⊥
+IsCommitFault old new edits may_need faults.Spent = HasStayed old new × (old.top ≡ last_generation)
+IsCommitFault old new edits may_need faults.Deep = HasStayed old new × (IsTrue old.honest → MayBeDeep old edits)
+IsCommitFault old new edits may_need (faults.Full need free) = HasStayed old new × (free < need) × (IsTrue old.honest → (free ≡ old.free) × may_need need)
+IsCommitFault old new edits may_need faults.Failed = HasFailed old new
+IsCommitFault old new edits may_need faults.Memory = HasStayed old new
 
 -- What every commit leaves, whatever it answers.
 pub record HasTried (old new : StoreState) : Type 0 where

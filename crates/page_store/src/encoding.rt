@@ -187,7 +187,7 @@ fn put_sector(out: &mut Vec<u8>, number: u64, seal: u64, part: &[u8]) -> Result<
 
 /// The bytes of a slot's page.
 #[tactic(auto, unfolding(crate::specs::Encoding::slot_bytes))]
-pub(crate) fn slot_page(alloc: Global, slot: &Slot) -> Result<[u8; 4096], AllocError>
+pub fn slot_page(alloc: Global, slot: &Slot) -> Result<[u8; 4096], AllocError>
     requires { slot.now.number < 2 }
     ensures bytes { IfOk result (λ bytes. bytes ≡ slot_bytes slot.now) }
     ensures valid { IfOk result (λ bytes. (sectors : ℕ) → slot.now.seal < 2 ^ 64 → FitsDevice sectors slot.now.root → 0 < slot.now.root.banner.port → IsSlotPage sectors slot.now bytes) }

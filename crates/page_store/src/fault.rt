@@ -43,6 +43,9 @@ pub enum KeeperFault {
     /// Out of memory.
     #[error("Memory")]
     Memory,
+    /// The tree of pages would have too many levels.
+    #[error("Deep")]
+    Deep,
 }
 
 impl From<AllocError> for KeeperFault {

@@ -1,5 +1,5 @@
 // The calls of a keeper of flat pages.
-ghost use Rattle.std.specs.Prelude.{◌≡◌, ◌⊎◌, ◌≤◌, ◌<◌, ◌+◌, ◌==◌, ℕ, true, false, IsTrue, OnOk, OnErr, IfErr, IsErrOf};
+ghost use Rattle.std.specs.Prelude.{◌≡◌, ◌⊎◌, ◌≤◌, ◌<◌, ◌+◌, ◌==◌, ℕ, true, false, length, IsTrue, OnOk, OnErr, IfErr, IsErrOf};
 ghost use Rattle.common_types.specs.CrashStates.{AddsOnly, AddsNone, may_crash_to};
 ghost use Rattle.page_store.specs.Batch.{is_batch, is_map, updated};
 ghost use Rattle.common_types.specs.Counts.{Counts};
@@ -13,7 +13,7 @@ ghost use Rattle.page_store.specs.Content.{is_opened, ImageHas};
 ghost use Rattle.page_store.specs.Sectors.{Image};
 ghost use Rattle.page_store.specs.Steps.{crash_states_of};
 ghost use Rattle.page_store.specs.FlatState.{NeedsPages, IsFlatBetween, flat_commit};
-ghost use Rattle.page_store.specs.CrashStatesRepresent.{crash_states_represent_content, opens_zero};
+ghost use Rattle.page_store.specs.CrashStatesRepresent.{crash_states_represent_content, opens_zero, no_levels};
 
 use crate::batch::{next_pair, value_of};
 use crate::commit::commit_pages;
@@ -73,6 +73,8 @@ impl<D: Device> Keeper for FlatKeeper<D> {
 
     ghost held = { λ k. opens_zero k.slot.root.banner.version k.fitted.version };
 
+    ghost levels = { λ k. no_levels };
+
     ghost ordered = { λ k honest. k.fitted.map };
 
     ghost crash_states_represent = { λ k c honest usable left. crash_states_represent_content (D.state k.device).disk k.slot k.pairs.items k.top (k.crash_states_represent honest usable) k.fitted.version c (D.crash_states_are_images k.device c honest left) };
@@ -129,9 +131,10 @@ impl<D: Device> Keeper for FlatKeeper<D> {
         ensures banner { OnOk result ((held D.state self.new).banner ≡ banner) }
         ensures still_usable { OnOk result ((held D.state self.new).usable ≡ true) }
         ensures rises { OnOk result ((held D.state self.new).top ≡ (held D.state self.old).top + 1) }
+        ensures pins { IsTrue (held D.state self.old).honest → OnOk result ((held D.state self.new).pins ≡ (held D.state self.old).pins) }
         ensures generation { OnOk result ((held D.state self.new).generation ≡ (held D.state self.old).top + 1) }
         ensures fits { IsTrue (held D.state self.old).honest → OnOk result ((n : ℕ) × NeedsPages (pairs_of self.old) batch.now n × (n ≤ (held D.state self.old).free)) }
-        ensures fault { IfErr result (IsCommitFault (held D.state self.old) (held D.state self.new) (NeedsPages (pairs_of self.old) batch.now)) }
+        ensures fault { IfErr result (IsCommitFault (held D.state self.old) (held D.state self.new) (length batch.now) (NeedsPages (pairs_of self.old) batch.now)) }
         ensures closed { (held D.state self.old).usable ≡ false → IsErrOf result Failed }
         ensures spent { (held D.state self.old).usable ≡ true → (held D.state self.old).top ≡ last_generation → IsErrOf result Spent }
         ensures unchanged { (held D.state self.old).usable ≡ false → held D.state self.new ≡ held D.state self.old }

@@ -4,7 +4,7 @@ ghost use Rattle.common_types.specs.CrashStates.{CrashStates, AddsOnly, AddsNone
 ghost use Rattle.page_store.specs.Pages.{Pair};
 ghost use Rattle.page_store.specs.Batch.{value_at, pair_after, updated, is_batch, is_map};
 ghost use Rattle.page_store.specs.Counting.{CountsReads, CountsWrites};
-ghost use Rattle.page_store.specs.StoreState.{StoreState, IsFigures, HasRead, HasTried, NeedsTheSame, IsFilled, IsReadFault, IsCommitFault, last_generation};
+ghost use Rattle.page_store.specs.StoreState.{StoreState, IsFigures, HasRead, HasTried, NeedsTheSame, IsFilled, IsReadFault, IsCommitFault, last_generation, most_levels};
 ghost use Rattle.page_store.specs.declared.banner.Banner.{Banner as BannerValue};
 ghost use Rattle.page_store.specs.declared.edit.Edit.{Edit as EditValue};
 ghost use Rattle.page_store.specs.declared.fault.KeeperFault.TheVariants.{Failed, Spent};
@@ -79,7 +79,7 @@ pub trait Keeper {
 
     /// Makes all edits of a batch, whose keys rise, and sets the banner, in one step.
     ///
-    /// Faults in order: `Failed`, `Spent`, `Device` and `Damaged`, `Full`, and `Failed` again once a write or a sync has failed. `Memory` may stand in place of any fault or success after `Spent`; nothing is written then.
+    /// Faults in order: `Failed`, `Spent`, `Device` and `Damaged`, `Deep`, `Full`, and `Failed` again once a write or a sync has failed. `Memory` may stand in place of any fault or success after `Spent`; nothing is written then.
     fn commit(&mut self, batch: &[Edit], banner: Banner) -> Result<(), KeeperFault>
         requires batch { IsTrue (is_batch batch.now) }
         requires port { 0 < banner.port }
@@ -88,9 +88,10 @@ pub trait Keeper {
         ensures banner { OnOk result ((store_state self.new).banner ≡ banner) }
         ensures still_usable { OnOk result ((store_state self.new).usable ≡ true) }
         ensures rises { OnOk result ((store_state self.new).top ≡ (store_state self.old).top + 1) }
+        ensures pins { IsTrue (store_state self.old).honest → OnOk result ((store_state self.new).pins ≡ (store_state self.old).pins) }
         ensures generation { OnOk result ((store_state self.new).generation ≡ (store_state self.old).top + 1) }
         ensures fits { IsTrue (store_state self.old).honest → OnOk result ((n : ℕ) × may_need self.old batch.now n × (n ≤ (store_state self.old).free)) }
-        ensures fault { IfErr result (IsCommitFault (store_state self.old) (store_state self.new) (may_need self.old batch.now)) }
+        ensures fault { IfErr result (IsCommitFault (store_state self.old) (store_state self.new) (length batch.now) (may_need self.old batch.now)) }
         ensures closed { (store_state self.old).usable ≡ false → IsErrOf result Failed }
         ensures spent { (store_state self.old).usable ≡ true → (store_state self.old).top ≡ last_generation → IsErrOf result Spent }
         ensures unchanged { (store_state self.old).usable ≡ false → store_state self.new ≡ store_state self.old }
@@ -111,6 +112,9 @@ pub trait Keeper {
 
     /// The banner is of a version that is held.
     ghost held: { (k : Self) → IsTrue (holds_version (store_state k).banner.version) };
+
+    /// There are not too many levels.
+    ghost levels: { (k : Self) → (store_state k).height ≤ most_levels };
 
     /// The keys rise in byte order, and keys and values have their sizes.
     ghost ordered: { (k : Self) → IsTrue (store_state k).honest → IsTrue (is_map (store_state k).pairs) };

@@ -26,7 +26,7 @@ pub use banner::Banner;
 pub use batch::{put_pair, remove_pair};
 pub use commit::{NewPage, commit_pages, write_pages};
 pub use edit::Edit;
-pub use encoding::{padded_page, put_entries};
+pub use encoding::{padded_page, put_entries, slot_page};
 pub use fault::KeeperFault;
 pub use figures::Figures;
 pub use flat_keeper::FlatKeeper;

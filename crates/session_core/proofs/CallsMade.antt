@@ -116,6 +116,7 @@ no_failure a b lacking phase post now hub.Memory on off is = absurd (both b.usab
 no_failure a b lacking phase post now hub.Broken on off is = absurd (both b.usable a.usable off on is.1.0.usable)
 no_failure a b lacking phase post now (hub.Full need free) on off is = absurd (both b.usable a.usable off on is.1.0.usable)
 no_failure a b lacking phase post now hub.Spent on off is = absurd (both b.usable a.usable off on is.1.0.usable)
+no_failure a b lacking phase post now hub.Deep on off is = absurd (both b.usable a.usable off on is.1.0.usable)
 no_failure a b lacking phase post now hub.Failed on off is = refl
 no_failure a b lacking phase post now hub.Unknown on off is = absurd is.1
 no_failure a b lacking phase post now hub.Crowded on off is = absurd is.1

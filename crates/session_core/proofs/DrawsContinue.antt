@@ -179,6 +179,7 @@ faulty_keeps : (w new : World) (e : Event) (o : Outcome) (id : ℕ) (reply : Lis
 faulty_keeps w new e (outcomes.Fault hub.Unknown) id reply has is = unchanged id reply e _ new (fault_draws id e hub.Unknown) (ap (λ (v : World). phase_of v id) is.1 ∙ has)
 faulty_keeps w new e (outcomes.Fault hub.Crowded) id reply has is = unchanged id reply e _ new (fault_draws id e hub.Crowded) (ap (λ (v : World). phase_of v id) is.1 ∙ has)
 faulty_keeps w new e (outcomes.Fault hub.Spent) id reply has is = unchanged id reply e _ new (fault_draws id e hub.Spent) (ap (λ (v : World). phase_of v id) is.1 ∙ has)
+faulty_keeps w new e (outcomes.Fault hub.Deep) id reply has is = unchanged id reply e _ new (fault_draws id e hub.Deep) (ap (λ (v : World). phase_of v id) is.1 ∙ has)
 faulty_keeps w new e (outcomes.Fault (hub.Refused r)) id reply has is = unchanged id reply e _ new (fault_draws id e (hub.Refused r)) (ap (λ (v : World). phase_of v id) is.1 ∙ has)
 faulty_keeps w new e (outcomes.Fault hub.Broken) id reply has is = unchanged id reply e _ new (fault_draws id e hub.Broken) (ap (λ (v : World). phase_of v id) is.1 ∙ has)
 faulty_keeps w new e (outcomes.Fault hub.Failed) id reply has is = unchanged id reply e _ new (fault_draws id e hub.Failed) (ap (λ (v : World). phase_of v id) is.1 ∙ has)

@@ -10,3 +10,4 @@ pub mod Hearings
 pub mod Runs
 pub mod CallsMade
 pub mod CallLaws
+pub mod RefusedChanges

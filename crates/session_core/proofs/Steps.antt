@@ -35,7 +35,7 @@ pub answered_by : (b : Bool) (old : World) (e : Event) (o : Outcome) (new : Worl
 answered_by true old e o new a = a
 answered_by false old e o new a = inl a
 
-faulty_by : (b : Bool) (old : World) (e : Event) (o : Outcome) (new : World) → b ≡ false → IsFaulty old e o new → StepBy b old e o new
+pub faulty_by : (b : Bool) (old : World) (e : Event) (o : Outcome) (new : World) → b ≡ false → IsFaulty old e o new → StepBy b old e o new
 faulty_by true old e o new usable f = absurd (cc usable)
 faulty_by false old e o new usable f = inr f
 
@@ -87,7 +87,7 @@ same_parts : (s t : Site) (u v : Bool) (next : ℕ) (ss ts : List (ℕ × world.
 same_parts s t u v next ss ts site flags seats = cc (site, flags, seats)
 
 -- a fault that leaves the site and the sessions, or marks a first failure
-post_fault : (a b : SiteState) (lacking : Option Change → ℕ → SiteFault → Type 0) (next : ℕ) (old new : List (ℕ × world.Phase)) (now : ℕ) (e : Event) (post : Option Change) (fault : HubFault) →
+pub post_fault : (a b : SiteState) (lacking : Option Change → ℕ → SiteFault → Type 0) (next : ℕ) (old new : List (ℕ × world.Phase)) (now : ℕ) (e : Event) (post : Option Change) (fault : HubFault) →
     ((post : Option Change) (what : SiteFault) → lacking post now what → is_some post ≡ true)
     → IsTrue a.honest → a.usable ≡ true → may_work (world_at a next old) e ≡ true → change_in (world_at a next old) e ≡ post → new ≡ old → IsPostFault lacking post now a b fault
     → IsFaulty (world_at a next old) e (Fault fault) (world_at b next new)
@@ -97,6 +97,8 @@ post_fault a b lacking next old new now e post (hub.Full need free) only honest 
     (ap is_some change ∙ only post (faults.Full need free) (cause.2 honest).1, same_parts b.site a.site b.usable a.usable next new old (cause.0.site honest) cause.0.usable seats)
 post_fault a b lacking next old new now e post hub.Spent only honest usable works change seats cause =
     (ap is_some change ∙ only post faults.Spent (cause.1 honest), same_parts b.site a.site b.usable a.usable next new old (cause.0.site honest) cause.0.usable seats)
+post_fault a b lacking next old new now e post hub.Deep only honest usable works change seats cause =
+    (ap is_some change ∙ only post faults.Deep (cause.1 honest), same_parts b.site a.site b.usable a.usable next new old (cause.0.site honest) cause.0.usable seats)
 post_fault a b lacking next old new now e post hub.Failed only honest usable works change seats cause =
     (ap is_some change ∙ cause.change honest, same_parts b.site a.site b.usable false next new old (cause.site honest) cause.shut seats)
 post_fault a b lacking next old new now e post hub.Unknown only honest usable works change seats cause = absurd cause
@@ -244,6 +246,7 @@ no_fault w v e (Fault hub.Memory) works change is = never (may_work w e) works i
 no_fault w v e (Fault hub.Broken) works change is = never (may_work w e) works is.0
 no_fault w v e (Fault (hub.Full need free)) works change is = never (has_change w e) change is.0
 no_fault w v e (Fault hub.Spent) works change is = never (has_change w e) change is.0
+no_fault w v e (Fault hub.Deep) works change is = never (has_change w e) change is.0
 no_fault w v e (Fault hub.Failed) works change is = never (has_change w e) change is.0
 no_fault w v e (Fault hub.Unknown) works change is = absurd (cc is.0)
 no_fault w v e (Fault hub.Crowded) works change is = absurd (cc is.0)

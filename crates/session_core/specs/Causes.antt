@@ -13,13 +13,14 @@ abbrev pub IsLacking : (Change → ℕ → SiteFault → Type 0) → Option Chan
 IsLacking lacks None now fault = ⊥
 IsLacking lacks (Some change) now fault = lacks change now fault
 
--- `Broken` only where the count of failed reads rose; `Full` and `Spent` only of a change that may get them; `Failed` only where a write or a sync had failed before, or where the count of failed writes and syncs rose; `Memory` and `Unknown` as the world says; and no other.
+-- `Broken` only where the count of failed reads rose; `Full`, `Spent` and `Deep` only of a change that may get them; `Failed` only where a write or a sync had failed before, or where the count of failed writes and syncs rose; `Memory` and `Unknown` as the world says; and no other.
 abbrev pub IsHeardCause : (Option Change → ℕ → SiteFault → Type 0) → Option Change → ℕ → SiteState → SiteState → HubFault → Type 0
 IsHeardCause lacking change now old new hub.Unknown = old.usable ≡ true
 IsHeardCause lacking change now old new hub.Memory = old.usable ≡ true
 IsHeardCause lacking change now old new hub.Broken = (old.usable ≡ true) × (IsTrue old.honest → Rose old.failed_reads new.failed_reads)
 IsHeardCause lacking change now old new (hub.Full need free) = (old.usable ≡ true) × (free < need) × (IsTrue old.honest → (free ≡ old.free) × lacking change now (faults.Full need free))
 IsHeardCause lacking change now old new hub.Spent = (old.usable ≡ true) × (IsTrue old.honest → lacking change now faults.Spent)
+IsHeardCause lacking change now old new hub.Deep = (old.usable ≡ true) × (IsTrue old.honest → lacking change now faults.Deep)
 IsHeardCause lacking change now old new hub.Failed = IsTrue old.honest → (old.usable ≡ false) ⊎ Rose old.failed_writes new.failed_writes
 IsHeardCause lacking change now old new hub.Crowded = ⊥
 IsHeardCause lacking change now old new (hub.Refused refused) = ⊥

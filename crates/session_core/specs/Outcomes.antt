@@ -52,5 +52,6 @@ fault_of (faults.Refused refused) = hub.Refused refused
 fault_of faults.Read = hub.Broken
 fault_of (faults.Full need free) = hub.Full need free
 fault_of faults.Spent = hub.Spent
+fault_of faults.Deep = hub.Deep
 fault_of faults.Failed = hub.Failed
 fault_of faults.Memory = hub.Memory

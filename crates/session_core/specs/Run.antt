@@ -11,7 +11,7 @@ use Rattle.session_core.specs.declared.event.Event.TheVariants.{Bytes, End, Admi
 use Rattle.session_core.specs.declared.event.Outcome.{Outcome}
 use Rattle.session_core.specs.declared.event.Outcome.TheVariants.{Fault}
 use Rattle.session_core.specs.declared.fault.HubFault.{HubFault}
-use Rattle.session_core.specs.declared.fault.HubFault.TheVariants.{Full, Spent, Broken, Failed, Memory}
+use Rattle.session_core.specs.declared.fault.HubFault.TheVariants.{Full, Spent, Deep, Broken, Failed, Memory}
 
 abbrev pub is_hearing : Option Phase → Bool
 is_hearing (Some (Heard stream)) = true
@@ -57,6 +57,7 @@ may_come w e Memory = may_work w e
 may_come w e Broken = may_work w e
 may_come w e (Full need free) = has_change w e
 may_come w e Spent = has_change w e
+may_come w e Deep = has_change w e
 may_come w e Failed = has_change w e
 may_come w e fault = false
 

@@ -44,6 +44,7 @@ IsPostFault lacking post now old new hub.Memory = HasNotChanged old new
 IsPostFault lacking post now old new hub.Broken = HasNotChanged old new × (IsTrue old.honest → Rose old.failed_reads new.failed_reads)
 IsPostFault lacking post now old new (hub.Full need free) = HasNotChanged old new × (free < need) × (IsTrue old.honest → (free ≡ old.free) × lacking post now (faults.Full need free))
 IsPostFault lacking post now old new hub.Spent = HasNotChanged old new × (IsTrue old.honest → lacking post now faults.Spent)
+IsPostFault lacking post now old new hub.Deep = HasNotChanged old new × (IsTrue old.honest → lacking post now faults.Deep)
 IsPostFault lacking post now old new hub.Failed = HasFailedNow old new post
 IsPostFault lacking post now old new hub.Unknown = ⊥
 IsPostFault lacking post now old new hub.Crowded = ⊥

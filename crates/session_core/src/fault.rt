@@ -39,6 +39,9 @@ pub enum HubFault {
     /// The reply isn't made yet.
     #[error("NotReady")]
     NotReady,
+    /// What the site is kept on would grow too many levels.
+    #[error("Deep")]
+    Deep,
 }
 
 impl HubFault {
@@ -51,6 +54,7 @@ impl HubFault {
             SiteFault::Read => HubFault::Broken,
             SiteFault::Full { need, free } => HubFault::Full { need, free },
             SiteFault::Spent => HubFault::Spent,
+            SiteFault::Deep => HubFault::Deep,
             SiteFault::Failed => HubFault::Failed,
             SiteFault::Memory => HubFault::Memory,
         }

@@ -59,6 +59,7 @@ fault_since wants a b c (faults.Refused r) first second fault = absurd fault
 fault_since wants a b c faults.Read first second fault = λ honest. rose_since a.failed_reads b.failed_reads c.failed_reads first.reads second.reads (fault (still_honest a b first honest))
 fault_since wants a b c (faults.Full need free) first second fault = absurd fault
 fault_since wants a b c faults.Spent first second fault = absurd fault
+fault_since wants a b c faults.Deep first second fault = absurd fault
 fault_since wants a b c faults.Failed first second fault = sym first.usable ∙ fault
 fault_since wants a b c faults.Memory first second fault = fault
 

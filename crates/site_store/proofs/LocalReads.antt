@@ -37,6 +37,7 @@ counted_later a b c fault x none h = (by fault h.0, h.1 ∙ ap (reads_after faul
     by (kinds.Damaged page) h = sym x.honest ∙ h
     by kinds.Small h = h
     by kinds.Spent h = h
+    by kinds.Deep h = h
     by (kinds.Full need free) h = h
     by kinds.Failed h = sym x.same.usable ∙ h
     by kinds.Memory h = h

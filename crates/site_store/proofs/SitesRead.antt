@@ -74,6 +74,7 @@ told_apart {T} r old new fault is closed h = by fault (λ shut. same r fault is 
     by (Keeper kinds.Version) shut h = absurd h.0
     by (Keeper kinds.Small) shut h = absurd h.0
     by (Keeper kinds.Spent) shut h = absurd h.0
+    by (Keeper kinds.Deep) shut h = absurd h.0
     by (Keeper (kinds.Full need free)) shut h = absurd h.0
     by (Keeper kinds.Memory) shut h = absurd h.0
     by BadRecord shut h = (either old.usable (λ s. let e = shut s in absurd (cc e)), h.0, λ honest s kept. h.1 honest (s, kept))

@@ -1,6 +1,7 @@
 -- A key-value store as a keeper of its site: what calls leave.
-use Rattle.std.proofs.Common.{◌≡◌, ◌⊎◌, ℕ, ◌<◌, ◌≤◌, Bool, true, false, List, map, Option, Some, None, Result, Ok, Err, refl, inl, inr, ⊎_elim, sym, ap, subst, ◌∙◌}
-use Rattle.std.specs.Prelude.{IsTrue, IfErr, IfSome, OnOk, IsOk}
+use Rattle.std.proofs.Common.{◌≡◌, ◌⊎◌, ℕ, ◌<◌, ◌≤◌, ◌+◌, Bool, true, false, List, length, map, Option, Some, None, Result, Ok, Err, refl, inl, inr, ⊎_elim, sym, ap, subst, ◌∙◌}
+use Rattle.std.proofs.lemmas.List.{length-map}
+use Rattle.std.specs.Prelude.{◌/◌, IsTrue, IfErr, IfSome, OnOk, IsOk}
 use mathlib.Core.Logic.{∥∥₁_elim, ∥∥₁_prop}
 use Rattle.host_types.specs.Site.{Site}
 use Rattle.host_types.specs.Change.{apply, touched}
@@ -14,7 +15,7 @@ use Rattle.host_types.specs.declared.site_fault.SiteFault.{SiteFault}
 use Rattle.host_types.specs.declared.site_fault.SiteFault.TheVariants as faults
 use Rattle.page_store.specs.Pages.{Pair}
 use Rattle.page_store.specs.Batch.{updated, edit_key}
-use Rattle.page_store.specs.StoreState.{StoreState, HasRead, NeedsTheSame, HasStayed, HasFailed, HasTried, IsReadFault, IsCommitFault}
+use Rattle.page_store.specs.StoreState.{StoreState, HasRead, NeedsTheSame, HasStayed, HasFailed, HasTried, MayBeDeep, most_levels, IsReadFault, IsCommitFault}
 use Rattle.page_store.specs.declared.banner.Banner.{Banner}
 use Rattle.page_store.specs.declared.edit.Edit.{Edit}
 use Rattle.page_store.specs.declared.fault.KeeperFault.{KeeperFault}
@@ -67,6 +68,7 @@ read_fault_of may_lack_memory a b ka kb kinds.Version h = absurd h
 read_fault_of may_lack_memory a b ka kb (kinds.Damaged page) h = λ honest. absurd (no_truth a.honest honest h)
 read_fault_of may_lack_memory a b ka kb kinds.Small h = absurd h
 read_fault_of may_lack_memory a b ka kb kinds.Spent h = absurd h
+read_fault_of may_lack_memory a b ka kb kinds.Deep h = absurd h
 read_fault_of may_lack_memory a b ka kb (kinds.Full need free) h = absurd h
 read_fault_of may_lack_memory a b ka kb kinds.Failed h = h
 read_fault_of may_lack_memory a b ka kb kinds.Memory h = absurd h
@@ -100,24 +102,29 @@ site_still a b ka kb read = by a.honest refl
     by true honest = (has_read a b ka kb read).site honest
     by false honest = not_passed b.honest (λ t. (kb t).0) (read.honest ∙ honest) ∙ sym (not_passed a.honest (λ t. (ka t).0) honest)
 
-lacks_later : {K : Type 0} → (store_state : K → StoreState) (may_need : K → List Edit → ℕ → Type 0) (k0 k1 : K) (s : Site) (change : Change) (now : ℕ) (fault : SiteFault) → ((batch : List Edit) (need : ℕ) → may_need k0 batch need → may_need k1 batch need) → (store_state k1).top ≡ (store_state k0).top
+-- a call that leaves banner and height
+deep_later : (a b : StoreState) (edits : ℕ) → b.banner ≡ a.banner → b.height ≡ a.height → MayBeDeep a edits → MayBeDeep b edits
+deep_later a b edits banner height deep = (subst (λ (x : Banner). 0 < x.version) (sym banner) deep.0, subst (λ (n : ℕ). most_levels < n + 2 + edits / 8) (sym height) deep.1)
+
+lacks_later : {K : Type 0} → (store_state : K → StoreState) (may_need : K → List Edit → ℕ → Type 0) (k0 k1 : K) (s : Site) (change : Change) (now : ℕ) (fault : SiteFault) → ((batch : List Edit) (need : ℕ) → may_need k0 batch need → may_need k1 batch need) → (store_state k1).top ≡ (store_state k0).top → (store_state k1).banner ≡ (store_state k0).banner → (store_state k1).height ≡ (store_state k0).height
     → IsLacking store_state may_need k0 s change now fault → IsLacking store_state may_need k1 s change now fault
-lacks_later store_state may_need k0 k1 s change now (faults.Refused r) need top h = h
-lacks_later store_state may_need k0 k1 s change now faults.Read need top h = h
-lacks_later store_state may_need k0 k1 s change now (faults.Full may_be_out_of_memory free) need top (batch, t, applied, keys, makes, (is, needs)) = (batch, t, applied, keys, makes, (is, need batch may_be_out_of_memory needs))
-lacks_later store_state may_need k0 k1 s change now faults.Spent need top h = top ∙ h
-lacks_later store_state may_need k0 k1 s change now faults.Failed need top h = h
-lacks_later store_state may_need k0 k1 s change now faults.Memory need top h = h
+lacks_later store_state may_need k0 k1 s change now (faults.Refused r) need top banner height h = h
+lacks_later store_state may_need k0 k1 s change now faults.Read need top banner height h = h
+lacks_later store_state may_need k0 k1 s change now (faults.Full may_be_out_of_memory free) need top banner height (batch, t, applied, keys, makes, (is, needs)) = (batch, t, applied, keys, makes, (is, need batch may_be_out_of_memory needs))
+lacks_later store_state may_need k0 k1 s change now faults.Spent need top banner height h = top ∙ h
+lacks_later store_state may_need k0 k1 s change now faults.Deep need top banner height h = deep_later (store_state k0) (store_state k1) (length (keys_of s change now)) banner height h
+lacks_later store_state may_need k0 k1 s change now faults.Failed need top banner height h = h
+lacks_later store_state may_need k0 k1 s change now faults.Memory need top banner height h = h
 
 -- a call that reads leaves it
 pub lacks_same : {K L : Type 0} → (store_state : K → StoreState) (may_need : K → List Edit → ℕ → Type 0) (crash_states : K → CrashStates L) (k0 k1 : K) (ka : HasSite (store_state k0)) (kb : HasSite (store_state k1)) → ReadsOnly store_state may_need crash_states k0 k1
     → sites.LacksTheSame (IsLacking store_state may_need k0 (site_of (store_state k0) ka)) (IsLacking store_state may_need k1 (site_of (store_state k1) kb))
 lacks_same store_state may_need crash_states k0 k1 ka kb reads_only =
     let after = site_still (store_state k0) (store_state k1) ka kb reads_only.read in
-    let top = reads_only.read.same.top in
+    let same = reads_only.read.same in
     record {
-      after = λ change now fault h. lacks_later store_state may_need k0 k1 (site_of (store_state k1) kb) change now fault reads_only.need.after top (subst (λ (s : Site). IsLacking store_state may_need k0 s change now fault) (sym after) h);
-      before = λ change now fault h. lacks_later store_state may_need k1 k0 (site_of (store_state k0) ka) change now fault reads_only.need.before (sym top) (subst (λ (s : Site). IsLacking store_state may_need k1 s change now fault) after h);
+      after = λ change now fault h. lacks_later store_state may_need k0 k1 (site_of (store_state k1) kb) change now fault reads_only.need.after same.top same.banner same.height (subst (λ (s : Site). IsLacking store_state may_need k0 s change now fault) (sym after) h);
+      before = λ change now fault h. lacks_later store_state may_need k1 k0 (site_of (store_state k0) ka) change now fault reads_only.need.before (sym same.top) (sym same.banner) (sym same.height) (subst (λ (s : Site). IsLacking store_state may_need k1 s change now fault) after h);
     }
 
 -- ---- crash states
@@ -173,6 +180,7 @@ module _ {D K L : Type 0} (keeper : D → K) (store_state : K → StoreState) (m
   plan_reads_only d0 d1 applied faults.Read h found = h.reads_only
   plan_reads_only d0 d1 applied (faults.Full need free) h found = h.reads_only
   plan_reads_only d0 d1 applied faults.Spent h found = h.reads_only
+  plan_reads_only d0 d1 applied faults.Deep h found = h.reads_only
   plan_reads_only d0 d1 applied faults.Failed h found = h.reads_only
   plan_reads_only d0 d1 applied faults.Memory h found = h.reads_only
 
@@ -186,6 +194,7 @@ module _ {D K L : Type 0} (keeper : D → K) (store_state : K → StoreState) (m
       (not_changed a (store_state (keeper d1)) ka kb read, λ honest. rose_counted a.failed_reads (store_state (keeper d1)).failed_reads (h.cause honest (site_of a ka) (site_kept a ka honest)))
   plan_fault_comes lacks d0 d1 ka kb change now (faults.Full need free) read up h = absurd h.cause
   plan_fault_comes lacks d0 d1 ka kb change now faults.Spent read up h = absurd h.cause
+  plan_fault_comes lacks d0 d1 ka kb change now faults.Deep read up h = absurd h.cause
   plan_fault_comes lacks d0 d1 ka kb change now faults.Failed read up h = absurd (no_truth (store_state (keeper d0)).usable up h.cause)
   plan_fault_comes lacks d0 d1 ka kb change now faults.Memory read up h = not_changed (store_state (keeper d0)) (store_state (keeper d1)) ka kb read
 
@@ -254,7 +263,7 @@ is_ok (Err x) t e = absurd (cc e)
 -- a change that was not written
 pub commit_fault_comes : {K : Type 0} → (store_state : K → StoreState) (may_need : K → List Edit → ℕ → Type 0) (k0 k1 k2 : K) (ka : HasSite (store_state k0)) (kc : HasSite (store_state k2)) (change : Change) (now : ℕ) (replacements : List Replacement) (banner : Banner) (fault : KeeperFault)
     → HasRead (store_state k0) (store_state k1) → NeedsTheSame (may_need k0) (may_need k1) → HasTried (store_state k1) (store_state k2) → (store_state k1).usable ≡ true → (IsTrue (store_state k0).honest → Makes (store_state k0) (store_state k1) ka change now replacements banner)
-    → IsCommitFault (store_state k1) (store_state k2) (MayNeed may_need k1 (batch_of (edits_of replacements))) fault
+    → IsCommitFault (store_state k1) (store_state k2) (length (batch_of (edits_of replacements))) (MayNeed may_need k1 (batch_of (edits_of replacements))) fault
     → sites.IsChangeFault (IsLacking store_state may_need k0 (site_of (store_state k0) ka) change now) (site_state_of (store_state k0) ka) (site_state_of (store_state k2) kc) (apply (site_of (store_state k0) ka) change now) (store_site_fault_of fault)
 commit_fault_comes store_state may_need k0 k1 k2 ka kc change now replacements banner kinds.Device read need tried up m h =
     (same_after (store_state k0) (store_state k1) (store_state k2) ka kc read h.0 tried.honest, λ honest. rose_later (store_state k0).failed_reads (store_state k1).failed_reads (store_state k2).failed_reads read.reads tried.reads (rose_counted (store_state k1).failed_reads (store_state k2).failed_reads h.1))
@@ -265,6 +274,16 @@ commit_fault_comes store_state may_need k0 k1 k2 ka kc change now replacements b
 commit_fault_comes store_state may_need k0 k1 k2 ka kc change now replacements banner kinds.Small read need tried up m h = absurd h
 commit_fault_comes store_state may_need k0 k1 k2 ka kc change now replacements banner kinds.Spent read need tried up m h =
     (same_after (store_state k0) (store_state k1) (store_state k2) ka kc read h.0 tried.honest, λ honest. (is_ok (apply (site_of (store_state k0) ka) change now) (m honest).site (m honest).applied, sym read.same.top ∙ h.1))
+commit_fault_comes store_state may_need k0 k1 k2 ka kc change now replacements banner kinds.Deep read need tried up m h = (
+  same_after (store_state k0) (store_state k1) (store_state k2) ka kc read h.0 tried.honest,
+  λ honest.
+      let made = m honest in
+      let batch = batch_of (edits_of replacements) in
+      let many : length batch ≡ length (keys_of (site_of (store_state k0) ka) change now) = sym (length-map batch edit_key) ∙ ap (λ (keys : List (List ℕ)). length keys) made.keys in (
+        is_ok (apply (site_of (store_state k0) ka) change now) made.site made.applied,
+        subst (λ (n : ℕ). MayBeDeep (store_state k0) n) many (deep_later (store_state k1) (store_state k0) (length batch) (sym read.same.banner) (sym read.same.height) (h.1 (read.honest ∙ honest))),
+      ),
+)
 commit_fault_comes store_state may_need k0 k1 k2 ka kc change now replacements banner (kinds.Full may_be_out_of_memory free) read need tried up m h = (
   same_after (store_state k0) (store_state k1) (store_state k2) ka kc read h.0 tried.honest,
   h.1,
@@ -308,42 +327,44 @@ after_port b (Some name) (Some admin) h given = given
 
 -- ---- what a commit leaves
 
-err_kept : (b c : StoreState) (may_need : ℕ → Type 0) (fault : KeeperFault) (s : Site) → IsCommitFault b c may_need fault → IsTrue b.honest → RepresentedBy b s → RepresentedBy c s
-err_kept b c may_need kinds.Device s h honest kept = stayed b c s h.0 honest kept
-err_kept b c may_need kinds.NoImage s h honest kept = absurd h
-err_kept b c may_need kinds.Version s h honest kept = absurd h
-err_kept b c may_need (kinds.Damaged page) s h honest kept = stayed b c s h.0 honest kept
-err_kept b c may_need kinds.Small s h honest kept = absurd h
-err_kept b c may_need kinds.Spent s h honest kept = stayed b c s h.0 honest kept
-err_kept b c may_need (kinds.Full need free) s h honest kept = stayed b c s h.0 honest kept
-err_kept b c may_need kinds.Failed s h honest kept = failed b c s h honest kept
-err_kept b c may_need kinds.Memory s h honest kept = stayed b c s h honest kept
+err_kept : (b c : StoreState) (edits : ℕ) (may_need : ℕ → Type 0) (fault : KeeperFault) (s : Site) → IsCommitFault b c edits may_need fault → IsTrue b.honest → RepresentedBy b s → RepresentedBy c s
+err_kept b c edits may_need kinds.Device s h honest kept = stayed b c s h.0 honest kept
+err_kept b c edits may_need kinds.NoImage s h honest kept = absurd h
+err_kept b c edits may_need kinds.Version s h honest kept = absurd h
+err_kept b c edits may_need (kinds.Damaged page) s h honest kept = stayed b c s h.0 honest kept
+err_kept b c edits may_need kinds.Small s h honest kept = absurd h
+err_kept b c edits may_need kinds.Spent s h honest kept = stayed b c s h.0 honest kept
+err_kept b c edits may_need kinds.Deep s h honest kept = stayed b c s h.0 honest kept
+err_kept b c edits may_need (kinds.Full need free) s h honest kept = stayed b c s h.0 honest kept
+err_kept b c edits may_need kinds.Failed s h honest kept = failed b c s h honest kept
+err_kept b c edits may_need kinds.Memory s h honest kept = stayed b c s h honest kept
 
-err_banner : (b c : StoreState) (may_need : ℕ → Type 0) (fault : KeeperFault) → IsCommitFault b c may_need fault → c.banner ≡ b.banner
-err_banner b c may_need kinds.Device h = h.0.banner
-err_banner b c may_need kinds.NoImage h = absurd h
-err_banner b c may_need kinds.Version h = absurd h
-err_banner b c may_need (kinds.Damaged page) h = h.0.banner
-err_banner b c may_need kinds.Small h = absurd h
-err_banner b c may_need kinds.Spent h = h.0.banner
-err_banner b c may_need (kinds.Full need free) h = h.0.banner
-err_banner b c may_need kinds.Failed h = h.banner
-err_banner b c may_need kinds.Memory h = h.banner
+err_banner : (b c : StoreState) (edits : ℕ) (may_need : ℕ → Type 0) (fault : KeeperFault) → IsCommitFault b c edits may_need fault → c.banner ≡ b.banner
+err_banner b c edits may_need kinds.Device h = h.0.banner
+err_banner b c edits may_need kinds.NoImage h = absurd h
+err_banner b c edits may_need kinds.Version h = absurd h
+err_banner b c edits may_need (kinds.Damaged page) h = h.0.banner
+err_banner b c edits may_need kinds.Small h = absurd h
+err_banner b c edits may_need kinds.Spent h = h.0.banner
+err_banner b c edits may_need kinds.Deep h = h.0.banner
+err_banner b c edits may_need (kinds.Full need free) h = h.0.banner
+err_banner b c edits may_need kinds.Failed h = h.banner
+err_banner b c edits may_need kinds.Memory h = h.banner
 
-pub keeps_written : {U : Type 0} → (r : Result U KeeperFault) (a b c : StoreState) (ka : HasSite a) (change : Change) (now : ℕ) (replacements : List Replacement) (banner : Banner) (may_need : ℕ → Type 0) → HasRead a b → c.honest ≡ b.honest
-    → (IsTrue a.honest → Makes a b ka change now replacements banner) → (IsTrue b.honest → OnOk r (c.pairs ≡ updated b.pairs (batch_of (edits_of replacements)))) → OnOk r (c.banner ≡ banner) → IfErr r (IsCommitFault b c may_need) → HasSite c
-keeps_written (Ok u) a b c ka change now replacements banner may_need read same m pairs named fault honest2 =
+pub keeps_written : {U : Type 0} → (r : Result U KeeperFault) (a b c : StoreState) (ka : HasSite a) (change : Change) (now : ℕ) (replacements : List Replacement) (banner : Banner) (edits : ℕ) (may_need : ℕ → Type 0) → HasRead a b → c.honest ≡ b.honest
+    → (IsTrue a.honest → Makes a b ka change now replacements banner) → (IsTrue b.honest → OnOk r (c.pairs ≡ updated b.pairs (batch_of (edits_of replacements)))) → OnOk r (c.banner ≡ banner) → IfErr r (IsCommitFault b c edits may_need) → HasSite c
+keeps_written (Ok u) a b c ka change now replacements banner edits may_need read same m pairs named fault honest2 =
     let honest1 : IsTrue b.honest = sym same ∙ honest2 in
     let made = m (sym read.honest ∙ honest1) in
     (made.site, kept_made a b c ka change now replacements banner made (pairs honest1) named)
-keeps_written (Err e) a b c ka change now replacements banner may_need read same m pairs named fault honest2 =
+keeps_written (Err e) a b c ka change now replacements banner edits may_need read same m pairs named fault honest2 =
     let honest1 : IsTrue b.honest = sym same ∙ honest2 in
     let made = m (sym read.honest ∙ honest1) in
-    (site_of a ka, err_kept b c may_need e (site_of a ka) fault honest1 made.before)
+    (site_of a ka, err_kept b c edits may_need e (site_of a ka) fault honest1 made.before)
 
-pub port_written : {U : Type 0} → (r : Result U KeeperFault) (a b c : StoreState) (banner : Banner) (may_need : ℕ → Type 0) → HasRead a b → 0 < a.banner.port → 0 < banner.port → OnOk r (c.banner ≡ banner) → IfErr r (IsCommitFault b c may_need) → 0 < c.banner.port
-port_written (Ok u) a b c banner may_need read old new named fault = subst (λ (x : Banner). 0 < x.port) (sym named) new
-port_written (Err e) a b c banner may_need read old new named fault = subst (λ (x : Banner). 0 < x.port) (sym (err_banner b c may_need e fault ∙ read.same.banner)) old
+pub port_written : {U : Type 0} → (r : Result U KeeperFault) (a b c : StoreState) (banner : Banner) (edits : ℕ) (may_need : ℕ → Type 0) → HasRead a b → 0 < a.banner.port → 0 < banner.port → OnOk r (c.banner ≡ banner) → IfErr r (IsCommitFault b c edits may_need) → 0 < c.banner.port
+port_written (Ok u) a b c banner edits may_need read old new named fault = subst (λ (x : Banner). 0 < x.port) (sym named) new
+port_written (Err e) a b c banner edits may_need read old new named fault = subst (λ (x : Banner). 0 < x.port) (sym (err_banner b c edits may_need e fault ∙ read.same.banner)) old
 
 -- what a crash within a change may leave
 abbrev pub EitherSite : {L : Type 0} → (L → List Pair → Banner → Type 0) → Site → Result Site Refused → L → Type 0
@@ -375,6 +396,7 @@ look_up_failed a b fault to_site_fault is h = subst (IsLookUpFault a b) (sym is)
     by_keeper (kinds.Damaged page) h = λ honest s kept. absurd (no_truth a.honest honest h)
     by_keeper kinds.Small h = absurd h
     by_keeper kinds.Spent h = h
+    by_keeper kinds.Deep h = h
     by_keeper (kinds.Full need free) h = h
     by_keeper kinds.Failed h = h
     by_keeper kinds.Memory h = absurd h

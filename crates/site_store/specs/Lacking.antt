@@ -1,12 +1,12 @@
 -- For lack of what a valid change of the site that is kept may be refused.
-use Rattle.std.specs.Prelude.{◌≡◌, ℕ, List, map, Ok, IsTrue}
+use Rattle.std.specs.Prelude.{◌≡◌, ℕ, List, length, map, Ok, IsTrue}
 use Rattle.host_types.specs.Site.{Site}
 use Rattle.host_types.specs.Change.{apply}
 use Rattle.host_types.specs.declared.change.Change.{Change}
 use Rattle.host_types.specs.declared.site_fault.SiteFault.{SiteFault}
 use Rattle.host_types.specs.declared.site_fault.SiteFault.TheVariants as faults
 use Rattle.page_store.specs.Batch.{updated, edit_key, is_batch}
-use Rattle.page_store.specs.StoreState.{StoreState, last_generation}
+use Rattle.page_store.specs.StoreState.{StoreState, MayBeDeep, last_generation}
 use Rattle.page_store.specs.declared.edit.Edit.{Edit}
 use Rattle.site_records.specs.Layout.{layout, keys_of}
 
@@ -14,10 +14,11 @@ use Rattle.site_records.specs.Layout.{layout, keys_of}
 abbrev pub MayNeed : {K : Type 0} → (K → List Edit → ℕ → Type 0) → K → List Edit → ℕ → Type 0
 MayNeed may_need k batch need = IsTrue (is_batch batch) × may_need k batch need
 
--- `Full`: the keeper may need so much for a batch that makes the changed site's layout, with one edit for each key of the change. `Spent`: no generation is left.
+-- `Full`: the keeper may need so much for a batch that makes the changed site's layout, with one edit for each key of the change. `Spent`: no generation is left. `Deep`: the tree of the keeper might have too many levels, with one edit for each key of the change.
 abbrev pub IsLacking : {K : Type 0} → (K → StoreState) → (K → List Edit → ℕ → Type 0) → K → Site → Change → ℕ → SiteFault → Type 0
 IsLacking store_state may_need k s change now (faults.Full need free) = (batch : List Edit) × (t : Site) × (apply s change now ≡ Ok t) × (map edit_key batch ≡ keys_of s change now) × (updated (layout s) batch ≡ layout t) × MayNeed may_need k batch need
 IsLacking store_state may_need k s change now faults.Spent = (store_state k).top ≡ last_generation
+IsLacking store_state may_need k s change now faults.Deep = MayBeDeep (store_state k) (length (keys_of s change now))
 IsLacking store_state may_need k s change now (faults.Refused r) = ⊥
 IsLacking store_state may_need k s change now faults.Read = ⊥
 IsLacking store_state may_need k s change now faults.Failed = ⊥

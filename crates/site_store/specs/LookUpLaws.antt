@@ -36,6 +36,7 @@ module _ {K L : Type 0} (store_state : K → StoreState) (may_need : K → List 
   cause_later a b c faults.Read x h = λ honest s kept. let shown = shows_still a b s x (honest, kept) in h shown.0 s shown.1 ∙ ap counted x.none
   cause_later a b c (faults.Full need free) x h = h
   cause_later a b c faults.Spent x h = h
+  cause_later a b c faults.Deep x h = h
   cause_later a b c faults.Failed x h = sym x.reads_only.read.same.usable ∙ h
   cause_later a b c faults.Memory x h = h ∙ x.none
 

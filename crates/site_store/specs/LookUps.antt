@@ -25,6 +25,7 @@ IsLookUpFault old new (faults.Refused r) = ⊥
 IsLookUpFault old new faults.Read = IsTrue old.honest → (s : Site) → RepresentedBy old s → new.failed_reads ≡ counted old.failed_reads
 IsLookUpFault old new (faults.Full need free) = ⊥
 IsLookUpFault old new faults.Spent = ⊥
+IsLookUpFault old new faults.Deep = ⊥
 IsLookUpFault old new faults.Failed = old.usable ≡ false
 IsLookUpFault old new faults.Memory = NoneFailed old new
 

@@ -58,6 +58,7 @@ IsOpenFault old new (Keeper kinds.NoImage) = ⊥
 IsOpenFault old new (Keeper kinds.Version) = ⊥
 IsOpenFault old new (Keeper kinds.Small) = ⊥
 IsOpenFault old new (Keeper kinds.Spent) = ⊥
+IsOpenFault old new (Keeper kinds.Deep) = ⊥
 IsOpenFault old new (Keeper (kinds.Full need free)) = ⊥
 IsOpenFault old new (Keeper kinds.Memory) = ⊥
 IsOpenFault old new BadRecord = (old.usable ≡ true) × NoneFailed old new × (IsTrue old.honest → (s : Site) → RepresentedBy old s → ⊥)

@@ -14,6 +14,7 @@ store_site_fault_of kinds.Version = faults.Read
 store_site_fault_of (kinds.Damaged page) = faults.Read
 store_site_fault_of kinds.Small = faults.Read
 store_site_fault_of kinds.Spent = faults.Spent
+store_site_fault_of kinds.Deep = faults.Deep
 store_site_fault_of (kinds.Full need free) = faults.Full need free
 store_site_fault_of kinds.Failed = faults.Failed
 store_site_fault_of kinds.Memory = faults.Memory

@@ -17,6 +17,7 @@ pub fn store_fault_comes(fault: KeeperFault) -> SiteFault
         | KeeperFault::Damaged { .. }
         | KeeperFault::Small => SiteFault::Read,
         KeeperFault::Spent => SiteFault::Spent,
+        KeeperFault::Deep => SiteFault::Deep,
         KeeperFault::Full { need, free } => SiteFault::Full { need, free },
         KeeperFault::Failed => SiteFault::Failed,
         KeeperFault::Memory => SiteFault::Memory,

@@ -1,5 +1,5 @@
 // Writing what a change makes.
-ghost use Rattle.std.specs.Prelude.{◌≡◌, ◌⊎◌, ◌<◌, true, IfOk, IfErr, OnOk, IsTrue};
+ghost use Rattle.std.specs.Prelude.{length, ◌≡◌, ◌⊎◌, ◌<◌, true, IfOk, IfErr, OnOk, IsTrue};
 ghost use Rattle.host_types.specs.CrashStates.{AddsOnly, AddsNone};
 ghost use Rattle.page_store.specs.Batch.{updated};
 ghost use Rattle.page_store.specs.StoreState.{HasTried, IsCommitFault};
@@ -54,7 +54,7 @@ pub fn write_replacements<K: Keeper>(
     ensures done { IsTrue (K.store_state keeper.old).honest → OnOk result ((K.store_state keeper.new).pairs ≡ updated (K.store_state keeper.old).pairs (batch_of (edits_of replacements.now))) }
     ensures banner { OnOk result ((K.store_state keeper.new).banner ≡ banner) }
     ensures still_usable { OnOk result ((K.store_state keeper.new).usable ≡ true) }
-    ensures fault { IfErr result (IsCommitFault (K.store_state keeper.old) (K.store_state keeper.new) (MayNeed K.may_need keeper.old (batch_of (edits_of replacements.now)))) }
+    ensures fault { IfErr result (IsCommitFault (K.store_state keeper.old) (K.store_state keeper.new) (length (batch_of (edits_of replacements.now))) (MayNeed K.may_need keeper.old (batch_of (edits_of replacements.now)))) }
     ensures tried { HasTried (K.store_state keeper.old) (K.store_state keeper.new) }
     ensures at_crash { IsTrue (K.store_state keeper.old).honest →
         AddsOnly (K.crash_states keeper.old) (K.crash_states keeper.new) (λ c. K.has_content c (K.store_state keeper.old).pairs (K.store_state keeper.old).banner ⊎ K.has_content c (updated (K.store_state keeper.old).pairs (batch_of (edits_of replacements.now))) banner) }

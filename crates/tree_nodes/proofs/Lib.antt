@@ -20,3 +20,7 @@ pub mod WrittenChildren
 pub mod ListsOfSteps
 pub mod NodesRead
 pub mod BoundedPages
+pub mod OwnedCounts
+pub mod PathsDown
+pub mod LevelsCome
+pub mod KeysKnown

@@ -24,7 +24,7 @@ use Rattle.tree_nodes.proofs.SupplyKeepsPairs.{supply_tree}
 abbrev Holds : OldPages → RootState → List Pair → Type 0
 Holds old state pairs = IsValidRoot old state.root state.height × (root_pairs old state.root ≡ pairs)
 
-everywhere : (key : List ℕ) → is_between [] None key ≡ true
+pub everywhere : (key : List ℕ) → is_between [] None key ≡ true
 everywhere key = between_from [] None key (not_below_nothing key) refl
 
 -- ---- a put

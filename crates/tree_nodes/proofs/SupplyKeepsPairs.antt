@@ -7,13 +7,13 @@ use Rattle.tree_nodes.specs.Supply.{path_depth, row_depth, supplied, row_supplie
 use Rattle.tree_nodes.specs.Valid.{IsValid, IsValidRow, IsOld, IsOneNode, others_high}
 use Rattle.tree_nodes.proofs.KeyOrder.{not_both}
 
-abbrev some : ℕ → Option ℕ
+abbrev pub some : ℕ → Option ℕ
 some n = Some n
 
-some_none : {G : Type 0} (n : ℕ) → None ≡ some n → G
+pub some_none : {G : Type 0} (n : ℕ) → None ≡ some n → G
 some_none n h = absurd (cc h)
 
-same : (n m : ℕ) → some n ≡ some m → n ≡ m
+pub same : (n m : ℕ) → some n ≡ some m → n ≡ m
 same n m h = cc
 
 -- the page that is on the way opens, and the tree with what it says is as valid, has the same pairs and one owned node more
@@ -43,7 +43,7 @@ row_bytes (other first tree others) key t = go (goes_first key others) (row_byte
     go true more = refl
     go false more = omega (arith, more)
 
-less : (level depth : ℕ) → suc level - suc depth ≡ level - depth
+pub less : (level depth : ℕ) → suc level - suc depth ≡ level - depth
 less level depth = omega arith
 
 opened_node : (t : Tree) → IsOneNode t → (depth : ℕ) → owned_at depth t ≡ 0 + one_at depth 0

@@ -11,3 +11,5 @@ pub mod Supplied
 pub mod Steps
 pub mod Needs
 pub mod OwnedTrees
+pub mod Growth
+pub mod Keys

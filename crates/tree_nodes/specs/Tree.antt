@@ -94,3 +94,14 @@ abbrev mutual
   pub row_owned_at : ℕ → Others → ℕ
   row_owned_at depth none = 0
   row_owned_at depth (other key tree others) = owned_at depth tree + row_owned_at depth others
+
+-- how many nodes of a tree are owned
+abbrev mutual
+  pub owned_nodes : Tree → ℕ
+  owned_nodes (page n) = 0
+  owned_nodes (leaf pairs) = 1
+  owned_nodes (branch tree others) = owned_nodes tree + row_owned_nodes others + 1
+
+  pub row_owned_nodes : Others → ℕ
+  row_owned_nodes none = 0
+  row_owned_nodes (other key tree others) = owned_nodes tree + row_owned_nodes others

@@ -65,9 +65,9 @@ fn put_others(out: &mut Vec<u8>, others: &[(Bytes, Node)]) -> Result<(), AllocEr
     Ok(())
 }
 
-/// The bytes of a leaf.
+/// The bytes of a leaf of these pairs, as a page of a number and a generation.
 #[tactic(auto, unfolding(crate::specs::PageBytes::leaf_page))]
-fn leaf_page(
+pub fn encode_leaf(
     alloc: Global,
     page: u32,
     generation: u64,
@@ -136,7 +136,7 @@ pub fn encode(
 {
     match node {
         Node::Page(_) => Ok([0; 4096]),
-        Node::Leaf(pairs) => leaf_page(alloc, page, generation, pairs),
+        Node::Leaf(pairs) => encode_leaf(alloc, page, generation, pairs),
         Node::Branch(first, others) => {
             branch_page(alloc, page, generation, level, first, others)
         }

@@ -10,10 +10,11 @@ mod owned_tree;
 mod page_views;
 mod putting;
 mod splitting;
+mod step_laws;
 mod supplying;
 
 pub use deleting::delete;
-pub use encoding::{encode, is_writable};
+pub use encoding::{encode, encode_leaf, is_writable};
 pub use fault::NodeFault;
 pub use laws::{
     a_delete_changes_one_key, a_delete_makes_no_node, a_delete_stays_valid, a_leaf_grows,
@@ -25,4 +26,7 @@ pub use node::{Node, NodeGrown, needed};
 pub use owned_tree::{Answer, OwnedTree};
 pub use page_views::{Branch, ImageBounds, Leaf};
 pub use putting::put;
+pub use step_laws::{
+    a_leaf_knows_its_keys, a_supply_leads_down, levels_come_slowly, steps_make_few_nodes,
+};
 pub use supplying::{read_node, supply};

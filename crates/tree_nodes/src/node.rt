@@ -1,6 +1,8 @@
 // A tree of which some nodes are owned and the others are page numbers.
-ghost use Rattle.std.specs.Prelude.{◌≡◌, ◌≤◌, length};
-ghost use Rattle.tree_nodes.specs.Tree.{way, place};
+ghost use Rattle.std.specs.Prelude.{◌≡◌, ◌≤◌, ◌-◌, ◌^◌, min, length, is_some};
+ghost use Rattle.page_store.specs.Batch.{value_at};
+ghost use Rattle.tree_nodes.specs.Tree.{way, place, owned_nodes};
+ghost use Rattle.tree_nodes.specs.Keys.{has_key};
 ghost use Rattle.tree_nodes.specs.NodeView.{tree_of, others_view};
 
 use common_types::Bytes;
@@ -41,6 +43,53 @@ pub fn needed(node: &Node, key: &[u8]) -> Option<u32>
             } else {
                 needed(&others[place - 1].1, key)
             }
+        }
+    }
+}
+
+/// Whether a key has a value, by the leaf that its path ends at; no where the nodes on the path aren't all owned. It takes no memory.
+pub(crate) fn holds_key(node: &Node, key: &[u8]) -> bool
+    ensures { result ≡ has_key key.now (tree_of node.now) }
+{
+    match node {
+        Node::Page(_) => false,
+        Node::Leaf(pairs) => has_pair(pairs, key),
+        Node::Branch(first, others) => {
+            let place = place_of(others, key);
+            if place == 0 {
+                holds_key(first, key)
+            } else {
+                holds_key(&others[place - 1].1, key)
+            }
+        }
+    }
+}
+
+/// Whether one of these pairs stands at a key.
+fn has_pair(pairs: &[Pair], key: &[u8]) -> bool
+    ensures { result ≡ is_some (value_at pairs.now key.now) }
+{
+    for pair in pairs {
+        if key.cmp(pair.key()) == Ordering::Equal {
+            return true;
+        }
+    }
+    false
+}
+
+/// How many nodes of a tree are owned, up to the greatest `u64`. It takes no memory.
+pub(crate) fn owned_count(node: &Node) -> u64
+    ensures { result ≡ min (owned_nodes (tree_of node.now)) (2 ^ 64 - 1) }
+{
+    match node {
+        Node::Page(_) => 0,
+        Node::Leaf(_) => 1,
+        Node::Branch(first, others) => {
+            let mut count = owned_count(first).saturating_add(1);
+            for child in others {
+                count = count.saturating_add(owned_count(&child.1));
+            }
+            count
         }
     }
 }

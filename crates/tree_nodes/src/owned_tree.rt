@@ -1,5 +1,5 @@
 // A tree of pages by its root and its height.
-ghost use Rattle.std.specs.Prelude.{◌≡◌, ◌≤◌, ◌<◌, ◌+◌, ◌^◌, ℕ, List, Some, option_map, IfOk, IfErr, OnOk, OnErr, IfSome, IsSome, IsSomeAnd};
+ghost use Rattle.std.specs.Prelude.{◌≡◌, ◌≤◌, ◌<◌, ◌+◌, ◌-◌, ◌^◌, ℕ, min, List, Some, option_map, IfOk, IfErr, OnOk, OnErr, IfSome, IsSome, IsSomeAnd};
 ghost use Rattle.tree_nodes.specs.Tree.{OldPages};
 ghost use Rattle.tree_nodes.specs.Image.{old_of};
 ghost use Rattle.tree_nodes.specs.NodeView.{tree_of, left_of, grown_of};
@@ -7,9 +7,12 @@ ghost use Rattle.tree_nodes.specs.PageViews.{bounds_of};
 ghost use Rattle.tree_nodes.specs.Put.{rooted};
 ghost use Rattle.tree_nodes.specs.Supply.{tree_in};
 ghost use Rattle.tree_nodes.specs.Steps.{put_step, delete_step, supply_step, stepped, no_tree, needed_under, put_under, delete_under, read_under};
+ghost use Rattle.tree_nodes.specs.Growth.{owned_under};
+ghost use Rattle.tree_nodes.specs.Keys.{has_under};
 ghost use Rattle.tree_nodes.specs.OwnedTrees.{state_of, need_of, at_page};
 ghost use Rattle.tree_nodes.specs.Needs.{IsReadFault, ShowsNeeded, needed_level};
 
+use crate::node::{holds_key, owned_count};
 use crate::supplying::level_under;
 use crate::{ImageBounds, Node, NodeFault, NodeGrown, delete, needed, put, read_node, supply};
 use page_store::Pair;
@@ -97,6 +100,26 @@ impl OwnedTree {
         match &self.root {
             Some(root) => needed(root, key),
             None => None,
+        }
+    }
+
+    /// Whether a key has a value, by the leaf that its path ends at; no where the nodes on the path aren't all owned (`needed` tells that). It takes no memory.
+    pub fn contains(&self, key: &[u8]) -> bool
+        ensures { result ≡ has_under key.now (state_of self.now).root }
+    {
+        match &self.root {
+            Some(root) => holds_key(root, key),
+            None => false,
+        }
+    }
+
+    /// How many of its nodes are owned, up to the greatest `u64`. It takes no memory.
+    pub fn owned_nodes(&self) -> u64
+        ensures { result ≡ min (owned_under (state_of self.now).root) (2 ^ 64 - 1) }
+    {
+        match &self.root {
+            Some(root) => owned_count(root),
+            None => 0,
         }
     }
 

@@ -48,7 +48,7 @@ kept_right : (old now : ℕ → List ℕ) (bounds : Bounds) (xs ys : List ℕ) �
 kept_right old now bounds [] ys h = h
 kept_right old now bounds (x ∷ xs) ys h = kept_right old now bounds xs ys h.1
 
-under_joined : (bytes : ℕ → List ℕ) (bounds : Bounds) (xs ys : List ℕ) → all_under bytes bounds (xs ++ ys) ≡ all_under bytes bounds xs ++ all_under bytes bounds ys
+pub under_joined : (bytes : ℕ → List ℕ) (bounds : Bounds) (xs ys : List ℕ) → all_under bytes bounds (xs ++ ys) ≡ all_under bytes bounds xs ++ all_under bytes bounds ys
 under_joined bytes bounds [] ys = refl
 under_joined bytes bounds (x ∷ xs) ys = ap (λ (l : List ℕ). pages_under bytes bounds x ++ l) (under_joined bytes bounds xs ys) ∙ sym (append_assoc (pages_under bytes bounds x) (all_under bytes bounds xs) (all_under bytes bounds ys))
 
@@ -78,7 +78,7 @@ pub record FindsRow (old now : ℕ → List ℕ) (bounds : Bounds) (generation l
   pub same_high : others_high named high ≡ others_high others high
   pub inside : list_all (is_inside bounds.pages) (other_entries named) ≡ true
 
-under_is : (bytes : ℕ → List ℕ) (bounds : Bounds) (level n : ℕ) (low : List ℕ) (high : Option (List ℕ)) (found : Found) → walk bytes bounds level n low high ≡ Some found → pages_under bytes bounds n ≡ found.pages
+pub under_is : (bytes : ℕ → List ℕ) (bounds : Bounds) (level n : ℕ) (low : List ℕ) (high : Option (List ℕ)) (found : Found) → walk bytes bounds level n low high ≡ Some found → pages_under bytes bounds n ≡ found.pages
 under_is bytes bounds level n low high found e = ap (λ (l : ℕ). found_pages (walk bytes bounds l n [] None)) (walk_level bytes bounds level n low high found e) ∙ ap found_pages (walk_wider bytes bounds level n low [] high None found (not_below_nothing low) (λ key h. refl) e)
 
 module _ (old now : ℕ → List ℕ) (bounds : Bounds) (generation : ℕ) (later : IsLater bounds generation) where

@@ -2,3 +2,8 @@ pub mod Counted
 pub mod FoundTrees
 pub mod AddedPages
 pub mod RootsWritten
+pub mod PagesPut
+pub mod LevelsReached
+pub mod ChangesReach
+pub mod KeptPages
+pub mod Fitted

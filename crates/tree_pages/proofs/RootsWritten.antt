@@ -1,6 +1,6 @@
 -- What stands under a slot that names a tree.
-use Rattle.std.proofs.Common.{◌≡◌, ℕ, suc, ◌+◌, ◌≤◌, ◌<◌, Bool, true, false, List, [], ◌∷◌, length, Some, None, refl, sym, ap, ◌∙◌, arith, eq-eqb, inl, inr}
-use Rattle.std.specs.Prelude.{◌&&◌, ◌==◌, if◌then◌else◌}
+use Rattle.std.proofs.Common.{◌≡◌, ℕ, suc, ◌+◌, ◌≤◌, ◌<◌, true, false, List, [], ◌∷◌, length, Some, None, refl, sym, ap, ◌∙◌, arith, eq-eqb, inl, inr}
+use Rattle.std.specs.Prelude.{◌&&◌, ◌==◌}
 use Rattle.std.proofs.lemmas.Bool.{cases_Bool, le-leb, lt-ltb}
 use Rattle.page_store.specs.Reading.{where_true}
 use Rattle.page_store.specs.Pages.{Pair}
@@ -13,11 +13,9 @@ use Rattle.tree_nodes.specs.Tree.{Tree, pairs_of}
 use Rattle.tree_nodes.specs.Image.{old_of}
 use Rattle.tree_pages.specs.Written.{IsTreePage}
 use Rattle.tree_pages.specs.Reached.{times, reached, FindsTree, HoldsTree}
+use Rattle.tree_pages.proofs.Counted.{one_if, fewer}
 
 -- ---- no page twice
-
-abbrev one_if : Bool → ℕ
-one_if same = if same then 1 else 0
 
 not_among : (n : ℕ) (ns : List ℕ) → times n ns ≤ 0 → is_among n ns ≡ false
 not_among n [] h = refl
@@ -32,9 +30,6 @@ distinct (n ∷ ns) h =
     let one = ap one_if (eq-eqb n n refl) in
     let here = h n in
     rw (not_among n ns (omega (arith, one, here))) (distinct ns (λ m. fewer (one_if (m == n)) (times m ns) (h m)))
-  where
-    fewer : (a b : ℕ) → a + b ≤ 1 → b ≤ 1
-    fewer a b le = omega (arith, le)
 
 -- ---- the content
 

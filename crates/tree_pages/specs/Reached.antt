@@ -32,6 +32,11 @@ all_under bytes bounds (n ∷ ns) = pages_under bytes bounds n ++ all_under byte
 abbrev pub reached : (ℕ → List ℕ) → Bounds → Tree → List ℕ
 reached bytes bounds tree = all_under bytes bounds (pages_of tree)
 
+-- the pages of an image that a tree reaches, where there is a tree
+abbrev pub root_reached : (ℕ → List ℕ) → Bounds → Option Tree → List ℕ
+root_reached bytes bounds None = []
+root_reached bytes bounds (Some tree) = reached bytes bounds tree
+
 -- bounds for pages of a later generation
 abbrev pub until : Bounds → ℕ → Bounds
 until bounds generation = record { pages = bounds.pages; seal = generation }

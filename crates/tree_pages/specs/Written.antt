@@ -4,6 +4,8 @@ use Rattle.page_store.specs.Commit.{numbers}
 use Rattle.page_store.specs.declared.commit.NewPage.{NewPage}
 use Rattle.tree_nodes.specs.Tree.{Tree, Others, page, leaf, branch, none, other, other_bytes, entry_room}
 use Rattle.tree_nodes.specs.PageBytes.{page_of_tree, IsWritable}
+-- how many nodes of a tree are owned
+pub use Rattle.tree_nodes.specs.Tree.{owned_nodes, row_owned_nodes}
 
 -- a tree, written as a page
 abbrev pub page_for : ℕ → ℕ → ℕ → Tree → NewPage
@@ -31,6 +33,11 @@ abbrev pub ArePut : (ℕ → List ℕ) → List NewPage → Type 0
 ArePut bytes [] = Unit {0}
 ArePut bytes (new ∷ pages) = (bytes new.number ≡ new.bytes) × ArePut bytes pages
 
+-- these pages have 4,096 bytes each
+abbrev pub AreWhole : List NewPage → Type 0
+AreWhole [] = Unit {0}
+AreWhole (new ∷ pages) = (length new.bytes ≡ 4096) × AreWhole pages
+
 -- a page of an image of so many that is no root slot
 abbrev pub IsTreePage : ℕ → ℕ → Type 0
 IsTreePage pages n = (2 ≤ n) × (n < pages)
@@ -38,17 +45,6 @@ IsTreePage pages n = (2 ≤ n) × (n < pages)
 abbrev pub AreTreePages : ℕ → List NewPage → Type 0
 AreTreePages count [] = Unit {0}
 AreTreePages count (new ∷ pages) = IsTreePage count new.number × AreTreePages count pages
-
--- how many nodes of a tree are owned
-abbrev mutual
-  pub owned_nodes : Tree → ℕ
-  owned_nodes (page n) = 0
-  owned_nodes (leaf pairs) = 1
-  owned_nodes (branch tree others) = owned_nodes tree + row_owned_nodes others + 1
-
-  pub row_owned_nodes : Others → ℕ
-  row_owned_nodes none = 0
-  row_owned_nodes (other key tree others) = owned_nodes tree + row_owned_nodes others
 
 -- each owned node fits its page, and no branch stands at level 0
 abbrev mutual

@@ -3,7 +3,7 @@ use Rattle.sector_device.specs.Disk.{Disk}
 use Rattle.page_store.specs.Sectors.{Image, page_of}
 use Rattle.page_store.specs.Content.{tree_found}
 use Rattle.page_store.specs.declared.fault.KeeperFault.{KeeperFault}
-use Rattle.cow_tree.specs.Opening.{IsReached, IsOpenFault}
+use Rattle.cow_tree.specs.Opening.{IsReached, AreWhole, IsOpenFault}
 use Rattle.cow_tree.proofs.Openings.{holds_now, walk_fault}
 use Rattle.cow_tree.proofs.opening.open_parts.Goals as goal
 
@@ -18,7 +18,8 @@ returns-in-Ok-clause-opened g c =
       all = λ keeps i left. opened.all keeps i ((only.no_new_crash_state (keeps1 keeps)).now i left) ∙ sym (ap (λ (x : Disk). x.view) (only.only.disk (keeps1 keeps)));
       view = λ keeps. ap (λ (x : Disk). x.view) (only.only.disk (keeps1 keeps)) ∙ opened.view keeps;
       holds = λ keeps. holds_now (d.state c.args.device.now).disk.view slot c.walk_slot.new.ledger (opened.slot_is keeps) c.in_ok-slot.ensures.version
-          (subst (λ (i : Image). IsReached (tree_found slot (page_of i)) slot c.walk_slot.new.ledger) (opened.view keeps) (c.in-Ok.ensures.found (keeps1 keeps)));
+          (subst (λ (i : Image). IsReached (tree_found slot (page_of i)) slot c.walk_slot.new.ledger) (opened.view keeps) (c.in-Ok.ensures.found (keeps1 keeps)))
+          (subst (λ (i : Image). AreWhole i c.walk_slot.new.ledger) (opened.view keeps) (c.in-Ok.ensures.whole (keeps1 keeps)));
       top_is = λ keeps. opened.top_is keeps;
     }
 

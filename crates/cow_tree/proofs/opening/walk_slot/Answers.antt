@@ -5,7 +5,7 @@ use Rattle.page_store.specs.Sectors.{page_of}
 use Rattle.page_store.specs.Content.{tree_of}
 use Rattle.cow_tree.specs.Walks.{IsWalked, Tells}
 use Rattle.cow_tree.specs.Opening.{bounds_under}
-use Rattle.cow_tree.proofs.Reaching.{at_rest}
+use Rattle.cow_tree.proofs.Reaching.{at_rest, all_whole}
 use Rattle.cow_tree.proofs.Finding.{is_reached, keys_differ, finds_fault}
 use Rattle.cow_tree.proofs.opening.walk_slot.Goals as goal
 
@@ -30,6 +30,11 @@ returns-clause-found g c = λ keeps.
     let slot = c.args.slot.now in
     let w = subst (λ (s : LedgerState). IsWalked (tree_of a (bounds_under slot) slot.root.height slot.root.tree) s c.count_tree.new.ledger c.in_ok-count.count) c.requires.fresh (c.in_ok-count.ensures.told keeps) in
     is_reached slot a c.count_tree.new.ledger c.in_ok-count.count c.requires.small w c.if-count-slot.false
+
+pub returns-clause-whole : goal.returns-clause-whole
+returns-clause-whole g c = λ keeps.
+    let slot = c.args.slot.now in
+    all_whole (g.D.Device.state c.args.device.now).disk.view slot.root.pages slot.seal c.args.ledger.now c.count_tree.new.ledger c.requires.fresh (c.in_ok-count.ensures.whole keeps)
 
 pub returns-clause-rest : goal.returns-clause-rest
 returns-clause-rest g c = at_rest c.args.slot.now c.args.ledger.now c.count_tree.new.ledger c.requires.fresh c.count_tree.ensures.ledger

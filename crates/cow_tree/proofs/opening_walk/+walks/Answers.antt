@@ -1,20 +1,20 @@
-use Rattle.std.proofs.Common.{◌≡◌, ◌∙◌, ◌-◌, ap, sym, subst, List, ℕ, Bool, true, false, None, refl, rules}
-use Rattle.std.specs.Prelude.{not, option_copied, if◌then◌else◌, Result, Err}
+use Rattle.std.proofs.Common.{length, ◌≡◌, ◌∙◌, ◌-◌, ap, sym, subst, List, ℕ, Bool, true, false, None, refl, rules}
+use Rattle.std.specs.Prelude.{not, option_copied, if◌then◌else◌, Result, Ok, Err, OnOk}
 use Rattle.std.specs.List.{list_all}
 use Rattle.std.proofs.lemmas.Result.{err_from_is_err_and}
 use Rattle.sector_device.specs.Disk.{Disk}
 use Rattle.page_alloc.specs.LedgerState.{LedgerState, is_free}
 use Rattle.page_alloc.specs.Calls.{holding}
-use Rattle.page_store.specs.Sectors.{page_of}
+use Rattle.page_store.specs.Sectors.{Image, page_of}
 use Rattle.page_store.specs.Pages.{Child, is_inside, branch_of}
 use Rattle.page_store.specs.Heads.{seen_child}
 use Rattle.page_store.specs.Content.{walk, fan, low_of, high_of, place_in}
 use Rattle.page_store.proofs.DeviceSequences.{still_honest}
 use Rattle.tree_nodes.specs.PageViews.{bounds_of, children_in}
 use Rattle.tree_nodes.proofs.KeyOrder.{both_true}
-use Rattle.cow_tree.specs.Walks.{Tells, IsWalked, IsWalkedTo}
+use Rattle.cow_tree.specs.Walks.{Tells, IsWalked, IsWalkedTo, HoldsWhole}
 use Rattle.cow_tree.specs.declared.page_fault.PageFault.{PageFault}
-use Rattle.cow_tree.proofs.Reaching.{holds_again}
+use Rattle.cow_tree.proofs.Reaching.{holds_again, holds_none, holds_read, wholes_again}
 use Rattle.cow_tree.proofs.ReadsInTurn.{reads_again}
 use Rattle.cow_tree.proofs.Walking.{start, go_on, breaks_off, tells_branch, no_branch, at_child}
 use Rattle.cow_tree.proofs.opening_walk.+walks.Goals as goal
@@ -37,6 +37,7 @@ walk_children-loop-key-init g t c =
       inside = c.requires.inside;
       device = search rules;
       reads = refl;
+      whole = λ keeps. holds_none (d.state c.args.device.now).disk.view c.args.ledger.now;
       so_far = λ keeps. start (walk (page_of (d.state c.args.device.now).disk.view) (bounds_of c.args.bounds) c.args.level) c.args.low.now (option_copied c.args.high) children c.args.ledger.now;
     }
 
@@ -75,6 +76,10 @@ walk_children-loop-key-preserved g t c =
       inside = (both_true (is_inside c.args.bounds.pages child) (list_all (is_inside c.args.bounds.pages) others) inside).1;
       device = reads_again i.device c.in_ok-more.ensures.reads.device;
       reads = c.in_ok-more.ensures.reads.reads ∙ i.reads;
+      whole = λ keeps.
+          let keeps1 = still_honest (d.state c.args.device.now) (d.state c.loop-key.device) i.device.only.same keeps in
+          let more = subst (λ (x : Disk). HoldsWhole x.view c.loop-key.ledger c.walk_tree.new.ledger) (i.device.only.disk keeps) (c.in_ok-more.ensures.whole keeps1) in
+          wholes_again (i.whole keeps) more;
       so_far = λ keeps.
           let keeps1 = still_honest (d.state c.args.device.now) (d.state c.loop-key.device) i.device.only.same keeps in
           let so_far = subst (λ (cs : List Child). IsWalkedTo (fan under c.args.low.now (option_copied c.args.high)) children cs c.args.ledger.now c.loop-key.ledger c.loop-key.count) c.in-Some.ensures.children (i.so_far keeps) in
@@ -105,3 +110,26 @@ walk_tree-returns-clause-told g t c = λ keeps.
     let told = subst (λ (x : Disk). Tells (fan (walk (page_of x.view) bounds (c.args.level - 1)) c.args.low.now high children) c.reach.new.ledger c.walk_children.new.ledger c.walk_children.result) (c.in_ok-load_page.ensures.reads.device.only.disk keeps) (c.walk_children.ensures.told keeps1) in
     tells_branch c.walk_children.result v bounds c.args.level c.args.page c.args.low.now high c.args.ledger.now c.reach.new.ledger c.walk_children.new.ledger children c.if-level-eq0.false r.0 r.1
     (ap (branch_of (place_in bounds c.args.level c.args.page) c.args.low.now high) (c.in_ok-load_page.ensures.page keeps) ∙ c.in_ok-branch.ensures.children) told
+
+whole_after : (image : Image) (a b c : LedgerState) (r : Result ℕ PageFault) → HoldsWhole image a b → OnOk r (HoldsWhole image b c) → OnOk r (HoldsWhole image a c)
+whole_after image a b c (Ok x) first second = wholes_again first second
+whole_after image a b c (Err e) first second = tt
+
+-- the page that was reached and read
+page_whole : (image : Image) (b free : Bool) (old now : LedgerState) (page : ℕ) (bytes : List ℕ) → b ≡ free → now ≡ (if b then holding page old else old) → b ≡ true → page_of image page ≡ bytes → length bytes ≡ 4096 → HoldsWhole image old now
+page_whole image b free old now page bytes is held t read long = holds_read image old now page (reached b free now old page is held t).1 (ap (λ (l : List ℕ). length l) read ∙ long)
+
+pub walk_tree-returns-then-level-eq0-clause-whole : goal.walk_tree-returns-then-level-eq0-clause-whole
+walk_tree-returns-then-level-eq0-clause-whole g t c = λ keeps.
+    page_whole (g.D.Device.state c.args.device.now).disk.view c.reach.result (is_free c.args.ledger.now c.args.page) c.args.ledger.now c.reach.new.ledger c.args.page c.load_page.new.bytes c.reach.ensures.is c.reach.ensures.held c.if-not-reach.false
+    (c.in_ok-load_page.ensures.page keeps) c.load_page.array_long
+
+pub walk_tree-returns-clause-whole : goal.walk_tree-returns-clause-whole
+walk_tree-returns-clause-whole g t c = λ keeps.
+    let d = g.D.Device in
+    let view = (d.state c.args.device.now).disk.view in
+    let keeps1 = still_honest (d.state c.args.device.now) (d.state c.load_page.new.device) c.in_ok-load_page.ensures.reads.device.only.same keeps in
+    let here = page_whole view c.reach.result (is_free c.args.ledger.now c.args.page) c.args.ledger.now c.reach.new.ledger c.args.page c.load_page.new.bytes c.reach.ensures.is c.reach.ensures.held c.if-not-reach.false
+    (c.in_ok-load_page.ensures.page keeps) c.load_page.array_long in
+    let under = subst (λ (x : Disk). OnOk c.walk_children.result (HoldsWhole x.view c.reach.new.ledger c.walk_children.new.ledger)) (c.in_ok-load_page.ensures.reads.device.only.disk keeps) (c.walk_children.ensures.whole keeps1) in
+    whole_after view c.args.ledger.now c.reach.new.ledger c.walk_children.new.ledger c.walk_children.result here under

@@ -1,8 +1,10 @@
 use Rattle.std.proofs.Common.{◌≡◌, ℕ, IsTrue, sym, subst, ap, ◌∙◌, arith}
 use Rattle.page_store.specs.Content.{Found, is_among}
 use Rattle.page_store.specs.Roots.{greatest_seal}
-use Rattle.page_store.specs.Sectors.{Image}
+use Rattle.page_store.specs.Sectors.{Image, page_of}
+use Rattle.cow_tree.specs.Opening.{AreWhole}
 use Rattle.cow_tree.specs.TreeState.{IsFitted, found_under}
+use Rattle.cow_tree.proofs.TreesAreMaps.{found_map}
 use Rattle.cow_tree.proofs.Openings.{tree_is, settled_content, under_now, has_content}
 use Rattle.cow_tree.proofs.tree_keeper.TreeKeeper.open.Goals as goal
 
@@ -17,9 +19,12 @@ invariant_of-result g c =
           let holds = opened.holds keeps in
           let version = c.in-Ok.ensures.fitted.version in
           let view = (g.D.Device.state c.open_parts.new.device).disk.view in
+          let tree = (tree_is view c.in-Ok.slot (found_under c.in-Ok.slot view) (settled_content view _ c.in-Ok.slot c.in-Ok.ledger (opened.view keeps) version holds) version).1 in
           record {
-            found_is = (tree_is view c.in-Ok.slot (found_under c.in-Ok.slot view) (settled_content view _ c.in-Ok.slot c.in-Ok.ledger (opened.view keeps) version holds) version).1;
+            found_is = tree;
+            map = found_map c.in-Ok.slot (page_of view) (found_under c.in-Ok.slot view) tree;
             alive = λ n. holds.alive n ∙ ap (λ (f : Found). is_among n f.pages) (sym (under_now view _ c.in-Ok.slot c.in-Ok.ledger (opened.view keeps) version holds));
+            whole = subst (λ (i : Image). AreWhole i c.in-Ok.ledger) (sym (opened.view keeps)) holds.whole;
           };
       sealed = c.in-Ok.ensures.sealed;
       settled = λ keeps1 up.

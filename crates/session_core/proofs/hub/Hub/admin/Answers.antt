@@ -1,11 +1,15 @@
-use Rattle.std.proofs.Common.{◌≡◌, false, refl, ap, rules, inl}
+use Rattle.std.proofs.Common.{◌≡◌, true, false, refl, sym, ap, subst, rules, inl}
 use Rattle.std.specs.Prelude.{not}
+use Rattle.session_core.specs.Calls.{Call}
 use Rattle.session_core.specs.Hub.{world_of}
+use Rattle.session_core.specs.Sessions.{sessions_of}
+use Rattle.session_core.specs.declared.fault.HubFault.{HubFault}
 use Rattle.session_core.specs.declared.event.Event.TheVariants.{Admin}
 use Rattle.session_core.specs.declared.event.Outcome.TheVariants.{Fault}
 use Rattle.session_core.specs.declared.fault.HubFault.TheVariants.{Failed}
 use Rattle.session_core.proofs.Steps.{answered_by}
 use Rattle.session_core.proofs.CallsMade.{stays_none_added, shut_answer, steady}
+use Rattle.session_core.proofs.RefusedChanges.{not_made_call}
 use Rattle.session_core.proofs.hub.Hub.admin.Goals as goal
 
 pub returns-then-not-is_usable : goal.returns-then-not-is_usable
@@ -34,3 +38,14 @@ returns-then-not-is_usable g c =
       };
       acknowledged = λ honest. tt;
     }
+
+pub returns-in-Err-clause-call : goal.returns-in-Err-clause-call
+returns-in-Err-clause-call g c =
+    let s = g.S.SiteKeeper in
+    let hub = c.args.self.now in
+    let made = c.change.new.self in
+    let usable : (s.site_state hub.site).usable ≡ true = search rules in
+    let seats = sessions_of hub.sessions.items in
+    subst (λ (fault : HubFault). Call s.site_state s.lacks s.crash_states s.represents (world_of s.site_state hub) hub.site (Admin c.args.change c.args.now) (Fault fault) (world_of s.site_state (record hub { site = made })) made) (sym c.of_site.ensures)
+    (not_made_call s.site_state s.lacks s.crash_states s.represents hub.site made hub.next seats c.args.change c.args.now c.in-Err.fault usable c.change.ensures.tried.honest
+    (λ honest. c.change.ensures.at_crash honest usable) (λ honest. c.in-Err.ensures.no_new_crash_state honest) c.in-Err.ensures.fault)

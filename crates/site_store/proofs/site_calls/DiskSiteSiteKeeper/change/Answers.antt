@@ -1,4 +1,4 @@
-use Rattle.std.proofs.Common.{◌≡◌, ◌≤◌, ◌<◌, ℕ, sym, ap, subst, ◌∙◌}
+use Rattle.std.proofs.Common.{length, ◌≡◌, ◌≤◌, ◌<◌, ℕ, sym, ap, subst, ◌∙◌}
 use Rattle.std.proofs.lemmas.Result.{err_from_is_err_and}
 use Rattle.host_types.specs.SiteState.{IsChangeFault}
 use Rattle.host_types.specs.Change.{apply}
@@ -60,11 +60,12 @@ invariant_of-self g c =
     let named : banner ≡ banner_after h1.banner plan.host plan.admin = c.in_ok-banner.ensures ∙ ap (λ (b : Banner). banner_after b plan.host plan.admin) c.banner.ensures in
     let early : c.args.now ≤ 253402300799 = subst (λ (n : ℕ). n ≤ 253402300799) c.seconds.ensures.value c.seconds.ensures.range in
     let make = plan_makes c.changes_keep_sites_valid.ensures.changed h0 h1 d.kept c.args.change c.args.now plan replacements banner c.deref.ensures.value named read c.valid_names.ensures early (λ s shown. c.in-Ok.ensures.plan s shown) in
-    let may = MayNeed g.K.Keeper.may_need d1.keeper (batch_of (edits_of replacements)) in
+    let batch = batch_of (edits_of replacements) in
+    let may = MayNeed g.K.Keeper.may_need d1.keeper batch in
     let new : 0 < banner.port = subst (λ (b : Banner). 0 < b.port) (sym named) (after_port h1.banner plan.host plan.admin d1.port c.in-Ok.ensures.port) in
     record {
-      kept = keeps_written c.write_replacements.result h0 h1 h2 d.kept c.args.change c.args.now replacements banner may read c.write_replacements.ensures.tried.honest make c.write_replacements.ensures.done c.write_replacements.ensures.banner c.write_replacements.ensures.fault;
-      port = port_written c.write_replacements.result h0 h1 h2 banner may read d.port new c.write_replacements.ensures.banner c.write_replacements.ensures.fault;
+      kept = keeps_written c.write_replacements.result h0 h1 h2 d.kept c.args.change c.args.now replacements banner (length batch) may read c.write_replacements.ensures.tried.honest make c.write_replacements.ensures.done c.write_replacements.ensures.banner c.write_replacements.ensures.fault;
+      port = port_written c.write_replacements.result h0 h1 h2 banner (length batch) may read d.port new c.write_replacements.ensures.banner c.write_replacements.ensures.fault;
     }
 
 pub returns-in-Ok-write_replacements-clause-done : goal.returns-in-Ok-write_replacements-clause-done

@@ -1,0 +1,26 @@
+use Rattle.std.proofs.Common.{◌+◌, arith}
+use Rattle.std.proofs.lemmas.Result.{err_from_is_err_and}
+use Rattle.tree_nodes.specs.OwnedTrees.{state_of}
+use Rattle.cow_tree.specs.Drafts.{MayBeTooDeep}
+use Rattle.cow_tree.proofs.PathReads.{tells_fault}
+use Rattle.cow_tree.proofs.DraftEdits.{deeper, put_told, delete_told}
+use Rattle.cow_tree.proofs.drafts.Draft.edit.Goals as goal
+
+pub returns-in_err-own_path-clause-draft : goal.returns-in_err-own_path-clause-draft
+returns-in_err-own_path-clause-draft g c = λ keeps edits pairs d small.
+    let slot = c.args.slot.now in
+    let e = err_from_is_err_and c.from_residual.result c.from_residual.ensures.1 in
+    rw (e.1, e.2) (tells_fault (MayBeTooDeep slot edits) (MayBeTooDeep slot (edits + 1)) c.in_err-own_path.field-0.0 _ _ (deeper slot edits (edits + 1) (omega arith)) (c.in_err-own_path.ensures.draft keeps edits pairs d.draft_is))
+
+pub returns-in-Some-clause-draft : goal.returns-in-Some-clause-draft
+returns-in-Some-clause-draft g c = λ keeps edits pairs d small.
+    let view = (g.D.Device.state c.args.device.now).disk.view in
+    let drafted = c.in_ok-own_path.ensures.draft keeps edits pairs d.draft_is in
+    put_told c.args.slot.now view edits pairs c.own_path.new.ledger (state_of c.own_path.new.tree) c.args.self.keys c.args.edit.now c.as_slice-key.result.now drafted c.in_ok-own_path.ensures.owned d.map d.keys c.requires.sizes c.as_slice-key.ensures c.as_slice.result.now
+    c.in-Some.value c.put.result c.in-Some.is c.as_slice.ensures small c.put.ensures.tree c.put.ensures.keys c.put.ensures.low c.put.ensures.fault
+
+pub returns-in-None-clause-draft : goal.returns-in-None-clause-draft
+returns-in-None-clause-draft g c = λ keeps edits pairs d small.
+    let view = (g.D.Device.state c.args.device.now).disk.view in
+    let drafted = c.in_ok-own_path.ensures.draft keeps edits pairs d.draft_is in
+    delete_told c.args.slot.now view edits pairs c.own_path.new.ledger (state_of c.own_path.new.tree) c.args.self.keys c.args.edit.now c.as_slice-key.result.now drafted c.in_ok-own_path.ensures.owned d.map d.keys c.requires.sizes c.as_slice-key.ensures c.delete.result c.in-None.is c.delete.ensures.tree c.delete.ensures.keys

@@ -1,0 +1,63 @@
+use Rattle.std.proofs.Common.{◌≡◌, ◌+◌, ◌-◌, ◌^◌, ◌<◌, List, length, take, map, sym, ap, subst, ◌∙◌, arith, IsTrue}
+use Rattle.std.specs.List.{list_all}
+use Rattle.std.proofs.lemmas.Result.{err_from_is_err_and}
+use Rattle.sector_device.specs.Disk.{Disk}
+use Rattle.page_store.specs.Sectors.{Image}
+use Rattle.page_store.specs.Pages.{Pair, key_of}
+use Rattle.page_store.specs.Keys.{rises}
+use Rattle.page_store.specs.Batch.{is_pair, edited, updated}
+use Rattle.tree_nodes.proofs.KeyOrder.{both_true}
+use Rattle.cow_tree.specs.Drafts.{IsCounted, MayBeTooDeep}
+use Rattle.cow_tree.proofs.ReadsInTurn.{reads_again}
+use Rattle.cow_tree.proofs.KeyCounts.{edited_most}
+use Rattle.cow_tree.proofs.PathReads.{tells_fault, retires_again}
+use Rattle.cow_tree.proofs.DraftEdits.{deeper, updated_more}
+use Rattle.cow_tree.proofs.drafts.draft_batch.Goals as goal
+
+pub returns-in_err-draft-clause-draft : goal.returns-in_err-draft-clause-draft
+returns-in_err-draft-clause-draft g c = λ keeps pairs first keys map_is room.
+    let state = g.D.Device.state in
+    let slot = c.args.slot.now in
+    let batch = c.args.batch.now in
+    let i = c.loop-edit.edit-index in
+    let inv = c.loop-edit.invariant in
+    let so_far = inv.draft keeps pairs first keys map_is room in
+    let same : (state c.loop-edit.device).disk.view ≡ (state c.args.device.now).disk.view = ap (λ (x : Disk). x.view) (inv.device.only.disk keeps) in
+    let here = subst (λ (v : Image). IsCounted slot v i (updated pairs (take i batch)) c.loop-edit.ledger c.loop-edit.draft) (sym same) so_far.0 in
+    let lt = c.loop-edit-test.true in
+    let few = so_far.1 in
+    let small : length (updated pairs (take i batch)) < 2 ^ 64 - 1 = omega (arith, lt, few, room) in
+    let told = c.in_err-draft.ensures.draft (subst IsTrue (sym inv.device.only.same.honest) keeps) i (updated pairs (take i batch)) here small in
+    let e = err_from_is_err_and c.from_residual.result c.from_residual.ensures.1 in
+    rw (e.1, e.2) (tells_fault (MayBeTooDeep slot (i + 1)) (MayBeTooDeep slot (length batch)) c.in_err-draft.field-0.0 _ _ (deeper slot (i + 1) (length batch) (omega (arith, lt))) told)
+
+pub loop-edit-preserved : goal.loop-edit-preserved
+loop-edit-preserved g c =
+    let state = g.D.Device.state in
+    let slot = c.args.slot.now in
+    let batch = c.args.batch.now in
+    let i = c.loop-edit.edit-index in
+    let inv = c.loop-edit.invariant in
+    let more = c.in_ok-draft.ensures in
+    let lt = c.loop-edit-test.true in
+    record {
+      draft = λ keeps pairs first keys map_is room.
+          let so_far = inv.draft keeps pairs first keys map_is room in
+          let before = updated pairs (take i batch) in
+          let same : (state c.loop-edit.device).disk.view ≡ (state c.args.device.now).disk.view = ap (λ (x : Disk). x.view) (inv.device.only.disk keeps) in
+          let here = subst (λ (v : Image). IsCounted slot v i before c.loop-edit.ledger c.loop-edit.draft) (sym same) so_far.0 in
+          let few = so_far.1 in
+          let small : length (updated pairs (take i batch)) < 2 ^ 64 - 1 = omega (arith, lt, few, room) in
+          let told = more.draft (subst IsTrue (sym inv.device.only.same.honest) keeps) i before here small in
+          let next = updated_more pairs batch i c.edit-item.result lt c.edit-item.is in
+          let rise = both_true (rises (map key_of before)) (list_all is_pair before) so_far.0.map in
+          let most = edited_most before c.edit-item.result rise.0 in
+          let size = ap (λ (l : List Pair). length l) next in (
+            subst (λ (l : List Pair). IsCounted slot (state c.args.device.now).disk.view (i + 1) l c.edit.new.ledger c.in_ok-draft.draft) next (subst (λ (v : Image). IsCounted slot v (i + 1) (edited before c.edit-item.result) c.edit.new.ledger c.in_ok-draft.draft) same told),
+            omega (arith, most, size, few),
+          );
+      low = more.low;
+      ledger = retires_again c.args.ledger.now c.loop-edit.ledger c.edit.new.ledger inv.ledger c.edit.ensures.ledger;
+      device = reads_again inv.device c.edit.ensures.reads.device;
+      reads = more.reads.reads ∙ inv.reads;
+    }

@@ -1,0 +1,63 @@
+use Rattle.std.proofs.Common.{◌≡◌, ◌+◌, refl, sym, ap, subst, ◌∙◌, IsTrue}
+use Rattle.common_types.specs.CrashStates.{no_new_crash_state}
+use Rattle.page_store.specs.Steps.{crash_states_of}
+use Rattle.tree_nodes.specs.OwnedTrees.{state_of}
+use Rattle.std.proofs.lemmas.Result.{err_from_is_err_and}
+use Rattle.sector_device.specs.Disk.{Disk}
+use Rattle.page_store.specs.Sectors.{Image}
+use Rattle.cow_tree.specs.Drafts.{IsDraft, MayBeTooDeep}
+use Rattle.cow_tree.proofs.ReadsInTurn.{reads_again}
+use Rattle.cow_tree.proofs.PathReads.{path_begins, path_goes_on, retires_again, retires_none, tells_fault, draft_more}
+use Rattle.cow_tree.proofs.drafts.own_path.Goals as goal
+
+pub loop-page-init : goal.loop-page-init
+loop-page-init g c = record {
+  draft = λ keeps edits pairs d. (0, d, path_begins c.args.slot.now (g.D.Device.state c.args.device.now).disk.view edits pairs c.args.key.now c.args.ledger.now (state_of c.args.tree.now) d);
+  height = refl;
+  ledger = retires_none c.args.ledger.now;
+  device = record {
+    only = record { same = record { size = refl; honest = refl }; disk = λ keeps. refl; writes = refl };
+    no_new_crash_state = λ keeps. no_new_crash_state (crash_states_of g.D.Device.moment g.D.Device.possible_since c.args.device.now);
+  };
+  reads = refl;
+}
+
+pub loop-page-preserved : goal.loop-page-preserved
+loop-page-preserved g c =
+    let state = g.D.Device.state in
+    let slot = c.args.slot.now in
+    let inv = c.loop-page.invariant in
+    let more = c.in_ok-read_needed.ensures in
+    record {
+      draft = λ keeps edits pairs d.
+          let p = inv.draft keeps edits pairs d in
+          let same : (state c.loop-page.device).disk.view ≡ (state c.args.device.now).disk.view = ap (λ (x : Disk). x.view) (inv.device.only.disk keeps) in
+          let here = subst (λ (v : Image). IsDraft slot v edits p.0 pairs c.loop-page.ledger (state_of c.loop-page.tree)) (sym same) p.1 in
+          let told = more.draft (subst IsTrue (sym inv.device.only.same.honest) keeps) edits p.0 pairs here in (
+            p.0 + 1,
+            subst (λ (v : Image). IsDraft slot v edits (p.0 + 1) pairs c.read_needed.new.ledger (state_of c.read_needed.new.tree)) same told,
+            path_goes_on slot (state c.args.device.now).disk.view edits pairs c.args.key.now p.0 c.in-Some.page (state_of c.loop-page.tree) (state_of c.read_needed.new.tree) p.2 (sym c.needed.ensures ∙ c.in-Some.is) more.down,
+          );
+      height = more.height ∙ inv.height;
+      ledger = retires_again c.args.ledger.now c.loop-page.ledger c.read_needed.new.ledger inv.ledger c.read_needed.ensures.ledger;
+      device = reads_again inv.device c.read_needed.ensures.reads.device;
+      reads = more.reads.reads ∙ inv.reads;
+    }
+
+pub returns-in_err-read_needed-clause-draft : goal.returns-in_err-read_needed-clause-draft
+returns-in_err-read_needed-clause-draft g c = λ keeps edits pairs d.
+    let state = g.D.Device.state in
+    let slot = c.args.slot.now in
+    let inv = c.loop-page.invariant in
+    let p = inv.draft keeps edits pairs d in
+    let same : (state c.loop-page.device).disk.view ≡ (state c.args.device.now).disk.view = ap (λ (x : Disk). x.view) (inv.device.only.disk keeps) in
+    let here = subst (λ (v : Image). IsDraft slot v edits p.0 pairs c.loop-page.ledger (state_of c.loop-page.tree)) (sym same) p.1 in
+    let told = c.in_err-read_needed.ensures.draft (subst IsTrue (sym inv.device.only.same.honest) keeps) edits p.0 pairs here in
+    let e = err_from_is_err_and c.from_residual.result c.from_residual.ensures.1 in
+    rw (e.1, e.2) (tells_fault (MayBeTooDeep slot edits) (MayBeTooDeep slot edits) c.in_err-read_needed.field-0.0 _ _ (λ h. h) told)
+
+pub returns-clause-draft : goal.returns-clause-draft
+returns-clause-draft g c = λ keeps edits pairs d.
+    let slot = c.args.slot.now in
+    let p = c.loop-page.invariant.draft keeps edits pairs d in
+    draft_more slot (g.D.Device.state c.args.device.now).disk.view edits p.0 slot.root.height pairs c.loop-page.ledger (state_of c.loop-page.tree) p.2.so_far p.1

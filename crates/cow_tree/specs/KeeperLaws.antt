@@ -1,0 +1,40 @@
+-- What holds of each keeper of a tree.
+use Rattle.std.specs.Prelude.{◌≡◌, ◌≤◌, ◌<◌, ℕ, zero, suc, Option, Some, IsTrue}
+use Rattle.std.proofs.Common.{ap, ◌∙◌, arith}
+use Rattle.sector_device.specs.Disk.{Disk, IsImage}
+use Rattle.page_alloc.specs.LedgerState.{LedgerState}
+use Rattle.page_store.specs.Reading.{◌>>=◌}
+use Rattle.page_store.specs.Sectors.{Image, page_of}
+use Rattle.page_store.specs.Roots.{current}
+use Rattle.page_store.specs.Content.{Found, content, content_under, found_as, pairs_and_banner}
+use Rattle.page_store.specs.StoreState.{most_levels}
+use Rattle.page_store.specs.declared.slot.Root.{Root}
+use Rattle.page_store.specs.declared.slot.Slot.{Slot}
+use Rattle.page_store.proofs.Fields.{bind_again}
+use Rattle.cow_tree.specs.Opening.{IsRooted}
+use Rattle.cow_tree.specs.TreeState.{IsThere, IsSettled, found_under}
+use Rattle.cow_tree.specs.Committed.{is_tree_version, TreeHas}
+
+-- version 1 is the one that is opened
+pub opens_trees : (version : ℕ) → version ≡ 1 → IsTrue (is_tree_version version)
+opens_trees version is = ap is_tree_version is
+
+few : (height : ℕ) (P Q : Type 0) → (0 < height → (height ≤ 16) × P × Q) → height ≤ most_levels
+few zero P Q f = omega arith
+few (suc n) P Q f = (f (omega arith)).0
+
+-- there are no more than 16 levels
+pub few_levels : (root : Root) → IsRooted root → root.height ≤ most_levels
+few_levels root rooted = few root.height (2 ≤ root.tree) (root.tree < root.pages) rooted
+
+content_now : (image : Image) (slot : Slot) (found : Found) → current image ≡ Some slot → slot.root.banner.version ≡ 1 → found_as 1 slot (page_of image) ≡ Some found → content image ≡ Some (slot, found)
+unfolding content content_under
+content_now image slot found now version is =
+    bind_again (current image) _ slot _ now (ap (λ (f : Option Found). f >>= λ x. Some (slot, x)) (ap (λ (v : ℕ). found_as v slot (page_of image)) version ∙ is))
+
+-- each crash state of a usable keeper has its pairs and its banner
+pub crash_states_have_the_tree : (disk : Disk) (slot : Slot) (ledger : LedgerState) (top : ℕ) → slot.root.banner.version ≡ 1 → IsThere disk.view slot ledger → IsSettled disk slot top → (c : Image) → IsImage disk c → TreeHas c (found_under slot disk.view).pairs slot.root.banner
+crash_states_have_the_tree disk slot ledger top version there settled c image = (
+  ap (λ (i : Image). pairs_and_banner (content i)) (settled.images c image) ∙ ap pairs_and_banner (content_now disk.view slot (found_under slot disk.view) settled.current_is version there.found_is),
+  opens_trees slot.root.banner.version version,
+)

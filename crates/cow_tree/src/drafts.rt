@@ -1,0 +1,218 @@
+// A tree that a commit changes, before anything is written.
+ghost use Rattle.std.specs.Prelude.{◌≡◌, ◌≤◌, ◌<◌, ◌+◌, ◌-◌, ◌*◌, ◌^◌, ℕ, List, None, Some, true, IsTrue, OnOk, IfOk, IfErr, length};
+ghost use Rattle.page_store.specs.Pages.{Pair};
+ghost use Rattle.page_store.specs.Batch.{edited, updated, is_edit, is_batch, is_map};
+ghost use Rattle.page_store.specs.Steps.{crash_states_of};
+ghost use Rattle.page_store.specs.StoreState.{most_levels};
+ghost use Rattle.page_store.specs.declared.fault.KeeperFault.TheVariants.{Deep};
+ghost use Rattle.tree_nodes.specs.Steps.{needed_under, put_under, delete_under};
+ghost use Rattle.tree_nodes.specs.Keys.{has_under};
+ghost use Rattle.tree_nodes.specs.Needs.{needed_level};
+ghost use Rattle.tree_nodes.specs.OwnedTrees.{state_of};
+ghost use Rattle.cow_tree.specs.Opening.{IsRooted};
+ghost use Rattle.cow_tree.specs.Drafts.{IsCountedRead, IsDraft, IsCounted, OnlyRetires, Tells, IsDraftFault, IsPutFault, MayBeTooDeep, keys_with, keys_without, root_under};
+
+use crate::opening_walk::load_page;
+use crate::page_bounds::bounds_of;
+use page_alloc::Ledger;
+use page_store::{Edit, KeeperFault, Slot};
+use sector_device::Device;
+use std::alloc::Global;
+use tree_nodes::{NodeFault, OwnedTree};
+
+/// How many levels a tree may have.
+const MOST_LEVELS: u16 = 16;
+
+/// A tree that a commit changes, and how many pairs it has.
+#[derive(Drop)]
+pub(crate) struct Draft {
+    pub(crate) tree: OwnedTree,
+    pub(crate) keys: u64,
+}
+
+/// Reads a page that a key needs into the tree, and gives it up.
+fn read_needed<D: Device>(
+    alloc: Global,
+    device: &mut D,
+    ledger: &mut Ledger,
+    slot: &Slot,
+    tree: &mut OwnedTree,
+    key: &[u8],
+    page: u32,
+) -> Result<(), KeeperFault>
+    requires needed { needed_under key.now (state_of tree.old).root ≡ Some page }
+    requires fits { 8 * slot.now.root.pages ≤ (D.state device.old).size }
+    requires pages { length ledger.old.lives ≡ slot.now.root.pages }
+    ensures draft { IsTrue (D.state device.old).honest → (edits read : ℕ) (pairs : List Pair) → IsDraft slot.now (D.state device.old).disk.view edits read pairs ledger.old (state_of tree.old) →
+        Tells (MayBeTooDeep slot.now edits) result (λ done. IsDraft slot.now (D.state device.old).disk.view edits (read + 1) pairs ledger.new (state_of tree.new)) }
+    ensures down { OnOk result ((n : ℕ) → needed_under key.now (state_of tree.new).root ≡ Some n → needed_level key.now (state_of tree.new) < needed_level key.now (state_of tree.old)) }
+    ensures height { OnOk result ((state_of tree.new).height ≡ (state_of tree.old).height) }
+    ensures ledger { OnlyRetires ledger.old ledger.new }
+    ensures fault { IfErr result IsDraftFault }
+    ensures reads { IsCountedRead D.state (crash_states_of D.moment D.possible_since) device.old device.new result }
+{
+    if !ledger.lives(page) {
+        return Err(KeeperFault::Damaged { page });
+    }
+    let mut bytes = [0; 4096];
+    if load_page(device, page, &mut bytes).is_err() {
+        return Err(KeeperFault::Device);
+    }
+    match tree.supply(alloc, bounds_of(slot), key, &bytes) {
+        Ok(()) => {
+            ledger.retire(page);
+            Ok(())
+        }
+        Err(NodeFault::Damaged { page }) => Err(KeeperFault::Damaged { page }),
+        Err(NodeFault::Memory) => Err(KeeperFault::Memory),
+    }
+}
+
+/// Reads pages until all nodes on a key's path are owned.
+fn own_path<D: Device>(
+    alloc: Global,
+    device: &mut D,
+    ledger: &mut Ledger,
+    slot: &Slot,
+    tree: &mut OwnedTree,
+    key: &[u8],
+) -> Result<(), KeeperFault>
+    requires fits { 8 * slot.now.root.pages ≤ (D.state device.old).size }
+    requires pages { length ledger.old.lives ≡ slot.now.root.pages }
+    ensures draft { IsTrue (D.state device.old).honest → (edits : ℕ) (pairs : List Pair) → IsDraft slot.now (D.state device.old).disk.view edits 0 pairs ledger.old (state_of tree.old) →
+        Tells (MayBeTooDeep slot.now edits) result (λ done. IsDraft slot.now (D.state device.old).disk.view edits slot.now.root.height pairs ledger.new (state_of tree.new)) }
+    ensures owned { OnOk result (needed_under key.now (state_of tree.new).root ≡ None) }
+    ensures height { OnOk result ((state_of tree.new).height ≡ (state_of tree.old).height) }
+    ensures ledger { OnlyRetires ledger.old ledger.new }
+    ensures fault { IfErr result IsDraftFault }
+    ensures reads { IsCountedRead D.state (crash_states_of D.moment D.possible_since) device.old device.new result }
+{
+    while let Some(page) = tree.needed(key) {
+        read_needed(alloc, device, ledger, slot, tree, key, page)?;
+    }
+    Ok(())
+}
+
+/// Refuses a tree of too many levels.
+fn test_depth(tree: &OwnedTree) -> Result<(), KeeperFault>
+    ensures low { OnOk result ((state_of tree.now).height ≤ most_levels) }
+    ensures deep { IfErr result (λ e. (e ≡ Deep) × (most_levels < (state_of tree.now).height)) }
+{
+    if tree.height() > MOST_LEVELS {
+        return Err(KeeperFault::Deep);
+    }
+    Ok(())
+}
+
+impl Draft {
+    /// The tree under a slot, as it is.
+    pub(crate) fn of(slot: &Slot) -> Draft
+        ensures tree { state_of result.tree ≡ root_under slot.now }
+        ensures keys { result.keys ≡ slot.now.root.keys }
+    {
+        let root = &slot.root;
+        let tree = if root.height == 0 {
+            OwnedTree::new()
+        } else {
+            OwnedTree::at_page(root.tree, root.height)
+        };
+        Draft {
+            tree,
+            keys: root.keys,
+        }
+    }
+
+    /// Puts a value at a key, where all nodes on the key's path are owned.
+    fn put(self, alloc: Global, key: &[u8], value: &[u8]) -> Result<Draft, KeeperFault>
+        requires low { (state_of self.tree).height ≤ most_levels }
+        requires owned { needed_under key.now (state_of self.tree).root ≡ None }
+        ensures tree { IfOk result (λ draft. state_of draft.tree ≡ put_under key.now value.now (state_of self.tree).root (state_of self.tree).height) }
+        ensures keys { IfOk result (λ draft. draft.keys ≡ keys_with (has_under key.now (state_of self.tree).root) self.keys) }
+        ensures low { IfOk result (λ draft. (state_of draft.tree).height ≤ most_levels) }
+        ensures fault { IfErr result (IsPutFault (put_under key.now value.now (state_of self.tree).root (state_of self.tree).height)) }
+    {
+        let Draft { tree, keys } = self;
+        let keys = if tree.contains(key) {
+            keys
+        } else {
+            keys.saturating_add(1)
+        };
+        let (tree, _) = tree.put(alloc, key, value)?;
+        test_depth(&tree)?;
+        Ok(Draft { tree, keys })
+    }
+
+    /// Takes a key away, where all nodes on the key's path are owned.
+    fn delete(self, key: &[u8]) -> Draft
+        requires owned { needed_under key.now (state_of self.tree).root ≡ None }
+        ensures tree { state_of result.tree ≡ delete_under key.now (state_of self.tree).root (state_of self.tree).height }
+        ensures keys { result.keys ≡ keys_without (has_under key.now (state_of self.tree).root) self.keys }
+    {
+        let Draft { tree, keys } = self;
+        let keys = if tree.contains(key) {
+            keys.saturating_sub(1)
+        } else {
+            keys
+        };
+        let mut tree = tree;
+        tree.delete(key);
+        Draft { tree, keys }
+    }
+
+    /// Makes an edit, once the pages that its key needs are read.
+    fn edit<D: Device>(
+        self,
+        alloc: Global,
+        device: &mut D,
+        ledger: &mut Ledger,
+        slot: &Slot,
+        edit: &Edit,
+    ) -> Result<Draft, KeeperFault>
+        requires fits { 8 * slot.now.root.pages ≤ (D.state device.old).size }
+        requires pages { length ledger.old.lives ≡ slot.now.root.pages }
+        requires low { (state_of self.tree).height ≤ most_levels }
+        requires sizes { IsTrue (is_edit edit.now) }
+        ensures draft { IsTrue (D.state device.old).honest → (edits : ℕ) (pairs : List Pair) → IsCounted slot.now (D.state device.old).disk.view edits pairs ledger.old self →
+            length pairs < 2 ^ 64 - 1 → Tells (MayBeTooDeep slot.now (edits + 1)) result (IsCounted slot.now (D.state device.old).disk.view (edits + 1) (edited pairs edit.now) ledger.new) }
+        ensures low { IfOk result (λ draft. (state_of draft.tree).height ≤ most_levels) }
+        ensures ledger { OnlyRetires ledger.old ledger.new }
+        ensures fault { IfErr result IsDraftFault }
+        ensures reads { IsCountedRead D.state (crash_states_of D.moment D.possible_since) device.old device.new result }
+    {
+        let Draft { tree, keys } = self;
+        let mut tree = tree;
+        let key = edit.key.as_slice();
+        own_path(alloc, device, ledger, slot, &mut tree, key)?;
+        let draft = Draft { tree, keys };
+        match &edit.value {
+            Some(value) => draft.put(alloc, key, value.as_slice()),
+            None => Ok(draft.delete(key)),
+        }
+    }
+}
+
+/// Makes the edits of a batch in the tree under a slot, one after another; the pages that they need are read, and given up.
+pub(crate) fn draft_batch<D: Device>(
+    alloc: Global,
+    device: &mut D,
+    ledger: &mut Ledger,
+    slot: &Slot,
+    batch: &[Edit],
+) -> Result<Draft, KeeperFault>
+    requires fits { 8 * slot.now.root.pages ≤ (D.state device.old).size }
+    requires pages { length ledger.old.lives ≡ slot.now.root.pages }
+    requires rooted { IsRooted slot.now.root }
+    requires batch { IsTrue (is_batch batch.now) }
+    ensures draft { IsTrue (D.state device.old).honest → (pairs : List Pair) → IsDraft slot.now (D.state device.old).disk.view 0 0 pairs ledger.old (root_under slot.now) → slot.now.root.keys ≡ length pairs → is_map pairs ≡ true →
+        length pairs + length batch.now < 2 ^ 64 → Tells (MayBeTooDeep slot.now (length batch.now)) result (IsCounted slot.now (D.state device.old).disk.view (length batch.now) (updated pairs batch.now) ledger.new) }
+    ensures low { IfOk result (λ draft. (state_of draft.tree).height ≤ most_levels) }
+    ensures ledger { OnlyRetires ledger.old ledger.new }
+    ensures fault { IfErr result IsDraftFault }
+    ensures reads { IsCountedRead D.state (crash_states_of D.moment D.possible_since) device.old device.new result }
+{
+    let mut draft = Draft::of(slot);
+    for edit in batch {
+        draft = draft.edit(alloc, device, ledger, slot, edit)?;
+    }
+    Ok(draft)
+}

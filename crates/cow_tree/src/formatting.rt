@@ -1,0 +1,111 @@
+// Making an image of a tree.
+ghost use Rattle.std.specs.Prelude.{◌≡◌, ◌≢◌, ◌≤◌, ◌<◌, ◌+◌, ◌*◌, All, IsTrue, IfOk, OnOk, IfErr, true};
+ghost use Rattle.std.specs.List.{list_all};
+ghost use Rattle.sector_device.specs.Device.{NothingCounted};
+ghost use Rattle.sector_device.specs.Effects.{IsSameDevice, WriteOutcome};
+ghost use Rattle.page_store.specs.Batch.{is_map, is_pair};
+ghost use Rattle.page_store.specs.Steps.{crash_states_of, AllAre};
+ghost use Rattle.page_store.specs.Content.{HasContent};
+ghost use Rattle.page_store.specs.Formatting.{IsFirst, IsFormatFault};
+ghost use Rattle.page_store.specs.declared.fault.KeeperFault.TheVariants.{Failed};
+ghost use Rattle.tree_nodes.specs.Tree.{entry_room, leaf_bytes};
+ghost use Rattle.cow_tree.specs.Formatting.{first_pages, first_slot, IsFirstTree, IsFirstWritten, FirstLeafExample};
+
+use page_store::{
+    Banner, KeeperFault, NewPage, Pair, Root, Slot, slot_page, sync_all, write_page, write_pages,
+};
+use sector_device::{Device, DeviceFault};
+use std::alloc::{AllocError, Global};
+use tree_nodes::encode_leaf;
+
+/// The pages of the first tree: one leaf, or none where there are no pairs.
+fn first_pages(alloc: Global, pairs: &[Pair]) -> Result<Vec<NewPage>, AllocError>
+    requires pairs { IsTrue (list_all is_pair pairs.now) }
+    requires room { leaf_bytes pairs.now ≤ entry_room }
+    ensures { IfOk result (λ pages. pages.items ≡ first_pages pairs.now) }
+{
+    let mut pages = Vec::new(alloc);
+    if !pairs.is_empty() {
+        pages.push(NewPage {
+            number: 2,
+            bytes: encode_leaf(alloc, 2, 1, pairs)?,
+        })?;
+    }
+    Ok(pages)
+}
+
+/// The slot over the first tree.
+fn first_slot(pages: u32, banner: Banner, pairs: &[Pair]) -> Slot
+    ensures { result ≡ first_slot pages banner pairs.now }
+{
+    let (tree, height) = if pairs.is_empty() { (0, 0) } else { (2, 1) };
+    Slot {
+        number: 0,
+        seal: 1,
+        root: Root {
+            pages,
+            tree,
+            height,
+            keys: pairs.len() as u64,
+            banner,
+        },
+    }
+}
+
+/// Clears the second slot, writes pages and the page of the first slot, and makes sure of them.
+fn write_first<D: Device>(
+    device: &mut D,
+    pages: &[NewPage],
+    root: &[u8; 4096],
+) -> Result<(), DeviceFault>
+    requires fits { All (λ page. 8 * page.number + 8 ≤ (D.state device.old).size) pages.now }
+    requires slots { 16 ≤ (D.state device.old).size }
+    ensures written { IsTrue (D.state device.old).honest → OnOk result (IsFirstWritten pages.now root.now (D.state device.old).disk.view (D.state device.new).disk.view × AllAre (crash_states_of D.moment D.possible_since device.new) (D.state device.new).disk.view) }
+    ensures outcome { WriteOutcome result (D.state device.old) (D.state device.new) }
+{
+    let cleared = [0; 4096];
+    write_page(device, 1, &cleared)?;
+    write_pages(device, pages)?;
+    write_page(device, 0, root)?;
+    sync_all(device)
+}
+
+/// Makes an image of a tree of pages, with pairs that fit one page: it clears the second slot and writes generation 1 to the first, over a tree of one leaf on page 2, or of no level where there are no pairs. What was there is gone.
+///
+/// `Small` where the count of pages isn't 16 to 65,536 or the device hasn't eight sectors for each, and `Memory`, come before the first write and leave the device as it is; `Failed` where a write or a sync failed. A crash within the call may leave anything.
+pub fn format<D: Device>(
+    alloc: Global,
+    device: &mut D,
+    pages: u32,
+    banner: Banner,
+    pairs: &[Pair],
+) -> Result<(), KeeperFault>
+    requires map { is_map pairs.now ≡ true }
+    requires one_page { leaf_bytes pairs.now ≤ entry_room }
+    requires port { 0 < banner.port }
+    requires version { banner.version ≡ 1 }
+    ensures content { IsTrue (D.state device.old).honest → OnOk result (HasContent (D.state device.new).disk.view pairs.now banner) }
+    ensures first { IsTrue (D.state device.old).honest → OnOk result (IsFirst pages (D.state device.new).disk.view) }
+    ensures tree { IsTrue (D.state device.old).honest → OnOk result (IsFirstTree pages banner pairs.now (D.state device.new).disk.view) }
+    ensures sure { IsTrue (D.state device.old).honest → OnOk result (AllAre (crash_states_of D.moment D.possible_since device.new) (D.state device.new).disk.view) }
+    ensures fits { OnOk result ((16 ≤ pages) × (pages ≤ 65536) × (8 * pages ≤ (D.state device.old).size)) }
+    ensures fault { IfErr result (IsFormatFault pages (D.state device.old) (D.state device.new)) }
+    ensures counts { OnOk result (NothingCounted (D.state device.old) (D.state device.new)) }
+    ensures unwritten { IfErr result (λ e. e ≢ Failed → device.new ≡ device.old) }
+    ensures same { IsSameDevice (D.state device.old) (D.state device.new) }
+{
+    if pages < 16 || pages > 65_536 || 8 * u64::from(pages) > device.sectors() {
+        return Err(KeeperFault::Small);
+    }
+    let tree = first_pages(alloc, pairs)?;
+    let root = slot_page(alloc, &first_slot(pages, banner, pairs))?;
+    if write_first(device, &tree, &root).is_err() {
+        return Err(KeeperFault::Failed);
+    }
+    Ok(())
+}
+
+/// A worked example: the bytes of a first tree's leaf.
+pub fn a_first_leaf()
+    ensures { FirstLeafExample }
+{}

@@ -1,0 +1,149 @@
+// What a commit is to write, worked out whole before anything is written.
+ghost use Rattle.std.specs.Prelude.{◌≡◌, ◌≤◌, ◌<◌, ◌+◌, ◌-◌, ◌^◌, ℕ, List, IsTrue, OnErr, IfOk, IfErr, All, length, min};
+ghost use Rattle.page_alloc.specs.LedgerState.{free_count};
+ghost use Rattle.page_store.specs.Sectors.{Image};
+ghost use Rattle.page_store.specs.Pages.{Pair};
+ghost use Rattle.page_store.specs.Batch.{updated, is_batch};
+ghost use Rattle.page_store.specs.Steps.{crash_states_of};
+ghost use Rattle.page_store.specs.StoreState.{most_levels};
+ghost use Rattle.page_store.specs.declared.fault.KeeperFault.TheVariants.{Memory};
+ghost use Rattle.tree_nodes.specs.Tree.{OldPages};
+ghost use Rattle.tree_nodes.specs.Steps.{IsValidRoot};
+ghost use Rattle.tree_nodes.specs.OwnedTrees.{state_of};
+ghost use Rattle.tree_nodes.specs.Growth.{owned_under};
+ghost use Rattle.tree_pages.specs.Written.{IsTreePage};
+ghost use Rattle.cow_tree.specs.TreeState.{IsFitted, IsFittedSlot};
+ghost use Rattle.cow_tree.specs.Drafts.{IsCountedRead, IsCounted, OnlyMarks, Tells, MayBeTooDeep, most_nodes};
+ghost use Rattle.cow_tree.specs.Plans.{IsHeld, Starts, IsPlanned, IsMade, IsPlanFault, IsRoomFault, IsTreeFault, IsRootWritten, IsRootInside};
+
+use crate::drafts::{Draft, draft_batch};
+use crate::taking::take_pages;
+use page_alloc::Ledger;
+use page_store::{Banner, Edit, KeeperFault, NewPage, Root, Slot, slot_page};
+use sector_device::Device;
+use std::alloc::Global;
+use tree_nodes::OwnedTree;
+use tree_pages::{fits_pages, write_node};
+
+/// What a commit is to write: pages, and then the page of a root slot over them.
+#[derive(Drop)]
+pub(crate) struct Plan {
+    pub(crate) pages: Vec<NewPage>,
+    pub(crate) slot: Slot,
+    pub(crate) root: [u8; 4096],
+}
+
+/// The owned nodes of a tree as pages of a generation, and the number of its root's page: 0 where there is no tree. `Damaged` where the tree doesn't fit its pages or
+/// its root is no page of the image, which can come of a lying device alone.
+fn write_tree(
+    alloc: Global,
+    slot: &Slot,
+    tree: &OwnedTree,
+    seal: u64,
+    numbers: &[u32],
+) -> Result<(u32, Vec<NewPage>), KeeperFault>
+    requires room { owned_under (state_of tree.now).root ≤ length numbers.now }
+    ensures written { IfOk result (λ x. IsRootWritten slot.now.root.pages seal numbers.now (state_of tree.now).height (state_of tree.now).root x.1.items x.0) }
+    ensures fault { IfErr result IsTreeFault }
+    ensures sound { (old : OldPages) → IsValidRoot old (state_of tree.now).root (state_of tree.now).height → IsRootInside slot.now.root.pages (state_of tree.now).root → All (λ n. IsTreePage slot.now.root.pages n) numbers.now →
+        IfErr result (λ e. e ≡ Memory) }
+{
+    let mut pages = Vec::new(alloc);
+    let Some(root) = tree.root() else {
+        return Ok((0, pages));
+    };
+    let level = tree.height().saturating_sub(1);
+    if !fits_pages(root, level) {
+        return Err(KeeperFault::Damaged { page: slot.number });
+    }
+    let page = write_node(alloc, root, level, seal, numbers, &mut pages)?;
+    if page < 2 || page >= slot.root.pages {
+        return Err(KeeperFault::Damaged { page: slot.number });
+    }
+    Ok((page, pages))
+}
+
+/// Plans a commit of a draft: its owned nodes go to free pages, and the other slot gets the seal.
+fn plan_draft(
+    alloc: Global,
+    ledger: &mut Ledger,
+    slot: &Slot,
+    draft: &Draft,
+    seal: u64,
+    banner: Banner,
+) -> Result<Plan, KeeperFault>
+    requires fitted { IsFittedSlot slot.now }
+    requires lives { length ledger.old.lives ≡ slot.now.root.pages }
+    requires low { (state_of draft.now.tree).height ≤ most_levels }
+    requires later { slot.now.seal < seal }
+    requires port { 0 < banner.port }
+    ensures made { IfOk result (IsMade slot.now seal banner) }
+    ensures room { IfOk result (λ plan. length plan.pages.items ≤ free_count ledger.old) }
+    ensures used { IfOk result (λ plan. length plan.pages.items ≤ owned_under (state_of draft.now.tree).root) }
+    ensures planned { (view : Image) (top edits : ℕ) (pairs : List Pair) → IsHeld view slot.now top ledger.old → IsCounted slot.now view edits pairs ledger.old draft.now → seal ≡ top + 1 → banner.version ≡ 1 →
+        Tells (Unit {0}) result (IsPlanned view slot.now top pairs ledger.new) }
+    ensures marks { OnlyMarks ledger.old ledger.new }
+    ensures fault { IfErr result (IsRoomFault (free_count ledger.old) (λ need. need ≡ min (owned_under (state_of draft.now.tree).root) (2 ^ 64 - 1))) }
+{
+    let need = draft.tree.owned_nodes();
+    let free = ledger.free() as u64;
+    if need > free {
+        return Err(KeeperFault::Full { need, free });
+    }
+    let numbers = take_pages(alloc, ledger, need as usize)?;
+    let (tree, pages) = write_tree(alloc, slot, &draft.tree, seal, &numbers)?;
+    // no root, no level
+    let height = if tree == 0 { 0 } else { draft.tree.height() };
+    let slot = Slot {
+        number: 1 - slot.number,
+        seal,
+        root: Root {
+            pages: slot.root.pages,
+            tree,
+            height,
+            keys: draft.keys,
+            banner,
+        },
+    };
+    let root = slot_page(alloc, &slot)?;
+    Ok(Plan { pages, slot, root })
+}
+
+/// Plans a commit of a batch to the tree under a slot: pages that its edits need are read, and nothing is written. Where it is refused, the ledger is as before.
+pub(crate) fn plan_commit<D: Device>(
+    alloc: Global,
+    device: &mut D,
+    ledger: &mut Ledger,
+    slot: &Slot,
+    seal: u64,
+    batch: &[Edit],
+    banner: Banner,
+) -> Result<Plan, KeeperFault>
+    requires fitted { IsFitted (D.state device.old).size slot.now ledger.old }
+    requires batch { IsTrue (is_batch batch.now) }
+    requires later { slot.now.seal < seal }
+    requires port { 0 < banner.port }
+    ensures made { IfOk result (IsMade slot.now seal banner) }
+    ensures room { IfOk result (λ plan. length plan.pages.items ≤ free_count ledger.old) }
+    ensures planned { IsTrue (D.state device.old).honest → (top : ℕ) (pairs : List Pair) → IsHeld (D.state device.old).disk.view slot.now top ledger.old → Starts slot.now (D.state device.old).disk.view pairs ledger.old → seal ≡ top + 1 → banner.version ≡ 1 →
+        Tells (MayBeTooDeep slot.now (length batch.now)) result (λ plan. IsPlanned (D.state device.old).disk.view slot.now top (updated pairs batch.now) ledger.new plan × (length plan.pages.items ≤ most_nodes slot.now (length batch.now))) }
+    ensures marks { OnlyMarks ledger.old ledger.new }
+    ensures refused { OnErr result (ledger.new ≡ ledger.old) }
+    ensures fault { IfErr result (IsPlanFault (free_count ledger.old) (λ need. IsTrue (D.state device.old).honest → (pairs : List Pair) → Starts slot.now (D.state device.old).disk.view pairs ledger.old → need ≤ most_nodes slot.now (length batch.now))) }
+    ensures reads { IsCountedRead D.state (crash_states_of D.moment D.possible_since) device.old device.new result }
+{
+    let draft = match draft_batch(alloc, device, ledger, slot, batch) {
+        Ok(draft) => draft,
+        Err(fault) => {
+            ledger.abandon();
+            return Err(fault);
+        }
+    };
+    match plan_draft(alloc, ledger, slot, &draft, seal, banner) {
+        Ok(plan) => Ok(plan),
+        Err(fault) => {
+            ledger.abandon();
+            Err(fault)
+        }
+    }
+}

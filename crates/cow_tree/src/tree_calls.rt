@@ -1,0 +1,145 @@
+// The calls of a keeper of a tree.
+ghost use Rattle.std.specs.Prelude.{◌≡◌, ◌≤◌, ◌<◌, ◌+◌, ◌⊎◌, ℕ, true, false, IsTrue, OnOk, IfOk, IfErr, IsErrOf, length};
+ghost use Rattle.common_types.specs.CrashStates.{AddsOnly, AddsNone, may_crash_to};
+ghost use Rattle.page_store.specs.Sectors.{Image};
+ghost use Rattle.page_store.specs.Batch.{is_batch, updated};
+ghost use Rattle.page_store.specs.Counting.{CountsReads, CountsWrites};
+ghost use Rattle.page_store.specs.StoreState.{HasTried, IsCommitFault, last_generation};
+ghost use Rattle.page_store.specs.declared.fault.KeeperFault.TheVariants.{Failed, Spent};
+ghost use Rattle.page_store.specs.Steps.{crash_states_of};
+ghost use Rattle.cow_tree.specs.Drafts.{most_nodes};
+ghost use Rattle.cow_tree.specs.Committed.{is_tree_version, TreeHas, IsTreeBetween};
+ghost use Rattle.cow_tree.specs.TreeSeen.{held, device_of, slot_of, top_of};
+ghost use Rattle.cow_tree.specs.KeeperLaws.{opens_trees, few_levels, crash_states_have_the_tree};
+
+use crate::TreeKeeper;
+use crate::commits::write_plan;
+use crate::lookups::{find_next, find_value};
+use crate::plans::plan_commit;
+use page_store::{Banner, Edit, Figures, Keeper, KeeperFault};
+use sector_device::Device;
+
+impl<D: Device> Keeper for TreeKeeper<D> {
+    ghost store_state = { λ k. held D.state k };
+
+    // a node for each edit and each level of the tree, and a new one on each of 16 levels
+    ghost may_need = { λ k batch need. need ≤ most_nodes (slot_of k) (length batch) };
+
+    ghost holds_version = { is_tree_version };
+
+    ghost CrashState = { Image };
+
+    ghost has_content = { TreeHas };
+
+    ghost crash_states = { λ k. crash_states_of D.moment D.possible_since (device_of k) };
+
+    ghost held = { λ k. opens_trees k.slot.root.banner.version k.fitted.version };
+
+    ghost levels = { λ k. few_levels k.slot.root k.fitted.rooted };
+
+    ghost ordered = { λ k honest. (k.there honest).map };
+
+    ghost crash_states_represent = { λ k c honest usable left. crash_states_have_the_tree (D.state k.device).disk k.slot k.ledger k.top k.fitted.version (k.there honest) (k.settled honest usable) c (D.crash_states_are_images k.device c honest left) };
+
+    fn banner(&self) -> &Banner {
+        &self.slot.root.banner
+    }
+
+    fn is_usable(&self) -> bool {
+        self.usable
+    }
+
+    fn figures(&self) -> Figures {
+        Figures {
+            keys: self.slot.root.keys,
+            free: self.free(),
+            generation: self.slot.seal,
+        }
+    }
+
+    fn get(&mut self, key: &[u8], buffer: &mut [u8; 1024]) -> Result<Option<usize>, KeeperFault> {
+        if !self.usable {
+            return Err(KeeperFault::Failed);
+        }
+        match find_value(&mut self.device, &self.slot, key, buffer) {
+            Ok(found) => Ok(found),
+            Err(fault) => Err(KeeperFault::from(fault)),
+        }
+    }
+
+    fn next(
+        &mut self,
+        after: &[u8],
+        key: &mut [u8; 300],
+        value: &mut [u8; 1024],
+    ) -> Result<Option<(usize, usize)>, KeeperFault> {
+        if !self.usable {
+            return Err(KeeperFault::Failed);
+        }
+        match find_next(&mut self.device, &self.slot, after, key, value) {
+            Ok(found) => Ok(found),
+            Err(fault) => Err(KeeperFault::from(fault)),
+        }
+    }
+
+    fn commit(&mut self, batch: &[Edit], banner: Banner) -> Result<(), KeeperFault>
+        requires batch { IsTrue (is_batch batch.now) }
+        requires port { 0 < banner.port }
+        requires version { IsTrue (is_tree_version banner.version) }
+        ensures done { IsTrue (held D.state self.old).honest → OnOk result ((held D.state self.new).pairs ≡ updated (held D.state self.old).pairs batch.now) }
+        ensures banner { OnOk result ((held D.state self.new).banner ≡ banner) }
+        ensures still_usable { OnOk result ((held D.state self.new).usable ≡ true) }
+        ensures rises { OnOk result ((held D.state self.new).top ≡ (held D.state self.old).top + 1) }
+        ensures pins { IsTrue (held D.state self.old).honest → OnOk result ((held D.state self.new).pins ≡ (held D.state self.old).pins) }
+        ensures generation { OnOk result ((held D.state self.new).generation ≡ (held D.state self.old).top + 1) }
+        ensures fits { IsTrue (held D.state self.old).honest → OnOk result ((n : ℕ) × (n ≤ most_nodes (slot_of self.old) (length batch.now)) × (n ≤ (held D.state self.old).free)) }
+        ensures fault { IfErr result (IsCommitFault (held D.state self.old) (held D.state self.new) (length batch.now) (λ n. n ≤ most_nodes (slot_of self.old) (length batch.now))) }
+        ensures closed { (held D.state self.old).usable ≡ false → IsErrOf result Failed }
+        ensures spent { (held D.state self.old).usable ≡ true → (held D.state self.old).top ≡ last_generation → IsErrOf result Spent }
+        ensures unchanged { (held D.state self.old).usable ≡ false → held D.state self.new ≡ held D.state self.old }
+        ensures tried { HasTried (held D.state self.old) (held D.state self.new) }
+        ensures reads { CountsReads result (held D.state self.old).failed_reads (held D.state self.new).failed_reads }
+        ensures writes { CountsWrites (held D.state self.old).usable result (held D.state self.old).failed_writes (held D.state self.new).failed_writes }
+        ensures at_crash { IsTrue (held D.state self.old).honest → (held D.state self.old).usable ≡ true →
+            AddsOnly (crash_states_of D.moment D.possible_since (device_of self.old)) (crash_states_of D.moment D.possible_since (device_of self.new))
+            (λ c. TreeHas c (held D.state self.old).pairs (held D.state self.old).banner ⊎ TreeHas c (updated (held D.state self.old).pairs batch.now) banner) }
+        ensures tight { IsTrue (held D.state self.old).honest → (held D.state self.old).usable ≡ true → (held D.state self.new).usable ≡ false → (n : ℕ) × (n ≤ most_nodes (slot_of self.old) (length batch.now)) × (n ≤ (held D.state self.old).free) }
+        ensures no_new_crash_state { IsTrue (held D.state self.old).honest → IfErr result (λ e. (held D.state self.new).usable ≡ true → AddsNone (crash_states_of D.moment D.possible_since (device_of self.old)) (crash_states_of D.moment D.possible_since (device_of self.new))) }
+        ensures no_new_crash_state_when_closed { IsTrue (held D.state self.old).honest → (held D.state self.old).usable ≡ false → AddsNone (crash_states_of D.moment D.possible_since (device_of self.old)) (crash_states_of D.moment D.possible_since (device_of self.new)) }
+
+        // How it writes: a crash leaves what one before the call might have left, or an image on the way to the other slot.
+        ensures between { IsTrue (held D.state self.old).honest → (held D.state self.old).usable ≡ true →
+            AddsOnly (crash_states_of D.moment D.possible_since (device_of self.old)) (crash_states_of D.moment D.possible_since (device_of self.new))
+            (λ c. may_crash_to (crash_states_of D.moment D.possible_since (device_of self.old)) c ⊎ IsTreeBetween (D.state (device_of self.old)).disk.view (slot_of self.old) (top_of self.old) (updated (held D.state self.old).pairs batch.now) banner c) }
+    {
+        if !self.usable {
+            return Err(KeeperFault::Failed);
+        }
+        if self.top == u64::MAX {
+            return Err(KeeperFault::Spent);
+        }
+        let seal = self.top + 1;
+        let plan = match plan_commit(
+            self.alloc,
+            &mut self.device,
+            &mut self.ledger,
+            &self.slot,
+            seal,
+            batch,
+            banner,
+        ) {
+            Ok(plan) => plan,
+            Err(fault) => return Err(fault),
+        };
+        self.top = seal;
+        self.usable = false;
+        match write_plan(&mut self.device, &mut self.ledger, &self.slot, &plan) {
+            Ok(()) => {
+                self.slot = plan.slot;
+                self.usable = true;
+                Ok(())
+            }
+            Err(_) => Err(KeeperFault::Failed),
+        }
+    }
+}
