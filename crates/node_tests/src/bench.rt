@@ -1,10 +1,12 @@
 // What the lines of a run share, and which call a word names.
+use crate::commits::take_many;
 use crate::fields::{bytes_of, level_of, number, two_of};
 use crate::laws::laws;
 use crate::ledger::free_counts;
 use crate::random::Run;
 use crate::shown::Shown;
 use crate::store::Store;
+use crate::timed::{delete_many, owned_pairs, put_many, read_many};
 use crate::trouble::Trouble;
 use std::alloc::Global;
 use tree_nodes::{Answer, encode, is_writable, read_node};
@@ -131,6 +133,46 @@ impl Bench {
         shown.numbers(&free_counts(self.alloc)?)
     }
 
+    /// `puts FIRST MANY`
+    fn puts(&mut self, fields: &str, shown: &mut Shown) -> Result<(), Trouble> {
+        let (first, many) = two_of(fields)?;
+        let made = put_many(&mut self.store, number(first)?, number(many)?)?;
+        shown.number(made)
+    }
+
+    /// `deletes FIRST MANY`
+    fn deletes(&mut self, fields: &str, shown: &mut Shown) -> Result<(), Trouble> {
+        let (first, many) = two_of(fields)?;
+        let made = delete_many(&mut self.store, number(first)?, number(many)?);
+        shown.number(made)
+    }
+
+    /// The height of the tree, and how many pairs are in memory.
+    fn pairs(&self, shown: &mut Shown) -> Result<(), Trouble> {
+        shown.number(self.store.tree.height() as usize)?;
+        match self.store.tree.root() {
+            Some(root) => shown.number(owned_pairs(root)),
+            None => shown.number(0),
+        }
+    }
+
+    /// `reads PAGE MANY`
+    fn reads(&self, fields: &str, shown: &mut Shown) -> Result<(), Trouble> {
+        let (page, many) = two_of(fields)?;
+        shown.numbers(&read_many(&self.store.image, number(page)?, number(many)?)?)
+    }
+
+    /// `takes PAGES STEP MANY`
+    fn takes(&self, fields: &str, shown: &mut Shown) -> Result<(), Trouble> {
+        let (pages, fields) = two_of(fields)?;
+        let (step, many) = two_of(fields)?;
+        let (pages, step) = (number(pages)?, number(step)?);
+        if pages < 2 {
+            return Err(Trouble::Line);
+        }
+        shown.numbers(&take_many(self.alloc, pages, step, number(many)?)?)
+    }
+
     /// A call that changes nothing.
     fn show(&self, word: &str, fields: &str, shown: &mut Shown) -> Result<(), Trouble> {
         match word {
@@ -141,6 +183,9 @@ impl Bench {
             "between" => self.between(fields, shown),
             "random" => self.random(fields, shown),
             "ledger" => self.ledger(shown),
+            "pairs" => self.pairs(shown),
+            "reads" => self.reads(fields, shown),
+            "takes" => self.takes(fields, shown),
             "laws" => {
                 laws();
                 Ok(())
@@ -160,6 +205,8 @@ impl Bench {
             "put" => self.put(fields, shown),
             "delete" => self.delete(fields, shown),
             "supply" => self.supply(fields),
+            "puts" => self.puts(fields, shown),
+            "deletes" => self.deletes(fields, shown),
             "commit" => self.store.commit(),
             "abandon" => {
                 self.store.abandon();

@@ -6,7 +6,7 @@ use page_alloc::Ledger;
 use std::alloc::Global;
 
 /// The running commit takes a page for another.
-fn replace(ledger: &mut Ledger, page: u32) -> Result<u32, Trouble>
+pub fn replace(ledger: &mut Ledger, page: u32) -> Result<u32, Trouble>
     ensures generation { ledger.new.generation ≡ ledger.old.generation }
     ensures pins { ledger.new.pins ≡ ledger.old.pins }
 {

@@ -10,9 +10,13 @@
 //!   KEY` look into a page; `between PAGE LEVEL LOW HIGH` counts its entries, where its keys lie between two.
 //! - `random SEED CHANGES` runs puts and deletes beside a sorted map, compares after each, and takes all keys away in the end. `ledger` makes the calls of a ledger. Both print
 //!   the numbers that `Run::figures` and `free_counts` name. `laws` calls the laws.
+//! - What `bench/nodes` times: `puts FIRST MANY` and `deletes FIRST MANY` change the pairs of so many numbers, and print how many changes were made; `pairs` prints the height of the tree, and
+//!   how many pairs are in memory. `reads PAGE MANY` reads a leaf, and prints how often, and the pairs of all readings. `takes PAGES STEP MANY` makes commits of a ledger, and prints what
+//!   `take_many` gives.
 #![tactic(auto)]
 
 mod bench;
+mod commits;
 mod dice;
 mod fields;
 mod image;
@@ -21,6 +25,7 @@ mod ledger;
 mod random;
 mod shown;
 mod store;
+mod timed;
 mod trial;
 mod trouble;
 mod walk;
