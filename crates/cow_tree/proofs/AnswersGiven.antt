@@ -1,7 +1,5 @@
 -- Answers from the pages of a tree.
-use Rattle.std.proofs.Common.{◌≡◌, Option, Some, None, Result, Ok, Err, refl, sym, ◌∙◌, subst, ap}
-use Rattle.std.specs.Option.{option_or}
-use Rattle.page_store.specs.Pages.{Pair}
+use Rattle.std.proofs.Common.{◌≡◌, Result, Ok, Err, sym, ◌∙◌, subst, ap}
 use Rattle.cow_tree.specs.Ways.{IsAnswer}
 use Rattle.cow_tree.specs.declared.page_fault.PageFault.{PageFault}
 use Rattle.cow_tree.specs.declared.page_fault.PageFault.TheVariants.{Device, Damaged}
@@ -10,6 +8,12 @@ pub answer_is : {T A : Type 0} (r : Result T PageFault) (shown : T → A) (a b :
 answer_is (Ok x) shown a b e h = h ∙ e
 answer_is (Err Device) shown a b e h = tt
 answer_is (Err (Damaged page)) shown a b e h = h
+
+-- what follows from an answer
+pub answer_then : {T : Type 0} (r : Result T PageFault) (P Q : T → Type 0) → ((x : T) → P x → Q x) → IsAnswer r P → IsAnswer r Q
+answer_then (Ok x) P Q f h = f x h
+answer_then (Err Device) P Q f h = tt
+answer_then (Err (Damaged page)) P Q f h = h
 
 -- a fault of a part is that of the whole
 pub answer_err : {T U : Type 0} (r : Result U PageFault) (e f : PageFault) (P : T → Type 0) (Q : U → Type 0) → r ≡ Err f → f ≡ e → IsAnswer {T = T} (Err e) P → IsAnswer r Q
@@ -21,11 +25,3 @@ answer_err {T = T} {U = U} r e f P Q is same h = subst (λ (x : Result U PageFau
     go : (x : PageFault) → IsAnswer {T = T} (Err x) P → IsAnswer (err x) Q
     go Device h = tt
     go (Damaged page) h = absurd h
-
-pub or_some : (o rest : Option Pair) (p : Pair) → Some p ≡ o → Some p ≡ option_or o rest
-or_some None rest p e = absurd (cc e)
-or_some (Some q) rest p e = e
-
-pub or_next : (o rest : Option Pair) → None ≡ o → rest ≡ option_or o rest
-or_next None rest e = refl
-or_next (Some q) rest e = absurd (cc e)

@@ -12,11 +12,12 @@ use Rattle.page_store.proofs.Fields.{bind_some, test_passed}
 use Rattle.tree_nodes.proofs.KeyOrder.{both_true}
 use Rattle.tree_nodes.proofs.WalksWithinBounds.{some_is}
 use Rattle.page_store.specs.Content.{Found, tree_of, tree_found, are_distinct}
-use Rattle.page_store.specs.StoreState.{HasRead, IsReadFault}
+use Rattle.page_store.specs.StoreState.{NeedsTheSame, HasRead, IsReadFault}
 use Rattle.page_store.specs.declared.slot.Slot.{Slot}
 use Rattle.cow_tree.specs.Walks.{CountsPages}
 use Rattle.cow_tree.specs.Ways.{IsAnswer}
 use Rattle.cow_tree.specs.Opening.{fault_of, bounds_under}
+use Rattle.cow_tree.specs.Needs.{MayNeed, NeedsPages}
 use Rattle.cow_tree.specs.TreeState.{found_under, tree_holding}
 use Rattle.cow_tree.specs.declared.page_fault.PageFault.{PageFault}
 use Rattle.cow_tree.specs.declared.page_fault.PageFault.TheVariants.{Device, Damaged}
@@ -47,6 +48,13 @@ module _ (old new : State) (slot : Slot) (ledger : LedgerState) (top : ℕ) (usa
       lies : (b : Bool) → (IsTrue b → ⊥) → b ≡ false
       lies true h = absurd (h refl)
       lies false h = refl
+
+-- a batch needs as much after a read as before it
+pub needs_again : (old new : State) (slot : Slot) → OnlyReads old new → NeedsTheSame (λ batch need. MayNeed slot old batch need) (λ batch need. MayNeed slot new batch need)
+needs_again old new slot only = record {
+  after = λ batch need before now. let keeps = subst IsTrue only.same.honest now in subst (λ (d : Disk). NeedsPages slot d.view batch need) (sym (only.disk keeps)) (before keeps);
+  before = λ batch need after keeps. subst (λ (d : Disk). NeedsPages slot d.view batch need) (only.disk keeps) (after (subst IsTrue (sym only.same.honest) keeps));
+}
 
 pub counts_rise : (T : Type 0) (e : PageFault) (before now : ℕ) → CountsPages {T = T} (Err e) before now → before ≤ now
 counts_rise T Device before now h = subst (λ (n : ℕ). before ≤ n) (sym h) (counted_rises before)

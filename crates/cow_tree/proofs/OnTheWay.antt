@@ -20,7 +20,9 @@ use Rattle.tree_nodes.proofs.KeyOrder.{both_true, by_bool, less_is, greater_is, 
 use Rattle.tree_nodes.proofs.JoinedPairs.{AllKeys, keys_joined, keys_wider, follows}
 use Rattle.tree_nodes.proofs.WalksWithinBounds.{some_is, children_is, walk_wider, walk_within, not_below_nothing}
 use Rattle.cow_tree.specs.Ways.{pages_around, IsNext, IsOnWay}
+use Rattle.cow_tree.specs.KeptLeaves.{IsPart}
 use Rattle.cow_tree.proofs.FilledWalks.{walk_filled}
+use Rattle.cow_tree.proofs.Runs.{part_again, front_part, back_part, under_part}
 
 -- ---- look-ups in pairs that are joined
 
@@ -36,11 +38,11 @@ value_right : (key : List ℕ) (xs ys : List Pair) → AllKeys (follows key) xs 
 value_right key [] ys h = refl
 value_right key (x ∷ xs) ys h = ap (λ (b : Bool). cond b (Some x.1) (value_at (xs ++ ys) key)) (ap is_eq (greater_is x.0 key h.0)) ∙ value_right key xs ys h.1
 
-after_right : (key : List ℕ) (xs ys : List Pair) → AllKeys (follows key) xs → pair_after (xs ++ ys) key ≡ pair_after ys key
+pub after_right : (key : List ℕ) (xs ys : List Pair) → AllKeys (follows key) xs → pair_after (xs ++ ys) key ≡ pair_after ys key
 after_right key [] ys h = refl
 after_right key (x ∷ xs) ys h = ap (λ (b : Bool). cond b (Some x) (pair_after (xs ++ ys) key)) (not_back x.0 key h.0) ∙ after_right key xs ys h.1
 
-after_both : (key : List ℕ) (xs ys : List Pair) → pair_after (xs ++ ys) key ≡ option_or (pair_after xs key) (pair_after ys key)
+pub after_both : (key : List ℕ) (xs ys : List Pair) → pair_after (xs ++ ys) key ≡ option_or (pair_after xs key) (pair_after ys key)
 after_both key xs ys = find-append (λ e. is_lt (byte_cmp key e.0)) xs ys
 
 or_none : (o : Option Pair) → o ≡ option_or o None
@@ -78,6 +80,11 @@ rises_lower : (from key : List ℕ) (keys : List (List ℕ)) → precedes from k
 rises_lower from key [] h r = refl
 rises_lower from key (k ∷ ks) h r = let b = both_true (precedes key k) (rises (k ∷ ks)) r in rw (below_below from key k h b.0) b.1
 
+-- the next pair of a part of a tree
+next_in : (a : ℕ → List ℕ) (bounds : Bounds) (level : ℕ) (key : List ℕ) (sibling : Option ℕ) (part whole : Found) (rest : Option Pair) → IsPart part whole → IsNext a bounds level key sibling part rest → IsNext a bounds level key sibling whole rest
+next_in a bounds level key None part whole rest p n = n
+next_in a bounds level key (Some page) part whole rest p n = (n.0, n.1, part_again n.0 part whole n.2 p, n.3, n.4)
+
 module _ (a : ℕ → List ℕ) (bounds : Bounds) (level : ℕ) where
   -- a key below the first child's is below all keys
   pub fan_above : (children : List Child) (key low : List ℕ) (high : Option (List ℕ)) (under : Found) → rises (key ∷ map child_key children) ≡ true → fan (walk a bounds level) low high children ≡ Some under → AllKeys (precedes key) under.pairs
@@ -98,7 +105,7 @@ module _ (a : ℕ → List ℕ) (bounds : Bounds) (level : ℕ) where
 
   -- the sibling after the way
   next_is : (key low : List ℕ) (high : Option (List ℕ)) (next : Child) (children : List Child) (under : Found) → precedes key next.key ≡ true → rises (map child_key (next ∷ children)) ≡ true → fan (walk a bounds level) low high (next ∷ children) ≡ Some under
-      → IsNext a bounds level key (Some next.page) (pair_after under.pairs key)
+      → IsNext a bounds level key (Some next.page) under (pair_after under.pairs key)
   next_is key low high next children under less r e =
       let f = bind_some (walk a bounds level next.page (low_of low next.key) (high_of children high)) (λ here. fan (walk a bounds level) low high children >>= λ others. Some (joined here others)) under e in
       let g = bind_some (fan (walk a bounds level) low high children) (λ others. Some (joined f.0 others)) under f.2 in
@@ -106,18 +113,19 @@ module _ (a : ℕ → List ℕ) (bounds : Bounds) (level : ℕ) where
       let above = fan_above (next ∷ children) key low high under (rw less r) e in
       let p = first_above key f.0.pairs (walk_filled a bounds level next.page (low_of low next.key) (high_of children high) f.0 f.1) (left_above (precedes key) (precedes key) f.0.pairs g.0.pairs (subst (λ (l : List Pair). AllKeys (precedes key) l) (sym pairs) above)) in
       let whole : pair_after under.pairs key ≡ Some p.0 = ap (λ (l : List Pair). pair_after l key) (sym pairs) ∙ after_both key f.0.pairs g.0.pairs ∙ ap (λ (o : Option Pair). option_or o (pair_after g.0.pairs key)) p.1 in
-      (f.0, unbound next.page (low_of low next.key) (high_of children high) f.0 f.1, p.1 ∙ sym whole, λ none. none_pair p.0 (sym none ∙ whole))
+      (f.0, unbound next.page (low_of low next.key) (high_of children high) f.0 f.1, subst (λ (x : Found). IsPart f.0 x) (some_is (joined f.0 g.0) under g.2) (front_part f.0 g.0), p.1 ∙ sym whole, λ none. none_pair p.0 (sym none ∙ whole))
 
   pub way : (children : List Child) (key low : List ℕ) (high : Option (List ℕ)) (under : Found) (around : ℕ × Option ℕ) → rises (map child_key children) ≡ true → fan (walk a bounds level) low high children ≡ Some under → pages_around key children ≡ Some around
-      → IsOnWay a bounds level key under.pairs around
+      → IsOnWay a bounds level key under around
   way [] key low high under around r e w = absurd (cc w)
   way (child ∷ []) key low high under around r e w =
       let f = bind_some (walk a bounds level child.page (low_of low child.key) high) (λ here. Some nothing_found >>= λ others. Some (joined here others)) under e in
       let pairs : f.0.pairs ++ [] ≡ under.pairs = ap (λ (x : Found). x.pairs) (some_is (joined f.0 nothing_found) under f.2) in
       let same : under.pairs ≡ f.0.pairs = sym pairs ∙ append-nil f.0.pairs in
-      subst (λ (x : ℕ × Option ℕ). IsOnWay a bounds level key under.pairs x) (around_is (child.page, None) around w) (record {
+      subst (λ (x : ℕ × Option ℕ). IsOnWay a bounds level key under x) (around_is (child.page, None) around w) (record {
         here = f.0;
         here_is = unbound child.page (low_of low child.key) high f.0 f.1;
+        part = subst (λ (x : Found). IsPart f.0 x) (some_is (joined f.0 nothing_found) under f.2) (front_part f.0 nothing_found);
         value = ap (λ (l : List Pair). value_at l key) same;
         rest = None;
         after = ap (λ (l : List Pair). pair_after l key) same ∙ or_none (pair_after f.0.pairs key);
@@ -128,17 +136,19 @@ module _ (a : ℕ → List ℕ) (bounds : Bounds) (level : ℕ) where
       let f = bind_some (walk a bounds level child.page (low_of low child.key) (Some next.key)) (λ here. fan (walk a bounds level) low high (next ∷ children) >>= λ others. Some (joined here others)) under e in
       let g = bind_some (fan (walk a bounds level) low high (next ∷ children)) (λ others. Some (joined f.0 others)) under f.2 in
       let pairs : f.0.pairs ++ g.0.pairs ≡ under.pairs = ap (λ (x : Found). x.pairs) (some_is (joined f.0 g.0) under g.2) in
+      let later = subst (λ (x : Found). IsPart g.0 x) (some_is (joined f.0 g.0) under g.2) (back_part f.0 g.0) in
       by_bool (precedes key next.key)
       (λ less.
       let above = fan_above (next ∷ children) key low high g.0 (rw less b.1) g.1 in
       let w1 : Some (child.page, Some next.page) ≡ Some around = rw less at w in
-      subst (λ (x : ℕ × Option ℕ). IsOnWay a bounds level key under.pairs x) (around_is (child.page, Some next.page) around w1) (record {
+      subst (λ (x : ℕ × Option ℕ). IsOnWay a bounds level key under x) (around_is (child.page, Some next.page) around w1) (record {
         here = f.0;
         here_is = unbound child.page (low_of low child.key) (Some next.key) f.0 f.1;
+        part = subst (λ (x : Found). IsPart f.0 x) (some_is (joined f.0 g.0) under g.2) (front_part f.0 g.0);
         value = ap (λ (l : List Pair). value_at l key) (sym pairs) ∙ value_left key f.0.pairs g.0.pairs above;
         rest = pair_after g.0.pairs key;
         after = ap (λ (l : List Pair). pair_after l key) (sym pairs) ∙ after_both key f.0.pairs g.0.pairs;
-        next = next_is key low high next children g.0 less b.1 g.1;
+        next = next_in a bounds level key (Some next.page) g.0 under (pair_after g.0.pairs key) later (next_is key low high next children g.0 less b.1 g.1);
       }))
       (λ most.
       let w1 : pages_around key (next ∷ children) ≡ Some around = rw most at w in
@@ -148,10 +158,11 @@ module _ (a : ℕ → List ℕ) (bounds : Bounds) (level : ℕ) where
       record {
         here = more.here;
         here_is = more.here_is;
+        part = part_again more.here g.0 under more.part later;
         value = ap (λ (l : List Pair). value_at l key) (sym pairs) ∙ value_right key f.0.pairs g.0.pairs below ∙ more.value;
         rest = more.rest;
         after = ap (λ (l : List Pair). pair_after l key) (sym pairs) ∙ after_right key f.0.pairs g.0.pairs below ∙ more.after;
-        next = more.next;
+        next = next_in a bounds level key around.1 g.0 under more.rest later more.next;
       })
 
 -- ---- a branch
@@ -167,11 +178,11 @@ branch_keys place low high bytes children e =
 
 -- the children of a branch where a walk found something
 branch_under : (a : ℕ → List ℕ) (bounds : Bounds) (level page : ℕ) (found : Found) → walk a bounds (suc level) page [] None ≡ Some found
-    → (children : List Child) × (under : Found) × (branch_of (place_in bounds (suc level) page) [] None (a page) ≡ Some children) × (fan (walk a bounds level) [] None children ≡ Some under) × (under.pairs ≡ found.pairs)
+    → (children : List Child) × (under : Found) × (branch_of (place_in bounds (suc level) page) [] None (a page) ≡ Some children) × (fan (walk a bounds level) [] None children ≡ Some under) × (record { pages = page ∷ under.pages; pairs = under.pairs } ≡ found)
 branch_under a bounds level page found e =
     let f = bind_some (branch_of (place_in bounds (suc level) page) [] None (a page)) (λ children. fan (walk a bounds level) [] None children >>= λ under. Some (record { pages = page ∷ under.pages; pairs = under.pairs })) found e in
     let g = bind_some (fan (walk a bounds level) [] None f.0) (λ under. Some (record { pages = page ∷ under.pages; pairs = under.pairs })) found f.2 in
-    (f.0, g.0, f.1, g.1, ap (λ (x : Found). x.pairs) (some_is _ found g.2))
+    (f.0, g.0, f.1, g.1, some_is _ found g.2)
 
 abbrev some_children : List Child → Option (List Child)
 some_children cs = Some cs
@@ -179,16 +190,31 @@ some_children cs = Some cs
 same_children : (r : Option (List Child)) (xs ys : List Child) → r ≡ some_children xs → r ≡ some_children ys → xs ≡ ys
 same_children r xs ys e h = children_is xs ys (sym e ∙ h)
 
+-- what stands under a page is on the way to what stands at and under it
+at_page : (a : ℕ → List ℕ) (bounds : Bounds) (level page : ℕ) (key : List ℕ) (under : Found) (around : ℕ × Option ℕ) → IsOnWay a bounds level key under around → IsOnWay a bounds level key (record { pages = page ∷ under.pages; pairs = under.pairs }) around
+at_page a bounds level page key under around w =
+    let part = under_part page under in
+    record {
+      here = w.here;
+      here_is = w.here_is;
+      part = part_again w.here under (record { pages = page ∷ under.pages; pairs = under.pairs }) w.part part;
+      value = w.value;
+      rest = w.rest;
+      after = w.after;
+      next = next_in a bounds level key around.1 under (record { pages = page ∷ under.pages; pairs = under.pairs }) w.rest part w.next;
+    }
+
 pub branch_way : (a : ℕ → List ℕ) (bounds : Bounds) (level page : ℕ) (key : List ℕ) (children : List Child) (found : Found) (around : ℕ × Option ℕ) → 0 < level → branch_of (place_in bounds level page) [] None (a page) ≡ Some children
-    → walk a bounds level page [] None ≡ Some found → pages_around key children ≡ Some around → IsOnWay a bounds (level - 1) key found.pairs around
+    → walk a bounds level page [] None ≡ Some found → pages_around key children ≡ Some around → IsOnWay a bounds (level - 1) key found around
 branch_way a bounds zero page key children found around some e w p = absurd (omega (arith, some))
 branch_way a bounds (suc level) page key children found around some e w p =
     let u = branch_under a bounds level page found w in
     let same : u.0 ≡ children = same_children (branch_of (place_in bounds (suc level) page) [] None (a page)) u.0 children u.2 e in
     let less : level ≡ suc level - 1 = omega arith in
-    subst (λ (n : ℕ). IsOnWay a bounds n key found.pairs around) less
-    (subst (λ (l : List Pair). IsOnWay a bounds level key l around) u.4
-    (way a bounds level u.0 key [] None u.1 around (branch_keys (place_in bounds (suc level) page) [] None (a page) u.0 u.2).1 u.3 (ap (pages_around key) same ∙ p)))
+    subst (λ (n : ℕ). IsOnWay a bounds n key found around) less
+    (subst (λ (x : Found). IsOnWay a bounds level key x around) u.4
+    (at_page a bounds level page key u.1 around
+    (way a bounds level u.0 key [] None u.1 around (branch_keys (place_in bounds (suc level) page) [] None (a page) u.0 u.2).1 u.3 (ap (pages_around key) same ∙ p))))
 
 -- where a walk found something there is a branch
 pub no_branch_there : (a : ℕ → List ℕ) (bounds : Bounds) (level page : ℕ) (found : Found) → 0 < level → branch_of (place_in bounds level page) [] None (a page) ≡ None → walk a bounds level page [] None ≡ Some found → ⊥

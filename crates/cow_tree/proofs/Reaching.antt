@@ -7,7 +7,7 @@ use Rattle.std.proofs.lemmas.List.{length-set, length-replicate, get_or-replicat
 use Rattle.page_alloc.specs.declared.life.Life.{Life}
 use Rattle.page_alloc.specs.declared.life.Life.TheVariants.{Never, Since}
 use Rattle.page_alloc.specs.Lives.{lives_at}
-use Rattle.page_alloc.specs.LedgerState.{LedgerState, Mark, Untouched, mark_of, life_of, has_page, is_taken, is_retired, is_held, is_free, is_alive, free_count, count_below, generations_in_use}
+use Rattle.page_alloc.specs.LedgerState.{LedgerState, Mark, Untouched, pinned, mark_of, life_of, has_page, is_taken, is_retired, is_held, is_free, is_alive, free_count, count_below, generations_in_use}
 use Rattle.page_alloc.specs.Calls.{fresh, holding, unmarked}
 use Rattle.page_alloc.proofs.Counting.{count_more}
 use Rattle.page_store.specs.Content.{is_among, are_distinct}
@@ -294,6 +294,7 @@ at_rest slot first new is only = record {
   generation = only.generation ∙ ap (λ (s : LedgerState). s.generation) is;
   marked = ap (λ (ms : List Mark). length ms) marks ∙ length-replicate slot.root.pages Untouched;
   unmarked = ap unmarked marks ∙ no_marks slot.root.pages ∙ sym marks;
+  unpinned = ap pinned (only.pins ∙ ap (λ (s : LedgerState). s.pins) is);
 }
   where
     marks : new.marks ≡ replicate slot.root.pages Untouched

@@ -5,7 +5,7 @@ use Rattle.std.proofs.lemmas.Bool.{eqb-true}
 use Rattle.common_types.specs.Counts.{counted_rises}
 use Rattle.common_types.specs.CrashStates.{CrashStates}
 use Rattle.sector_device.specs.Disk.{Disk}
-use Rattle.page_alloc.specs.LedgerState.{LedgerState, Mark, Untouched, has_page, is_retired}
+use Rattle.page_alloc.specs.LedgerState.{pinned, LedgerState, Mark, Untouched, has_page, is_retired}
 use Rattle.page_alloc.specs.Calls.{advanced, unmarked, lives_from}
 use Rattle.page_alloc.specs.declared.life.Life.{Life}
 use Rattle.page_store.specs.Sectors.{Image, page_of}
@@ -132,6 +132,7 @@ fitted_now sectors now slot ledger mid seal banner plan fit marks made version s
     pages = lives_length plan.slot.seal mid.lives mid.marks ∙ ap length marks.lives ∙ fit.rest.pages ∙ sym made.size;
     generation = refl;
     unmarked = unmarked_again mid.marks;
+    unpinned = ap pinned marks.pins ∙ fit.rest.unpinned;
     marked = unmarked_length mid.marks ∙ marks.size ∙ fit.rest.marked ∙ sym made.size;
   };
 }

@@ -81,7 +81,7 @@ module _ (a : ℕ → List ℕ) (bounds : Bounds) (level : ℕ) (are_maps : (pag
       ap is_map (sym pairs)
       ∙ joined_map next.key f.0.pairs g.0.pairs (are_maps child.page (low_of low child.key) (Some next.key) f.0 f.1) (fan_map (next ∷ children) low high g.0 b.1 g.1) below (from_next child.key next children low high g.0 b.0 b.1 g.1)
 
-leaf_map : (place : Place) (low : List ℕ) (high : Option (List ℕ)) (bytes : List ℕ) (pairs : List Pair) → leaf_of place low high bytes ≡ Some pairs → is_map pairs ≡ true
+pub leaf_map : (place : Place) (low : List ℕ) (high : Option (List ℕ)) (bytes : List ℕ) (pairs : List Pair) → leaf_of place low high bytes ≡ Some pairs → is_map pairs ≡ true
 unfolding leaf_of
 leaf_map place low high bytes pairs e =
     let f = bind_some (entries_of pair_at place bytes) (λ ps. where_true (are_leaf low high ps) (Some ps)) pairs e in

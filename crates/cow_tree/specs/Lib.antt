@@ -1,8 +1,10 @@
 pub mod Reached
 pub mod Walks
 pub mod Opening
+pub mod Needs
 pub mod TreeState
 pub mod TreeSeen
+pub mod KeptLeaves
 pub mod Ways
 pub mod Plans
 pub mod Drafts

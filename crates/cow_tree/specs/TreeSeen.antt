@@ -1,7 +1,8 @@
 -- A keeper of a tree as its callers see it.
-use Rattle.std.specs.Prelude.{ℕ, Bool}
+use Rattle.std.specs.Prelude.{ℕ, Bool, List}
 use Rattle.sector_device.specs.Device.{State}
 use Rattle.page_alloc.specs.LedgerState.{LedgerState}
+use Rattle.page_store.specs.Pages.{Pair}
 use Rattle.page_store.specs.StoreState.{StoreState}
 use Rattle.page_store.specs.declared.slot.Slot.{Slot}
 use Rattle.cow_tree.specs.TreeState.{tree_holding}
@@ -28,3 +29,7 @@ is_open k = k.usable
 -- what its trait tells
 abbrev pub held : {D : Type 0} {dict : _} → (D → State) → TreeKeeper D dict → StoreState
 held state k = tree_holding (state k.device) k.slot k.ledger k.top k.usable
+
+-- the pairs of the leaf that the last `next` that read one has kept, if there is any
+abbrev pub kept_by : {D : Type 0} {dict : _} → TreeKeeper D dict → List Pair
+kept_by k = k.kept

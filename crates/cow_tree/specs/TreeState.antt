@@ -1,8 +1,8 @@
 -- What a keeper of a tree is, and what its callers see of it.
-use Rattle.std.specs.Prelude.{◌≡◌, ◌≤◌, ◌<◌, ◌*◌, ℕ, Bool, true, List, [], length, Option, Some, None}
+use Rattle.std.specs.Prelude.{◌≡◌, ◌≤◌, ◌<◌, ◌*◌, ◌&&◌, not, nat_le, ℕ, Bool, true, List, [], length, Option, Some, None}
 use Rattle.sector_device.specs.Device.{State}
 use Rattle.sector_device.specs.Disk.{Disk, IsImage}
-use Rattle.page_alloc.specs.LedgerState.{LedgerState, is_alive, free_count}
+use Rattle.page_alloc.specs.LedgerState.{LedgerState, is_alive, free_count, count_below, pinned}
 use Rattle.page_alloc.specs.Calls.{unmarked as without_marks}
 use Rattle.page_store.specs.Sectors.{Image, page_of}
 use Rattle.page_store.specs.Roots.{current, greatest_seal}
@@ -12,12 +12,13 @@ use Rattle.page_store.specs.StoreState.{StoreState}
 use Rattle.page_store.specs.declared.slot.Slot.{Slot}
 use Rattle.cow_tree.specs.Opening.{IsRooted, AreWhole}
 
--- The ledger is of the slot's image and generation, and no commit runs.
+-- The ledger is of the slot's image and generation, no commit runs, and no pin is out.
 pub record IsAtRest (slot : Slot) (ledger : LedgerState) : Type 0 where
   pub pages : length ledger.lives ≡ slot.root.pages
   pub generation : ledger.generation ≡ slot.seal
   pub marked : length ledger.marks ≡ slot.root.pages
   pub unmarked : without_marks ledger.marks ≡ ledger.marks
+  pub unpinned : pinned ledger.pins ≡ []
 
 -- a slot of an image of a tree
 pub record IsFittedSlot (slot : Slot) : Type 0 where
@@ -44,6 +45,10 @@ or_nothing (Some found) = found
 -- the pages and the pairs of the tree under a slot of an image
 abbrev pub found_under : Slot → Image → Found
 found_under slot image = or_nothing (tree_found slot (page_of image))
+
+-- how many pages of a slot's image the tree under it doesn't reach, the root slots left out
+abbrev pub unreached : Slot → Image → ℕ
+unreached slot image = count_below (λ n. nat_le 2 n && not (is_among n (found_under slot image).pages)) slot.root.pages
 
 -- The tree under the slot stands in the image, and the ledger has exactly its pages, each of them whole.
 pub record IsThere (image : Image) (slot : Slot) (ledger : LedgerState) : Type 0 where

@@ -5,6 +5,7 @@ use Rattle.page_store.specs.Keys.{precedes}
 use Rattle.page_store.specs.Pages.{Pair, Child}
 use Rattle.page_store.specs.Batch.{value_at, pair_after}
 use Rattle.page_store.specs.Content.{Found, Bounds, walk}
+use Rattle.cow_tree.specs.KeptLeaves.{IsPart}
 use Rattle.cow_tree.specs.declared.page_fault.PageFault.{PageFault}
 use Rattle.cow_tree.specs.declared.page_fault.PageFault.TheVariants.{Device, Damaged}
 
@@ -20,16 +21,17 @@ IsAnswer (Ok x) P = P x
 IsAnswer (Err Device) P = Unit {0}
 IsAnswer (Err (Damaged page)) P = ⊥
 
--- the pair after a key that stands at and under a page, or nothing where there is no page
-abbrev pub IsNext : (ℕ → List ℕ) → Bounds → ℕ → List ℕ → Option ℕ → Option Pair → Type 0
-IsNext bytes bounds level key None pair = pair ≡ None
-IsNext bytes bounds level key (Some page) pair = (found : Found) × (walk bytes bounds level page [] None ≡ Some found) × (pair_after found.pairs key ≡ pair) × (pair ≡ None → ⊥)
+-- the pair after a key that stands at and under a page, which is a part of a tree, or nothing where there is no page
+abbrev pub IsNext : (ℕ → List ℕ) → Bounds → ℕ → List ℕ → Option ℕ → Found → Option Pair → Type 0
+IsNext bytes bounds level key None whole pair = pair ≡ None
+IsNext bytes bounds level key (Some page) whole pair = (found : Found) × (walk bytes bounds level page [] None ≡ Some found) × IsPart found whole × (pair_after found.pairs key ≡ pair) × (pair ≡ None → ⊥)
 
--- A key's value stands under the first page. The pair after the key stands there too, or else under the second page.
-pub record IsOnWay (bytes : ℕ → List ℕ) (bounds : Bounds) (level : ℕ) (key : List ℕ) (pairs : List Pair) (around : ℕ × Option ℕ) : Type 0 where
+-- A key's value stands under the first page. The pair after the key stands there too, or else under the second page. What stands under either is a part of the whole.
+pub record IsOnWay (bytes : ℕ → List ℕ) (bounds : Bounds) (level : ℕ) (key : List ℕ) (whole : Found) (around : ℕ × Option ℕ) : Type 0 where
   pub here : Found
   pub here_is : walk bytes bounds level around.0 [] None ≡ Some here
-  pub value : value_at pairs key ≡ value_at here.pairs key
+  pub part : IsPart here whole
+  pub value : value_at whole.pairs key ≡ value_at here.pairs key
   pub rest : Option Pair
-  pub after : pair_after pairs key ≡ option_or (pair_after here.pairs key) rest
-  pub next : IsNext bytes bounds level key around.1 rest
+  pub after : pair_after whole.pairs key ≡ option_or (pair_after here.pairs key) rest
+  pub next : IsNext bytes bounds level key around.1 whole rest

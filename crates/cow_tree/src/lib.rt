@@ -4,6 +4,7 @@
 mod commits;
 mod drafts;
 mod formatting;
+mod kept_leaf;
 mod laws;
 mod lookups;
 mod opening;
@@ -18,5 +19,8 @@ mod tree_figures;
 mod tree_keeper;
 
 pub use formatting::{a_first_leaf, format};
-pub use laws::pairs_of_a_tree_are_a_map;
+pub use laws::{
+    a_run_tells_the_next_pair, a_walk_goes_on_in_its_leaf, every_other_page_is_free,
+    pairs_of_a_tree_are_a_map,
+};
 pub use tree_keeper::TreeKeeper;

@@ -16,6 +16,7 @@ ghost use Rattle.cow_tree.specs.TreeState.{IsAtRest, IsFitted};
 ghost use Rattle.cow_tree.specs.TreeSeen.{device_of, slot_of, ledger_of, top_of, is_open, held};
 
 use crate::TreeKeeper;
+use crate::kept_leaf::KeptLeaf;
 use crate::opening_walk::walk_tree;
 use crate::page_fault::PageFault;
 use page_alloc::Ledger;
@@ -195,6 +196,7 @@ impl<D: Device> TreeKeeper<D> {
                 ledger,
                 top,
                 usable: true,
+                kept: KeptLeaf::none(),
             }),
             Err(fault) => Err((fault, device)),
         }
@@ -211,6 +213,7 @@ impl<D: Device> TreeKeeper<D> {
             ledger: _,
             top: _,
             usable: _,
+            kept: _,
         } = self;
         device
     }

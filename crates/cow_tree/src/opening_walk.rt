@@ -90,9 +90,8 @@ fn upper<'a>(others: &Branch<'a>, high: Option<&'a [u8]>) -> Option<&'a [u8]>
 }
 
 /// How many pairs a leaf has.
-fn count_pairs(leaf: Leaf<'_>) -> u64
-    ensures pairs { result ≡ length (pairs_in leaf.entry.count leaf.entry.entries.now) }
-    ensures most { result ≤ 65535 }
+pub(crate) fn count_pairs(leaf: Leaf<'_>) -> u16
+    ensures { result ≡ length (pairs_in leaf.entry.count leaf.entry.entries.now) }
 {
     let mut count: u16 = 0;
     let mut left = leaf;
@@ -100,7 +99,7 @@ fn count_pairs(leaf: Leaf<'_>) -> u64
         count += 1;
         left = others;
     }
-    u64::from(count)
+    count
 }
 
 /// Holds a page, where it is free.
@@ -176,7 +175,7 @@ pub(crate) fn walk_tree<D: Device>(
     load_page(device, page, &mut bytes)?;
     if level == 0 {
         let leaf = leaf_in(bounds, page, low, high, &bytes)?;
-        return Ok(count_pairs(leaf));
+        return Ok(u64::from(count_pairs(leaf)));
     }
     let branch = branch_in(bounds, level, page, low, high, &bytes)?;
     walk_children(device, ledger, bounds, level - 1, &branch, low, high)

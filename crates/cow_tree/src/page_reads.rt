@@ -1,16 +1,18 @@
-// Pages on the way of a key, and the buffers that an answer goes to.
+// Pages on the way of a key.
 ghost use Rattle.std.specs.Prelude.{◌≡◌, ◌≤◌, ◌<◌, ◌-◌, ◌*◌, ◌+◌, ℕ, [], Option, None, Some, IsTrue, IfOk, IfErr, IfSome, length, option_map, take};
 ghost use Rattle.page_store.specs.Sectors.{page_of};
 ghost use Rattle.page_store.specs.Steps.{crash_states_of};
 ghost use Rattle.std.specs.List.{list_all};
-ghost use Rattle.page_store.specs.Pages.{Pair};
+ghost use Rattle.std.specs.Option.{is_some};
 ghost use Rattle.page_store.specs.Batch.{value_at, pair_after, is_pair};
 ghost use Rattle.page_store.specs.StoreState.{IsFilled};
 ghost use Rattle.page_store.specs.Content.{Found, walk};
 ghost use Rattle.tree_nodes.specs.PageViews.{bounds_of, pairs_in, children_in};
+ghost use Rattle.cow_tree.specs.KeptLeaves.{IsNextLeaf};
 ghost use Rattle.cow_tree.specs.Walks.{ReadsPages};
-ghost use Rattle.cow_tree.specs.Ways.{pages_around, IsNext, IsAnswer, IsOnWay};
+ghost use Rattle.cow_tree.specs.Ways.{pages_around, IsAnswer, IsOnWay};
 
+use crate::kept_leaf::KeptLeaf;
 use crate::opening_walk::{branch_in, leaf_in, load_page};
 use crate::page_fault::PageFault;
 use sector_device::Device;
@@ -46,7 +48,7 @@ fn children_around<D: Device>(
     requires fits { 8 * bounds.pages ≤ (D.state device.old).size }
     requires most { page < bounds.pages }
     ensures way { IsTrue (D.state device.old).honest → (found : Found) → walk (page_of (D.state device.old).disk.view) (bounds_of bounds) level page [] None ≡ Some found →
-        IsAnswer result (IsOnWay (page_of (D.state device.old).disk.view) (bounds_of bounds) (level - 1) key.now found.pairs) }
+        IsAnswer result (IsOnWay (page_of (D.state device.old).disk.view) (bounds_of bounds) (level - 1) key.now found) }
     ensures first { IfOk result (λ around. around.0 < bounds.pages) }
     ensures second { IfOk result (λ around. IfSome around.1 (λ page. page < bounds.pages)) }
     ensures reads { ReadsPages D.state (crash_states_of D.moment D.possible_since) device.old device.new result }
@@ -68,17 +70,6 @@ fn value_of<'a>(leaf: &Leaf<'a>, key: &[u8]) -> Option<&'a [u8]>
 {
     let value = leaf.get(key)?;
     Some(value)
-}
-
-/// The pair of a leaf after a key.
-fn pair_of<'a>(leaf: &Leaf<'a>, after: &[u8]) -> Option<(&'a [u8], &'a [u8])>
-    requires { IsTrue (list_all is_pair (pairs_in leaf.now.count leaf.now.entries.now)) }
-    ensures pair { option_map (λ p. (p.0.now, p.1.now)) result ≡ pair_after (pairs_in leaf.now.count leaf.now.entries.now) after.now }
-    ensures key { IfSome result (λ p. length p.0.now ≤ 300) }
-    ensures value { IfSome result (λ p. length p.1.now ≤ 1024) }
-{
-    let (key, value) = leaf.after(after)?;
-    Some((key, value))
 }
 
 /// Puts the value at a key of a leaf into the buffer.
@@ -107,33 +98,23 @@ fn get_in_leaf<D: Device>(
     Ok(Some(value.len()))
 }
 
-/// Puts the pair of a leaf after a key into the buffers.
-fn next_in_leaf<D: Device>(
+/// Reads a leaf, and tells whether it has a pair after a key.
+fn read_leaf<D: Device>(
     device: &mut D,
     bounds: ImageBounds,
     page: u32,
     after: &[u8],
-    key: &mut [u8; 300],
-    value: &mut [u8; 1024],
-) -> Result<Option<(usize, usize)>, PageFault>
+    kept: &mut KeptLeaf,
+) -> Result<bool, PageFault>
     requires fits { 8 * bounds.pages ≤ (D.state device.old).size }
     requires most { page < bounds.pages }
-    ensures within { IfOk result (λ found. IfSome found (λ n. (n.0 ≤ 300) × (n.1 ≤ 1024))) }
-    ensures pair { IsTrue (D.state device.old).honest → (found : Found) → walk (page_of (D.state device.old).disk.view) (bounds_of bounds) 0 page [] None ≡ Some found →
-        IsAnswer result (λ sizes. option_map (λ n. (take n.0 key.new, take n.1 value.new)) sizes ≡ pair_after found.pairs after.now) }
-    ensures key { IsFilled (λ n. n.0) result key.old key.new }
-    ensures value { IsFilled (λ n. n.1) result value.old value.new }
+    ensures leaf { IsTrue (D.state device.old).honest → (found : Found) → walk (page_of (D.state device.old).disk.view) (bounds_of bounds) 0 page [] None ≡ Some found →
+        IsAnswer result (λ there. IsNextLeaf (page_of (D.state device.old).disk.view) (bounds_of bounds) after.now found kept.new) }
+    ensures there { IfOk result (λ there. there ≡ is_some (pair_after kept.new after.now)) }
     ensures reads { ReadsPages D.state (crash_states_of D.moment D.possible_since) device.old device.new result }
 {
-    let mut bytes = [0; 4096];
-    load_page(device, page, &mut bytes)?;
-    let leaf = leaf_in(bounds, page, &[], None, &bytes)?;
-    let Some((found, stored)) = pair_of(&leaf, after) else {
-        return Ok(None);
-    };
-    key[..found.len()].copy_from_slice(found);
-    value[..stored.len()].copy_from_slice(stored);
-    Ok(Some((found.len(), stored.len())))
+    kept.read(device, bounds, page)?;
+    Ok(kept.has_above(after))
 }
 
 /// Puts the value at a key that stands under a page into the buffer.
@@ -160,61 +141,55 @@ pub(crate) fn get_under<D: Device>(
     get_under(device, bounds, level - 1, child, key, buffer)
 }
 
-/// Puts the pair after a key that stands under a page into the buffers, where there is such a page.
+/// Reads the leaf of the pair after a key under a page, which has one.
 #[cycle(next)]
-fn next_in_sibling<D: Device>(
-    device: &mut D,
-    bounds: ImageBounds,
-    level: u16,
-    sibling: Option<u32>,
-    after: &[u8],
-    key: &mut [u8; 300],
-    value: &mut [u8; 1024],
-) -> Result<Option<(usize, usize)>, PageFault>
-    requires fits { 8 * bounds.pages ≤ (D.state device.old).size }
-    requires most { IfSome sibling (λ page. page < bounds.pages) }
-    ensures within { IfOk result (λ found. IfSome found (λ n. (n.0 ≤ 300) × (n.1 ≤ 1024))) }
-    ensures pair { IsTrue (D.state device.old).honest → (rest : Option Pair) → IsNext (page_of (D.state device.old).disk.view) (bounds_of bounds) level after.now sibling rest →
-        IsAnswer result (λ sizes. option_map (λ n. (take n.0 key.new, take n.1 value.new)) sizes ≡ rest) }
-    ensures key { IsFilled (λ n. n.0) result key.old key.new }
-    ensures value { IsFilled (λ n. n.1) result value.old value.new }
-    ensures reads { ReadsPages D.state (crash_states_of D.moment D.possible_since) device.old device.new result }
-{
-    let Some(page) = sibling else {
-        return Ok(None);
-    };
-    match next_under(device, bounds, level, page, after, key, value)? {
-        Some(found) => Ok(Some(found)),
-        None => Err(PageFault::Damaged { page }),
-    }
-}
-
-/// Puts the pair after a key that stands under a page into the buffers.
-#[cycle(next)]
-pub(crate) fn next_under<D: Device>(
+fn leaf_in_sibling<D: Device>(
     device: &mut D,
     bounds: ImageBounds,
     level: u16,
     page: u32,
     after: &[u8],
-    key: &mut [u8; 300],
-    value: &mut [u8; 1024],
-) -> Result<Option<(usize, usize)>, PageFault>
+    kept: &mut KeptLeaf,
+) -> Result<bool, PageFault>
     requires fits { 8 * bounds.pages ≤ (D.state device.old).size }
     requires most { page < bounds.pages }
-    ensures within { IfOk result (λ found. IfSome found (λ n. (n.0 ≤ 300) × (n.1 ≤ 1024))) }
-    ensures pair { IsTrue (D.state device.old).honest → (found : Found) → walk (page_of (D.state device.old).disk.view) (bounds_of bounds) level page [] None ≡ Some found →
-        IsAnswer result (λ sizes. option_map (λ n. (take n.0 key.new, take n.1 value.new)) sizes ≡ pair_after found.pairs after.now) }
-    ensures key { IsFilled (λ n. n.0) result key.old key.new }
-    ensures value { IsFilled (λ n. n.1) result value.old value.new }
+    ensures leaf { IsTrue (D.state device.old).honest → (found : Found) → walk (page_of (D.state device.old).disk.view) (bounds_of bounds) level page [] None ≡ Some found → (pair_after found.pairs after.now ≡ None → ⊥) →
+        IsAnswer result (λ there. IsNextLeaf (page_of (D.state device.old).disk.view) (bounds_of bounds) after.now found kept.new) }
+    ensures there { IfOk result (λ there. there ≡ is_some (pair_after kept.new after.now)) }
+    ensures reads { ReadsPages D.state (crash_states_of D.moment D.possible_since) device.old device.new result }
+{
+    if !leaf_after(device, bounds, level, page, after, kept)? {
+        return Err(PageFault::Damaged { page });
+    }
+    Ok(true)
+}
+
+/// Reads the leaf of the pair after a key under a page, or another where there is none, and tells whether there is.
+#[cycle(next)]
+pub(crate) fn leaf_after<D: Device>(
+    device: &mut D,
+    bounds: ImageBounds,
+    level: u16,
+    page: u32,
+    after: &[u8],
+    kept: &mut KeptLeaf,
+) -> Result<bool, PageFault>
+    requires fits { 8 * bounds.pages ≤ (D.state device.old).size }
+    requires most { page < bounds.pages }
+    ensures leaf { IsTrue (D.state device.old).honest → (found : Found) → walk (page_of (D.state device.old).disk.view) (bounds_of bounds) level page [] None ≡ Some found →
+        IsAnswer result (λ there. IsNextLeaf (page_of (D.state device.old).disk.view) (bounds_of bounds) after.now found kept.new) }
+    ensures there { IfOk result (λ there. there ≡ is_some (pair_after kept.new after.now)) }
     ensures reads { ReadsPages D.state (crash_states_of D.moment D.possible_since) device.old device.new result }
 {
     if level == 0 {
-        return next_in_leaf(device, bounds, page, after, key, value);
+        return read_leaf(device, bounds, page, after, kept);
     }
     let (child, sibling) = children_around(device, bounds, level, page, after)?;
-    match next_under(device, bounds, level - 1, child, after, key, value)? {
-        Some(found) => Ok(Some(found)),
-        None => next_in_sibling(device, bounds, level - 1, sibling, after, key, value),
+    if leaf_after(device, bounds, level - 1, child, after, kept)? {
+        return Ok(true);
+    }
+    match sibling {
+        Some(next) => leaf_in_sibling(device, bounds, level - 1, next, after, kept),
+        None => Ok(false),
     }
 }

@@ -13,7 +13,8 @@ ghost use Rattle.tree_nodes.specs.OwnedTrees.{state_of};
 ghost use Rattle.tree_nodes.specs.Growth.{owned_under};
 ghost use Rattle.tree_pages.specs.Written.{IsTreePage};
 ghost use Rattle.cow_tree.specs.TreeState.{IsFitted, IsFittedSlot};
-ghost use Rattle.cow_tree.specs.Drafts.{IsCountedRead, IsCounted, OnlyMarks, Tells, MayBeTooDeep, most_nodes};
+ghost use Rattle.cow_tree.specs.Drafts.{IsCountedRead, IsCounted, OnlyMarks, Tells, MayBeTooDeep};
+ghost use Rattle.cow_tree.specs.Needs.{NeedsPages, HasRoom};
 ghost use Rattle.cow_tree.specs.Plans.{IsHeld, Starts, IsPlanned, IsMade, IsPlanFault, IsRoomFault, IsTreeFault, IsRootWritten, IsRootInside};
 
 use crate::drafts::{Draft, draft_batch};
@@ -79,6 +80,7 @@ fn plan_draft(
     requires port { 0 < banner.port }
     ensures made { IfOk result (IsMade slot.now seal banner) }
     ensures room { IfOk result (λ plan. length plan.pages.items ≤ free_count ledger.old) }
+    ensures enough { IfOk result (λ plan. min (owned_under (state_of draft.now.tree).root) (2 ^ 64 - 1) ≤ free_count ledger.old) }
     ensures used { IfOk result (λ plan. length plan.pages.items ≤ owned_under (state_of draft.now.tree).root) }
     ensures planned { (view : Image) (top edits : ℕ) (pairs : List Pair) → IsHeld view slot.now top ledger.old → IsCounted slot.now view edits pairs ledger.old draft.now → seal ≡ top + 1 → banner.version ≡ 1 →
         Tells (Unit {0}) result (IsPlanned view slot.now top pairs ledger.new) }
@@ -126,10 +128,10 @@ pub(crate) fn plan_commit<D: Device>(
     ensures made { IfOk result (IsMade slot.now seal banner) }
     ensures room { IfOk result (λ plan. length plan.pages.items ≤ free_count ledger.old) }
     ensures planned { IsTrue (D.state device.old).honest → (top : ℕ) (pairs : List Pair) → IsHeld (D.state device.old).disk.view slot.now top ledger.old → Starts slot.now (D.state device.old).disk.view pairs ledger.old → seal ≡ top + 1 → banner.version ≡ 1 →
-        Tells (MayBeTooDeep slot.now (length batch.now)) result (λ plan. IsPlanned (D.state device.old).disk.view slot.now top (updated pairs batch.now) ledger.new plan × (length plan.pages.items ≤ most_nodes slot.now (length batch.now))) }
+        Tells (MayBeTooDeep slot.now (length batch.now)) result (λ plan. IsPlanned (D.state device.old).disk.view slot.now top (updated pairs batch.now) ledger.new plan × HasRoom slot.now (D.state device.old).disk.view batch.now (free_count ledger.old)) }
     ensures marks { OnlyMarks ledger.old ledger.new }
     ensures refused { OnErr result (ledger.new ≡ ledger.old) }
-    ensures fault { IfErr result (IsPlanFault (free_count ledger.old) (λ need. IsTrue (D.state device.old).honest → (pairs : List Pair) → Starts slot.now (D.state device.old).disk.view pairs ledger.old → need ≤ most_nodes slot.now (length batch.now))) }
+    ensures fault { IfErr result (IsPlanFault (free_count ledger.old) (λ need. IsTrue (D.state device.old).honest → (pairs : List Pair) → Starts slot.now (D.state device.old).disk.view pairs ledger.old → NeedsPages slot.now (D.state device.old).disk.view batch.now need)) }
     ensures reads { IsCountedRead D.state (crash_states_of D.moment D.possible_since) device.old device.new result }
 {
     let draft = match draft_batch(alloc, device, ledger, slot, batch) {

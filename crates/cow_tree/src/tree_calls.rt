@@ -1,15 +1,16 @@
 // The calls of a keeper of a tree.
-ghost use Rattle.std.specs.Prelude.{◌≡◌, ◌≤◌, ◌<◌, ◌+◌, ◌⊎◌, ℕ, true, false, IsTrue, OnOk, IfOk, IfErr, IsErrOf, length};
+ghost use Rattle.std.specs.Prelude.{◌≡◌, ◌≤◌, ◌<◌, ◌+◌, ◌⊎◌, ℕ, true, false, IsTrue, OnOk, IfOk, IfErr, IfSome, IsErrOf, length, option_map, take};
 ghost use Rattle.common_types.specs.CrashStates.{AddsOnly, AddsNone, may_crash_to};
 ghost use Rattle.page_store.specs.Sectors.{Image};
-ghost use Rattle.page_store.specs.Batch.{is_batch, updated};
+ghost use Rattle.page_store.specs.Batch.{is_batch, updated, pair_after};
 ghost use Rattle.page_store.specs.Counting.{CountsReads, CountsWrites};
-ghost use Rattle.page_store.specs.StoreState.{HasTried, IsCommitFault, last_generation};
+ghost use Rattle.page_store.specs.StoreState.{HasRead, HasTried, NeedsTheSame, IsFilled, IsReadFault, IsCommitFault, last_generation};
 ghost use Rattle.page_store.specs.declared.fault.KeeperFault.TheVariants.{Failed, Spent};
 ghost use Rattle.page_store.specs.Steps.{crash_states_of};
-ghost use Rattle.cow_tree.specs.Drafts.{most_nodes};
+ghost use Rattle.cow_tree.specs.Needs.{MayNeed};
 ghost use Rattle.cow_tree.specs.Committed.{is_tree_version, TreeHas, IsTreeBetween};
-ghost use Rattle.cow_tree.specs.TreeSeen.{held, device_of, slot_of, top_of};
+ghost use Rattle.cow_tree.specs.TreeSeen.{held, device_of, slot_of, top_of, kept_by};
+ghost use Rattle.cow_tree.specs.KeptLeaves.{has_next};
 ghost use Rattle.cow_tree.specs.KeeperLaws.{opens_trees, few_levels, crash_states_have_the_tree};
 
 use crate::TreeKeeper;
@@ -22,8 +23,7 @@ use sector_device::Device;
 impl<D: Device> Keeper for TreeKeeper<D> {
     ghost store_state = { λ k. held D.state k };
 
-    // a node for each edit and each level of the tree, and a new one on each of 16 levels
-    ghost may_need = { λ k batch need. need ≤ most_nodes (slot_of k) (length batch) };
+    ghost may_need = { λ k batch need. MayNeed (slot_of k) (D.state (device_of k)) batch need };
 
     ghost holds_version = { is_tree_version };
 
@@ -72,11 +72,34 @@ impl<D: Device> Keeper for TreeKeeper<D> {
         after: &[u8],
         key: &mut [u8; 300],
         value: &mut [u8; 1024],
-    ) -> Result<Option<(usize, usize)>, KeeperFault> {
+    ) -> Result<Option<(usize, usize)>, KeeperFault>
+        ensures within { IfOk result (λ found. IfSome found (λ n. (n.0 ≤ length key.new) × (n.1 ≤ length value.new))) }
+        ensures pair { IsTrue (held D.state self.old).honest → IfOk result (λ found. option_map (λ n. (take n.0 key.new, take n.1 value.new)) found ≡ pair_after (held D.state self.old).pairs after.now) }
+        ensures key { IsFilled (λ n. n.0) result key.old key.new }
+        ensures value { IsFilled (λ n. n.1) result value.old value.new }
+        ensures kept { HasRead (held D.state self.old) (held D.state self.new) }
+        ensures need { NeedsTheSame (MayNeed (slot_of self.old) (D.state (device_of self.old))) (MayNeed (slot_of self.new) (D.state (device_of self.new))) }
+        ensures reads { CountsReads result (held D.state self.old).failed_reads (held D.state self.new).failed_reads }
+        ensures fault { IfErr result (IsReadFault (held D.state self.old) (held D.state self.new)) }
+        ensures closed { (held D.state self.old).usable ≡ false → IsErrOf result Failed }
+        ensures unchanged { (held D.state self.old).usable ≡ false → held D.state self.new ≡ held D.state self.old }
+        ensures at_crash { IsTrue (held D.state self.old).honest → AddsNone (crash_states_of D.moment D.possible_since (device_of self.old)) (crash_states_of D.moment D.possible_since (device_of self.new)) }
+
+        // The pair stands in the leaf that is kept afterwards, and where the one that was kept tells it the device isn't asked.
+        ensures from_kept { IfOk result (λ found. option_map (λ n. (take n.0 key.new, take n.1 value.new)) found ≡ pair_after (kept_by self.new) after.now) }
+        ensures unread { IsTrue (has_next (kept_by self.old) after.now) → (device_of self.new ≡ device_of self.old) × (kept_by self.new ≡ kept_by self.old) }
+    {
         if !self.usable {
             return Err(KeeperFault::Failed);
         }
-        match find_next(&mut self.device, &self.slot, after, key, value) {
+        match find_next(
+            &mut self.device,
+            &self.slot,
+            &mut self.kept,
+            after,
+            key,
+            value,
+        ) {
             Ok(found) => Ok(found),
             Err(fault) => Err(KeeperFault::from(fault)),
         }
@@ -92,8 +115,8 @@ impl<D: Device> Keeper for TreeKeeper<D> {
         ensures rises { OnOk result ((held D.state self.new).top ≡ (held D.state self.old).top + 1) }
         ensures pins { IsTrue (held D.state self.old).honest → OnOk result ((held D.state self.new).pins ≡ (held D.state self.old).pins) }
         ensures generation { OnOk result ((held D.state self.new).generation ≡ (held D.state self.old).top + 1) }
-        ensures fits { IsTrue (held D.state self.old).honest → OnOk result ((n : ℕ) × (n ≤ most_nodes (slot_of self.old) (length batch.now)) × (n ≤ (held D.state self.old).free)) }
-        ensures fault { IfErr result (IsCommitFault (held D.state self.old) (held D.state self.new) (length batch.now) (λ n. n ≤ most_nodes (slot_of self.old) (length batch.now))) }
+        ensures fits { IsTrue (held D.state self.old).honest → OnOk result ((n : ℕ) × MayNeed (slot_of self.old) (D.state (device_of self.old)) batch.now n × (n ≤ (held D.state self.old).free)) }
+        ensures fault { IfErr result (IsCommitFault (held D.state self.old) (held D.state self.new) (length batch.now) (MayNeed (slot_of self.old) (D.state (device_of self.old)) batch.now)) }
         ensures closed { (held D.state self.old).usable ≡ false → IsErrOf result Failed }
         ensures spent { (held D.state self.old).usable ≡ true → (held D.state self.old).top ≡ last_generation → IsErrOf result Spent }
         ensures unchanged { (held D.state self.old).usable ≡ false → held D.state self.new ≡ held D.state self.old }
@@ -103,7 +126,7 @@ impl<D: Device> Keeper for TreeKeeper<D> {
         ensures at_crash { IsTrue (held D.state self.old).honest → (held D.state self.old).usable ≡ true →
             AddsOnly (crash_states_of D.moment D.possible_since (device_of self.old)) (crash_states_of D.moment D.possible_since (device_of self.new))
             (λ c. TreeHas c (held D.state self.old).pairs (held D.state self.old).banner ⊎ TreeHas c (updated (held D.state self.old).pairs batch.now) banner) }
-        ensures tight { IsTrue (held D.state self.old).honest → (held D.state self.old).usable ≡ true → (held D.state self.new).usable ≡ false → (n : ℕ) × (n ≤ most_nodes (slot_of self.old) (length batch.now)) × (n ≤ (held D.state self.old).free) }
+        ensures tight { IsTrue (held D.state self.old).honest → (held D.state self.old).usable ≡ true → (held D.state self.new).usable ≡ false → (n : ℕ) × MayNeed (slot_of self.old) (D.state (device_of self.old)) batch.now n × (n ≤ (held D.state self.old).free) }
         ensures no_new_crash_state { IsTrue (held D.state self.old).honest → IfErr result (λ e. (held D.state self.new).usable ≡ true → AddsNone (crash_states_of D.moment D.possible_since (device_of self.old)) (crash_states_of D.moment D.possible_since (device_of self.new))) }
         ensures no_new_crash_state_when_closed { IsTrue (held D.state self.old).honest → (held D.state self.old).usable ≡ false → AddsNone (crash_states_of D.moment D.possible_since (device_of self.old)) (crash_states_of D.moment D.possible_since (device_of self.new)) }
 
@@ -131,6 +154,7 @@ impl<D: Device> Keeper for TreeKeeper<D> {
             Ok(plan) => plan,
             Err(fault) => return Err(fault),
         };
+        self.kept.clear();
         self.top = seal;
         self.usable = false;
         match write_plan(&mut self.device, &mut self.ledger, &self.slot, &plan) {

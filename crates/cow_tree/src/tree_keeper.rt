@@ -1,7 +1,11 @@
 // A key-value store in a tree of pages.
 ghost use Rattle.std.specs.Prelude.{◌≤◌, IsTrue};
-ghost use Rattle.cow_tree.specs.TreeState.{IsFitted, IsThere, IsSettled};
+ghost use Rattle.page_store.specs.Sectors.{page_of};
+ghost use Rattle.cow_tree.specs.KeptLeaves.{IsKept};
+ghost use Rattle.cow_tree.specs.Opening.{bounds_under};
+ghost use Rattle.cow_tree.specs.TreeState.{IsFitted, IsThere, IsSettled, found_under};
 
+use crate::kept_leaf::KeptLeaf;
 use page_alloc::Ledger;
 use page_store::Slot;
 use sector_device::Device;
@@ -10,7 +14,7 @@ use std::alloc::Global;
 /// A key-value store in a tree of pages, on any device.
 ///
 /// The pairs stand in the pages alone, so that looking one up reads the pages on the way to it. A commit writes the pages on the ways of its keys to free places, and then a
-/// root over them; the other pages stay where they are.
+/// root over them; the other pages stay where they are. The leaf that `next` found its last pair in is kept, so that a walk reads nothing within it.
 #[derive(Drop)]
 pub struct TreeKeeper<D: Device> {
     pub(crate) alloc: Global,
@@ -19,8 +23,10 @@ pub struct TreeKeeper<D: Device> {
     pub(crate) ledger: Ledger,
     pub(crate) top: u64,
     pub(crate) usable: bool,
+    pub(crate) kept: KeptLeaf,
     ghost fitted: { IsFitted (D.state device).size slot ledger },
     ghost sealed: { slot.seal ≤ top },
     ghost there: { IsTrue (D.state device).honest → IsThere (D.state device).disk.view slot ledger },
     ghost settled: { IsTrue (D.state device).honest → IsTrue usable → IsSettled (D.state device).disk slot top },
+    ghost leaf: { IsTrue (D.state device).honest → IsKept (page_of (D.state device).disk.view) (bounds_under slot) (found_under slot (D.state device).disk.view) kept },
 }

@@ -1,6 +1,6 @@
 -- What a tree's root and height are, and what a put or a delete answers.
 use Rattle.std.specs.Prelude.{ℕ, Option, Some, None}
-use Rattle.tree_nodes.specs.Tree.{page}
+use Rattle.tree_nodes.specs.Tree.{Tree, page}
 use Rattle.tree_nodes.specs.Steps.{RootState}
 use Rattle.tree_nodes.specs.NodeView.{left_of}
 use Rattle.tree_nodes.specs.declared.owned_tree.Answer.{Answer}
@@ -13,6 +13,10 @@ state_of tree = record { root = left_of tree.root; height = tree.height }
 -- the tree under a page of an image
 abbrev pub at_page : ℕ → ℕ → RootState
 at_page n height = record { root = Some (page n); height = height }
+
+-- the tree under a root of so many levels
+abbrev pub over_root : Tree → ℕ → RootState
+over_root tree height = record { root = Some tree; height = height }
 
 -- the page that is needed
 abbrev pub need_of : Answer → Option ℕ

@@ -9,7 +9,7 @@ ghost use Rattle.tree_nodes.specs.Supply.{tree_in};
 ghost use Rattle.tree_nodes.specs.Steps.{put_step, delete_step, supply_step, stepped, no_tree, needed_under, put_under, delete_under, read_under};
 ghost use Rattle.tree_nodes.specs.Growth.{owned_under};
 ghost use Rattle.tree_nodes.specs.Keys.{has_under};
-ghost use Rattle.tree_nodes.specs.OwnedTrees.{state_of, need_of, at_page};
+ghost use Rattle.tree_nodes.specs.OwnedTrees.{state_of, need_of, at_page, over_root};
 ghost use Rattle.tree_nodes.specs.Needs.{IsReadFault, ShowsNeeded, needed_level};
 
 use crate::node::{holds_key, owned_count};
@@ -67,6 +67,17 @@ impl OwnedTree {
     {
         OwnedTree {
             root: Some(Node::Page(page)),
+            height,
+        }
+    }
+
+    /// The tree under an owned root, of at least one level.
+    pub fn over(root: Node, height: u16) -> OwnedTree
+        requires { 1 ≤ height }
+        ensures { state_of result ≡ over_root (tree_of root) height }
+    {
+        OwnedTree {
+            root: Some(root),
             height,
         }
     }

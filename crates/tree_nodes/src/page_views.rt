@@ -92,6 +92,13 @@ fn after_children(count: u16, bytes: &[u8]) -> Option<&[u8]>
 }
 
 impl<'a> Leaf<'a> {
+    /// So many pairs that stand one after another in bytes, or as many as have the form: no more is tested. It takes no memory.
+    pub fn of_entries(count: u16, entries: &'a [u8]) -> Leaf<'a>
+        ensures { pairs_in result.count result.entries.now ≡ pairs_in count entries.now }
+    {
+        Leaf { count, entries }
+    }
+
     /// Its first pair, and the others; none where it has none. It takes no memory.
     pub fn first(&self) -> Option<(&'a [u8], &'a [u8], Leaf<'a>)>
         ensures pairs { MatchOption result (pairs_in self.now.count self.now.entries.now ≡ []) (λ x. pairs_in self.now.count self.now.entries.now ≡ (x.0.now, x.1.now) ∷ pairs_in x.2.count x.2.entries.now) }

@@ -7,7 +7,11 @@ use Rattle.page_store.specs.Pages.{Pair, key_of}
 use Rattle.page_store.specs.Keys.{rises}
 use Rattle.page_store.specs.Batch.{is_pair, edited, updated}
 use Rattle.tree_nodes.proofs.KeyOrder.{both_true}
-use Rattle.cow_tree.specs.Drafts.{IsCounted, MayBeTooDeep}
+use Rattle.tree_nodes.specs.Steps.{RootState}
+use Rattle.tree_nodes.specs.OwnedTrees.{state_of}
+use Rattle.cow_tree.specs.Drafts.{old_under, IsCounted, MayBeTooDeep}
+use Rattle.cow_tree.specs.Needs.{edit_made}
+use Rattle.cow_tree.proofs.PathSteps.{drafted_more}
 use Rattle.cow_tree.proofs.ReadsInTurn.{reads_again}
 use Rattle.cow_tree.proofs.KeyCounts.{edited_most}
 use Rattle.cow_tree.proofs.PathReads.{tells_fault, retires_again}
@@ -55,6 +59,9 @@ loop-edit-preserved g c =
           let size = ap (λ (l : List Pair). length l) next in (
             subst (λ (l : List Pair). IsCounted slot (state c.args.device.now).disk.view (i + 1) l c.edit.new.ledger c.in_ok-draft.draft) next (subst (λ (v : Image). IsCounted slot v (i + 1) (edited before c.edit-item.result) c.edit.new.ledger c.in_ok-draft.draft) same told),
             omega (arith, most, size, few),
+            subst (λ (v : Image). state_of c.in_ok-draft.draft.tree ≡ edit_made (old_under slot v) slot.root.height (state_of c.loop-edit.draft.tree) c.edit-item.result) same (more.made (subst IsTrue (sym inv.device.only.same.honest) keeps) i before here)
+                ∙ ap (λ (s : RootState). edit_made (old_under slot (state c.args.device.now).disk.view) slot.root.height s c.edit-item.result) so_far.2
+                ∙ drafted_more slot (state c.args.device.now).disk.view batch i c.edit-item.result lt c.edit-item.is,
           );
       low = more.low;
       ledger = retires_again c.args.ledger.now c.loop-edit.ledger c.edit.new.ledger inv.ledger c.edit.ensures.ledger;

@@ -5,14 +5,16 @@ use Rattle.tree_nodes.specs.OwnedTrees.{state_of}
 use Rattle.std.proofs.lemmas.Result.{err_from_is_err_and}
 use Rattle.sector_device.specs.Disk.{Disk}
 use Rattle.page_store.specs.Sectors.{Image}
-use Rattle.cow_tree.specs.Drafts.{IsDraft, MayBeTooDeep}
+use Rattle.tree_nodes.specs.Steps.{RootState, needed_under, supply_step, stepped}
+use Rattle.cow_tree.specs.Drafts.{old_under, IsDraft, MayBeTooDeep}
+use Rattle.cow_tree.proofs.PathSteps.{read_more, all_read}
 use Rattle.cow_tree.proofs.ReadsInTurn.{reads_again}
 use Rattle.cow_tree.proofs.PathReads.{path_begins, path_goes_on, retires_again, retires_none, tells_fault, draft_more}
 use Rattle.cow_tree.proofs.drafts.own_path.Goals as goal
 
 pub loop-page-init : goal.loop-page-init
 loop-page-init g c = record {
-  draft = λ keeps edits pairs d. (0, d, path_begins c.args.slot.now (g.D.Device.state c.args.device.now).disk.view edits pairs c.args.key.now c.args.ledger.now (state_of c.args.tree.now) d);
+  draft = λ keeps edits pairs d. (0, d, path_begins c.args.slot.now (g.D.Device.state c.args.device.now).disk.view edits pairs c.args.key.now c.args.ledger.now (state_of c.args.tree.now) d, refl);
   height = refl;
   ledger = retires_none c.args.ledger.now;
   device = record {
@@ -37,6 +39,9 @@ loop-page-preserved g c =
             p.0 + 1,
             subst (λ (v : Image). IsDraft slot v edits (p.0 + 1) pairs c.read_needed.new.ledger (state_of c.read_needed.new.tree)) same told,
             path_goes_on slot (state c.args.device.now).disk.view edits pairs c.args.key.now p.0 c.in-Some.page (state_of c.loop-page.tree) (state_of c.read_needed.new.tree) p.2 (sym c.needed.ensures ∙ c.in-Some.is) more.down,
+            subst (λ (v : Image). state_of c.read_needed.new.tree ≡ stepped (old_under slot v) (state_of c.loop-page.tree) (supply_step c.args.key.now)) same (more.read (subst IsTrue (sym inv.device.only.same.honest) keeps))
+                ∙ ap (λ (s : RootState). stepped (old_under slot (state c.args.device.now).disk.view) s (supply_step c.args.key.now)) p.3
+                ∙ sym (read_more (old_under slot (state c.args.device.now).disk.view) c.args.key.now p.0 (state_of c.args.tree.now)),
           );
       height = more.height ∙ inv.height;
       ledger = retires_again c.args.ledger.now c.loop-page.ledger c.read_needed.new.ledger inv.ledger c.read_needed.ensures.ledger;
@@ -61,3 +66,12 @@ returns-clause-draft g c = λ keeps edits pairs d.
     let slot = c.args.slot.now in
     let p = c.loop-page.invariant.draft keeps edits pairs d in
     draft_more slot (g.D.Device.state c.args.device.now).disk.view edits p.0 slot.root.height pairs c.loop-page.ledger (state_of c.loop-page.tree) p.2.so_far p.1
+
+pub returns-clause-path : goal.returns-clause-path
+returns-clause-path g c = λ keeps edits pairs d.
+    let slot = c.args.slot.now in
+    let key = c.args.key.now in
+    let p = c.loop-page.invariant.draft keeps edits pairs d in
+    p.3
+    ∙ all_read (old_under slot (g.D.Device.state c.args.device.now).disk.view) key p.0 slot.root.height (state_of c.args.tree.now) p.2.so_far
+    (ap (λ (s : RootState). needed_under key s.root) (sym p.3) ∙ (sym c.needed.ensures ∙ c.in_default.is))

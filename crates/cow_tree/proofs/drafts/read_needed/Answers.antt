@@ -41,6 +41,19 @@ returns-in-Ok-clause-draft g c = λ keeps edits read pairs d.
     subst (λ (s : RootState). IsDraft slot view edits (read + 1) pairs c.retire.new.self s) (sym is)
     (subst (λ (l : LedgerState). IsDraft slot view edits (read + 1) pairs l (stepped (old_under slot view) tree (supply_step key))) (sym c.retire.ensures.retired) (supply_draft slot view edits read pairs c.args.ledger.now tree key c.args.page d c.requires.needed))
 
+pub returns-in-Ok-clause-read : goal.returns-in-Ok-clause-read
+returns-in-Ok-clause-read g c = λ keeps.
+    let view = (g.D.Device.state c.args.device.now).disk.view in
+    let slot = c.args.slot.now in
+    let tree = state_of c.args.tree.now in
+    let key = c.args.key.now in
+    let bytes = c.load_page.new.bytes in
+    let long = c.load_page.array_long in
+    let loaded : page_of view c.args.page ≡ bytes = if_ok_done c.load_page.result c.is_err.result _ c.is_err.ensures.value c.if-is_err.false (c.load_page.ensures.page keeps) in
+    let here : bytes_in view c.args.page ≡ bytes = ap (take 4096) loaded ∙ take_all 4096 bytes (omega (arith, long)) in
+    let shows = shows_needed (bytes_in view) key tree bytes c.args.page c.requires.needed here in
+    c.in-Ok.ensures.tree (bytes_in view) shows ∙ ap (λ (b : Bounds). stepped (old_of (bytes_in view) b) tree (supply_step key)) c.bounds_of.ensures.bounds
+
 pub returns-in-Ok-clause-down : goal.returns-in-Ok-clause-down
 returns-in-Ok-clause-down g c =
     let bytes = c.load_page.new.bytes in

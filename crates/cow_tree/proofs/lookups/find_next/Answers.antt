@@ -1,16 +1,12 @@
-use Rattle.std.proofs.Common.{◌≡◌, ◌-◌, ◌<◌, [], Some, None, sym, subst, arith}
-use Rattle.page_store.specs.Sectors.{page_of}
-use Rattle.page_store.specs.Content.{Bounds, walk}
-use Rattle.cow_tree.proofs.RootWalks.{root_walk, no_pair_after}
+use Rattle.std.proofs.Common.{◌∙◌}
+use Rattle.std.proofs.lemmas.Result.{err_from_is_err_and}
+use Rattle.cow_tree.proofs.AnswersGiven.{answer_err}
 use Rattle.cow_tree.proofs.lookups.find_next.Goals as goal
 
-pub returns-then-root-eq0-clause-pair : goal.returns-then-root-eq0-clause-pair
-returns-then-root-eq0-clause-pair g c = λ keeps found is. no_pair_after c.args.slot.now (page_of (g.D.Device.state c.args.device.now).disk.view) found c.args.after.now c.if-root-eq0.true is
+pub returns-in_err-keep_next_leaf-clause-pair : goal.returns-in_err-keep_next_leaf-clause-pair
+returns-in_err-keep_next_leaf-clause-pair g c = λ keeps found is kept.
+    let p = err_from_is_err_and c.from_residual.result c.from_residual.ensures.1 in
+    answer_err c.from_residual.result c.in_err-keep_next_leaf.field-0.0 p.0 _ _ p.1 p.2 (c.in_err-keep_next_leaf.ensures.pair keeps found is kept)
 
 pub returns-clause-pair : goal.returns-clause-pair
-returns-clause-pair g c = λ keeps found is.
-    let a = page_of (g.D.Device.state c.args.device.now).disk.view in
-    let slot = c.args.slot.now in
-    let ne = c.if-root-eq0.false in
-    let some : 0 < slot.root.height = omega (arith, ne) in
-    c.next_under.ensures.pair keeps found (subst (λ (b : Bounds). walk a b (slot.root.height - 1) slot.root.tree [] None ≡ Some found) (sym c.bounds_of.ensures.bounds) (root_walk slot a found some is))
+returns-clause-pair g c = λ keeps found is kept. c.copy_after.ensures.pair ∙ c.in_ok-keep_next_leaf.ensures.pair keeps found is kept

@@ -4,7 +4,7 @@ use Rattle.tree_nodes.specs.OwnedTrees.{state_of}
 use Rattle.cow_tree.specs.Drafts.{MayBeTooDeep}
 use Rattle.cow_tree.proofs.PathReads.{marks_again}
 use Rattle.cow_tree.proofs.Taken.{abandoned_again}
-use Rattle.cow_tree.proofs.PlansMade.{held_still, few_nodes, room_fault, room_reads, room_told}
+use Rattle.cow_tree.proofs.PlansMade.{needs_pages, held_still, few_nodes, room_fault, room_reads, room_told}
 use Rattle.cow_tree.proofs.plans.plan_commit.Goals as goal
 
 pub returns-in-Err-clause-refused : goal.returns-in-Err-clause-refused
@@ -38,7 +38,8 @@ returns-clause-fault g c =
     let few = first.few in
     let counted = c.in-Ok.ensures.draft keeps pairs first.draft first.keys first.map (omega (arith, few)) in
     let most = few_nodes slot view (length batch) (updated pairs batch) c.draft_batch.new.ledger (state_of c.in-Ok.draft.tree) counted.draft_is in
-    omega (arith, is, most))
+    let made = c.in-Ok.ensures.made keeps pairs first.draft first.keys first.map (omega (arith, few)) in
+    needs_pages slot view batch (state_of c.in-Ok.draft.tree) need made is most)
     c.in-Err-plan_draft.ensures.fault
 
 pub returns-clause-reads : goal.returns-clause-reads

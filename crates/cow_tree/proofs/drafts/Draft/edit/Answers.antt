@@ -1,7 +1,8 @@
 use Rattle.std.proofs.Common.{◌+◌, arith}
 use Rattle.std.proofs.lemmas.Result.{err_from_is_err_and}
 use Rattle.tree_nodes.specs.OwnedTrees.{state_of}
-use Rattle.cow_tree.specs.Drafts.{MayBeTooDeep}
+use Rattle.cow_tree.specs.Drafts.{old_under, MayBeTooDeep}
+use Rattle.cow_tree.proofs.PathSteps.{put_made, delete_made}
 use Rattle.cow_tree.proofs.PathReads.{tells_fault}
 use Rattle.cow_tree.proofs.DraftEdits.{deeper, put_told, delete_told}
 use Rattle.cow_tree.proofs.drafts.Draft.edit.Goals as goal
@@ -24,3 +25,17 @@ returns-in-None-clause-draft g c = λ keeps edits pairs d small.
     let view = (g.D.Device.state c.args.device.now).disk.view in
     let drafted = c.in_ok-own_path.ensures.draft keeps edits pairs d.draft_is in
     delete_told c.args.slot.now view edits pairs c.own_path.new.ledger (state_of c.own_path.new.tree) c.args.self.keys c.args.edit.now c.as_slice-key.result.now drafted c.in_ok-own_path.ensures.owned d.map d.keys c.requires.sizes c.as_slice-key.ensures c.delete.result c.in-None.is c.delete.ensures.tree c.delete.ensures.keys
+
+pub returns-in-Some-clause-made : goal.returns-in-Some-clause-made
+returns-in-Some-clause-made g c = λ keeps edits pairs d.
+    let slot = c.args.slot.now in
+    let old = old_under slot (g.D.Device.state c.args.device.now).disk.view in
+    let path = c.in_ok-own_path.ensures.path keeps edits pairs d.draft_is in
+    put_made old slot.root.height (state_of c.args.self.tree) (state_of c.own_path.new.tree) c.args.edit.now c.as_slice-key.result.now c.as_slice-key.ensures path c.in_ok-own_path.ensures.owned c.as_slice.result.now c.in-Some.value c.put.result c.in-Some.is c.as_slice.ensures c.put.ensures.tree
+
+pub returns-in-None-clause-made : goal.returns-in-None-clause-made
+returns-in-None-clause-made g c = λ keeps edits pairs d.
+    let slot = c.args.slot.now in
+    let old = old_under slot (g.D.Device.state c.args.device.now).disk.view in
+    let path = c.in_ok-own_path.ensures.path keeps edits pairs d.draft_is in
+    delete_made old slot.root.height (state_of c.args.self.tree) (state_of c.own_path.new.tree) c.args.edit.now c.as_slice-key.result.now c.as_slice-key.ensures path c.in_ok-own_path.ensures.owned c.delete.result c.in-None.is c.delete.ensures.tree

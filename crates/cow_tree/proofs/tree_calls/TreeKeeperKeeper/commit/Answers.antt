@@ -1,4 +1,4 @@
-use Rattle.std.proofs.Common.{◌≡◌, ◌⊎◌, ◌≤◌, inl, inr, ℕ, length, refl, sym, ap, subst, ◌∙◌, arith, IsTrue}
+use Rattle.std.proofs.Common.{◌≡◌, ◌⊎◌, inl, inr, ℕ, length, refl, sym, ap, subst, ◌∙◌, arith, IsTrue}
 use Rattle.common_types.specs.Counts.{counted, counted_rises}
 use Rattle.common_types.specs.CrashStates.{may_crash_to, no_new_crash_state, adds_both}
 use Rattle.sector_device.specs.Disk.{Disk}
@@ -9,7 +9,8 @@ use Rattle.page_store.specs.Batch.{updated}
 use Rattle.page_store.specs.Steps.{crash_states_of}
 use Rattle.page_store.specs.StoreState.{HasStayed}
 use Rattle.cow_tree.specs.TreeState.{IsFitted, IsThere, found_under, tree_holding}
-use Rattle.cow_tree.specs.Drafts.{MayBeTooDeep, most_nodes}
+use Rattle.cow_tree.specs.Drafts.{MayBeTooDeep}
+use Rattle.cow_tree.specs.Needs.{MayNeed}
 use Rattle.cow_tree.specs.Committed.{TreeHas, IsTreeBetween}
 use Rattle.cow_tree.specs.KeeperLaws.{crash_states_have_the_tree}
 use Rattle.cow_tree.proofs.KeeperReads.{has_read}
@@ -44,8 +45,8 @@ returns-in-Err-clause-fault g c =
     let first = λ (keeps : IsTrue old.honest). starts old.size k.slot old.disk.view k.ledger k.fitted (k.there keeps) in
     let rise = reads_rise c.in-Err.fault old.failed_reads mid.failed_reads c.in-Err.ensures.reads.reads in
     let stayed = subst (λ (l : LedgerState). HasStayed (tree_holding old k.slot k.ledger k.top k.usable) (tree_holding mid k.slot l k.top k.usable)) (sym c.in-Err.ensures.refused) (has_read old mid k.slot k.ledger k.top k.usable only rise).same in
-    commit_fault (tree_holding old k.slot k.ledger k.top k.usable) (tree_holding mid k.slot c.plan_commit.new.ledger k.top k.usable) (length batch) (λ (need : ℕ). need ≤ most_nodes k.slot (length batch)) k.slot (MayBeTooDeep k.slot (length batch)) _ _ c.in-Err.fault stayed c.in-Err.ensures.reads.reads
-    (λ keeps. c.in-Err.ensures.planned keeps k.top pairs (held_by keeps) (first keeps) refl version) (λ deep. ((let v = k.fitted.version in omega (arith, v)), deep)) c.in-Err.ensures.fault (λ n f keeps. f keeps pairs (first keeps))
+    commit_fault (tree_holding old k.slot k.ledger k.top k.usable) (tree_holding mid k.slot c.plan_commit.new.ledger k.top k.usable) (length batch) (MayNeed k.slot old batch) k.slot (MayBeTooDeep k.slot (length batch)) _ _ c.in-Err.fault stayed c.in-Err.ensures.reads.reads
+    (λ keeps. c.in-Err.ensures.planned keeps k.top pairs (held_by keeps) (first keeps) refl version) (λ deep. ((let v = k.fitted.version in omega (arith, v)), deep)) c.in-Err.ensures.fault (λ n f keeps again. f keeps pairs (first keeps))
 
 pub returns-in-Err-clause-tried : goal.returns-in-Err-clause-tried
 returns-in-Err-clause-tried g c =
@@ -129,6 +130,7 @@ invariant_of-self-in-Ok-write_plan g c =
       fitted = subst (λ (l : LedgerState). IsFitted new.size c.in-Ok.plan.slot l) (sym c.in-Ok-write_plan.ensures.advanced)
           (fitted_now old.size new.size k.slot k.ledger c.plan_commit.new.ledger _ c.args.banner c.in-Ok.plan k.fitted c.plan_commit.ensures.marks c.in-Ok.ensures.made version (wrote.same.size ∙ only.same.size));
       sealed = omega (arith, seal);
+      leaf = λ keeps2. ∣ inl c.clear.ensures ∣₁;
       there = λ keeps2. (done (back keeps2)).there;
       settled = λ keeps2 usable. record {
         images = λ i image. (done (back keeps2)).all i (d.each_image_is_a_crash_state c.write_plan.new.device i keeps2 image);
@@ -217,6 +219,7 @@ invariant_of-self-in-Err-write_plan g c =
     record {
       fitted = subst (λ (l : LedgerState). IsFitted new.size k.slot l) (sym as_before) (subst (λ (n : ℕ). IsFitted n k.slot k.ledger) (sym (wrote.same.size ∙ only.same.size)) k.fitted);
       sealed = let s = k.sealed in omega (arith, s);
+      leaf = λ keeps2. ∣ inl c.clear.ensures ∣₁;
       there = λ keeps2.
           let keeps = back keeps2 in
           let here = subst (λ (v : Image). IsThere v k.slot k.ledger) (sym (same keeps)) (k.there keeps) in
@@ -374,3 +377,27 @@ returns-clause-between g c = λ keeps usable.
     adds_both (states k.device) (states c.plan_commit.new.device) (states c.write_plan.new.device) (may_crash_to (states k.device)) (IsTreeBetween mid.disk.view k.slot k.top (updated pairs batch) c.in-Ok.plan.slot.root.banner) (λ (i : Image). may_crash_to (states k.device) i ⊎ IsTreeBetween old.disk.view k.slot k.top (updated pairs batch) c.args.banner i)
     (c.plan_commit.ensures.reads.device.no_new_crash_state keeps) (c.write_plan.ensures.at_crash (keeps1 keeps) (ready keeps)) (λ i left. inl left)
     (λ i h. inr (between_again old.disk.view mid.disk.view k.slot k.top (updated pairs batch) c.in-Ok.plan.slot.root.banner c.args.banner i (same keeps) c.in-Ok.ensures.made.banner_is h))
+
+pub returns-in-Ok-write_plan-clause-fits : goal.returns-in-Ok-write_plan-clause-fits
+returns-in-Ok-write_plan-clause-fits g c = λ keeps.
+    let d = g.met.D.Device in
+    let k = c.args.self.now in
+    let old = g.D.Device.state k.device in
+    let up = c.if-not-self.false in
+    let pairs = (found_under k.slot old.disk.view).pairs in
+    let held_by = is_held old.size k.slot old.disk k.ledger k.top k.fitted (k.there keeps) (k.settled keeps up) k.sealed in
+    let first = starts old.size k.slot old.disk.view k.ledger k.fitted (k.there keeps) in
+    let room = (c.in-Ok.ensures.planned keeps k.top pairs held_by first refl (version_is c.args.banner.version c.requires.version)).1 in
+    (room.need, λ again. room.needs, room.fits)
+
+pub returns-clause-tight : goal.returns-clause-tight
+returns-clause-tight g c = λ keeps usable shut.
+    let d = g.met.D.Device in
+    let k = c.args.self.now in
+    let old = g.D.Device.state k.device in
+    let up = c.if-not-self.false in
+    let pairs = (found_under k.slot old.disk.view).pairs in
+    let held_by = is_held old.size k.slot old.disk k.ledger k.top k.fitted (k.there keeps) (k.settled keeps up) k.sealed in
+    let first = starts old.size k.slot old.disk.view k.ledger k.fitted (k.there keeps) in
+    let room = (c.in-Ok.ensures.planned keeps k.top pairs held_by first refl (version_is c.args.banner.version c.requires.version)).1 in
+    (room.need, λ again. room.needs, room.fits)

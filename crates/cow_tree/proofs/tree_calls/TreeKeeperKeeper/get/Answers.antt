@@ -2,7 +2,7 @@ use Rattle.std.proofs.Common.{ℕ, Option, sym, subst}
 use Rattle.page_store.specs.StoreState.{IsReadFault}
 use Rattle.page_store.specs.declared.fault.KeeperFault.{KeeperFault}
 use Rattle.cow_tree.specs.TreeState.{found_under, tree_holding}
-use Rattle.cow_tree.proofs.KeeperReads.{has_read, read_fault, counts_rise}
+use Rattle.cow_tree.proofs.KeeperReads.{needs_again, has_read, read_fault, counts_rise}
 use Rattle.cow_tree.proofs.tree_calls.TreeKeeperKeeper.get.Goals as goal
 
 pub returns-in-Ok-clause-value : goal.returns-in-Ok-clause-value
@@ -26,3 +26,15 @@ returns-in-Err-clause-fault g c =
     subst (λ (e : KeeperFault). IsReadFault (tree_holding (d.state k.device) k.slot k.ledger k.top k.usable) (tree_holding (d.state c.find_value.new.device) k.slot k.ledger k.top k.usable) e) (sym c.from.ensures)
     (read_fault (d.state k.device) (d.state c.find_value.new.device) k.slot k.ledger k.top k.usable reads.device.only (Option ℕ) c.in-Err.fault _ reads.reads
     (λ keeps. c.in-Err.ensures.value keeps (found_under k.slot (d.state k.device).disk.view) (k.there keeps).found_is))
+
+pub returns-in-Ok-clause-need : goal.returns-in-Ok-clause-need
+returns-in-Ok-clause-need g c =
+    let d = g.D.Device in
+    let k = c.args.self.now in
+    needs_again (d.state k.device) (d.state c.find_value.new.device) k.slot c.in-Ok.ensures.reads.device.only
+
+pub returns-in-Err-clause-need : goal.returns-in-Err-clause-need
+returns-in-Err-clause-need g c =
+    let d = g.D.Device in
+    let k = c.args.self.now in
+    needs_again (d.state k.device) (d.state c.find_value.new.device) k.slot c.in-Err.ensures.reads.device.only

@@ -1,4 +1,4 @@
-use Rattle.std.proofs.Common.{◌≡◌, ℕ, IsTrue, sym, subst, ap, ◌∙◌, arith}
+use Rattle.std.proofs.Common.{◌≡◌, ℕ, IsTrue, inl, sym, subst, ap, ◌∙◌, arith}
 use Rattle.page_store.specs.Content.{Found, is_among}
 use Rattle.page_store.specs.Roots.{greatest_seal}
 use Rattle.page_store.specs.Sectors.{Image, page_of}
@@ -27,6 +27,7 @@ invariant_of-result g c =
             whole = subst (λ (i : Image). AreWhole i c.in-Ok.ledger) (sym (opened.view keeps)) holds.whole;
           };
       sealed = c.in-Ok.ensures.sealed;
+      leaf = λ keeps1. ∣ inl c.none.ensures ∣₁;
       settled = λ keeps1 up.
           let keeps : IsTrue (g.D.Device.state c.args.device).honest = subst IsTrue c.open_parts.ensures.device.same.honest keeps1 in
           let holds = opened.holds keeps in

@@ -1,0 +1,11 @@
+use Rattle.std.proofs.Common.{sym, ◌∙◌}
+use Rattle.page_store.specs.Sectors.{page_of}
+use Rattle.cow_tree.specs.Opening.{bounds_under}
+use Rattle.cow_tree.proofs.TreesAreMaps.{found_map}
+use Rattle.cow_tree.proofs.KeptLeavesRead.{kept_tells}
+use Rattle.cow_tree.proofs.lookups.keep_next_leaf.Goals as goal
+
+pub returns-then-has_next-clause-pair : goal.returns-then-has_next-clause-pair
+returns-then-has_next-clause-pair g c = λ keeps found is kept.
+    let a = page_of (g.D.Device.state c.args.device.now).disk.view in
+    sym (kept_tells a (bounds_under c.args.slot.now) found c.args.kept.now c.args.after.now (found_map c.args.slot.now a found is) kept (sym c.has_next.ensures ∙ c.if-has_next.true))
