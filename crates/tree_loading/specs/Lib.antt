@@ -1,0 +1,4 @@
+pub mod Filled
+pub mod Full
+pub mod Rows
+pub mod LoadingExamples
