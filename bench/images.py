@@ -124,38 +124,73 @@ def content(room):
     return sorted(pairs), documents
 
 
-def page(place, pairs):
-    front = b"GOPHFLAT" + number(place, 4) + number(FIRST_GENERATION, 8) + number(0, 2) + number(len(pairs), 2)
-    return (front + b"".join(number(len(key), 2) + number(len(value), 2) + key + value for key, value in pairs)).ljust(PAGE, b"\0")
+def page(place, level, entries):
+    """A page of the tree: what stands before its entries, the entries, and zeros."""
+    front = b"GOPHPAGE" + number(place, 4) + number(FIRST_GENERATION, 8) + number(level, 2) + number(len(entries), 2)
+    return (front + b"".join(entries)).ljust(PAGE, b"\0")
 
 
-def flat_pages(pairs):
-    """Pages from page 2 on: the next is begun where a pair doesn't fit."""
-    pages, held, left = [], [], PAGE - 24
-    for key, value in pairs:
-        size = 4 + len(key) + len(value)
-        if size > left:
-            pages.append(page(2 + len(pages), held))
-            held, left = [], PAGE - 24
-        held.append((key, value))
-        left -= size
-    return pages + [page(2 + len(pages), held)]
+def grouped(entries):
+    """Runs of entries, the next of which is begun where an entry doesn't fit. Of each its first key, and its entries as bytes."""
+    groups, left = [], 0
+    for key, entry in entries:
+        if len(entry) > left:
+            groups.append((key, []))
+            left = PAGE - 24
+        groups[-1][1].append(entry)
+        left -= len(entry)
+    return groups
 
 
-def root_page(pages, pairs, port):
+def child(key, place):
+    return number(len(key), 2) + number(place, 4) + key
+
+
+def tree_pages(pairs):
+    """The pages of a tree in filled pages, from page 2 on, and how many levels it has."""
+    groups, pages, level = grouped((key, number(len(key), 2) + number(len(value), 2) + key + value) for key, value in pairs), [], 0
+    while True:
+        first = 2 + len(pages)
+        pages += [page(first + at, level, entries) for at, (_, entries) in enumerate(groups)]
+        level += 1
+        if len(groups) == 1:
+            return pages, level
+        # the first entry of a branch has the empty key; no room is gained by it here
+        runs = grouped((key, child(key, first + at)) for at, (key, _) in enumerate(groups))
+        starts = [sum(len(entries) for _, entries in runs[:at]) for at in range(len(runs))]
+        groups = [(key, [child(b"", first + start), *entries[1:]]) for start, (key, entries) in zip(starts, runs)]
+
+
+def root_page(pages, tree, height, pairs, port):
     banner = short(HOST.encode()) + number(port, 2) + short(ADMIN.encode())
-    kept = (number(0, 2) + number(pages, 4) + number(2, 4) + number(0, 2) + number(pairs, 8) + banner).ljust(8 * ROOT_PART, b"\0")
+    kept = (number(1, 2) + number(pages, 4) + number(tree, 4) + number(height, 2) + number(pairs, 8) + banner).ljust(8 * ROOT_PART, b"\0")
     parts = (kept[place : place + ROOT_PART] for place in range(0, len(kept), ROOT_PART))
     return b"".join(b"GOPHROOT" + number(place, 8) + number(FIRST_GENERATION, 8) + part for place, part in enumerate(parts))
 
 
-def written(image, pages, port, bytes_of_pairs):
-    """Writes an image whose half in use has about so many bytes of pairs. Returns the count of its documents."""
-    pairs, documents = content(bytes_of_pairs)
-    flat = flat_pages(pairs)
-    if len(flat) > (pages - 2) // 2:
-        raise SystemExit(f"bench: {len(flat)} pages of pairs do not fit into half of {pages} pages")
+def put_image(image, pages, port, pairs):
+    """Writes an image of a tree with these pairs. Returns how many pages and levels the tree has."""
+    tree, height = tree_pages(pairs)
+    if len(tree) > pages - 2:
+        raise SystemExit(f"bench: {len(tree)} pages of a tree do not fit into {pages} pages")
     with open(image, "wb") as it:
-        it.write(root_page(pages, len(pairs), port) + bytes(PAGE) + b"".join(flat))
+        it.write(root_page(pages, 1 + len(tree), height, len(pairs), port) + bytes(PAGE) + b"".join(tree))
         it.truncate(pages * PAGE)
+    return len(tree), height
+
+
+def written(image, pages, port, bytes_of_pairs):
+    """Writes an image whose tree has about so many bytes of pairs. Returns the count of its documents."""
+    pairs, documents = content(bytes_of_pairs)
+    put_image(image, pages, port, pairs)
     return documents
+
+
+def written_items(image, pages, port, items):
+    """Writes an image with so many short documents under an empty top menu. Returns how many pages and levels its tree has."""
+    source, vocabulary = random.Random(items), [f"word{place}".encode() for place in range(2000)]
+    pairs = [(b"I", record(b"M", TITLE.encode(), number(0, 4))), (b"W" + short(TITLE.lower().encode()), b"")]
+    for place in range(items):
+        body = b" ".join(source.choices(vocabulary, k=20))
+        pairs += document_pairs(f"/d/{place:05}".encode(), f"Document {place}".encode(), body)
+    return put_image(image, pages, port, sorted(pairs))

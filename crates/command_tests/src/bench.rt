@@ -9,6 +9,7 @@ use host_types::{SiteKeeper, Stamp};
 use image_commands::{
     ImageFault, SiteNames, check_image, format_image, formatted_line, sectors_of, show_image,
 };
+use page_store::{Banner, format_flat};
 use sector_device::{Device, MemDisk};
 use std::alloc::{AllocError, Global};
 
@@ -85,6 +86,26 @@ impl Bench {
         Ok(formatted_line(self.alloc, pages)?)
     }
 
+    /// Makes an image of flat pages, without pairs.
+    fn format_flat(&mut self, pages: u32, names: SiteNames, port: u16) -> Result<String, Trouble> {
+        if port == 0 {
+            return Err(Trouble::Line);
+        }
+        let SiteNames {
+            host,
+            admin,
+            title: _,
+        } = names;
+        let banner = Banner {
+            version: 0,
+            host,
+            port,
+            admin,
+        };
+        format_flat(self.alloc, &mut self.disk, pages, banner, &[])?;
+        Ok(formatted_line(self.alloc, pages)?)
+    }
+
     fn show(&mut self) -> Result<String, Trouble> {
         let disk = self.taken()?;
         match show_image(self.alloc, disk) {
@@ -147,6 +168,10 @@ impl Bench {
             ["format", pages, host, port, admin, title] => {
                 let names = self.names(host, admin, title)?;
                 self.format(number(pages)?, names, port_of(port)?)
+            }
+            ["format_flat", pages, host, port, admin, title] => {
+                let names = self.names(host, admin, title)?;
+                self.format_flat(number(pages)?, names, port_of(port)?)
             }
             ["size", pages] => {
                 let sectors = sectors_of(number(pages)?)?;

@@ -4,6 +4,7 @@ use crate::line::{Line, number};
 use crate::lying::{stored_and_told, switched};
 use crate::trouble::Trouble;
 use crate::{devices, disks, events, keepers, records, sites, texts};
+use cow_tree::TreeKeeper;
 use host_on_disk::{open_site, run_on};
 use host_types::{Bytes, Change, Stamp};
 use mem_site::MemSite;
@@ -56,8 +57,9 @@ pub enum Held {
     Nothing,
     Disk(MemDisk),
     Fuse(FuseDisk<MemDisk>),
-    Keeper(FlatKeeper<FuseDisk<MemDisk>>),
-    Site(DiskSite<FlatKeeper<FuseDisk<MemDisk>>>),
+    Flat(FlatKeeper<FuseDisk<MemDisk>>),
+    Tree(TreeKeeper<FuseDisk<MemDisk>>),
+    Site(DiskSite<TreeKeeper<FuseDisk<MemDisk>>>),
     Memory(MemSite),
 }
 
@@ -67,7 +69,8 @@ impl Held {
         match self {
             Held::Disk(disk) => Ok(FuseDisk::new(disk, u64::MAX)),
             Held::Fuse(fuse) => Ok(fuse),
-            Held::Keeper(keeper) => Ok(keeper.into_device()),
+            Held::Flat(keeper) => Ok(keeper.into_device()),
+            Held::Tree(keeper) => Ok(keeper.into_device()),
             Held::Site(site) => Ok(site.into_keeper().into_device()),
             _ => Err(Trouble::Line),
         }
@@ -113,11 +116,11 @@ impl Bench {
         Ok(self.take_device()?.into_inner())
     }
 
-    /// `open`: the keeper of the image on the device.
+    /// `open`: the keeper of the image of flat pages on the device.
     fn open(&mut self) -> Result<(), Trouble> {
         match FlatKeeper::open(self.alloc, self.take_device()?) {
             Ok(keeper) => {
-                self.held = Held::Keeper(keeper);
+                self.held = Held::Flat(keeper);
                 Ok(())
             }
             Err((fault, device)) => {
@@ -142,14 +145,14 @@ impl Bench {
     }
 
     /// The site of a keeper.
-    fn open_keeper(&mut self, keeper: FlatKeeper<FuseDisk<MemDisk>>) -> Result<(), Trouble> {
+    fn open_keeper(&mut self, keeper: TreeKeeper<FuseDisk<MemDisk>>) -> Result<(), Trouble> {
         match DiskSite::open(self.alloc, keeper) {
             Ok(site) => {
                 self.held = Held::Site(site);
                 Ok(())
             }
             Err((fault, keeper)) => {
-                self.held = Held::Keeper(keeper);
+                self.held = Held::Tree(keeper);
                 Err(Trouble::from(fault))
             }
         }
@@ -159,10 +162,10 @@ impl Bench {
     fn turn(&mut self) -> Result<(), Trouble> {
         match mem::replace(&mut self.held, Held::Nothing) {
             Held::Site(site) => {
-                self.held = Held::Keeper(site.into_keeper());
+                self.held = Held::Tree(site.into_keeper());
                 Ok(())
             }
-            Held::Keeper(keeper) => self.open_keeper(keeper),
+            Held::Tree(keeper) => self.open_keeper(keeper),
             _ => Err(Trouble::Line),
         }
     }
@@ -304,7 +307,7 @@ fn on_fuse(
 /// The words of a site on a disk.
 fn on_site(
     alloc: Global,
-    site: &mut DiskSite<FlatKeeper<FuseDisk<MemDisk>>>,
+    site: &mut DiskSite<TreeKeeper<FuseDisk<MemDisk>>>,
     line: &mut Line,
     now: Stamp,
     word: &str,
@@ -328,7 +331,8 @@ pub fn on_held(
     match &mut bench.held {
         Held::Disk(disk) => disks::call(alloc, disk, line, word, fields),
         Held::Fuse(fuse) => on_fuse(fuse, line, word, fields),
-        Held::Keeper(keeper) => keepers::call(alloc, keeper, line, word, fields),
+        Held::Flat(keeper) => keepers::call(alloc, keeper, line, word, fields),
+        Held::Tree(keeper) => keepers::call(alloc, keeper, line, word, fields),
         Held::Site(site) => on_site(alloc, site, line, now, word, fields),
         Held::Memory(site) => sites::call(alloc, site, line, now, word, fields),
         Held::Nothing => Err(Trouble::Line),

@@ -2,11 +2,13 @@
 use crate::disks::unsynced;
 use crate::keepers::pairs_of;
 use crate::made::EVENING;
+use crate::scripts::Dice;
 use crate::trouble::Trouble;
+use cow_tree::TreeKeeper;
 use host_on_disk::{open_site, run_on, run_over};
 use host_types::{Admin, Bytes, Host, Stamp, Title};
 use mem_site::MemSite;
-use page_store::{FlatKeeper, Keeper};
+use page_store::Keeper;
 use sector_device::{Device, FuseDisk, MemDisk};
 use session_core::{Event, HubFault, Outcome, OutcomeList};
 use site_store::DiskSite;
@@ -23,15 +25,15 @@ pub fn in_memory(alloc: Global) -> Result<MemSite, Trouble> {
 }
 
 /// The keeper of the image on a device.
-fn kept<D: Device + Drop>(alloc: Global, device: D) -> Result<FlatKeeper<D>, Trouble> {
-    match FlatKeeper::open(alloc, device) {
+fn kept<D: Device + Drop>(alloc: Global, device: D) -> Result<TreeKeeper<D>, Trouble> {
+    match TreeKeeper::open(alloc, device) {
         Ok(keeper) => Ok(keeper),
         Err((fault, _)) => Err(Trouble::from(fault)),
     }
 }
 
 /// The site on a disk.
-fn opened(alloc: Global, disk: MemDisk) -> Result<DiskSite<FlatKeeper<MemDisk>>, Trouble> {
+fn opened(alloc: Global, disk: MemDisk) -> Result<DiskSite<TreeKeeper<MemDisk>>, Trouble> {
     match open_site(alloc, disk) {
         Ok(site) => Ok(site),
         Err((fault, _)) => Err(Trouble::from(fault)),
@@ -72,7 +74,7 @@ fn outcomes_in_memory(
 /// The pairs of a keeper, and the disk that a crash leaves of it.
 fn pairs_left(
     alloc: Global,
-    keeper: FlatKeeper<MemDisk>,
+    keeper: TreeKeeper<MemDisk>,
 ) -> Result<(Vec<Bytes>, MemDisk), Trouble> {
     let mut keeper = keeper;
     let pairs = pairs_of(alloc, &mut keeper)?;
@@ -120,7 +122,7 @@ pub fn kept_and_used(alloc: Global, disk: MemDisk, used: &[Event]) -> Result<Vec
     Ok(pairs)
 }
 
-/// Events on a disk that crashes after so many calls: how many were answered until the first failure, and the disk. None where not even the opening ended.
+/// Events on a disk that crashes after so many calls: how many were answered until the first call that met a failure, and the disk. None where not even the opening ended.
 fn stopped(
     alloc: Global,
     image: &[[u8; 512]],
@@ -131,10 +133,9 @@ fn stopped(
     let Ok((outcomes, fuse)) = run_on(alloc, fuse, 1, events) else {
         return Ok(None);
     };
-    let failed = outcomes
-        .as_slice()
-        .iter()
-        .position(|outcome| *outcome == Outcome::Fault(HubFault::Failed));
+    let failed = outcomes.as_slice().iter().position(|outcome| {
+        matches!(outcome, Outcome::Fault(HubFault::Failed | HubFault::Broken))
+    });
     Ok(Some((failed.unwrap_or(events.len()), fuse.into_inner())))
 }
 
@@ -152,14 +153,39 @@ pub fn kept_after(
     }
 }
 
-/// The disk that a crash leaves with the writes since the last sync from one place to before another.
-fn left_between(alloc: Global, disk: &MemDisk, from: usize, to: usize) -> Result<MemDisk, Trouble> {
-    let picks: Vec<usize> = (from..to).collect(alloc)?;
-    Ok(MemDisk::of(alloc, disk.after_stop(alloc, &picks)?)?)
+/// Which of so many writes are on the disk after a crash, by the bits of a number.
+fn picked(alloc: Global, writes: usize, bits: u64) -> Result<Vec<usize>, Trouble> {
+    let mut picks = Vec::new(alloc);
+    for place in 0..writes {
+        if bits >> (place % 64) & 1 == 1 {
+            picks.push(place)?;
+        }
+    }
+    Ok(picks)
+}
+
+/// Which writes since the last sync are on the disk after a crash: each set of them where they are at most six; and else none, all, each half, and eight sets by a seed.
+fn sets_of(alloc: Global, writes: usize, seed: u64) -> Result<Vec<Vec<usize>>, Trouble> {
+    let mut sets = Vec::new(alloc);
+    if writes <= 6 {
+        for bits in 0..1u64 << writes {
+            sets.push(picked(alloc, writes, bits)?)?;
+        }
+        return Ok(sets);
+    }
+    for (from, to) in [(0, 0), (0, writes), (0, writes / 2), (writes / 2, writes)] {
+        sets.push((from..to).collect(alloc)?)?;
+    }
+    let mut dice = Dice::new(seed);
+    for _ in 0..8 {
+        let bits = (dice.roll(1 << 31) as u64) << 31 | dice.roll(1 << 31) as u64;
+        sets.push(picked(alloc, writes, bits)?)?;
+    }
+    Ok(sets)
 }
 
 /// Events on a disk that crashes after so many calls: whether all were answered, or none where not even the opening ended. Each image that the crash
-/// leaves, with none, all, and each half of the writes since the last sync, is the site after all events that were answered, or the one with
+/// leaves, by the sets of the writes since the last sync, is the site after all events that were answered, or the one with
 /// the change that was under way too, and can be used.
 pub fn survives(
     alloc: Global,
@@ -173,9 +199,9 @@ pub fn survives(
     };
     let acknowledged = kept_after(alloc, image, events, answered)?;
     let unacknowledged = kept_after(alloc, image, events, answered.saturating_add(1))?;
-    let last = unsynced(&disk);
-    for (from, to) in [(0, 0), (0, last), (0, last / 2), (last / 2, last)] {
-        let kept = kept_and_used(alloc, left_between(alloc, &disk, from, to)?, used)?;
+    for picks in &sets_of(alloc, unsynced(&disk), calls)? {
+        let left = MemDisk::of(alloc, disk.after_stop(alloc, picks)?)?;
+        let kept = kept_and_used(alloc, left, used)?;
         if kept.as_slice() != acknowledged.as_slice()
             && kept.as_slice() != unacknowledged.as_slice()
         {

@@ -3,7 +3,7 @@ use crate::devices;
 use crate::line::{Line, number, small_number};
 use crate::made::{banner, make_site};
 use crate::trouble::Trouble;
-use page_store::{Banner, Pair, format, format_flat};
+use page_store::{Banner, Pair, format_flat};
 use sector_device::{Call, MemDisk};
 use std::alloc::Global;
 
@@ -88,7 +88,7 @@ fn banner_of(fields: &[Vec<u8>]) -> Result<Banner, Trouble> {
     banner(host, small_number(port)?, admin).ok_or(Trouble::Line)
 }
 
-/// Makes an image of 16 pages, without a pair or with the byte `v` at the key `k`.
+/// Makes an image of 16 flat pages, without a pair or with the byte `v` at the key `k`.
 #[tactic(auto, unfolding(page_store::specs::Batch::is_value))]
 fn make(alloc: Global, disk: &mut MemDisk, banner: Banner, has_pair: bool) -> Result<(), Trouble> {
     if banner.version != 0 || banner.port == 0 {
@@ -98,7 +98,7 @@ fn make(alloc: Global, disk: &mut MemDisk, banner: Banner, has_pair: bool) -> Re
         let pair = Pair::from_slices(alloc, b"k", b"v")?;
         return Ok(format_flat(alloc, disk, 16, banner, &[pair])?);
     }
-    Ok(format(alloc, disk, 16, banner, &[])?)
+    Ok(format_flat(alloc, disk, 16, banner, &[])?)
 }
 
 /// `format HOST PORT ADMIN` and `format_flat HOST PORT ADMIN`

@@ -57,11 +57,11 @@ fn alike(bench: &Bench, seed: &[u8]) -> Result<(), Trouble> {
     }
 }
 
-/// `stopped SEED`: the script of a seed on a disk that crashes after some calls, of which its opening makes 25 at least.
-fn stopped(bench: &Bench, seed: &[u8]) -> Result<(), Trouble> {
+/// `stopped CALLS SEED`: the script of a seed on a disk that crashes some calls after so many, which its opening makes.
+fn stopped(bench: &Bench, calls: &[u8], seed: &[u8]) -> Result<(), Trouble> {
     let mut dice = Dice::new(number(seed)?);
     let events = script_of(bench, &mut dice)?;
-    let calls = 25 + dice.roll(200) as u64;
+    let calls = number(calls)?.saturating_add(dice.roll(2000) as u64);
     match survives(bench.alloc, &bench.image, &events, calls, &[])? {
         Some(_) => Ok(()),
         None => Err(Trouble::Wrong("the image opens")),
@@ -133,7 +133,7 @@ pub fn call(
         ("request", [bytes]) => request(bench, bytes),
         ("survives", [calls]) => show_survival(bench, line, calls),
         ("alike", [seed]) => alike(bench, seed),
-        ("stopped", [seed]) => stopped(bench, seed),
+        ("stopped", [calls, seed]) => stopped(bench, calls, seed),
         _ => alone(bench, line, word, fields),
     }
 }

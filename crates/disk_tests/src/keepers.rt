@@ -4,8 +4,7 @@ use crate::line::Line;
 use crate::made::change;
 use crate::trouble::Trouble;
 use host_types::Bytes;
-use page_store::{Figures, FlatKeeper, Keeper, Pair};
-use sector_device::Device;
+use page_store::{Figures, Keeper, Pair};
 use std::alloc::Global;
 
 /// All pairs of a keeper: keys and values by turns.
@@ -102,9 +101,9 @@ fn looks<K: Keeper>(
     }
 }
 
-fn put<D: Device>(
+fn put<K: Keeper>(
     alloc: Global,
-    keeper: &mut FlatKeeper<D>,
+    keeper: &mut K,
     key: &[u8],
     value: Option<&[u8]>,
 ) -> Result<(), Trouble> {
@@ -112,9 +111,9 @@ fn put<D: Device>(
 }
 
 /// The words of a keeper: `put KEY VALUE`, `take KEY`, and those that look at it.
-pub fn call<D: Device>(
+pub fn call<K: Keeper>(
     alloc: Global,
-    keeper: &mut FlatKeeper<D>,
+    keeper: &mut K,
     line: &mut Line,
     word: &str,
     fields: &[Vec<u8>],

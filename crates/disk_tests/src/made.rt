@@ -1,8 +1,8 @@
 // Images in memory, and changes of their pairs, for the program and the tests.
-use host_types::{Admin, Bytes, Host, Stamp, Title};
-use page_store::{Banner, Edit, FlatKeeper, Keeper, KeeperFault, format};
-use sector_device::{Device, MemDisk};
-use site_store::first_pairs;
+use host_types::{Admin, Bytes, Host, Stamp};
+use image_commands::{SiteNames, format_image};
+use page_store::{Banner, Edit, Keeper, KeeperFault};
+use sector_device::MemDisk;
 use std::alloc::Global;
 
 /// 28 July 1993, 17:02:01.
@@ -20,29 +20,23 @@ pub fn banner(host: &[u8], port: u16, admin: &[u8]) -> Option<Banner> {
 
 /// Makes an image of so many pages whose site has a top menu without entries.
 pub fn make_site(alloc: Global, disk: &mut MemDisk, pages: u32) -> Result<(), KeeperFault> {
-    let (Ok(title), Ok(stamp)) = (Title::new(b"The top of it"), Stamp::new(EVENING)) else {
+    let names = SiteNames::new(b"localhost", b"Ada <ada@localhost>", b"The top of it");
+    let (Ok(names), Ok(stamp)) = (names, Stamp::new(EVENING)) else {
         return Err(KeeperFault::Version);
     };
-    let Some(banner) = banner(b"localhost", 7070, b"Ada <ada@localhost>") else {
-        return Err(KeeperFault::Version);
-    };
-    if banner.version != 0 || banner.port == 0 {
-        return Err(KeeperFault::Version);
-    }
-    let pairs = first_pairs(alloc, &title, stamp)?;
-    format(alloc, disk, pages, banner, &pairs)
+    format_image(alloc, disk, pages, names, 7070, stamp)
 }
 
 /// Puts a value at a key, or takes it away, whatever site is kept. A key or a value of no valid length is `Version`, so that callers need not prove one.
 #[tactic(auto, unfolding(page_store::specs::Batch::is_value))]
-pub fn change<D: Device>(
+pub fn change<K: Keeper>(
     alloc: Global,
-    keeper: &mut FlatKeeper<D>,
+    keeper: &mut K,
     key: &[u8],
     value: Option<&[u8]>,
 ) -> Result<(), KeeperFault> {
     let banner = keeper.banner().clone()?;
-    if key.is_empty() || key.len() > 300 || banner.version != 0 || banner.port == 0 {
+    if key.is_empty() || key.len() > 300 || banner.port == 0 {
         return Err(KeeperFault::Version);
     }
     let key = Bytes::from_slice(alloc, key)?;

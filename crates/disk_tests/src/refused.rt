@@ -1,15 +1,16 @@
 // Calls that are made again where they find no memory. Each says what it did wrong, and else the same whether memory was refused or not.
 use crate::made::{EVENING, change, found, make_site};
+use cow_tree::TreeKeeper;
 use host_types::{
     Bytes, Card, CardBody, Change, Item, Selector, SiteFault, SiteKeeper, Stamp, Title,
 };
-use page_store::{FlatKeeper, Keeper, KeeperFault};
+use page_store::{Keeper, KeeperFault};
 use sector_device::{Device, MemDisk};
 use site_store::{DiskSite, SiteOpenFault};
 use std::alloc::Global;
 use word_index::SearchKeeper;
 
-type Site = DiskSite<FlatKeeper<MemDisk>>;
+type Site = DiskSite<TreeKeeper<MemDisk>>;
 
 fn disk_of(alloc: Global, sectors: usize) -> Result<MemDisk, &'static str> {
     match MemDisk::new(alloc, sectors) {
@@ -75,14 +76,14 @@ fn formatted(alloc: Global) -> Result<MemDisk, &'static str> {
 }
 
 /// The keeper on a disk. An opening that finds no memory hands the disk back.
-fn keeper_on(alloc: Global, disk: MemDisk) -> Result<FlatKeeper<MemDisk>, &'static str> {
-    let disk = match FlatKeeper::open(alloc, disk) {
+fn keeper_on(alloc: Global, disk: MemDisk) -> Result<TreeKeeper<MemDisk>, &'static str> {
+    let disk = match TreeKeeper::open(alloc, disk) {
         Ok(keeper) => return Ok(keeper),
         Err((KeeperFault::Memory, disk)) => disk,
         Err((KeeperFault::Device, disk)) if disk.failed_writes() > 0 => disk,
         Err(_) => return Err("another fault of an opening"),
     };
-    match FlatKeeper::open(alloc, disk) {
+    match TreeKeeper::open(alloc, disk) {
         Ok(keeper) => Ok(keeper),
         Err(_) => Err("no opening"),
     }
@@ -91,9 +92,9 @@ fn keeper_on(alloc: Global, disk: MemDisk) -> Result<FlatKeeper<MemDisk>, &'stat
 /// Puts a byte at the key `k`, or takes it away. A commit that finds no memory changes nothing, or fails as the disk does, and then for good.
 fn put(
     alloc: Global,
-    keeper: FlatKeeper<MemDisk>,
+    keeper: TreeKeeper<MemDisk>,
     value: Option<&[u8]>,
-) -> Result<FlatKeeper<MemDisk>, &'static str> {
+) -> Result<TreeKeeper<MemDisk>, &'static str> {
     let mut keeper = keeper;
     let before = found(&mut keeper);
     match change(alloc, &mut keeper, b"k", value) {
@@ -111,7 +112,7 @@ fn put(
 }
 
 /// Formats a disk, opens it, and puts a byte at the key `k`: that byte, and the keeper with the key gone again.
-pub fn kept(alloc: Global) -> Result<(u8, FlatKeeper<MemDisk>), &'static str> {
+pub fn kept(alloc: Global) -> Result<(u8, TreeKeeper<MemDisk>), &'static str> {
     let mut keeper = keeper_on(alloc, formatted(alloc)?)?;
     keeper = put(alloc, keeper, Some(&[7; 1024]))?;
     let Ok(Some(byte)) = found(&mut keeper) else {
@@ -126,7 +127,7 @@ pub fn kept(alloc: Global) -> Result<(u8, FlatKeeper<MemDisk>), &'static str> {
 }
 
 /// The site that a keeper holds. An opening that finds no memory hands the keeper back.
-fn site_in(alloc: Global, keeper: FlatKeeper<MemDisk>) -> Result<Site, &'static str> {
+fn site_in(alloc: Global, keeper: TreeKeeper<MemDisk>) -> Result<Site, &'static str> {
     let keeper = match DiskSite::open(alloc, keeper) {
         Ok(site) => return Ok(site),
         Err((SiteOpenFault::Memory, keeper)) => keeper,
@@ -168,7 +169,7 @@ fn note_length(site: &mut Site) -> Option<u32> {
 }
 
 /// Puts a note on the site of a keeper: its length, and how many items a search finds. A change that finds no memory changes nothing, or fails as the disk does, and then for good.
-pub fn noted(alloc: Global, keeper: FlatKeeper<MemDisk>) -> Result<(u32, usize), &'static str> {
+pub fn noted(alloc: Global, keeper: TreeKeeper<MemDisk>) -> Result<(u32, usize), &'static str> {
     let mut site = site_in(alloc, keeper)?;
     match put_note(alloc, &mut site) {
         Ok(()) => {}

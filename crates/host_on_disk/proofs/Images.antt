@@ -15,7 +15,7 @@ use Rattle.page_store.specs.declared.slot.Root.{Root}
 use Rattle.page_store.specs.declared.slot.Slot.{Slot}
 use Rattle.page_store.proofs.Fields.{bind_some, test_passed}
 use Rattle.page_store.proofs.CommitImages.{both_true}
-use Rattle.page_store.specs.CrashStatesRepresent.{opens_zero}
+use Rattle.cow_tree.specs.KeeperLaws.{opens_trees}
 use Rattle.site_store.specs.Represented.{Shows, same_site}
 use Rattle.host_on_disk.specs.ImageSites.{ImageRepresents, RepresentsNone}
 
@@ -33,8 +33,8 @@ pub one_site : (image : Image) (s t : Site) → ImageRepresents image s → Imag
 one_site image s t (pairs, banner, (is, opened), shows) y = same_site pairs banner s t shows (shown image pairs banner t is y)
 
 -- what is kept under an image is what it represents
-pub kept_stands : (image : Image) (pairs : List Pair) (banner : Banner) (s : Site) → HasContent image pairs banner → banner.version ≡ 0 → Shows pairs banner s → ImageRepresents image s
-kept_stands image pairs banner s has version shows = (pairs, banner, (has, opens_zero banner.version version), shows)
+pub kept_stands : (image : Image) (pairs : List Pair) (banner : Banner) (s : Site) → HasContent image pairs banner → banner.version ≡ 1 → Shows pairs banner s → ImageRepresents image s
+kept_stands image pairs banner s has version shows = (pairs, banner, (has, opens_trees banner.version version), shows)
 
 -- ---- images without a site
 
@@ -65,12 +65,11 @@ no_slot image none s (pairs, banner, (is, opened), shows) = let there = slot_the
     none_is (Some c) slot e f = absurd cc
     none_is None slot e f = absurd cc
 
-pub other_version : (image : Image) (slot : Slot) → current image ≡ Some slot → 0 < slot.root.banner.version → RepresentsNone image
-other_version image slot is above s (pairs, banner, (has, opened), shows) =
+pub other_version : (image : Image) (slot : Slot) → current image ≡ Some slot → (slot.root.banner.version ≡ 1 → ⊥) → RepresentsNone image
+other_version image slot is other s (pairs, banner, (has, opened), shows) =
     let there = slot_there image pairs banner has in
     let same : slot ≡ there.0 = some_one (current image) slot there.0 is there.1 in
-    let later : 0 < banner.version = subst (λ (b : Banner). 0 < b.version) (ap (λ (x : Slot). x.root.banner) same ∙ sym there.2) above in
-    absurd (omega (arith, later, eqb-true banner.version 0 opened))
+    other (ap (λ (x : Slot). x.root.banner.version) same ∙ sym (ap (λ (b : Banner). b.version) there.2) ∙ eqb-true banner.version 1 opened)
   where
     some_one : (o : Option Slot) (a b : Slot) → o ≡ Some a → o ≡ Some b → a ≡ b
     some_one o a b e f = cc

@@ -10,12 +10,12 @@ use Rattle.page_store.specs.Pages.{Pair}
 use Rattle.page_store.specs.StoreState.{StoreState}
 use Rattle.page_store.specs.Content.{HasContent}
 use Rattle.page_store.specs.Counting.{CountsRefusal}
-use Rattle.page_store.specs.FlatState.{IsFlat, IsOpenFault}
-use Rattle.page_store.specs.CrashStatesRepresent.{opens_zero}
 use Rattle.page_store.specs.declared.banner.Banner.{Banner}
 use Rattle.page_store.specs.declared.slot.Slot.{Slot}
 use Rattle.page_store.specs.declared.fault.KeeperFault.{KeeperFault}
 use Rattle.page_store.specs.declared.fault.KeeperFault.TheVariants as kinds
+use Rattle.cow_tree.specs.Opening.{IsTree, IsOpenFault}
+use Rattle.cow_tree.specs.KeeperLaws.{opens_trees}
 use Rattle.site_store.specs.Opening as sites
 use Rattle.site_store.specs.declared.fault.SiteOpenFault.{SiteOpenFault}
 use Rattle.site_store.specs.declared.fault.SiteOpenFault.TheVariants as reading
@@ -50,9 +50,9 @@ small_refused state device back kinds.Deep is same small = absurd is
 small_refused state device back (kinds.Full need free) is same small = absurd is
 small_refused state device back kinds.Failed is same small = absurd is
 
--- content of version 0 stands under a current slot of flat pages
-pub flat_slot : (image : Image) (pairs : List Pair) (banner : Banner) → HasContent image pairs banner → banner.version ≡ 0 → (slot : Slot) × IsFlat image slot
-flat_slot image pairs banner has version = let there = slot_there image pairs banner has in (there.0, (there.1, ap (λ (b : Banner). b.version) (sym there.2) ∙ version))
+-- content of version 1 stands under a current slot of a tree
+pub tree_slot : (image : Image) (pairs : List Pair) (banner : Banner) → HasContent image pairs banner → banner.version ≡ 1 → (slot : Slot) × IsTree image slot
+tree_slot image pairs banner has version = let there = slot_there image pairs banner has in (there.0, (there.1, ap (λ (b : Banner). b.version) (sym there.2) ∙ version))
 
 -- The pairs of a device were opened: what they are, and that nothing was counted.
 pub record ArePairs (old : State) (before : StoreState) : Type 0 where
@@ -62,7 +62,7 @@ pub record ArePairs (old : State) (before : StoreState) : Type 0 where
   pub reads : before.failed_reads ≡ old.failed_reads
   pub writes : before.failed_writes ≡ old.failed_writes
   pub content : IsTrue old.honest → HasContent old.disk.view before.pairs before.banner
-  pub version : before.banner.version ≡ 0
+  pub version : before.banner.version ≡ 1
 
 -- a refusal of the site, once its pairs are opened
 pub site_refused : (old new : State) (before after : StoreState) → ArePairs old before → new.failed_reads ≡ after.failed_reads → new.failed_writes ≡ before.failed_writes → (fault : SiteOpenFault) → sites.IsOpenFault before after fault → IsOpeningFault old new (of_site fault)
@@ -75,7 +75,7 @@ site_refused old new before after opened reads writes fault is = by fault is
     by reading.BadRecord is = (
       opened.large,
       nothing is.1,
-      λ honest. (before.pairs, before.banner, (opened.content honest, opens_zero before.banner.version opened.version)),
+      λ honest. (before.pairs, before.banner, (opened.content honest, opens_trees before.banner.version opened.version)),
       λ honest s stands. is.2 (opened.honest honest) s (shown old.disk.view before.pairs before.banner s (opened.content honest) stands),
     )
     by (reading.Keeper kinds.Device) is = (opened.large, inl (reads ∙ is.1 ∙ ap counted opened.reads, writes ∙ opened.writes))
@@ -92,11 +92,11 @@ site_refused old new before after opened reads writes fault is = by fault is
     by (reading.Keeper kinds.Deep) is = absurd is
     by (reading.Keeper (kinds.Full need free)) is = absurd is
     by (reading.Keeper kinds.Memory) is = absurd is
-    by reading.Memory is = ((opened.large, λ honest. flat_slot old.disk.view before.pairs before.banner (opened.content honest) opened.version), nothing is.1)
+    by reading.Memory is = ((opened.large, λ honest. tree_slot old.disk.view before.pairs before.banner (opened.content honest) opened.version), nothing is.1)
 
 -- lack of memory once a site was opened
 pub no_memory : (old new : State) (s : Site) → 128 ≤ old.size → NothingCounted old new → (IsTrue old.honest → ImageRepresents old.disk.view s) → IsOpeningFault old new Memory
 no_memory old new s large counts stands = ((large, λ honest. by (stands honest)), counts)
   where
-    by : ImageRepresents old.disk.view s → (slot : Slot) × IsFlat old.disk.view slot
-    by (pairs, banner, (has, opened), shows) = flat_slot old.disk.view pairs banner has (eqb-true banner.version 0 opened)
+    by : ImageRepresents old.disk.view s → (slot : Slot) × IsTree old.disk.view slot
+    by (pairs, banner, (has, opened), shows) = tree_slot old.disk.view pairs banner has (eqb-true banner.version 1 opened)

@@ -4,11 +4,11 @@ use Rattle.common_types.specs.CrashStates.{CrashStates, AddsNone}
 use Rattle.sector_device.specs.Device.{State, NothingCounted}
 use Rattle.page_store.specs.Pages.{Pair}
 use Rattle.page_store.specs.Sectors.{Image}
-use Rattle.page_store.specs.Content.{ImageHas}
-use Rattle.page_store.specs.FlatState.{IsOpenFault}
 use Rattle.page_store.specs.declared.banner.Banner.{Banner}
 use Rattle.page_store.specs.declared.fault.KeeperFault.{KeeperFault}
 use Rattle.page_store.specs.declared.fault.KeeperFault.TheVariants as kinds
+use Rattle.cow_tree.specs.Opening.{IsOpenFault}
+use Rattle.cow_tree.specs.Committed.{TreeHas}
 use Rattle.site_store.specs.declared.fault.SiteOpenFault.{SiteOpenFault}
 use Rattle.site_store.specs.declared.fault.SiteOpenFault.TheVariants as reading
 use Rattle.host_on_disk.specs.ImageSites.{RepresentsNone}
@@ -40,7 +40,7 @@ ShowsNone old = IsTrue old.honest → RepresentsNone old.disk.view
 
 -- A device that is honest shows some content, in the version that is opened.
 abbrev pub ShowsContent : State → Type 0
-ShowsContent old = IsTrue old.honest → (pairs : List Pair) × (banner : Banner) × ImageHas old.disk.view pairs banner
+ShowsContent old = IsTrue old.honest → (pairs : List Pair) × (banner : Banner) × TreeHas old.disk.view pairs banner
 
 -- Why an opening is refused, and what it counted. A fault of the key-value store has the cause that opening the keeper gives it, `BadRecord` comes where there is content but it represents no site, and `Memory` where a slot to be opened is current. But for a device that fails and for lack of memory, no two of these hold of one image.
 abbrev pub IsOpeningFault : State → State → OpenFault → Type 0

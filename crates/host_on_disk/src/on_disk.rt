@@ -1,7 +1,7 @@
 // Runs of events over a site on a disk, and what survives a crash.
 ghost use Rattle.std.specs.Prelude.{◌≡◌, true, IfOk, IfErr, IsTrue};
 ghost use Rattle.page_store.specs.Steps.{crash_states_of};
-ghost use Rattle.page_store.specs.FlatSeen.{device_of};
+ghost use Rattle.cow_tree.specs.TreeSeen.{device_of};
 ghost use Rattle.site_store.specs.Seen.{keeper_of};
 ghost use Rattle.session_core.specs.World.{World, started};
 ghost use Rattle.session_core.specs.Run.{Run};
@@ -12,8 +12,8 @@ ghost use Rattle.host_on_disk.specs.declared.open_fault.OpenFault.TheVariants.{M
 
 use crate::open_fault::OpenFault;
 use crate::opening::open_site;
+use cow_tree::TreeKeeper;
 use host_types::SiteKeeper;
-use page_store::FlatKeeper;
 use sector_device::Device;
 use session_core::{Event, Hub, OutcomeList};
 use site_store::DiskSite;
@@ -53,7 +53,7 @@ pub fn run_on<D: Device>(
     first: u64,
     events: &[Event],
 ) -> Result<(OutcomeList, D), (OpenFault, D)>
-    ensures calls { IfOk result (λ r. RunsOn D.state (λ d. device_of (keeper_of d)) ⟦<DiskSite<FlatKeeper<D>> as SiteKeeper>⟧.site_state ⟦<DiskSite<FlatKeeper<D>> as SiteKeeper>⟧.lacks ⟦<DiskSite<FlatKeeper<D>> as SiteKeeper>⟧.crash_states ⟦<DiskSite<FlatKeeper<D>> as SiteKeeper>⟧.represents device r.1 first events.now r.0) }
+    ensures calls { IfOk result (λ r. RunsOn D.state (λ d. device_of (keeper_of d)) ⟦<DiskSite<TreeKeeper<D>> as SiteKeeper>⟧.site_state ⟦<DiskSite<TreeKeeper<D>> as SiteKeeper>⟧.lacks ⟦<DiskSite<TreeKeeper<D>> as SiteKeeper>⟧.crash_states ⟦<DiskSite<TreeKeeper<D>> as SiteKeeper>⟧.represents device r.1 first events.now r.0) }
     ensures survives { IsTrue (D.state device).honest → IfOk result (λ r. Survives D.state (crash_states_of D.moment D.possible_since) device r.1 first events.now r.0) }
     ensures honest { IfOk result (λ r. (D.state r.1).honest ≡ (D.state device).honest) }
     ensures refused { IfErr result (λ e. HandsBack IsOpeningFault D.state (crash_states_of D.moment D.possible_since) device e.1 e.0) }

@@ -5,25 +5,25 @@ ghost use Rattle.host_types.specs.CrashStates.{AddsNone};
 ghost use Rattle.sector_device.specs.Device.{NothingCounted};
 ghost use Rattle.page_store.specs.Steps.{crash_states_of};
 ghost use Rattle.page_store.specs.declared.fault.KeeperFault.TheVariants.{Small};
-ghost use Rattle.page_store.specs.FlatSeen.{device_of, is_open};
+ghost use Rattle.cow_tree.specs.TreeSeen.{device_of, is_open};
 ghost use Rattle.site_store.specs.Seen.{keeper_of, seen_site};
 ghost use Rattle.host_on_disk.specs.ImageSites.{ImageRepresents};
 ghost use Rattle.host_on_disk.specs.OpenFaults.{IsOpeningFault, HandsBack};
 ghost use Rattle.host_on_disk.specs.declared.open_fault.OpenFault.TheVariants.{Keeper};
 
 use crate::open_fault::OpenFault;
-use page_store::FlatKeeper;
+use cow_tree::TreeKeeper;
 use sector_device::Device;
 use site_store::DiskSite;
 use std::alloc::Global;
 
 /// Opens the site that a device shows. It writes nothing, and a refusal hands the device back.
 ///
-/// Refusals in order: those of `FlatKeeper::open`, each by its own cause, where `Small` leaves the device as it was; `BadRecord` where the content represents no site. `Memory` may stand in place of `Damaged`, of `BadRecord` and of success.
+/// Refusals in order: those of `TreeKeeper::open`, each by its own cause, where `Small` leaves the device as it was; `BadRecord` where the content represents no site. `Memory` may stand in place of `Damaged`, of `BadRecord` and of success.
 pub fn open_site<D: Device>(
     alloc: Global,
     device: D,
-) -> Result<DiskSite<FlatKeeper<D>>, (OpenFault, D)>
+) -> Result<DiskSite<TreeKeeper<D>>, (OpenFault, D)>
     ensures site { IsTrue (D.state device).honest → IfOk result (λ d. ImageRepresents (D.state device).disk.view (seen_site d)) }
     ensures alone { IsTrue (D.state device).honest → (s : Site) → ImageRepresents (D.state device).disk.view s → IfOk result (λ d. s ≡ seen_site d) }
     ensures usable { IfOk result (λ d. is_open (keeper_of d) ≡ true) }
@@ -34,7 +34,7 @@ pub fn open_site<D: Device>(
     ensures at_crash { IsTrue (D.state device).honest → IfOk result (λ d. AddsNone (crash_states_of D.moment D.possible_since device) (crash_states_of D.moment D.possible_since (device_of (keeper_of d)))) }
     ensures honest { IfOk result (λ d. (D.state (device_of (keeper_of d))).honest ≡ (D.state device).honest) }
 {
-    let keeper = match FlatKeeper::open(alloc, device) {
+    let keeper = match TreeKeeper::open(alloc, device) {
         Ok(keeper) => keeper,
         Err((fault, device)) => return Err((OpenFault::of_keeper(fault), device)),
     };

@@ -1,3 +1,4 @@
 pub mod ListedItems
 pub mod DiskSites
+pub mod FirstLeaves
 pub mod FormattedImages

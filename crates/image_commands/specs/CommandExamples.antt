@@ -21,7 +21,7 @@ small_site = with_item (with_item (fresh_site (codes "localhost") 7070 [] (codes
 
 pub record CommandExamples : Type 0 where
   pub formatted : formatted_line 64 ≡ codes "formatted 64 pages"
-  pub figures : figures_line 2 10 31 3 ≡ codes "items 2 keys 10 free 31 generation 3"
+  pub figures : figures_line 2 10 61 3 ≡ codes "items 2 keys 10 free 61 generation 3"
   pub shown : listing small_site ≡ codes "1  Top\n0 /about About\\x20us\n> /from Old\n"
   pub pages : sectors_of 64 ≡ Ok 512
   pub few_pages : sectors_of 15 ≡ Err store.Small

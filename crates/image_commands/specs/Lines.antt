@@ -5,8 +5,8 @@ use Rattle.host_types.specs.Site.{Site}
 use Rattle.sector_device.specs.Device.{State}
 use Rattle.page_store.specs.Sectors.{Image}
 use Rattle.page_store.specs.Roots.{current}
-use Rattle.page_store.specs.Flat.{half_size}
 use Rattle.page_store.specs.declared.slot.Slot.{Slot}
+use Rattle.cow_tree.specs.TreeState.{unreached}
 use Rattle.site_records.specs.Layout.{layout}
 use Rattle.host_on_disk.specs.ImageSites.{ImageRepresents}
 
@@ -20,7 +20,7 @@ figures_line items keys free generation = codes "items " ++ decimal items ++ cod
 abbrev pub checked_line : Site → ℕ → ℕ → List ℕ
 checked_line s free generation = figures_line (length s.items) (length (layout s)) free generation
 
--- The line has the figures of the site that an image represents: a device was opened, which wrote nothing, and as it was opened it shows an image of that site, whose current root slot has this generation, and of whose pages half can be written.
+-- The line has the figures of the site that an image represents: a device was opened, which wrote nothing, and as it was opened it shows an image of that site, whose current root slot has this generation, and whose tree leaves so many pages unreached.
 pub record IsChecked {D : Type 0} (state : D → State) (crash_states : D → CrashStates Image) (old : D) (line : List ℕ) : Type 0 where
   pub site : Site
   pub stands : ImageRepresents (state old).disk.view site
@@ -29,4 +29,4 @@ pub record IsChecked {D : Type 0} (state : D → State) (crash_states : D → Cr
   pub shows : ImageRepresents (state opened).disk.view site
   pub slot : Slot
   pub current_is : current (state opened).disk.view ≡ Some slot
-  pub line_is : line ≡ checked_line site (half_size slot.root.pages) slot.seal
+  pub line_is : line ≡ checked_line site (unreached slot (state opened).disk.view) slot.seal

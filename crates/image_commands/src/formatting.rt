@@ -11,8 +11,9 @@ ghost use Rattle.image_commands.specs.Formatted.{IsFormatted, first_site};
 ghost use Rattle.image_commands.specs.Lines as lines;
 
 use crate::SiteNames;
+use cow_tree::format;
 use host_types::Stamp;
-use page_store::{Banner, KeeperFault, format};
+use page_store::{Banner, KeeperFault};
 use sector_device::Device;
 use site_pairs::first_pairs;
 use std::alloc::{AllocError, Global};
@@ -55,7 +56,7 @@ pub fn format_image<D: Device>(
     let _ = now.seconds();
     let pairs = first_pairs(alloc, &title, now)?;
     let banner = Banner {
-        version: 0,
+        version: 1,
         host,
         port,
         admin,

@@ -1,16 +1,16 @@
 // Serves connections over a site that is handed in, and over the site of an image.
 ghost use Rattle.std.specs.Prelude.{◌≡◌, true, IfOk, IfErr};
 ghost use Rattle.page_store.specs.Steps.{crash_states_of};
-ghost use Rattle.page_store.specs.FlatSeen.{device_of};
+ghost use Rattle.cow_tree.specs.TreeSeen.{device_of};
 ghost use Rattle.site_store.specs.Seen.{keeper_of};
 ghost use Rattle.host_on_disk.specs.OpenFaults.{HandsBack};
 ghost use Rattle.image_sessions.specs.ImageRuns.{OverSite, OnImage};
 ghost use Rattle.turns.specs.Runs.{HasRun};
 ghost use Rattle.image_server.specs.Serving.{ServesOver, ServesImage, IsServingFault};
 
+use cow_tree::TreeKeeper;
 use host_on_disk::{OpenFault, open_site};
 use host_types::SiteKeeper;
-use page_store::FlatKeeper;
 use sector_device::Device;
 use session_core::Hub;
 use site_store::DiskSite;
@@ -64,8 +64,8 @@ pub fn serve_image<D: Device, R: Net<Listener = TcpListener, Stream = TcpStream>
     together: u32,
     rounds: u32,
 ) -> Result<(Result<u64, ServeFault>, D), (ServingFault, D)>
-    ensures ran { IfOk result (λ r. HasRun (OnImage D.state (λ d. device_of (keeper_of d)) ⟦<DiskSite<FlatKeeper<D>> as SiteKeeper>⟧.site_state ⟦<DiskSite<FlatKeeper<D>> as SiteKeeper>⟧.lacks ⟦<DiskSite<FlatKeeper<D>> as SiteKeeper>⟧.crash_states ⟦<DiskSite<FlatKeeper<D>> as SiteKeeper>⟧.represents (crash_states_of D.moment D.possible_since)) device r.1 (C.told clock.old) (C.told clock.new) (λ es os. Unit {0})) }
-    ensures serves { IfOk result (λ r. IfOk r.0 (ServesImage ⟦<DiskSite<FlatKeeper<D>> as SiteKeeper>⟧ D.state (λ d. device_of (keeper_of d)) ⟦<DiskSite<FlatKeeper<D>> as SiteKeeper>⟧.site_state ⟦<DiskSite<FlatKeeper<D>> as SiteKeeper>⟧.lacks ⟦<DiskSite<FlatKeeper<D>> as SiteKeeper>⟧.crash_states ⟦<DiskSite<FlatKeeper<D>> as SiteKeeper>⟧.represents together rounds device r.1 (C.told clock.old) (C.told clock.new))) }
+    ensures ran { IfOk result (λ r. HasRun (OnImage D.state (λ d. device_of (keeper_of d)) ⟦<DiskSite<TreeKeeper<D>> as SiteKeeper>⟧.site_state ⟦<DiskSite<TreeKeeper<D>> as SiteKeeper>⟧.lacks ⟦<DiskSite<TreeKeeper<D>> as SiteKeeper>⟧.crash_states ⟦<DiskSite<TreeKeeper<D>> as SiteKeeper>⟧.represents (crash_states_of D.moment D.possible_since)) device r.1 (C.told clock.old) (C.told clock.new) (λ es os. Unit {0})) }
+    ensures serves { IfOk result (λ r. IfOk r.0 (ServesImage ⟦<DiskSite<TreeKeeper<D>> as SiteKeeper>⟧ D.state (λ d. device_of (keeper_of d)) ⟦<DiskSite<TreeKeeper<D>> as SiteKeeper>⟧.site_state ⟦<DiskSite<TreeKeeper<D>> as SiteKeeper>⟧.lacks ⟦<DiskSite<TreeKeeper<D>> as SiteKeeper>⟧.crash_states ⟦<DiskSite<TreeKeeper<D>> as SiteKeeper>⟧.represents together rounds device r.1 (C.told clock.old) (C.told clock.new))) }
     ensures refused { IfErr result (λ e. HandsBack IsServingFault D.state (crash_states_of D.moment D.possible_since) device e.1 e.0) }
     ensures untold { IfErr result (λ e. clock.new ≡ clock.old) }
 {

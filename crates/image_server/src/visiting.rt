@@ -1,7 +1,7 @@
 // Serves whoever comes, over a site that is handed in, and over the site of an image.
 ghost use Rattle.std.specs.Prelude.{◌≡◌, true, IfOk, IfErr};
 ghost use Rattle.page_store.specs.Steps.{crash_states_of};
-ghost use Rattle.page_store.specs.FlatSeen.{device_of};
+ghost use Rattle.cow_tree.specs.TreeSeen.{device_of};
 ghost use Rattle.site_store.specs.Seen.{keeper_of};
 ghost use Rattle.host_on_disk.specs.OpenFaults.{HandsBack};
 ghost use Rattle.image_sessions.specs.ImageRuns.{OverSite, OnImage};
@@ -9,9 +9,10 @@ ghost use Rattle.turns.specs.Runs.{HasRun};
 ghost use Rattle.image_server.specs.Serving.{IsServingFault, of_visits};
 
 use crate::ServingFault;
+use cow_tree::TreeKeeper;
 use host_on_disk::{OpenFault, open_site};
 use host_types::SiteKeeper;
-use page_store::{FlatKeeper, KeeperFault};
+use page_store::KeeperFault;
 use ready_sockets::{Room, VisitFault, serve_visits};
 use sector_device::Device;
 use session_core::Hub;
@@ -70,7 +71,7 @@ pub fn serve_clients<D: Device, R: Net + Time, C: Clock, L: Write>(
     clock: &mut C,
     log: &mut L,
 ) -> Result<(Result<(), VisitFault>, D), (ServingFault, D)>
-    ensures ran { IfOk result (λ r. HasRun (OnImage D.state (λ d. device_of (keeper_of d)) ⟦<DiskSite<FlatKeeper<D>> as SiteKeeper>⟧.site_state ⟦<DiskSite<FlatKeeper<D>> as SiteKeeper>⟧.lacks ⟦<DiskSite<FlatKeeper<D>> as SiteKeeper>⟧.crash_states ⟦<DiskSite<FlatKeeper<D>> as SiteKeeper>⟧.represents (crash_states_of D.moment D.possible_since)) device r.1 (C.told clock.old) (C.told clock.new) (λ es os. Unit {0})) }
+    ensures ran { IfOk result (λ r. HasRun (OnImage D.state (λ d. device_of (keeper_of d)) ⟦<DiskSite<TreeKeeper<D>> as SiteKeeper>⟧.site_state ⟦<DiskSite<TreeKeeper<D>> as SiteKeeper>⟧.lacks ⟦<DiskSite<TreeKeeper<D>> as SiteKeeper>⟧.crash_states ⟦<DiskSite<TreeKeeper<D>> as SiteKeeper>⟧.represents (crash_states_of D.moment D.possible_since)) device r.1 (C.told clock.old) (C.told clock.new) (λ es os. Unit {0})) }
     ensures refused { IfErr result (λ e. HandsBack IsServingFault D.state (crash_states_of D.moment D.possible_since) device e.1 e.0) }
     ensures untold { IfErr result (λ e. clock.new ≡ clock.old) }
 {

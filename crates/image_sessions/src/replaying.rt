@@ -1,16 +1,16 @@
 // A script over a site, and over the site of an image.
 ghost use Rattle.std.specs.Prelude.{◌≡◌, true, IfOk, IfErr};
 ghost use Rattle.page_store.specs.Steps.{crash_states_of};
-ghost use Rattle.page_store.specs.FlatSeen.{device_of};
+ghost use Rattle.cow_tree.specs.TreeSeen.{device_of};
 ghost use Rattle.site_store.specs.Seen.{keeper_of};
 ghost use Rattle.host_on_disk.specs.OpenFaults.{IsOpeningFault, HandsBack};
 ghost use Rattle.host_on_disk.specs.declared.open_fault.OpenFault.TheVariants.{Memory};
 ghost use Rattle.image_sessions.specs.ImageRuns.{OverSite, OnImage, Replays};
 
+use cow_tree::TreeKeeper;
 use host_on_disk::{OpenFault, open_site};
 use host_script::{Fault, replay};
 use host_types::SiteKeeper;
-use page_store::FlatKeeper;
 use sector_device::Device;
 use session_core::Hub;
 use site_store::DiskSite;
@@ -49,7 +49,7 @@ pub fn replay_on<D: Device, R: Read, W: Write>(
     reader: &mut R,
     writer: &mut W,
 ) -> Result<(Result<(), Fault>, D), (OpenFault, D)>
-    ensures replayed { IfOk result (λ r. Replays (OnImage D.state (λ d. device_of (keeper_of d)) ⟦<DiskSite<FlatKeeper<D>> as SiteKeeper>⟧.site_state ⟦<DiskSite<FlatKeeper<D>> as SiteKeeper>⟧.lacks ⟦<DiskSite<FlatKeeper<D>> as SiteKeeper>⟧.crash_states ⟦<DiskSite<FlatKeeper<D>> as SiteKeeper>⟧.represents (crash_states_of D.moment D.possible_since)) device r.1 (R.remaining reader.old) (W.contents writer.old) (W.contents writer.new) r.0) }
+    ensures replayed { IfOk result (λ r. Replays (OnImage D.state (λ d. device_of (keeper_of d)) ⟦<DiskSite<TreeKeeper<D>> as SiteKeeper>⟧.site_state ⟦<DiskSite<TreeKeeper<D>> as SiteKeeper>⟧.lacks ⟦<DiskSite<TreeKeeper<D>> as SiteKeeper>⟧.crash_states ⟦<DiskSite<TreeKeeper<D>> as SiteKeeper>⟧.represents (crash_states_of D.moment D.possible_since)) device r.1 (R.remaining reader.old) (W.contents writer.old) (W.contents writer.new) r.0) }
     ensures refused { IfErr result (λ e. HandsBack IsOpeningFault D.state (crash_states_of D.moment D.possible_since) device e.1 e.0) }
     ensures unread { IfErr result (λ e. (reader.new ≡ reader.old) × (writer.new ≡ writer.old)) }
 {

@@ -70,27 +70,3 @@ pub fn format_flat<D: Device>(
     }
     Ok(())
 }
-
-/// Makes an image of the form that keepers open, for now of flat pages: see `format_flat`.
-pub fn format<D: Device>(
-    alloc: Global,
-    device: &mut D,
-    pages: u32,
-    banner: Banner,
-    pairs: &[Pair],
-) -> Result<(), KeeperFault>
-    requires map { is_map pairs.now ≡ true }
-    requires one_page { pages_needed pairs.now ≤ 1 }
-    requires port { 0 < banner.port }
-    requires version { banner.version ≡ 0 }
-    ensures content { IsTrue (D.state device.old).honest → OnOk result (HasContent (D.state device.new).disk.view pairs.now banner) }
-    ensures first { IsTrue (D.state device.old).honest → OnOk result (IsFirst pages (D.state device.new).disk.view) }
-    ensures sure { IsTrue (D.state device.old).honest → OnOk result (AllAre (crash_states_of D.moment D.possible_since device.new) (D.state device.new).disk.view) }
-    ensures fits { OnOk result ((16 ≤ pages) × (pages ≤ 65536) × (8 * pages ≤ (D.state device.old).size)) }
-    ensures fault { IfErr result (IsFormatFault pages (D.state device.old) (D.state device.new)) }
-    ensures counts { OnOk result (NothingCounted (D.state device.old) (D.state device.new)) }
-    ensures unwritten { IfErr result (λ e. e ≢ Failed → device.new ≡ device.old) }
-    ensures same { IsSameDevice (D.state device.old) (D.state device.new) }
-{
-    format_flat(alloc, device, pages, banner, pairs)
-}

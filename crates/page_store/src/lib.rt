@@ -30,7 +30,7 @@ pub use encoding::{padded_page, put_entries, slot_page};
 pub use fault::KeeperFault;
 pub use figures::Figures;
 pub use flat_keeper::FlatKeeper;
-pub use formatting::{format, format_flat};
+pub use formatting::format_flat;
 pub use keeper::Keeper;
 pub use laws::{
     a_greater_seal, a_valid_slot_has_one_seal, a_write_elsewhere, one_seal_makes_a_slot,

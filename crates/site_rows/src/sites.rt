@@ -1,37 +1,33 @@
 // One site in memory and one on a disk, which are asked the same.
-ghost use Rattle.std.specs.Prelude.{◌≡◌, IfOk};
-
 use crate::answer::answer;
 use crate::fault::Fault;
 use crate::fields::number;
+use cow_tree::TreeKeeper;
 use host_on_disk::open_site;
 use host_script::small_site;
-use host_types::{Admin, Host, SiteKeeper, Stamp, Title};
+use host_types::{SiteKeeper, Stamp};
+use image_commands::{SiteNames, format_image};
 use mem_site::MemSite;
-use page_store::{Banner, FlatKeeper, format};
 use sector_device::MemDisk;
 use session_core::Hub;
-use site_store::{DiskSite, first_pairs};
+use site_store::DiskSite;
 use std::alloc::Global;
 use word_index::SearchKeeper;
 
-/// The banner of the small site.
-fn banner() -> Result<Banner, Fault>
-    ensures { IfOk result (λ b. (b.version ≡ 0) × (b.port ≡ 7070)) }
-{
-    Ok(Banner {
-        version: 0,
-        host: Host::new(b"localhost")?,
-        port: 7070,
-        admin: Admin::new(b"Ada <ada@localhost>")?,
-    })
-}
-
 /// The small site on a disk of so many pages.
-fn small_disk_site(alloc: Global, pages: u16) -> Result<DiskSite<FlatKeeper<MemDisk>>, Fault> {
-    let pairs = first_pairs(alloc, &Title::new(b"Top")?, Stamp::start())?;
+fn small_disk_site(alloc: Global, pages: u16) -> Result<DiskSite<TreeKeeper<MemDisk>>, Fault> {
+    let names = SiteNames::new(b"localhost", b"Ada <ada@localhost>", b"Top")?;
     let mut disk = MemDisk::new(alloc, 8 * usize::from(pages))?;
-    if format(alloc, &mut disk, u32::from(pages), banner()?, &pairs).is_err() {
+    if format_image(
+        alloc,
+        &mut disk,
+        u32::from(pages),
+        names,
+        7070,
+        Stamp::start(),
+    )
+    .is_err()
+    {
         return Err(Fault::Line);
     }
     match open_site(alloc, disk) {
@@ -54,7 +50,7 @@ fn hub_over<S: SearchKeeper + Drop>(alloc: Global, site: S, first: u64) -> Resul
 /// The hubs of the two sites, and the moment.
 pub struct Sites {
     memory: Hub<MemSite>,
-    disk: Hub<DiskSite<FlatKeeper<MemDisk>>>,
+    disk: Hub<DiskSite<TreeKeeper<MemDisk>>>,
     now: Stamp,
 }
 

@@ -1,5 +1,5 @@
 use Rattle.std.proofs.Common.{◌∙◌, refl, subst, sym, rules, IsTrue}
-use Rattle.page_store.specs.FlatSeen.{held}
+use Rattle.cow_tree.specs.TreeSeen.{held}
 use Rattle.host_on_disk.proofs.Images.{one_site, kept_stands}
 use Rattle.host_on_disk.proofs.Openings.{keeper_refused, small_refused, site_refused}
 use Rattle.host_on_disk.proofs.opening.open_site.Goals as goal
@@ -44,10 +44,10 @@ returns-in-Err-open-clause-refused g c =
 pub returns-in-Ok-open-clause-site : goal.returns-in-Ok-open-clause-site
 returns-in-Ok-open-clause-site g c =
     let k = c.in-Ok.keeper in
-    λ honest. kept_stands (g.D.Device.state c.args.device).disk.view k.pairs.items k.slot.root.banner _ (c.in-Ok.ensures.content honest) k.fitted.version (c.in-Ok-open.ensures.site (subst IsTrue (sym c.in-Ok.ensures.honest) honest))
+    λ honest. kept_stands (g.D.Device.state c.args.device).disk.view (held g.D.Device.state k).pairs k.slot.root.banner _ (c.in-Ok.ensures.content honest) k.fitted.version (c.in-Ok-open.ensures.site (subst IsTrue (sym c.in-Ok.ensures.honest) honest))
 
 pub returns-in-Ok-open-clause-alone : goal.returns-in-Ok-open-clause-alone
 returns-in-Ok-open-clause-alone g c =
     let k = c.in-Ok.keeper in
     let view = (g.D.Device.state c.args.device).disk.view in
-    λ honest s stands. one_site view s _ stands (kept_stands view k.pairs.items k.slot.root.banner _ (c.in-Ok.ensures.content honest) k.fitted.version (c.in-Ok-open.ensures.site (subst IsTrue (sym c.in-Ok.ensures.honest) honest)))
+    λ honest s stands. one_site view s _ stands (kept_stands view (held g.D.Device.state k).pairs k.slot.root.banner _ (c.in-Ok.ensures.content honest) k.fitted.version (c.in-Ok-open.ensures.site (subst IsTrue (sym c.in-Ok.ensures.honest) honest)))

@@ -1,7 +1,7 @@
 use Rattle.std.proofs.Common.{sym, subst, ap, ◌∙◌, ◌-◌, take}
 use Rattle.std.specs.Prelude.{IsTrue, OnOk}
 use Rattle.host_types.specs.CrashStates.{AddsOnly}
-use Rattle.page_store.specs.FlatSeen.{device_of}
+use Rattle.cow_tree.specs.TreeSeen.{device_of}
 use Rattle.page_store.specs.Steps.{crash_states_of}
 use Rattle.site_store.specs.Seen.{seen_site}
 use Rattle.change_file.specs.Applied.{RepresentsFront}

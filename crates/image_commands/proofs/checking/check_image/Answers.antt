@@ -1,11 +1,11 @@
-use Rattle.std.proofs.Common.{sym, subst, ap, IsTrue}
-use Rattle.page_store.specs.Content.{pairs_and_banner}
-use Rattle.page_store.specs.FlatSeen.{held}
-use Rattle.page_store.specs.FlatState.{found_in_half}
-use Rattle.page_store.proofs.Phases.{content-parts}
+use Rattle.std.proofs.Common.{◌∙◌, sym, subst, ap, IsTrue}
+use Rattle.cow_tree.specs.TreeSeen.{held}
+use Rattle.cow_tree.specs.KeeperLaws.{crash_states_have_the_tree}
+use Rattle.cow_tree.proofs.FreePages.{free_is}
 use Rattle.site_store.specs.Represented.{site_kept}
 use Rattle.site_store.specs.Seen.{seen_site}
 use Rattle.host_on_disk.proofs.Images.{kept_stands}
+use Rattle.image_commands.specs.Lines.{checked_line}
 use Rattle.image_commands.proofs.checking.check_image.Goals as goal
 
 pub returns-in-Ok-checked-clause-checked : goal.returns-in-Ok-checked-clause-checked
@@ -13,16 +13,18 @@ returns-in-Ok-checked-clause-checked g c = λ honest.
     let opened = c.in-Ok.ensures in
     let site = c.in-Ok.site in
     let keeper = site.keeper in
-    let view = (g.D.Device.state keeper.device).disk.view in
+    let disk = (g.D.Device.state keeper.device).disk in
     let still = subst IsTrue (sym opened.honest) honest in
-    let has = keeper.crash_states_represent still opened.usable in
+    let there = keeper.there still in
+    let settled = keeper.settled still opened.usable in
+    let has = crash_states_have_the_tree disk keeper.slot keeper.ledger keeper.top keeper.fitted.version there settled disk.view (g.met.D.Device.view_is_image keeper.device still) in
     record {
       site = seen_site site;
       stands = opened.site honest;
       opened = keeper.device;
       no_new_crash_state = opened.at_crash honest;
-      shows = kept_stands view keeper.pairs.items keeper.slot.root.banner (seen_site site) (ap pairs_and_banner has.content) keeper.fitted.version (site_kept (held g.D.Device.state keeper) site.kept still);
+      shows = kept_stands disk.view (held g.D.Device.state keeper).pairs keeper.slot.root.banner (seen_site site) has.0 keeper.fitted.version (site_kept (held g.D.Device.state keeper) site.kept still);
       slot = keeper.slot;
-      current_is = (content-parts view keeper.slot (found_in_half keeper.slot keeper.pairs.items) has.content).0;
-      line_is = c.in-Ok-checked.ensures.line.gives still;
+      current_is = settled.current_is;
+      line_is = c.in-Ok-checked.ensures.line.gives still ∙ ap (λ n. checked_line (seen_site site) n keeper.slot.seal) (free_is disk.view keeper.slot keeper.ledger keeper.fitted.rest there);
     }

@@ -1,5 +1,5 @@
 use Rattle.std.proofs.Common.{sym, subst, ap, ◌∙◌, IsTrue}
-use Rattle.page_store.specs.FlatSeen.{device_of}
+use Rattle.cow_tree.specs.TreeSeen.{device_of}
 use Rattle.page_store.specs.Steps.{crash_states_of}
 use Rattle.site_store.specs.Seen.{keeper_of, seen_site}
 use Rattle.host_on_disk.proofs.Openings.{no_memory}
