@@ -28,4 +28,6 @@ pub mod PlansMade
 pub mod Planned
 pub mod CommitsWritten
 pub mod TreeCommits
+pub mod AllRetired
+pub mod PairsRead
 pub mod FirstImages

@@ -1,5 +1,5 @@
 -- A commit of a keeper of a tree, before, in between and after.
-use Rattle.std.proofs.Common.{◌≡◌, ◌≤◌, ℕ, suc, Bool, true, false, List, [], ◌∷◌, length, Option, Some, Err, refl, sym, ap, subst, ◌∙◌, arith, IsTrue}
+use Rattle.std.proofs.Common.{◌≡◌, ◌≤◌, ◌<◌, ◌⊎◌, ⊎_elim, ℕ, suc, Bool, true, false, List, [], ◌∷◌, length, Option, Some, Err, refl, sym, ap, subst, ◌∙◌, arith, IsTrue}
 use Rattle.std.specs.Prelude.{◌&&◌, not}
 use Rattle.std.proofs.lemmas.Bool.{eqb-true}
 use Rattle.common_types.specs.Counts.{counted_rises}
@@ -16,6 +16,7 @@ use Rattle.page_store.specs.Steps.{AllAre}
 use Rattle.page_store.specs.Counting.{CountsReads, reads_after}
 use Rattle.page_store.specs.Content.{Found, content_under, found_as, tree_found, is_among}
 use Rattle.page_store.specs.StoreState.{StoreState, HasStayed, IsCommitFault, MayBeDeep}
+use Rattle.page_store.specs.Compaction.{IsCompactFault}
 use Rattle.page_store.specs.declared.banner.Banner.{Banner}
 use Rattle.page_store.specs.declared.slot.Slot.{Slot}
 use Rattle.page_store.specs.declared.fault.KeeperFault.{KeeperFault}
@@ -24,6 +25,7 @@ use Rattle.page_store.proofs.ReachedPages.{content_under-local}
 use Rattle.cow_tree.specs.TreeState.{IsFitted, IsThere, IsSettled, found_under, or_nothing}
 use Rattle.cow_tree.specs.Drafts.{Tells, OnlyMarks}
 use Rattle.cow_tree.specs.Plans.{IsHeld, Starts, IsMade, IsPlanned, IsPlanFault}
+use Rattle.cow_tree.specs.Compacting.{IsFillFault}
 use Rattle.cow_tree.specs.Committed.{is_tree_version, MayBeWritten, IsTreeBetween}
 use Rattle.cow_tree.specs.declared.plans.Plan.{Plan}
 use Rattle.cow_tree.proofs.Openings.{content_is}
@@ -92,6 +94,24 @@ commit_fault old new edits may slot deep P N faults.Failed stayed reads told lev
 commit_fault old new edits may slot deep P N faults.Memory stayed reads told levels fault need = stayed
 commit_fault old new edits may slot deep P N faults.Deep stayed reads told levels fault need = (stayed, λ keeps. levels (told keeps))
 
+-- a compaction that is refused
+pub compact_fault : {T : Type 0} (old new : StoreState) (may : ℕ → Type 0) (P : T → Type 0) (N : ℕ → Type 0) (e : KeeperFault) → HasStayed old new → CountsReads {T = T} (Err e) old.failed_reads new.failed_reads
+    → (IsTrue old.honest → Tells {T = T} ⊥ (Err e) P) → IsFillFault old.free N e → ((n : ℕ) → N n → IsTrue old.honest → may n) → IsCompactFault old new may e
+compact_fault old new may P N faults.Device stayed reads told fault need = (stayed, reads)
+compact_fault old new may P N faults.NoImage stayed reads told fault need = absurd fault
+compact_fault old new may P N faults.Version stayed reads told fault need = absurd fault
+compact_fault old new may P N (faults.Damaged page) stayed reads told fault need = (stayed, lies old.honest told)
+compact_fault old new may P N faults.Small stayed reads told fault need = absurd fault
+compact_fault old new may P N faults.Spent stayed reads told fault need = absurd fault
+compact_fault old new may P N (faults.Full n left) stayed reads told fault need = (stayed, (let a = fault.0 in let b = fault.1 in omega (arith, a, b)), λ keeps. (fault.0, need n fault.2 keeps))
+compact_fault old new may P N faults.Failed stayed reads told fault need = absurd fault
+compact_fault old new may P N faults.Memory stayed reads told fault need = stayed
+compact_fault old new may P N faults.Deep stayed reads told fault need = absurd fault
+
+-- the same content before and after
+pub either : {P : Type 0} → P ⊎ P → P
+either x = ⊎_elim (λ p. p) (λ p. p) x
+
 pub reads_rise : (e : KeeperFault) (before now : ℕ) → now ≡ reads_after e before → before ≤ now
 reads_rise faults.Device before now is = subst (λ (n : ℕ). before ≤ n) (sym is) (counted_rises before)
 reads_rise faults.NoImage before now is = omega (arith, is)
@@ -120,13 +140,14 @@ unmarked_length : (marks : List Mark) → length (unmarked marks) ≡ length mar
 unmarked_length [] = refl
 unmarked_length (mark ∷ marks) = ap suc (unmarked_length marks)
 
-pub fitted_now : (sectors now : ℕ) (slot : Slot) (ledger mid : LedgerState) (seal : ℕ) (banner : Banner) (plan : Plan) → IsFitted sectors slot ledger → OnlyMarks ledger mid → IsMade slot seal banner plan → banner.version ≡ 1 → now ≡ sectors → IsFitted now plan.slot (advanced plan.slot.seal mid)
-fitted_now sectors now slot ledger mid seal banner plan fit marks made version size = record {
+pub fitted_now : (sectors now : ℕ) (slot : Slot) (ledger mid : LedgerState) (seal : ℕ) (banner : Banner) (plan : Plan) → IsFitted sectors slot ledger → OnlyMarks ledger mid → IsMade slot seal banner plan → banner.version ≡ 1 → 0 < banner.port → now ≡ sectors → IsFitted now plan.slot (advanced plan.slot.seal mid)
+fitted_now sectors now slot ledger mid seal banner plan fit marks made version port size = record {
   number = let n = made.number in omega (arith, n);
   least = let a = made.size in let b = fit.least in omega (arith, a, b);
   most = let a = made.size in let b = fit.most in omega (arith, a, b);
   fits = let a = made.size in let b = fit.fits in omega (arith, a, b, size);
   version = ap (λ (b : Banner). b.version) made.banner_is ∙ version;
+  port = subst (λ (b : Banner). 0 < b.port) (sym made.banner_is) port;
   rooted = made.rooted;
   rest = record {
     pages = lives_length plan.slot.seal mid.lives mid.marks ∙ ap length marks.lives ∙ fit.rest.pages ∙ sym made.size;

@@ -7,6 +7,7 @@ pub mod TreeSeen
 pub mod KeptLeaves
 pub mod Ways
 pub mod Plans
+pub mod Compacting
 pub mod Drafts
 pub mod Taken
 pub mod Committed

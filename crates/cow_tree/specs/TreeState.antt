@@ -26,6 +26,7 @@ pub record IsFittedSlot (slot : Slot) : Type 0 where
   pub least : 16 ≤ slot.root.pages
   pub most : slot.root.pages ≤ 65536
   pub version : slot.root.banner.version ≡ 1
+  pub port : 0 < slot.root.banner.port
   pub rooted : IsRooted slot.root
 
 -- a slot of an image of a tree on a device of so many sectors, and the ledger of its pages
@@ -35,6 +36,7 @@ pub record IsFitted (sectors : ℕ) (slot : Slot) (ledger : LedgerState) : Type 
   pub most : slot.root.pages ≤ 65536
   pub fits : 8 * slot.root.pages ≤ sectors
   pub version : slot.root.banner.version ≡ 1
+  pub port : 0 < slot.root.banner.port
   pub rooted : IsRooted slot.root
   pub rest : IsAtRest slot ledger
 

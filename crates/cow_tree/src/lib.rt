@@ -1,7 +1,10 @@
 //! A key-value store in a tree of pages that are never overwritten.
 #![tactic(auto)]
 
+mod all_pairs;
 mod commits;
+mod compact_calls;
+mod compaction;
 mod drafts;
 mod formatting;
 mod kept_leaf;

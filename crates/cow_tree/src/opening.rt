@@ -5,7 +5,7 @@ ghost use Rattle.sector_device.specs.Device.{State, NothingCounted};
 ghost use Rattle.page_alloc.specs.Calls.{fresh};
 ghost use Rattle.page_store.specs.Counting.{CountsReads, CountsRefusal};
 ghost use Rattle.page_store.specs.Sectors.{page_of};
-ghost use Rattle.page_store.specs.Roots.{FitsDevice, current, greatest_seal};
+ghost use Rattle.page_store.specs.Roots.{IsFoundSlot, current, greatest_seal};
 ghost use Rattle.page_store.specs.Steps.{crash_states_of};
 ghost use Rattle.page_store.specs.DeviceEffects.{KeepsDevice, IsReadCall};
 ghost use Rattle.page_store.specs.Content.{tree_of, tree_found, HasContent};
@@ -30,7 +30,7 @@ fn tree_slot<D: Device>(device: &mut D) -> Result<(Slot, u64), KeeperFault>
     requires { 128 ≤ (D.state device.old).size }
     ensures slot { IsTrue (D.state device.old).honest → IfOk result (λ found. current (D.state device.old).disk.view ≡ Some found.0) }
     ensures top { IsTrue (D.state device.old).honest → IfOk result (λ found. greatest_seal (D.state device.old).disk.view 16 ≡ found.1) }
-    ensures fits { IfOk result (λ found. (found.0.number < 2) × FitsDevice (D.state device.old).size found.0.root) }
+    ensures fits { IfOk result (λ found. IsFoundSlot (D.state device.old).size found.0) }
     ensures version { IfOk result (λ found. found.0.root.banner.version ≡ 1) }
     ensures sealed { IfOk result (λ found. found.0.seal ≤ found.1) }
     ensures fault { IfErr result (IsSlotFault (D.state device.old)) }
@@ -58,7 +58,7 @@ fn tree_slot<D: Device>(device: &mut D) -> Result<(Slot, u64), KeeperFault>
 /// Makes sure of what is there, and finds the current slot of an image of a tree and the greatest seal.
 fn open_slot<D: Device>(device: &mut D) -> Result<(Slot, u64), KeeperFault>
     ensures opened { IfOk result (λ found. IsSlotOpened (D.state device.old) (D.state device.new) (crash_states_of D.moment D.possible_since device.new) found.0 found.1) }
-    ensures fits { IfOk result (λ found. (found.0.number < 2) × FitsDevice (D.state device.old).size found.0.root) }
+    ensures fits { IfOk result (λ found. IsFoundSlot (D.state device.old).size found.0) }
     ensures version { IfOk result (λ found. found.0.root.banner.version ≡ 1) }
     ensures sealed { IfOk result (λ found. found.0.seal ≤ found.1) }
     ensures large { IfOk result (λ found. 128 ≤ (D.state device.old).size) }

@@ -65,7 +65,7 @@ fn write_tree(
 }
 
 /// Plans a commit of a draft: its owned nodes go to free pages, and the other slot gets the seal.
-fn plan_draft(
+pub(crate) fn plan_draft(
     alloc: Global,
     ledger: &mut Ledger,
     slot: &Slot,

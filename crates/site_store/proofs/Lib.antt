@@ -15,3 +15,4 @@ pub mod RisingKeys
 pub mod ItemWalks
 pub mod Searches
 pub mod ItemCounts
+pub mod SitesCompacted

@@ -13,3 +13,4 @@ pub mod Opening
 pub mod Walking
 pub mod Searching
 pub mod Counting
+pub mod Compacting

@@ -2,6 +2,7 @@
 #![tactic(auto)]
 
 mod cards;
+mod compacting;
 mod disk_site;
 mod fault;
 mod figures;

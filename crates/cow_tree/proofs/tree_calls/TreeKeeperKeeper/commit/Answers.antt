@@ -128,7 +128,7 @@ invariant_of-self-in-Ok-write_plan g c =
     let seal = c.in-Ok.ensures.made.seal_is in
     record {
       fitted = subst (λ (l : LedgerState). IsFitted new.size c.in-Ok.plan.slot l) (sym c.in-Ok-write_plan.ensures.advanced)
-          (fitted_now old.size new.size k.slot k.ledger c.plan_commit.new.ledger _ c.args.banner c.in-Ok.plan k.fitted c.plan_commit.ensures.marks c.in-Ok.ensures.made version (wrote.same.size ∙ only.same.size));
+          (fitted_now old.size new.size k.slot k.ledger c.plan_commit.new.ledger _ c.args.banner c.in-Ok.plan k.fitted c.plan_commit.ensures.marks c.in-Ok.ensures.made version c.requires.port (wrote.same.size ∙ only.same.size));
       sealed = omega (arith, seal);
       leaf = λ keeps2. ∣ inl c.clear.ensures ∣₁;
       there = λ keeps2. (done (back keeps2)).there;

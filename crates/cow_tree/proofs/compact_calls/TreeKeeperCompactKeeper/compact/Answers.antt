@@ -1,0 +1,380 @@
+use Rattle.std.proofs.Common.{◌≡◌, ◌⊎◌, inl, inr, ℕ, length, refl, sym, ap, subst, ◌∙◌, arith, IsTrue}
+use Rattle.common_types.specs.Counts.{counted, counted_rises}
+use Rattle.common_types.specs.CrashStates.{may_crash_to, no_new_crash_state, adds_both}
+use Rattle.sector_device.specs.Disk.{Disk}
+use Rattle.page_alloc.specs.LedgerState.{LedgerState}
+use Rattle.page_store.specs.Sectors.{Image}
+use Rattle.page_store.specs.Content.{Found}
+use Rattle.page_store.specs.Steps.{crash_states_of}
+use Rattle.page_store.specs.StoreState.{HasStayed}
+use Rattle.cow_tree.specs.TreeState.{IsFitted, IsThere, found_under, tree_holding}
+use Rattle.cow_tree.specs.Compacting.{MayNeedFilled}
+use Rattle.cow_tree.specs.Committed.{TreeHas, IsTreeBetween}
+use Rattle.cow_tree.specs.KeeperLaws.{crash_states_have_the_tree}
+use Rattle.cow_tree.proofs.KeeperReads.{has_read}
+use Rattle.cow_tree.proofs.Taken.{abandoned_again}
+use Rattle.cow_tree.proofs.CommitsWritten.{adds_weaker, old_or_new}
+use Rattle.cow_tree.proofs.TreeCommits.{is_held, may_be_written, between_again, compact_fault, either, reads_rise, fitted_now, still_under, still_there}
+use Rattle.cow_tree.proofs.compact_calls.TreeKeeperCompactKeeper.compact.Goals as goal
+
+pub returns-then-self-clause-at_crash : goal.returns-then-self-clause-at_crash
+returns-then-self-clause-at_crash g c = λ keeps up.
+    let d = g.met.D.Device in
+    let k = c.args.self.now in
+    let view = (g.D.Device.state k.device).disk.view in
+    let states = crash_states_of g.D.Device.moment g.D.Device.possible_since k.device in
+    adds_weaker states states (may_crash_to states) (λ (i : Image). TreeHas i (found_under k.slot view).pairs k.slot.root.banner)
+    (λ i left. crash_states_have_the_tree (g.D.Device.state k.device).disk k.slot k.ledger k.top k.fitted.version (k.there keeps) (k.settled keeps up) i (d.crash_states_are_images k.device i keeps left)) (no_new_crash_state states)
+
+pub returns-in-Err-clause-fault : goal.returns-in-Err-clause-fault
+returns-in-Err-clause-fault g c =
+    let d = g.met.D.Device in
+    let k = c.args.self.now in
+    let state = g.D.Device.state in
+    let old = state k.device in
+    let mid = state c.plan_compaction.new.device in
+    let only = c.plan_compaction.ensures.reads.device.only in
+    let states = crash_states_of g.D.Device.moment g.D.Device.possible_since in
+    let up = c.if-not-self.false in
+    let version = k.fitted.version in
+    let pairs = (found_under k.slot old.disk.view).pairs in
+    let held_by = λ (keeps : IsTrue old.honest). is_held old.size k.slot old.disk k.ledger k.top k.fitted (k.there keeps) (k.settled keeps up) k.sealed in
+    let rise = reads_rise c.in-Err.fault old.failed_reads mid.failed_reads c.in-Err.ensures.reads.reads in
+    let stayed = subst (λ (l : LedgerState). HasStayed (tree_holding old k.slot k.ledger k.top k.usable) (tree_holding mid k.slot l k.top k.usable)) (sym c.in-Err.ensures.refused) (has_read old mid k.slot k.ledger k.top k.usable only rise).same in
+    compact_fault (tree_holding old k.slot k.ledger k.top k.usable) (tree_holding mid k.slot c.plan_compaction.new.ledger k.top k.usable) (MayNeedFilled k.slot old) _ _ c.in-Err.fault stayed c.in-Err.ensures.reads.reads
+    (λ keeps. c.in-Err.ensures.planned keeps k.top (held_by keeps) (k.there keeps) refl) c.in-Err.ensures.fault (λ n f keeps again. f keeps (k.there keeps))
+
+pub returns-in-Err-clause-tried : goal.returns-in-Err-clause-tried
+returns-in-Err-clause-tried g c =
+    let old = g.D.Device.state c.args.self.now.device in
+    let mid = g.D.Device.state c.plan_compaction.new.device in
+    let only = c.plan_compaction.ensures.reads.device.only in
+    record {
+      honest = only.same.honest;
+      reads = reads_rise c.in-Err.fault old.failed_reads mid.failed_reads c.in-Err.ensures.reads.reads;
+      writes = let e = only.writes in omega (arith, e);
+      top = omega arith;
+    }
+
+pub returns-in-Err-clause-at_crash : goal.returns-in-Err-clause-at_crash
+returns-in-Err-clause-at_crash g c = λ keeps usable.
+    let d = g.met.D.Device in
+    let k = c.args.self.now in
+    let state = g.D.Device.state in
+    let old = state k.device in
+    let mid = state c.plan_compaction.new.device in
+    let only = c.plan_compaction.ensures.reads.device.only in
+    let states = crash_states_of g.D.Device.moment g.D.Device.possible_since in
+    let up = c.if-not-self.false in
+    let version = k.fitted.version in
+    let pairs = (found_under k.slot old.disk.view).pairs in
+    adds_weaker (states k.device) (states c.plan_compaction.new.device) (may_crash_to (states k.device)) (λ (i : Image). TreeHas i pairs k.slot.root.banner)
+    (λ i left. crash_states_have_the_tree old.disk k.slot k.ledger k.top k.fitted.version (k.there keeps) (k.settled keeps up) i (d.crash_states_are_images k.device i keeps left)) (c.plan_compaction.ensures.reads.device.no_new_crash_state keeps)
+
+pub write_plan-requires-clause-planned : goal.write_plan-requires-clause-planned
+write_plan-requires-clause-planned g c = λ keeps2.
+    let d = g.met.D.Device in
+    let k = c.args.self.now in
+    let state = g.D.Device.state in
+    let old = state k.device in
+    let mid = state c.plan_compaction.new.device in
+    let only = c.plan_compaction.ensures.reads.device.only in
+    let states = crash_states_of g.D.Device.moment g.D.Device.possible_since in
+    let up = c.if-not-self.false in
+    let version = k.fitted.version in
+    let pairs = (found_under k.slot old.disk.view).pairs in
+    let held_by = λ (keeps : IsTrue old.honest). is_held old.size k.slot old.disk k.ledger k.top k.fitted (k.there keeps) (k.settled keeps up) k.sealed in
+    let same = λ (keeps : IsTrue old.honest). let e : mid.disk.view ≡ old.disk.view = ap (λ (x : Disk). x.view) (only.disk keeps) in e in
+    let sure = λ (keeps : IsTrue old.honest) (i : Image) (left : may_crash_to (states c.plan_compaction.new.device) i).
+    let e : i ≡ mid.disk.view = (k.settled keeps up).images i (d.crash_states_are_images k.device i keeps ((c.plan_compaction.ensures.reads.device.no_new_crash_state keeps).now i left)) ∙ sym (same keeps) in e in
+    let ready = λ (keeps : IsTrue old.honest).
+    may_be_written old.disk.view mid.disk.view (states c.plan_compaction.new.device) k.slot k.ledger c.plan_compaction.new.ledger k.top c.in-Ok.plan pairs (held_by keeps) c.plan_compaction.ensures.marks
+    (c.in-Ok.ensures.planned keeps k.top (held_by keeps) (k.there keeps) refl).0 k.fitted.version (same keeps) (sure keeps) in
+    ready (subst IsTrue only.same.honest keeps2)
+
+pub invariant_of-self-in-Ok-write_plan : goal.invariant_of-self-in-Ok-write_plan
+invariant_of-self-in-Ok-write_plan g c =
+    let d = g.met.D.Device in
+    let k = c.args.self.now in
+    let state = g.D.Device.state in
+    let old = state k.device in
+    let mid = state c.plan_compaction.new.device in
+    let only = c.plan_compaction.ensures.reads.device.only in
+    let states = crash_states_of g.D.Device.moment g.D.Device.possible_since in
+    let up = c.if-not-self.false in
+    let version = k.fitted.version in
+    let pairs = (found_under k.slot old.disk.view).pairs in
+    let held_by = λ (keeps : IsTrue old.honest). is_held old.size k.slot old.disk k.ledger k.top k.fitted (k.there keeps) (k.settled keeps up) k.sealed in
+    let same = λ (keeps : IsTrue old.honest). let e : mid.disk.view ≡ old.disk.view = ap (λ (x : Disk). x.view) (only.disk keeps) in e in
+    let sure = λ (keeps : IsTrue old.honest) (i : Image) (left : may_crash_to (states c.plan_compaction.new.device) i).
+    let e : i ≡ mid.disk.view = (k.settled keeps up).images i (d.crash_states_are_images k.device i keeps ((c.plan_compaction.ensures.reads.device.no_new_crash_state keeps).now i left)) ∙ sym (same keeps) in e in
+    let ready = λ (keeps : IsTrue old.honest).
+    may_be_written old.disk.view mid.disk.view (states c.plan_compaction.new.device) k.slot k.ledger c.plan_compaction.new.ledger k.top c.in-Ok.plan pairs (held_by keeps) c.plan_compaction.ensures.marks
+    (c.in-Ok.ensures.planned keeps k.top (held_by keeps) (k.there keeps) refl).0 k.fitted.version (same keeps) (sure keeps) in
+    let new = state c.write_plan.new.device in
+    let wrote = c.write_plan.ensures.outcome in
+    let keeps1 = λ (keeps : IsTrue old.honest). let h : IsTrue mid.honest = subst IsTrue (sym only.same.honest) keeps in h in
+    let back = λ (keeps2 : IsTrue new.honest). let h : IsTrue old.honest = subst IsTrue (wrote.same.honest ∙ only.same.honest) keeps2 in h in
+    let done = λ (keeps : IsTrue old.honest). c.in-Ok-write_plan.ensures.done (keeps1 keeps) (ready keeps) in
+    let seal = c.in-Ok.ensures.made.seal_is in
+    record {
+      fitted = subst (λ (l : LedgerState). IsFitted new.size c.in-Ok.plan.slot l) (sym c.in-Ok-write_plan.ensures.advanced)
+          (fitted_now old.size new.size k.slot k.ledger c.plan_compaction.new.ledger _ k.slot.root.banner c.in-Ok.plan k.fitted c.plan_compaction.ensures.marks c.in-Ok.ensures.made version k.fitted.port (wrote.same.size ∙ only.same.size));
+      sealed = omega (arith, seal);
+      leaf = λ keeps2. ∣ inl c.clear.ensures ∣₁;
+      there = λ keeps2. (done (back keeps2)).there;
+      settled = λ keeps2 usable. record {
+        images = λ i image. (done (back keeps2)).all i (d.each_image_is_a_crash_state c.write_plan.new.device i keeps2 image);
+        current_is = (done (back keeps2)).current_is;
+        seals = let s = (done (back keeps2)).seals in omega (arith, s, seal);
+      };
+    }
+
+pub returns-in-Ok-write_plan-clause-done : goal.returns-in-Ok-write_plan-clause-done
+returns-in-Ok-write_plan-clause-done g c =
+    let d = g.met.D.Device in
+    let k = c.args.self.now in
+    let state = g.D.Device.state in
+    let old = state k.device in
+    let mid = state c.plan_compaction.new.device in
+    let only = c.plan_compaction.ensures.reads.device.only in
+    let states = crash_states_of g.D.Device.moment g.D.Device.possible_since in
+    let up = c.if-not-self.false in
+    let version = k.fitted.version in
+    let pairs = (found_under k.slot old.disk.view).pairs in
+    let held_by = λ (keeps : IsTrue old.honest). is_held old.size k.slot old.disk k.ledger k.top k.fitted (k.there keeps) (k.settled keeps up) k.sealed in
+    let same = λ (keeps : IsTrue old.honest). let e : mid.disk.view ≡ old.disk.view = ap (λ (x : Disk). x.view) (only.disk keeps) in e in
+    let sure = λ (keeps : IsTrue old.honest) (i : Image) (left : may_crash_to (states c.plan_compaction.new.device) i).
+    let e : i ≡ mid.disk.view = (k.settled keeps up).images i (d.crash_states_are_images k.device i keeps ((c.plan_compaction.ensures.reads.device.no_new_crash_state keeps).now i left)) ∙ sym (same keeps) in e in
+    let ready = λ (keeps : IsTrue old.honest).
+    may_be_written old.disk.view mid.disk.view (states c.plan_compaction.new.device) k.slot k.ledger c.plan_compaction.new.ledger k.top c.in-Ok.plan pairs (held_by keeps) c.plan_compaction.ensures.marks
+    (c.in-Ok.ensures.planned keeps k.top (held_by keeps) (k.there keeps) refl).0 k.fitted.version (same keeps) (sure keeps) in
+    let keeps1 = λ (keeps : IsTrue old.honest). let h : IsTrue mid.honest = subst IsTrue (sym only.same.honest) keeps in h in
+    record {
+      pairs = λ keeps. (c.in-Ok-write_plan.ensures.done (keeps1 keeps) (ready keeps)).pairs_are;
+      banner = c.in-Ok.ensures.made.banner_is;
+      usable = refl;
+      generation = c.in-Ok.ensures.made.seal_is;
+      top = refl;
+      pins = λ keeps. refl;
+    }
+
+pub returns-in-Ok-write_plan-clause-at_crash : goal.returns-in-Ok-write_plan-clause-at_crash
+returns-in-Ok-write_plan-clause-at_crash g c = λ keeps usable.
+    let d = g.met.D.Device in
+    let k = c.args.self.now in
+    let state = g.D.Device.state in
+    let old = state k.device in
+    let mid = state c.plan_compaction.new.device in
+    let only = c.plan_compaction.ensures.reads.device.only in
+    let states = crash_states_of g.D.Device.moment g.D.Device.possible_since in
+    let up = c.if-not-self.false in
+    let version = k.fitted.version in
+    let pairs = (found_under k.slot old.disk.view).pairs in
+    let held_by = λ (keeps : IsTrue old.honest). is_held old.size k.slot old.disk k.ledger k.top k.fitted (k.there keeps) (k.settled keeps up) k.sealed in
+    let same = λ (keeps : IsTrue old.honest). let e : mid.disk.view ≡ old.disk.view = ap (λ (x : Disk). x.view) (only.disk keeps) in e in
+    let sure = λ (keeps : IsTrue old.honest) (i : Image) (left : may_crash_to (states c.plan_compaction.new.device) i).
+    let e : i ≡ mid.disk.view = (k.settled keeps up).images i (d.crash_states_are_images k.device i keeps ((c.plan_compaction.ensures.reads.device.no_new_crash_state keeps).now i left)) ∙ sym (same keeps) in e in
+    let ready = λ (keeps : IsTrue old.honest).
+    may_be_written old.disk.view mid.disk.view (states c.plan_compaction.new.device) k.slot k.ledger c.plan_compaction.new.ledger k.top c.in-Ok.plan pairs (held_by keeps) c.plan_compaction.ensures.marks
+    (c.in-Ok.ensures.planned keeps k.top (held_by keeps) (k.there keeps) refl).0 k.fitted.version (same keeps) (sure keeps) in
+    let keeps1 = λ (keeps : IsTrue old.honest). let h : IsTrue mid.honest = subst IsTrue (sym only.same.honest) keeps in h in
+    adds_both (states k.device) (states c.plan_compaction.new.device) (states c.write_plan.new.device) (may_crash_to (states k.device)) (IsTreeBetween mid.disk.view k.slot k.top pairs c.in-Ok.plan.slot.root.banner) (λ (i : Image). TreeHas i pairs k.slot.root.banner)
+    (c.plan_compaction.ensures.reads.device.no_new_crash_state keeps) (c.write_plan.ensures.at_crash (keeps1 keeps) (ready keeps))
+    (λ i left. crash_states_have_the_tree old.disk k.slot k.ledger k.top k.fitted.version (k.there keeps) (k.settled keeps up) i (d.crash_states_are_images k.device i keeps left))
+    (λ i h. either (old_or_new old.disk.view k.slot k.top pairs k.slot.root.banner i k.fitted.version (between_again old.disk.view mid.disk.view k.slot k.top pairs c.in-Ok.plan.slot.root.banner k.slot.root.banner i (same keeps) c.in-Ok.ensures.made.banner_is h)))
+
+pub invariant_of-self-in-Err-write_plan : goal.invariant_of-self-in-Err-write_plan
+invariant_of-self-in-Err-write_plan g c =
+    let d = g.met.D.Device in
+    let k = c.args.self.now in
+    let state = g.D.Device.state in
+    let old = state k.device in
+    let mid = state c.plan_compaction.new.device in
+    let only = c.plan_compaction.ensures.reads.device.only in
+    let states = crash_states_of g.D.Device.moment g.D.Device.possible_since in
+    let up = c.if-not-self.false in
+    let version = k.fitted.version in
+    let pairs = (found_under k.slot old.disk.view).pairs in
+    let held_by = λ (keeps : IsTrue old.honest). is_held old.size k.slot old.disk k.ledger k.top k.fitted (k.there keeps) (k.settled keeps up) k.sealed in
+    let same = λ (keeps : IsTrue old.honest). let e : mid.disk.view ≡ old.disk.view = ap (λ (x : Disk). x.view) (only.disk keeps) in e in
+    let sure = λ (keeps : IsTrue old.honest) (i : Image) (left : may_crash_to (states c.plan_compaction.new.device) i).
+    let e : i ≡ mid.disk.view = (k.settled keeps up).images i (d.crash_states_are_images k.device i keeps ((c.plan_compaction.ensures.reads.device.no_new_crash_state keeps).now i left)) ∙ sym (same keeps) in e in
+    let ready = λ (keeps : IsTrue old.honest).
+    may_be_written old.disk.view mid.disk.view (states c.plan_compaction.new.device) k.slot k.ledger c.plan_compaction.new.ledger k.top c.in-Ok.plan pairs (held_by keeps) c.plan_compaction.ensures.marks
+    (c.in-Ok.ensures.planned keeps k.top (held_by keeps) (k.there keeps) refl).0 k.fitted.version (same keeps) (sure keeps) in
+    let new = state c.write_plan.new.device in
+    let wrote = c.write_plan.ensures.outcome in
+    let keeps1 = λ (keeps : IsTrue old.honest). let h : IsTrue mid.honest = subst IsTrue (sym only.same.honest) keeps in h in
+    let back = λ (keeps2 : IsTrue new.honest). let h : IsTrue old.honest = subst IsTrue (wrote.same.honest ∙ only.same.honest) keeps2 in h in
+    let as_before : c.write_plan.new.ledger ≡ k.ledger = c.in-Err-write_plan.ensures.abandoned ∙ abandoned_again k.ledger c.plan_compaction.new.ledger c.plan_compaction.ensures.marks k.fitted.rest.unmarked in
+    record {
+      fitted = subst (λ (l : LedgerState). IsFitted new.size k.slot l) (sym as_before) (subst (λ (n : ℕ). IsFitted n k.slot k.ledger) (sym (wrote.same.size ∙ only.same.size)) k.fitted);
+      sealed = let s = k.sealed in omega (arith, s);
+      leaf = λ keeps2. ∣ inl c.clear.ensures ∣₁;
+      there = λ keeps2.
+          let keeps = back keeps2 in
+          let here = subst (λ (v : Image). IsThere v k.slot k.ledger) (sym (same keeps)) (k.there keeps) in
+          subst (λ (l : LedgerState). IsThere new.disk.view k.slot l) (sym as_before) (still_there k.slot mid.disk.view new.disk.view k.ledger k.fitted.version here (c.in-Err-write_plan.ensures.kept (keeps1 keeps) (ready keeps)));
+      settled = λ keeps2 usable. absurd (cc usable);
+    }
+
+pub returns-clause-fault : goal.returns-clause-fault
+returns-clause-fault g c =
+    let d = g.met.D.Device in
+    let k = c.args.self.now in
+    let state = g.D.Device.state in
+    let old = state k.device in
+    let mid = state c.plan_compaction.new.device in
+    let only = c.plan_compaction.ensures.reads.device.only in
+    let states = crash_states_of g.D.Device.moment g.D.Device.possible_since in
+    let up = c.if-not-self.false in
+    let version = k.fitted.version in
+    let pairs = (found_under k.slot old.disk.view).pairs in
+    let held_by = λ (keeps : IsTrue old.honest). is_held old.size k.slot old.disk k.ledger k.top k.fitted (k.there keeps) (k.settled keeps up) k.sealed in
+    let same = λ (keeps : IsTrue old.honest). let e : mid.disk.view ≡ old.disk.view = ap (λ (x : Disk). x.view) (only.disk keeps) in e in
+    let sure = λ (keeps : IsTrue old.honest) (i : Image) (left : may_crash_to (states c.plan_compaction.new.device) i).
+    let e : i ≡ mid.disk.view = (k.settled keeps up).images i (d.crash_states_are_images k.device i keeps ((c.plan_compaction.ensures.reads.device.no_new_crash_state keeps).now i left)) ∙ sym (same keeps) in e in
+    let ready = λ (keeps : IsTrue old.honest).
+    may_be_written old.disk.view mid.disk.view (states c.plan_compaction.new.device) k.slot k.ledger c.plan_compaction.new.ledger k.top c.in-Ok.plan pairs (held_by keeps) c.plan_compaction.ensures.marks
+    (c.in-Ok.ensures.planned keeps k.top (held_by keeps) (k.there keeps) refl).0 k.fitted.version (same keeps) (sure keeps) in
+    let new = state c.write_plan.new.device in
+    let wrote = c.write_plan.ensures.outcome in
+    let keeps1 = λ (keeps : IsTrue old.honest). let h : IsTrue mid.honest = subst IsTrue (sym only.same.honest) keeps in h in
+    record {
+      pairs = λ keeps.
+          let here = subst (λ (v : Image). IsThere v k.slot k.ledger) (sym (same keeps)) (k.there keeps) in
+          ap (λ (x : Found). x.pairs) (still_under k.slot mid.disk.view new.disk.view k.ledger k.fitted.version here (c.in-Err-write_plan.ensures.kept (keeps1 keeps) (ready keeps))) ∙ ap (λ (v : Image). (found_under k.slot v).pairs) (same keeps);
+      banner = refl;
+      shut = refl;
+      generation = refl;
+      height = refl;
+      pins = λ keeps. refl;
+      cause = λ usable. c.in-Err-write_plan.ensures.outcome.writes ∙ ap counted only.writes;
+      top = inr refl;
+    }
+
+pub returns-clause-tried : goal.returns-clause-tried
+returns-clause-tried g c =
+    let old = g.D.Device.state c.args.self.now.device in
+    let mid = g.D.Device.state c.plan_compaction.new.device in
+    let only = c.plan_compaction.ensures.reads.device.only in
+    let wrote = c.in-Err-write_plan.ensures.outcome in
+    record {
+      honest = wrote.same.honest ∙ only.same.honest;
+      reads = let a = wrote.reads in let b = c.in-Ok.ensures.reads.reads in omega (arith, a, b);
+      writes = let a = wrote.writes in let b = only.writes in let r = counted_rises mid.failed_writes in omega (arith, a, b, r);
+      top = omega arith;
+    }
+
+pub returns-clause-at_crash : goal.returns-clause-at_crash
+returns-clause-at_crash g c = λ keeps usable.
+    let d = g.met.D.Device in
+    let k = c.args.self.now in
+    let state = g.D.Device.state in
+    let old = state k.device in
+    let mid = state c.plan_compaction.new.device in
+    let only = c.plan_compaction.ensures.reads.device.only in
+    let states = crash_states_of g.D.Device.moment g.D.Device.possible_since in
+    let up = c.if-not-self.false in
+    let version = k.fitted.version in
+    let pairs = (found_under k.slot old.disk.view).pairs in
+    let held_by = λ (keeps : IsTrue old.honest). is_held old.size k.slot old.disk k.ledger k.top k.fitted (k.there keeps) (k.settled keeps up) k.sealed in
+    let same = λ (keeps : IsTrue old.honest). let e : mid.disk.view ≡ old.disk.view = ap (λ (x : Disk). x.view) (only.disk keeps) in e in
+    let sure = λ (keeps : IsTrue old.honest) (i : Image) (left : may_crash_to (states c.plan_compaction.new.device) i).
+    let e : i ≡ mid.disk.view = (k.settled keeps up).images i (d.crash_states_are_images k.device i keeps ((c.plan_compaction.ensures.reads.device.no_new_crash_state keeps).now i left)) ∙ sym (same keeps) in e in
+    let ready = λ (keeps : IsTrue old.honest).
+    may_be_written old.disk.view mid.disk.view (states c.plan_compaction.new.device) k.slot k.ledger c.plan_compaction.new.ledger k.top c.in-Ok.plan pairs (held_by keeps) c.plan_compaction.ensures.marks
+    (c.in-Ok.ensures.planned keeps k.top (held_by keeps) (k.there keeps) refl).0 k.fitted.version (same keeps) (sure keeps) in
+    let keeps1 = λ (keeps : IsTrue old.honest). let h : IsTrue mid.honest = subst IsTrue (sym only.same.honest) keeps in h in
+    adds_both (states k.device) (states c.plan_compaction.new.device) (states c.write_plan.new.device) (may_crash_to (states k.device)) (IsTreeBetween mid.disk.view k.slot k.top pairs c.in-Ok.plan.slot.root.banner) (λ (i : Image). TreeHas i pairs k.slot.root.banner)
+    (c.plan_compaction.ensures.reads.device.no_new_crash_state keeps) (c.write_plan.ensures.at_crash (keeps1 keeps) (ready keeps))
+    (λ i left. crash_states_have_the_tree old.disk k.slot k.ledger k.top k.fitted.version (k.there keeps) (k.settled keeps up) i (d.crash_states_are_images k.device i keeps left))
+    (λ i h. either (old_or_new old.disk.view k.slot k.top pairs k.slot.root.banner i k.fitted.version (between_again old.disk.view mid.disk.view k.slot k.top pairs c.in-Ok.plan.slot.root.banner k.slot.root.banner i (same keeps) c.in-Ok.ensures.made.banner_is h)))
+
+pub returns-then-self-clause-between : goal.returns-then-self-clause-between
+returns-then-self-clause-between g c = λ keeps up.
+    let k = c.args.self.now in
+    let view = (g.D.Device.state k.device).disk.view in
+    let states = crash_states_of g.D.Device.moment g.D.Device.possible_since k.device in
+    adds_weaker states states (may_crash_to states) (λ (i : Image). may_crash_to states i ⊎ IsTreeBetween view k.slot k.top (found_under k.slot view).pairs k.slot.root.banner i) (λ i left. inl left) (no_new_crash_state states)
+
+pub returns-in-Err-clause-between : goal.returns-in-Err-clause-between
+returns-in-Err-clause-between g c = λ keeps usable.
+    let d = g.met.D.Device in
+    let k = c.args.self.now in
+    let state = g.D.Device.state in
+    let old = state k.device in
+    let mid = state c.plan_compaction.new.device in
+    let only = c.plan_compaction.ensures.reads.device.only in
+    let states = crash_states_of g.D.Device.moment g.D.Device.possible_since in
+    let up = c.if-not-self.false in
+    let version = k.fitted.version in
+    let pairs = (found_under k.slot old.disk.view).pairs in
+    adds_weaker (states k.device) (states c.plan_compaction.new.device) (may_crash_to (states k.device)) (λ (i : Image). may_crash_to (states k.device) i ⊎ IsTreeBetween old.disk.view k.slot k.top pairs k.slot.root.banner i) (λ i left. inl left) (c.plan_compaction.ensures.reads.device.no_new_crash_state keeps)
+
+pub returns-in-Ok-write_plan-clause-between : goal.returns-in-Ok-write_plan-clause-between
+returns-in-Ok-write_plan-clause-between g c = λ keeps usable.
+    let d = g.met.D.Device in
+    let k = c.args.self.now in
+    let state = g.D.Device.state in
+    let old = state k.device in
+    let mid = state c.plan_compaction.new.device in
+    let only = c.plan_compaction.ensures.reads.device.only in
+    let states = crash_states_of g.D.Device.moment g.D.Device.possible_since in
+    let up = c.if-not-self.false in
+    let version = k.fitted.version in
+    let pairs = (found_under k.slot old.disk.view).pairs in
+    let held_by = λ (keeps : IsTrue old.honest). is_held old.size k.slot old.disk k.ledger k.top k.fitted (k.there keeps) (k.settled keeps up) k.sealed in
+    let same = λ (keeps : IsTrue old.honest). let e : mid.disk.view ≡ old.disk.view = ap (λ (x : Disk). x.view) (only.disk keeps) in e in
+    let sure = λ (keeps : IsTrue old.honest) (i : Image) (left : may_crash_to (states c.plan_compaction.new.device) i).
+    let e : i ≡ mid.disk.view = (k.settled keeps up).images i (d.crash_states_are_images k.device i keeps ((c.plan_compaction.ensures.reads.device.no_new_crash_state keeps).now i left)) ∙ sym (same keeps) in e in
+    let ready = λ (keeps : IsTrue old.honest).
+    may_be_written old.disk.view mid.disk.view (states c.plan_compaction.new.device) k.slot k.ledger c.plan_compaction.new.ledger k.top c.in-Ok.plan pairs (held_by keeps) c.plan_compaction.ensures.marks
+    (c.in-Ok.ensures.planned keeps k.top (held_by keeps) (k.there keeps) refl).0 k.fitted.version (same keeps) (sure keeps) in
+    let keeps1 = λ (keeps : IsTrue old.honest). let h : IsTrue mid.honest = subst IsTrue (sym only.same.honest) keeps in h in
+    adds_both (states k.device) (states c.plan_compaction.new.device) (states c.write_plan.new.device) (may_crash_to (states k.device)) (IsTreeBetween mid.disk.view k.slot k.top pairs c.in-Ok.plan.slot.root.banner) (λ (i : Image). may_crash_to (states k.device) i ⊎ IsTreeBetween old.disk.view k.slot k.top pairs k.slot.root.banner i)
+    (c.plan_compaction.ensures.reads.device.no_new_crash_state keeps) (c.write_plan.ensures.at_crash (keeps1 keeps) (ready keeps)) (λ i left. inl left)
+    (λ i h. inr (between_again old.disk.view mid.disk.view k.slot k.top pairs c.in-Ok.plan.slot.root.banner k.slot.root.banner i (same keeps) c.in-Ok.ensures.made.banner_is h))
+
+pub returns-clause-between : goal.returns-clause-between
+returns-clause-between g c = λ keeps usable.
+    let d = g.met.D.Device in
+    let k = c.args.self.now in
+    let state = g.D.Device.state in
+    let old = state k.device in
+    let mid = state c.plan_compaction.new.device in
+    let only = c.plan_compaction.ensures.reads.device.only in
+    let states = crash_states_of g.D.Device.moment g.D.Device.possible_since in
+    let up = c.if-not-self.false in
+    let version = k.fitted.version in
+    let pairs = (found_under k.slot old.disk.view).pairs in
+    let held_by = λ (keeps : IsTrue old.honest). is_held old.size k.slot old.disk k.ledger k.top k.fitted (k.there keeps) (k.settled keeps up) k.sealed in
+    let same = λ (keeps : IsTrue old.honest). let e : mid.disk.view ≡ old.disk.view = ap (λ (x : Disk). x.view) (only.disk keeps) in e in
+    let sure = λ (keeps : IsTrue old.honest) (i : Image) (left : may_crash_to (states c.plan_compaction.new.device) i).
+    let e : i ≡ mid.disk.view = (k.settled keeps up).images i (d.crash_states_are_images k.device i keeps ((c.plan_compaction.ensures.reads.device.no_new_crash_state keeps).now i left)) ∙ sym (same keeps) in e in
+    let ready = λ (keeps : IsTrue old.honest).
+    may_be_written old.disk.view mid.disk.view (states c.plan_compaction.new.device) k.slot k.ledger c.plan_compaction.new.ledger k.top c.in-Ok.plan pairs (held_by keeps) c.plan_compaction.ensures.marks
+    (c.in-Ok.ensures.planned keeps k.top (held_by keeps) (k.there keeps) refl).0 k.fitted.version (same keeps) (sure keeps) in
+    let keeps1 = λ (keeps : IsTrue old.honest). let h : IsTrue mid.honest = subst IsTrue (sym only.same.honest) keeps in h in
+    adds_both (states k.device) (states c.plan_compaction.new.device) (states c.write_plan.new.device) (may_crash_to (states k.device)) (IsTreeBetween mid.disk.view k.slot k.top pairs c.in-Ok.plan.slot.root.banner) (λ (i : Image). may_crash_to (states k.device) i ⊎ IsTreeBetween old.disk.view k.slot k.top pairs k.slot.root.banner i)
+    (c.plan_compaction.ensures.reads.device.no_new_crash_state keeps) (c.write_plan.ensures.at_crash (keeps1 keeps) (ready keeps)) (λ i left. inl left)
+    (λ i h. inr (between_again old.disk.view mid.disk.view k.slot k.top pairs c.in-Ok.plan.slot.root.banner k.slot.root.banner i (same keeps) c.in-Ok.ensures.made.banner_is h))
+
+pub returns-in-Ok-write_plan-clause-fits : goal.returns-in-Ok-write_plan-clause-fits
+returns-in-Ok-write_plan-clause-fits g c = λ keeps.
+    let k = c.args.self.now in
+    let old = g.D.Device.state k.device in
+    let up = c.if-not-self.false in
+    let held_by = is_held old.size k.slot old.disk k.ledger k.top k.fitted (k.there keeps) (k.settled keeps up) k.sealed in
+    let room = (c.in-Ok.ensures.planned keeps k.top held_by (k.there keeps) refl).1 in
+    (room.need, λ again. room.needs, room.fits)
+
+pub returns-clause-tight : goal.returns-clause-tight
+returns-clause-tight g c = λ keeps usable shut.
+    let k = c.args.self.now in
+    let old = g.D.Device.state k.device in
+    let up = c.if-not-self.false in
+    let held_by = is_held old.size k.slot old.disk k.ledger k.top k.fitted (k.there keeps) (k.settled keeps up) k.sealed in
+    let room = (c.in-Ok.ensures.planned keeps k.top held_by (k.there keeps) refl).1 in
+    (room.need, λ again. room.needs, room.fits)

@@ -1,0 +1,56 @@
+use Rattle.std.proofs.Common.{◌≡◌, ◌≤◌, ℕ, List, refl, ap, subst, ◌∙◌}
+use Rattle.std.proofs.lemmas.Result.{err_from_is_err_and}
+use Rattle.page_alloc.specs.LedgerState.{is_taken, free_count}
+use Rattle.page_store.specs.Pages.{Pair}
+use Rattle.tree_nodes.specs.Growth.{owned_under}
+use Rattle.tree_loading.specs.Filled.{filled}
+use Rattle.cow_tree.specs.TreeState.{found_under}
+use Rattle.cow_tree.specs.Plans.{IsPlanned}
+use Rattle.cow_tree.proofs.PathReads.{tells_fault}
+use Rattle.cow_tree.proofs.Taken.{untaken_at_rest, abandoned_again}
+use Rattle.cow_tree.proofs.DraftsBegin.{keys_bounded}
+use Rattle.cow_tree.proofs.AllRetired.{fill_fault, needs_filled}
+use Rattle.cow_tree.proofs.compaction.plan_compaction.Goals as goal
+
+pub returns-in_err-pairs-clause-planned : goal.returns-in_err-pairs-clause-planned
+returns-in_err-pairs-clause-planned g c = λ keeps top held there seal.
+    let state = g.D.Device.state c.args.device.now in
+    let slot = c.args.slot.now in
+    let told = c.in_err-pairs.ensures.pairs keeps (found_under slot state.disk.view) there.found_is (keys_bounded state.size slot state.disk.view c.args.ledger.now c.requires.fitted there) in
+    let e = err_from_is_err_and c.from_residual.result c.from_residual.ensures.1 in
+    rw (e.1, e.2) (tells_fault ⊥ ⊥ c.in_err-pairs.field-0.0 _ _ (λ h. h) told)
+
+pub returns-in-Ok-clause-planned : goal.returns-in-Ok-clause-planned
+returns-in-Ok-clause-planned g c = λ keeps top held there seal.
+    let state = g.D.Device.state c.args.device.now in
+    let view = state.disk.view in
+    let slot = c.args.slot.now in
+    let ledger = c.args.ledger.now in
+    let found = found_under slot view in
+    let pairs = c.in_ok-pairs.pairs.items in
+    let is : pairs ≡ found.pairs = c.in_ok-pairs.ensures.pairs keeps found there.found_is (keys_bounded state.size slot view ledger c.requires.fitted there) in
+    let planned = c.in-Ok.ensures.planned view top held (λ n. ap is_taken (untaken_at_rest ledger c.requires.fitted.rest.unmarked n)) seal in (
+      subst (λ (l : List Pair). IsPlanned view slot top l c.plan_pairs.new.ledger c.in-Ok.plan) is planned,
+      record {
+        need = owned_under (filled pairs).root;
+        needs = needs_filled slot view pairs (owned_under (filled pairs).root) there.map is refl;
+        fits = c.in-Ok.ensures.fits;
+      },
+    )
+
+pub returns-in-Err-clause-planned : goal.returns-in-Err-clause-planned
+returns-in-Err-clause-planned g c = λ keeps top held there seal.
+    let view = (g.D.Device.state c.args.device.now).disk.view in
+    let told = c.in-Err.ensures.planned view top held (λ n. ap is_taken (untaken_at_rest c.args.ledger.now c.requires.fitted.rest.unmarked n)) seal in
+    tells_fault ⊥ ⊥ c.in-Err.fault _ _ (λ h. h) told
+
+pub returns-in-Err-clause-refused : goal.returns-in-Err-clause-refused
+returns-in-Err-clause-refused g c = c.abandon.ensures ∙ abandoned_again c.args.ledger.now c.plan_pairs.new.ledger c.plan_pairs.ensures.marks c.requires.fitted.rest.unmarked
+
+pub returns-in-Err-clause-fault : goal.returns-in-Err-clause-fault
+returns-in-Err-clause-fault g c =
+    let state = g.D.Device.state c.args.device.now in
+    let slot = c.args.slot.now in
+    fill_fault c.in-Err.fault _ _ _ (λ need exact keeps there.
+    let is = c.in_ok-pairs.ensures.pairs keeps (found_under slot state.disk.view) there.found_is (keys_bounded state.size slot state.disk.view c.args.ledger.now c.requires.fitted there) in
+    needs_filled slot state.disk.view c.in_ok-pairs.pairs.items need there.map is exact) c.in-Err.ensures.fault

@@ -1,0 +1,40 @@
+use Rattle.std.proofs.Common.{◌≡◌, ◌≤◌, ℕ, refl, ap, ◌∙◌, arith}
+use Rattle.std.proofs.lemmas.Result.{IfOk-weaker, IfErr-weaker}
+use Rattle.page_store.specs.declared.banner.Banner.{Banner}
+use Rattle.tree_nodes.specs.Growth.{owned_under}
+use Rattle.tree_nodes.specs.Steps.{RootState}
+use Rattle.tree_loading.specs.Filled.{filled}
+use Rattle.tree_loading.proofs.RootsMade.{filled_height}
+use Rattle.cow_tree.proofs.PlansMade.{held_still}
+use Rattle.cow_tree.proofs.AllRetired.{edits_for, filled_counted, filled_bounded, told_again, room_fault_again}
+use Rattle.cow_tree.proofs.compaction.plan_pairs.Goals as goal
+
+pub plan_draft-requires-clause-low : goal.plan_draft-requires-clause-low
+plan_draft-requires-clause-low c =
+    let low = filled_height c.args.pairs.items c.requires.map c.requires.few in
+    let tall = ap (λ (s : RootState). s.height) c.in_ok-tree.ensures in
+    omega (arith, low, tall)
+
+pub returns-clause-fits : goal.returns-clause-fits
+returns-clause-fits c =
+    let pairs = c.args.pairs.items in
+    let tree = ap (λ (s : RootState). owned_under s.root) c.in_ok-tree.ensures in
+    let free = c.retire_all.ensures.only.free in
+    IfOk-weaker c.plan_draft.result _ _ (λ plan enough. let same = filled_bounded pairs _ c.requires.map c.requires.few refl in omega (arith, enough, same, tree, free)) c.plan_draft.ensures.enough
+
+pub returns-clause-planned : goal.returns-clause-planned
+returns-clause-planned c = λ view top held untaken seal.
+    let slot = c.args.slot.now in
+    let pairs = c.args.pairs.items in
+    let edits = edits_for pairs in
+    let ledger = c.retire_all.new.ledger in
+    let only = c.retire_all.ensures.only in
+    let counted = filled_counted slot view pairs ledger _ c.requires.map c.requires.few (only.marks.size ∙ c.requires.marked) c.retire_all.ensures.none (c.retire_all.ensures.untaken untaken) c.in_ok-tree.ensures (let size = c.len-keys.ensures in omega (arith, size, c.args.pairs.ok)) in
+    let version = ap (λ (b : Banner). b.version) c.in_ok-banner.ensures.cases ∙ c.requires.fitted.version in
+    told_again c.plan_draft.result _ _ _ c.plan_draft.ensures.fault (c.plan_draft.ensures.planned view top edits pairs (held_still view slot top c.args.ledger.now ledger only.marks held) counted seal version)
+
+pub returns-clause-fault : goal.returns-clause-fault
+returns-clause-fault c =
+    let pairs = c.args.pairs.items in
+    let tree = ap (λ (s : RootState). owned_under s.root) c.in_ok-tree.ensures in
+    IfErr-weaker c.plan_draft.result _ _ (λ e fault. room_fault_again e _ _ _ _ c.retire_all.ensures.only.free (λ need is. filled_bounded pairs need c.requires.map c.requires.few (let t = tree in omega (arith, is, t))) fault) c.plan_draft.ensures.fault

@@ -1,0 +1,40 @@
+-- Writing all pairs of a tree anew, in filled pages.
+use Rattle.std.specs.Prelude.{◌≡◌, ◌≤◌, ◌*◌, ℕ, List, length, IsTrue}
+use Rattle.sector_device.specs.Device.{State}
+use Rattle.page_store.specs.Sectors.{Image}
+use Rattle.page_store.specs.declared.slot.Slot.{Slot}
+use Rattle.page_store.specs.declared.fault.KeeperFault.{KeeperFault}
+use Rattle.page_store.specs.declared.fault.KeeperFault.TheVariants as faults
+use Rattle.tree_nodes.specs.Growth.{owned_under}
+use Rattle.tree_loading.specs.Filled.{filled}
+use Rattle.cow_tree.specs.TreeState.{found_under}
+use Rattle.cow_tree.specs.Plans.{IsTreeFault, IsRoomFault}
+
+-- no image has more pairs: it has 65,536 pages, and a page has 1,024 pairs, at most
+abbrev pub most_pairs : ℕ
+most_pairs = 1024 * 65536
+
+-- Writing the pairs of the tree under a slot anew takes so many pages: one for each node of the filled tree.
+pub record NeedsFilled (slot : Slot) (image : Image) (need : ℕ) : Type 0 where
+  pub exact : need ≡ owned_under (filled (found_under slot image).pairs).root
+  pub most : need ≤ 2 * length (found_under slot image).pairs
+
+-- the same on a device in this state, which has to be honest
+abbrev pub MayNeedFilled : Slot → State → ℕ → Type 0
+MayNeedFilled slot state need = IsTrue state.honest → NeedsFilled slot state.disk.view need
+
+-- As many pages are free as that takes.
+pub record HasRoomToFill (slot : Slot) (image : Image) (free : ℕ) : Type 0 where
+  pub need : ℕ
+  pub needs : NeedsFilled slot image need
+  pub fits : need ≤ free
+
+-- the faults of reading all pairs
+abbrev pub IsPairsFault : KeeperFault → Type 0
+IsPairsFault faults.Device = Unit {0}
+IsPairsFault other = IsTreeFault other
+
+-- the faults of a plan that writes all pairs anew, where so many pages are free and so many may be needed
+abbrev pub IsFillFault : ℕ → (ℕ → Type 0) → KeeperFault → Type 0
+IsFillFault free may_need faults.Device = Unit {0}
+IsFillFault free may_need other = IsRoomFault free may_need other

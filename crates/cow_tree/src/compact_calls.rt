@@ -1,0 +1,74 @@
+// A keeper of a tree is written anew.
+ghost use Rattle.std.specs.Prelude.{◌≡◌, ◌≤◌, ◌+◌, ◌⊎◌, ℕ, true, false, IsTrue, OnOk, IfErr, IsErrOf};
+ghost use Rattle.common_types.specs.CrashStates.{AddsOnly, AddsNone, may_crash_to};
+ghost use Rattle.page_store.specs.Compaction.{IsCompacted, IsCompactFault};
+ghost use Rattle.page_store.specs.Counting.{CountsReads, CountsWrites};
+ghost use Rattle.page_store.specs.StoreState.{HasTried, last_generation};
+ghost use Rattle.page_store.specs.Steps.{crash_states_of};
+ghost use Rattle.page_store.specs.declared.fault.KeeperFault.TheVariants.{Failed, Spent};
+ghost use Rattle.cow_tree.specs.Compacting.{MayNeedFilled};
+ghost use Rattle.cow_tree.specs.Committed.{TreeHas, IsTreeBetween};
+ghost use Rattle.cow_tree.specs.TreeSeen.{held, device_of, slot_of, top_of};
+
+use crate::TreeKeeper;
+use crate::commits::write_plan;
+use crate::compaction::plan_compaction;
+use page_store::{CompactKeeper, KeeperFault};
+use sector_device::Device;
+
+impl<D: Device> CompactKeeper for TreeKeeper<D> {
+    ghost compact_need = { λ k need. MayNeedFilled (slot_of k) (D.state (device_of k)) need };
+
+    ghost few_pages = { λ k n honest need. (need honest).most };
+
+    fn compact(&mut self) -> Result<(), KeeperFault>
+        ensures done { OnOk result (IsCompacted (held D.state self.old) (held D.state self.new)) }
+        ensures fits { IsTrue (held D.state self.old).honest → OnOk result ((n : ℕ) × MayNeedFilled (slot_of self.old) (D.state (device_of self.old)) n × (n ≤ (held D.state self.old).free)) }
+        ensures fault { IfErr result (IsCompactFault (held D.state self.old) (held D.state self.new) (MayNeedFilled (slot_of self.old) (D.state (device_of self.old)))) }
+        ensures closed { (held D.state self.old).usable ≡ false → IsErrOf result Failed }
+        ensures spent { (held D.state self.old).usable ≡ true → (held D.state self.old).top ≡ last_generation → IsErrOf result Spent }
+        ensures unchanged { (held D.state self.old).usable ≡ false → held D.state self.new ≡ held D.state self.old }
+        ensures tried { HasTried (held D.state self.old) (held D.state self.new) }
+        ensures reads { CountsReads result (held D.state self.old).failed_reads (held D.state self.new).failed_reads }
+        ensures writes { CountsWrites (held D.state self.old).usable result (held D.state self.old).failed_writes (held D.state self.new).failed_writes }
+        ensures at_crash { IsTrue (held D.state self.old).honest → (held D.state self.old).usable ≡ true →
+            AddsOnly (crash_states_of D.moment D.possible_since (device_of self.old)) (crash_states_of D.moment D.possible_since (device_of self.new)) (λ c. TreeHas c (held D.state self.old).pairs (held D.state self.old).banner) }
+        ensures tight { IsTrue (held D.state self.old).honest → (held D.state self.old).usable ≡ true → (held D.state self.new).usable ≡ false → (n : ℕ) × MayNeedFilled (slot_of self.old) (D.state (device_of self.old)) n × (n ≤ (held D.state self.old).free) }
+        ensures no_new_crash_state { IsTrue (held D.state self.old).honest → IfErr result (λ e. (held D.state self.new).usable ≡ true → AddsNone (crash_states_of D.moment D.possible_since (device_of self.old)) (crash_states_of D.moment D.possible_since (device_of self.new))) }
+        ensures no_new_crash_state_when_closed { IsTrue (held D.state self.old).honest → (held D.state self.old).usable ≡ false → AddsNone (crash_states_of D.moment D.possible_since (device_of self.old)) (crash_states_of D.moment D.possible_since (device_of self.new)) }
+
+        // How it writes: a crash leaves what one before the call might have left, or an image on the way to the other slot.
+        ensures between { IsTrue (held D.state self.old).honest → (held D.state self.old).usable ≡ true →
+            AddsOnly (crash_states_of D.moment D.possible_since (device_of self.old)) (crash_states_of D.moment D.possible_since (device_of self.new))
+            (λ c. may_crash_to (crash_states_of D.moment D.possible_since (device_of self.old)) c ⊎ IsTreeBetween (D.state (device_of self.old)).disk.view (slot_of self.old) (top_of self.old) (held D.state self.old).pairs (held D.state self.old).banner c) }
+    {
+        if !self.usable {
+            return Err(KeeperFault::Failed);
+        }
+        if self.top == u64::MAX {
+            return Err(KeeperFault::Spent);
+        }
+        let seal = self.top + 1;
+        let plan = match plan_compaction(
+            self.alloc,
+            &mut self.device,
+            &mut self.ledger,
+            &self.slot,
+            seal,
+        ) {
+            Ok(plan) => plan,
+            Err(fault) => return Err(fault),
+        };
+        self.kept.clear();
+        self.top = seal;
+        self.usable = false;
+        match write_plan(&mut self.device, &mut self.ledger, &self.slot, &plan) {
+            Ok(()) => {
+                self.slot = plan.slot;
+                self.usable = true;
+                Ok(())
+            }
+            Err(_) => Err(KeeperFault::Failed),
+        }
+    }
+}

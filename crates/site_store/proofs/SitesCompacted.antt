@@ -1,0 +1,65 @@
+-- A site that is written anew stays the same.
+use Rattle.std.proofs.Common.{◌≡◌, ◌<◌, inl, inr, ⊎_elim, ℕ, List, refl, sym, ap, subst, ◌∙◌, IsTrue}
+use Rattle.std.specs.Prelude.{Result, Ok, Err, OnOk, IfErr}
+use Rattle.common_types.specs.CrashStates.{CrashStates, AddsOnly}
+use Rattle.host_types.specs.Site.{Site}
+use Rattle.page_store.specs.Pages.{Pair}
+use Rattle.page_store.specs.StoreState.{StoreState, HasStayed}
+use Rattle.page_store.specs.Compaction.{IsCompacted, IsCompactFault}
+use Rattle.page_store.specs.declared.banner.Banner.{Banner}
+use Rattle.page_store.specs.declared.fault.KeeperFault.{KeeperFault}
+use Rattle.page_store.specs.declared.fault.KeeperFault.TheVariants as faults
+use Rattle.site_store.specs.Represented.{Shows, Represents, RepresentedBy, HasSite, site_of, site_kept, site_is}
+
+-- the pairs and the banner are as before
+pub record Stays (old new : StoreState) : Type 0 where
+  pub pairs : IsTrue old.honest → new.pairs ≡ old.pairs
+  pub banner : new.banner ≡ old.banner
+
+stayed : (old new : StoreState) → HasStayed old new → Stays old new
+stayed old new s = record { pairs = s.pairs; banner = s.banner }
+
+fault_stays : (old new : StoreState) (may : ℕ → Type 0) (e : KeeperFault) → IsCompactFault old new may e → Stays old new
+fault_stays old new may faults.Device f = stayed old new f.0
+fault_stays old new may faults.NoImage f = absurd f
+fault_stays old new may faults.Version f = absurd f
+fault_stays old new may (faults.Damaged page) f = stayed old new f.0
+fault_stays old new may faults.Small f = absurd f
+fault_stays old new may faults.Spent f = stayed old new f.0
+fault_stays old new may faults.Deep f = absurd f
+fault_stays old new may (faults.Full need free) f = stayed old new f.0
+fault_stays old new may faults.Failed f = record { pairs = f.pairs; banner = f.banner }
+fault_stays old new may faults.Memory f = stayed old new f
+
+pub stays : (result : Result (Unit {0}) KeeperFault) (old new : StoreState) (may : ℕ → Type 0) → OnOk result (IsCompacted old new) → IfErr result (IsCompactFault old new may) → Stays old new
+stays (Ok x) old new may done fault = record { pairs = done.pairs; banner = done.banner }
+stays (Err e) old new may done fault = fault_stays old new may e fault
+
+shown_still : (old new : StoreState) (s : Site) → IsTrue old.honest → Stays old new → RepresentedBy old s → RepresentedBy new s
+shown_still old new s honest same shown = record {
+  valid = shown.valid;
+  all = same.pairs honest ∙ shown.all;
+  host = ap (λ (b : Banner). b.host) same.banner ∙ shown.host;
+  port = ap (λ (b : Banner). b.port) same.banner ∙ shown.port;
+  admin = ap (λ (b : Banner). b.admin) same.banner ∙ shown.admin;
+}
+
+pub keeps_site : (old new : StoreState) → new.honest ≡ old.honest → Stays old new → HasSite old → HasSite new
+keeps_site old new same stay keeps = λ honest.
+    let before = subst IsTrue same honest in
+    ((keeps before).0, shown_still old new (keeps before).0 before stay (keeps before).1)
+
+pub same_site_kept : (old new : StoreState) → new.honest ≡ old.honest → Stays old new → (keeps : HasSite old) (now : HasSite new) → IsTrue old.honest → site_of new now ≡ site_of old keeps
+same_site_kept old new same stay keeps now honest = site_is new now (subst IsTrue (sym same) honest) (site_of old keeps) (shown_still old new (site_of old keeps) honest stay (site_kept old keeps honest))
+
+pub port_stays : (old new : StoreState) → Stays old new → 0 < old.banner.port → 0 < new.banner.port
+port_stays old new stay port = subst (λ (b : Banner). 0 < b.port) (sym stay.banner) port
+
+-- what has the pairs and the banner represents the site
+pub content_represents : {L : Type 0} (has_content : L → List Pair → Banner → Type 0) (old : StoreState) (keeps : HasSite old) (before now : CrashStates L) → IsTrue old.honest → AddsOnly before now (λ c. has_content c old.pairs old.banner) → AddsOnly before now (λ c. Represents has_content c (site_of old keeps))
+content_represents has_content old keeps before now honest adds = record {
+  later = adds.later;
+  keeps = adds.keeps;
+  nothing_else = λ t c le left. ⊎_elim (λ m. inl m) (λ p. inr (old.pairs, old.banner, p, site_kept old keeps honest)) (adds.nothing_else t c le left);
+  now = λ c left. (old.pairs, old.banner, adds.now c left, site_kept old keeps honest);
+}

@@ -1,0 +1,41 @@
+// A site over a key-value store is written anew.
+ghost use Rattle.std.specs.Prelude.{◌≡◌, ◌≤◌, ℕ, true, false, OnOk, IfErr, IsErrOf, IsTrue};
+ghost use Rattle.host_types.specs.CrashStates.{AddsOnly, AddsNone};
+ghost use Rattle.host_types.specs.declared.site_fault.SiteFault.TheVariants.{Failed};
+ghost use Rattle.page_store.specs.Compaction.{IsCompacted};
+ghost use Rattle.page_store.specs.Counting.{CountsWrites};
+ghost use Rattle.page_store.specs.StoreState.{HasTried};
+ghost use Rattle.site_store.specs.Compacting.{IsSiteCompactFault};
+ghost use Rattle.site_store.specs.Represented.{site_of, Represents};
+
+use crate::DiskSite;
+use crate::to_site_fault::store_fault_comes;
+use host_types::SiteFault;
+use page_store::CompactKeeper;
+
+impl<K: CompactKeeper> DiskSite<K> {
+    /// Writes the same site anew, in as few pages as hold its pairs in order, in one step. It needs room for all of it beside what is there.
+    ///
+    /// Faults in order: `Failed`, `Spent`, `Read`, `Full`, and `Failed` again once a write or a sync has failed; never `Deep`. `Memory` may stand in place of any fault or success after `Spent`; nothing is written then.
+    pub fn compact(&mut self) -> Result<(), SiteFault>
+        ensures site { IsTrue (K.store_state self.old.keeper).honest → site_of (K.store_state self.new.keeper) self.new.kept ≡ site_of (K.store_state self.old.keeper) self.old.kept }
+        ensures done { OnOk result (IsCompacted (K.store_state self.old.keeper) (K.store_state self.new.keeper)) }
+        ensures fits { IsTrue (K.store_state self.old.keeper).honest → OnOk result ((n : ℕ) × K.compact_need self.old.keeper n × (n ≤ (K.store_state self.old.keeper).free)) }
+        ensures fault { IfErr result (IsSiteCompactFault (K.store_state self.old.keeper) (K.store_state self.new.keeper) (K.compact_need self.old.keeper)) }
+        ensures closed { (K.store_state self.old.keeper).usable ≡ false → IsErrOf result Failed }
+        ensures tried { HasTried (K.store_state self.old.keeper) (K.store_state self.new.keeper) }
+
+        // A crash within the call leaves what represents the site.
+        ensures at_crash { IsTrue (K.store_state self.old.keeper).honest → (K.store_state self.old.keeper).usable ≡ true →
+            AddsOnly (K.crash_states self.old.keeper) (K.crash_states self.new.keeper) (λ c. Represents K.has_content c (site_of (K.store_state self.old.keeper) self.old.kept)) }
+
+        // Where nothing failed and nothing was changed, nothing was written.
+        ensures no_new_crash_state { IsTrue (K.store_state self.old.keeper).honest → IfErr result (λ e. (K.store_state self.new.keeper).usable ≡ true → AddsNone (K.crash_states self.old.keeper) (K.crash_states self.new.keeper)) }
+        ensures no_new_crash_state_when_closed { IsTrue (K.store_state self.old.keeper).honest → (K.store_state self.old.keeper).usable ≡ false → AddsNone (K.crash_states self.old.keeper) (K.crash_states self.new.keeper) }
+    {
+        match self.keeper.compact() {
+            Ok(()) => Ok(()),
+            Err(fault) => Err(store_fault_comes(fault)),
+        }
+    }
+}
