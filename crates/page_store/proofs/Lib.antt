@@ -16,6 +16,7 @@ pub mod WrittenSlots
 pub mod Parsing
 pub mod Outcomes
 pub mod Maps
+pub mod PairsInOrder
 pub mod Places
 pub mod OtherHalfCommits
 pub mod OpeningFinds

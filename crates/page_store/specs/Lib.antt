@@ -13,8 +13,10 @@ pub mod Switch
 pub mod Commit
 pub mod Encoding
 pub mod Batch
+pub mod PairsInOrder
 pub mod Counting
 pub mod StoreState
+pub mod Compaction
 pub mod ReadFaults
 pub mod FlatState
 pub mod FlatPlan

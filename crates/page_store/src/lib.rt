@@ -4,6 +4,7 @@
 mod banner;
 mod batch;
 mod commit;
+mod compact_keeper;
 mod edit;
 mod encoding;
 mod fault;
@@ -25,6 +26,7 @@ mod slot;
 pub use banner::Banner;
 pub use batch::{put_pair, remove_pair};
 pub use commit::{NewPage, commit_pages, write_pages};
+pub use compact_keeper::CompactKeeper;
 pub use edit::Edit;
 pub use encoding::{padded_page, put_entries, slot_page};
 pub use fault::KeeperFault;

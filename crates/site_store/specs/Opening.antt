@@ -4,6 +4,7 @@ use Rattle.common_types.specs.Counts.{counted}
 use Rattle.host_types.specs.Site.{Site, IsSite, item_at, with_item}
 use Rattle.host_types.specs.declared.item.Item.{Item}
 use Rattle.page_store.specs.Pages.{Pair}
+pub use Rattle.page_store.specs.PairsInOrder.{key_or_none, last_key, AreFirst}
 use Rattle.site_records.specs.Layout.{layout}
 use Rattle.page_store.specs.StoreState.{StoreState}
 use Rattle.page_store.specs.declared.banner.Banner.{Banner}
@@ -12,18 +13,6 @@ use Rattle.site_store.specs.Represented.{RepresentedBy}
 use Rattle.site_store.specs.StoreReads.{NoneFailed}
 use Rattle.site_store.specs.declared.fault.SiteOpenFault.{SiteOpenFault}
 use Rattle.site_store.specs.declared.fault.SiteOpenFault.TheVariants.{BadRecord, Keeper, Memory}
-
-abbrev pub key_or_none : Option Pair → List ℕ
-key_or_none None = []
-key_or_none (Some p) = p.0
-
--- the key of the last pair; with none, the empty key
-abbrev pub last_key : List Pair → List ℕ
-last_key pairs = key_or_none (slice_get pairs (length pairs - 1))
-
--- These pairs are the first ones of those.
-abbrev pub AreFirst : List Pair → List Pair → Type 0
-AreFirst some all = some ≡ take (length some) all
 
 -- a site of no items under the names of a banner
 abbrev pub site_under : Banner → Site

@@ -1,0 +1,19 @@
+-- What a compaction of a key-value store leaves: the same pairs, written anew.
+use Rattle.std.specs.Prelude.{◌≡◌, ◌+◌, ℕ, true, IsTrue}
+use Rattle.page_store.specs.StoreState.{StoreState, IsCommitFault}
+use Rattle.page_store.specs.declared.fault.KeeperFault.{KeeperFault}
+use Rattle.page_store.specs.declared.fault.KeeperFault.TheVariants as faults
+
+-- The same pairs and the same banner stand in the next generation.
+pub record IsCompacted (old new : StoreState) : Type 0 where
+  pub pairs : IsTrue old.honest → new.pairs ≡ old.pairs
+  pub banner : new.banner ≡ old.banner
+  pub usable : new.usable ≡ true
+  pub generation : new.generation ≡ old.top + 1
+  pub top : new.top ≡ old.top + 1
+  pub pins : IsTrue old.honest → new.pins ≡ old.pins
+
+-- When a fault may come of a compaction, and what stands then: as of a commit, but there are never too many levels.
+abbrev pub IsCompactFault : StoreState → StoreState → (ℕ → Type 0) → KeeperFault → Type 0
+IsCompactFault old new may_need faults.Deep = ⊥
+IsCompactFault old new may_need other = IsCommitFault old new 0 may_need other
