@@ -1,6 +1,6 @@
 -- A text by chunks of its body and by parts of the text.
-use Rattle.std.specs.Prelude.{◌≡◌, ℕ, true, false, List, [], ◌∷◌, ◌++◌, Option, None, Some, drop, flat_map}
-use Rattle.text_writer.specs.Place.{given_from}
+use Rattle.std.specs.Prelude.{◌≡◌, ℕ, List, [], ◌∷◌, ◌++◌, Option, None, Some, drop, flat_map}
+use Rattle.text_writer.specs.Place.{body_start, given_from}
 use Rattle.text_writer.specs.declared.place.Place.{Place}
 
 -- What a pipe is seen as: bytes that are ready to be given, and the place in the body, or none once the body has ended.
@@ -19,7 +19,7 @@ will_give pipe rest = pipe.ready ++ given_behind pipe.place rest
 
 -- the pipe before its body's first byte
 abbrev pub fresh : Piped
-fresh = record { ready = []; place = Some (record { at_start = true; held = false }) }
+fresh = record { ready = []; place = Some body_start }
 
 -- So many bytes of the chunk were taken and this part was given: whatever follows the chunk, the part and what the pipe will give are what it was to give.
 abbrev pub Passes : Piped → List ℕ → ℕ → List ℕ → Piped → Type 0

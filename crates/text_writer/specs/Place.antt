@@ -4,6 +4,10 @@ use Rattle.std.specs.List.{position_or_len}
 use Rattle.text_writer.specs.Text.{text_end}
 use Rattle.text_writer.specs.declared.place.Place.{Place}
 
+-- the place before the first byte
+abbrev pub body_start : Place
+body_start = record { at_start = true; held = false }
+
 -- what one byte gives
 abbrev pub emitted : Place → ℕ → List ℕ
 emitted p b =

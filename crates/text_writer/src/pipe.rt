@@ -5,7 +5,7 @@ ghost use Rattle.host_types.specs.SiteState.{IsUnchangedBehind};
 ghost use Rattle.text_writer.specs.Pipe.{Piped, will_give, fresh, Passes, Ends};
 ghost use Rattle.text_writer.specs.Text.{text};
 
-use crate::place::{Place, Ready, after, closing, emitted, run_length};
+use crate::place::{BODY_START, Place, Ready, after, closing, emitted, run_length};
 use std::marker::Model;
 
 /// How many bytes of the chunk were taken, and how many bytes of the text were given.
@@ -41,10 +41,7 @@ impl TextPipe {
     {
         TextPipe {
             ready: Ready::new(),
-            place: Some(Place {
-                at_start: true,
-                held: false,
-            }),
+            place: Some(BODY_START),
         }
     }
 
@@ -81,8 +78,8 @@ impl TextPipe {
         self.give(out, 0)
     }
 
-    #[tactic(auto, using(crate::proofs::Pipes::some_is_left))]
     /// Whether nothing is left: `finish` was called and all was given.
+    #[tactic(auto, using(crate::proofs::Pipes::some_is_left))]
     pub fn is_finished(&self) -> bool
         ensures { IsTrue result ↔ (will_give self.now [] ≡ []) }
     {

@@ -14,6 +14,12 @@ pub struct Place {
     pub held: bool,
 }
 
+/// The place before a body's first byte.
+pub const BODY_START: Place = Place {
+    at_start: true,
+    held: false,
+};
+
 /// Bytes of the text that are ready: at most two for a byte of the body, and six for its end.
 pub type Ready = ArrayVec<u8, 8>;
 

@@ -3,7 +3,7 @@ ghost use Rattle.std.specs.Prelude.{◌≡◌, IfOk};
 ghost use Rattle.host_types.specs.Lines.{lines};
 ghost use Rattle.text_writer.specs.Text as spec;
 
-use crate::place::{Place, after, closing, emitted, run_length};
+use crate::place::{BODY_START, after, closing, emitted, run_length};
 use host_types::Bytes;
 use std::alloc::{AllocError, Global};
 
@@ -14,10 +14,7 @@ pub fn text(alloc: Global, body: &[u8]) -> Result<Bytes, AllocError>
     ensures client { IfOk result (λ t. spec.client t ≡ lines body.now) }
 {
     let mut sent = Vec::with_capacity(alloc, body.len())?;
-    let mut place = Place {
-        at_start: true,
-        held: false,
-    };
+    let mut place = BODY_START;
     let mut at = 0;
     while at < body.len() {
         let byte = body[at];
