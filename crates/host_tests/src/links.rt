@@ -1,6 +1,7 @@
 // Replies of bytes alone: texts, heads, pages of links; and the laws.
 use crate::bench::Bench;
 use crate::line::{Line, number};
+use crate::pipes::show_piped;
 use crate::replays;
 use crate::trouble::Trouble;
 use host_types::{Admin, Stamp, lines_of};
@@ -22,6 +23,7 @@ fn laws() -> Result<(), Trouble> {
     request_reader::worked_examples();
     text_writer::reads_back();
     text_writer::menus_end_once();
+    text_writer::pipes_give_the_text();
     text_writer::worked_examples();
     plus_blocks::replies_end_once();
     plus_blocks::worked_examples();
@@ -121,6 +123,7 @@ pub fn call(
 ) -> Result<(), Trouble> {
     match (word, fields) {
         ("text", [bytes]) => show_text(bench.alloc, line, bytes),
+        ("piped", [bytes]) => show_piped(bench.alloc, line, bytes),
         ("lines", [bytes]) => show_lines(bench.alloc, line, bytes),
         ("head", [length]) => show_head(bench.alloc, line, length),
         ("info", [bytes]) => show_info(bench.alloc, line, bytes),

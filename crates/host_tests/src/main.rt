@@ -12,6 +12,7 @@ mod items;
 mod line;
 mod links;
 mod names;
+mod pipes;
 mod replays;
 mod replies;
 mod requests;

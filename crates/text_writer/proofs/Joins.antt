@@ -4,13 +4,8 @@ use Rattle.std.specs.List.{flat_map}
 use Rattle.std.proofs.lemmas.Bool.{cases_Bool, eqb-true}
 use Rattle.host_types.specs.Lines.{lines, onto_first_line}
 use Rattle.text_writer.specs.Text.{text, sent_line, line_end, text_end}
-use Rattle.text_writer.specs.Place.{emitted, after, closing}
+use Rattle.text_writer.specs.Place.{given_from}
 use Rattle.text_writer.specs.declared.place.Place.{Place}
-
--- what is given from a place on, for the rest of the body
-abbrev pub given_from : Place → List ℕ → List ℕ
-given_from p [] = closing p
-given_from p (b ∷ bs) = emitted p b ++ given_from (after p b) bs
 
 -- the lines where the first has begun already
 abbrev pub goes_on : List (List ℕ) → List ℕ
@@ -87,6 +82,6 @@ joins (b ∷ bs) = elim (kind_of b) [
 ]
 
 -- from the start of a body its text is given
-pub given-text : (bs : List ℕ) → given_from (at true false) bs ≡ text bs
+pub given_text : (bs : List ℕ) → given_from (at true false) bs ≡ text bs
 unfolding text
-given-text bs = (joins bs).start
+given_text bs = (joins bs).start

@@ -1,12 +1,12 @@
 -- Runs of bytes that are sent as they are.
-use Rattle.std.proofs.Common.{◌≡◌, ℕ, suc, ◌+◌, ◌-◌, ◌<◌, ◌≤◌, Bool, true, false, List, [], ◌∷◌, ◌++◌, ap, sym, ◌∙◌, inl, inr, refl, take, drop, length, ◌==◌, arith, append_assoc, get_or, drop-cons, add-one, length-drop}
+use Rattle.std.proofs.Common.{◌≡◌, ℕ, suc, ◌+◌, ◌-◌, ◌<◌, ◌≤◌, Bool, true, false, List, [], ◌∷◌, ◌++◌, ap, sym, ◌∙◌, inl, inr, refl, take, drop, length, ◌==◌, arith, append_assoc, append-nil, get_or, drop-cons, add-one, length-drop}
 use Rattle.std.specs.Prelude.{Some, None}
 use Rattle.std.specs.List.{position_or_len}
 use Rattle.std.proofs.lemmas.Bool.{cases_Bool, false_from_ne_true}
 use Rattle.std.proofs.lemmas.List.{take_all, drop-drop}
 use Rattle.std.proofs.lemmas.List.Sums.{position_or_len_is}
 use Rattle.memchr.specs.Find.{IsFirstByte}
-use Rattle.text_writer.proofs.Joins.{given_from}
+use Rattle.text_writer.specs.Place.{given_from}
 use Rattle.text_writer.specs.Text.{text}
 use Rattle.text_writer.specs.Place.{emitted, after, may_end_line, run_length}
 use Rattle.text_writer.specs.declared.place.Place.{Place}
@@ -32,32 +32,35 @@ inside = record { at_start = false; held = false }
 one_more : (n : ℕ) → 1 + n ≡ suc n
 one_more n = omega arith
 
-inside_run : (bs : List ℕ) → given_from inside bs ≡ take (position_or_len may_end_line bs) bs ++ given_from inside (drop (position_or_len may_end_line bs) bs)
-inside_run [] = refl
-inside_run (b ∷ bs) = elim (cases_Bool (b == 10)) [
+inside_run : (bs more : List ℕ) → given_from inside (bs ++ more) ≡ take (position_or_len may_end_line bs) bs ++ given_from inside (drop (position_or_len may_end_line bs) bs ++ more)
+inside_run [] more = refl
+inside_run (b ∷ bs) more = elim (cases_Bool (b == 10)) [
   | inl e ↦ rw e (rw e refl)
-  | inr n ↦ elim (cases_Bool (b == 13)) [ inl e ↦ rw (n, e) (rw (n, e) refl) | inr m ↦ rw (n, m) (ap (λ l. b ∷ l) (inside_run bs) ∙ sym (ap (λ k. take k (b ∷ bs) ++ given_from inside (drop k (b ∷ bs))) (one_more (position_or_len may_end_line bs)))) ]
+  | inr n ↦ elim (cases_Bool (b == 13)) [ inl e ↦ rw (n, e) (rw (n, e) refl) | inr m ↦ rw (n, m) (ap (λ l. b ∷ l) (inside_run bs more) ∙ sym (ap (λ k. take k (b ∷ bs) ++ given_from inside (drop k (b ∷ bs) ++ more)) (one_more (position_or_len may_end_line bs)))) ]
 ]
 
 abbrev at : Bool → Bool → Place
 at s h = record { at_start = s; held = h }
 
-run_at : (s h : Bool) (bs : List ℕ) → given_from (at s h) bs ≡ take (run_length (at s h) bs) bs ++ given_from (at s h) (drop (run_length (at s h) bs) bs)
-run_at true true bs = refl
-run_at true false bs = refl
-run_at false true bs = refl
-run_at false false bs = inside_run bs
+run_at : (s h : Bool) (bs more : List ℕ) → given_from (at s h) (bs ++ more) ≡ take (run_length (at s h) bs) bs ++ given_from (at s h) (drop (run_length (at s h) bs) bs ++ more)
+run_at true true bs more = refl
+run_at true false bs more = refl
+run_at false true bs more = refl
+run_at false false bs more = inside_run bs more
 
 -- a run is given as it is, and what follows it from the same place
-pub run_given : (p : Place) (bs : List ℕ) → given_from p bs ≡ take (run_length p bs) bs ++ given_from p (drop (run_length p bs) bs)
-run_given p bs = run_at p.at_start p.held bs
+pub run_given : (p : Place) (bs more : List ℕ) → given_from p (bs ++ more) ≡ take (run_length p bs) bs ++ given_from p (drop (run_length p bs) bs ++ more)
+run_given p bs more = run_at p.at_start p.held bs more
+
+run_whole : (p : Place) (bs : List ℕ) → given_from p bs ≡ take (run_length p bs) bs ++ given_from p (drop (run_length p bs) bs)
+run_whole p bs = ap (given_from p) (sym (append-nil bs)) ∙ run_given p bs [] ∙ ap (λ l. take (run_length p bs) bs ++ given_from p l) (append-nil (drop (run_length p bs) bs))
 
 -- a byte, the run behind it, and what is left
 pub goes_on_by : (sent : List ℕ) (p q : Place) (b : ℕ) (later : List ℕ) (run : ℕ) (whole : List ℕ) → q ≡ after p b → run ≡ run_length q later → sent ++ given_from p (b ∷ later) ≡ whole → (sent ++ emitted p b ++ take run later) ++ given_from q (drop run later) ≡ whole
 goes_on_by sent p q b later run whole to so_many is =
     ap (λ n. (sent ++ emitted p b ++ take n later) ++ given_from q (drop n later)) so_many
     ∙ append_assoc (sent ++ emitted p b) (take (run_length q later) later) (given_from q (drop (run_length q later) later))
-    ∙ ap (λ l. (sent ++ emitted p b) ++ l) (sym (run_given q later))
+    ∙ ap (λ l. (sent ++ emitted p b) ++ l) (sym (run_whole q later))
     ∙ append_assoc sent (emitted p b) (given_from q later)
     ∙ ap (λ r. sent ++ (emitted p b ++ given_from r later)) to
     ∙ is

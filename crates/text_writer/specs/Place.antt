@@ -1,8 +1,12 @@
 -- Text in one pass over a body. What a byte gives depends on its place in its line alone.
-use Rattle.std.specs.Prelude.{ℕ, Bool, true, false, List, [], ◌∷◌, ◌==◌, ◌&&◌, ◌||◌, if◌then◌else◌}
+use Rattle.std.specs.Prelude.{ℕ, Bool, true, false, List, [], ◌∷◌, ◌++◌, ◌==◌, ◌&&◌, ◌||◌, if◌then◌else◌}
 use Rattle.std.specs.List.{position_or_len}
 use Rattle.text_writer.specs.Text.{text_end}
 use Rattle.text_writer.specs.declared.place.Place.{Place}
+
+-- the place before the first byte
+abbrev pub body_start : Place
+body_start = record { at_start = true; held = false }
 
 -- what one byte gives
 abbrev pub emitted : Place → ℕ → List ℕ
@@ -26,6 +30,11 @@ closing p =
     if p.held then 13 ∷ 13 ∷ 10 ∷ text_end
     else if p.at_start then text_end
     else 13 ∷ 10 ∷ text_end
+
+-- what is given from a place on, for the rest of the body
+abbrev pub given_from : Place → List ℕ → List ℕ
+given_from p [] = closing p
+given_from p (b ∷ bs) = emitted p b ++ given_from (after p b) bs
 
 -- LF or CR
 abbrev pub may_end_line : ℕ → Bool

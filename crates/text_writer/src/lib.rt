@@ -4,10 +4,12 @@
 mod error;
 mod laws;
 mod menus;
+mod pipe;
 mod place;
 mod whole;
 
 pub use error::{ErrorText, error_reply};
-pub use laws::{menus_end_once, reads_back, worked_examples};
+pub use laws::{menus_end_once, pipes_give_the_text, reads_back, worked_examples};
 pub use menus::{item_line, link_line, menu, menu_line};
+pub use pipe::{Moved, TextPipe};
 pub use whole::text;

@@ -1,10 +1,11 @@
 // Where in a line a body is, and what its next byte gives.
-ghost use Rattle.std.specs.Prelude.{◌≡◌, ◌≤◌, ◌++◌, OnOk, length};
+ghost use Rattle.std.specs.Prelude.{◌≡◌, ◌≤◌, length};
 ghost use Rattle.std.specs.List.{position_or_len};
+ghost use Rattle.arrayvec.specs.ArrayVec.{array_vec_len};
 ghost use Rattle.text_writer.specs.Place as spec;
 
+use arrayvec::ArrayVec;
 use memchr::memchr2;
-use std::alloc::AllocError;
 
 /// Whether no byte of the line has been given, and whether a CR is held back.
 #[derive(Clone, Copy, Debug, PartialEq, Eq)]
@@ -13,28 +14,41 @@ pub struct Place {
     pub held: bool,
 }
 
-/// Sends what one byte gives: a held CR, a doubled period, a whole line end.
-pub fn send_byte(sent: &mut Vec<u8>, place: Place, byte: u8) -> Result<(), AllocError>
-    ensures { OnOk result (sent.new.items ≡ sent.old.items ++ spec.emitted place byte) }
+/// The place before a body's first byte.
+pub const BODY_START: Place = Place {
+    at_start: true,
+    held: false,
+};
+
+/// Bytes of the text that are ready: at most two for a byte of the body, and six for its end.
+pub type Ready = ArrayVec<u8, 8>;
+
+/// What one byte gives: a held CR, a doubled period, a whole line end.
+pub fn emitted(place: Place, byte: u8) -> Ready
+    ensures bytes { result.items ≡ spec.emitted place byte }
+    ensures few { array_vec_len result ≤ 2 }
 {
+    let mut ready = ArrayVec::new();
     match byte {
-        b'\n' => sent.extend_from_slice(b"\r\n"),
+        b'\n' => {
+            ready.push(b'\r');
+            ready.push(b'\n');
+        }
         b'\r' => {
             if place.held {
-                sent.push(b'\r')?;
+                ready.push(b'\r');
             }
-            Ok(())
         }
         _ => {
             if place.held {
-                sent.push(b'\r')?;
+                ready.push(b'\r');
             } else if place.at_start && byte == b'.' {
-                sent.push(b'.')?;
+                ready.push(b'.');
             }
-            sent.push(byte)?;
-            Ok(())
+            ready.push(byte);
         }
     }
+    ready
 }
 
 /// Where the line is after a byte.
@@ -81,15 +95,21 @@ pub fn run_length(place: Place, bytes: &[u8]) -> usize
     }
 }
 
-/// Sends what the end of the body gives.
-pub fn send_closing(sent: &mut Vec<u8>, place: Place) -> Result<(), AllocError>
-    ensures { OnOk result (sent.new.items ≡ sent.old.items ++ spec.closing place) }
+/// What the end of the body gives.
+pub fn closing(place: Place) -> Ready
+    ensures bytes { result.items ≡ spec.closing place }
+    ensures few { array_vec_len result ≤ 6 }
 {
+    let mut ready = ArrayVec::new();
     if place.held {
-        sent.push(b'\r')?;
+        ready.push(b'\r');
     }
     if place.held || !place.at_start {
-        sent.extend_from_slice(b"\r\n")?;
+        ready.push(b'\r');
+        ready.push(b'\n');
     }
-    sent.extend_from_slice(b".\r\n")
+    ready.push(b'.');
+    ready.push(b'\r');
+    ready.push(b'\n');
+    ready
 }

@@ -3,7 +3,7 @@ ghost use Rattle.std.specs.Prelude.{◌≡◌, IfOk};
 ghost use Rattle.host_types.specs.Lines.{lines};
 ghost use Rattle.text_writer.specs.Text as spec;
 
-use crate::place::{Place, after, run_length, send_byte, send_closing};
+use crate::place::{BODY_START, after, closing, emitted, run_length};
 use host_types::Bytes;
 use std::alloc::{AllocError, Global};
 
@@ -14,20 +14,17 @@ pub fn text(alloc: Global, body: &[u8]) -> Result<Bytes, AllocError>
     ensures client { IfOk result (λ t. spec.client t ≡ lines body.now) }
 {
     let mut sent = Vec::with_capacity(alloc, body.len())?;
-    let mut place = Place {
-        at_start: true,
-        held: false,
-    };
+    let mut place = BODY_START;
     let mut at = 0;
     while at < body.len() {
         let byte = body[at];
-        send_byte(&mut sent, place, byte)?;
+        sent.extend_from_slice(emitted(place, byte).as_slice())?;
         place = after(place, byte);
         let later = &body[at + 1..];
         let run = run_length(place, later);
         sent.extend_from_slice(&later[..run])?;
         at += 1 + run;
     }
-    send_closing(&mut sent, place)?;
+    sent.extend_from_slice(closing(place).as_slice())?;
     Ok(Bytes::from(sent))
 }

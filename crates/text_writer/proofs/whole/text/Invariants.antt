@@ -1,5 +1,5 @@
 use Rattle.std.proofs.Common.{◌≡◌, ◌≤◌, ◌-◌, ◌++◌, length, drop}
-use Rattle.text_writer.proofs.Joins.{given_from}
+use Rattle.text_writer.specs.Place.{given_from}
 use Rattle.text_writer.specs.Text.{text}
 use Rattle.text_writer.proofs.whole.text.Given as goal
 

@@ -1,0 +1,80 @@
+-- Pipes: what calls give, and when nothing is left.
+use Rattle.std.proofs.Common.{◌≡◌, ℕ, ◌+◌, ◌-◌, ◌<◌, ◌≤◌, suc, List, [], ◌∷◌, ◌++◌, ap, sym, ◌∙◌, inl, inr, take, drop, length, get_or, drop-cons, add-one, append_assoc, arith}
+use Rattle.std.specs.Prelude.{Some}
+use Rattle.std.proofs.lemmas.Bool.{cases_Bool}
+use Rattle.std.proofs.lemmas.List.{take-append-drop, drop-drop, drop-append-le}
+use Rattle.text_writer.proofs.Runs.{run_given}
+use Rattle.text_writer.specs.Place.{closing, given_from, run_length}
+use Rattle.text_writer.specs.Pipe.{Piped, will_give, given_behind, Passes}
+use Rattle.text_writer.specs.declared.place.Place.{Place}
+
+-- bytes that are ready were given, and the place stayed
+pub given_on : (part given : List ℕ) (old new : Piped) → given ++ new.ready ≡ part ++ old.ready → new.place ≡ old.place → (rest : List ℕ) → given ++ will_give new rest ≡ part ++ will_give old rest
+given_on part given old new moved stayed rest =
+    sym (append_assoc given new.ready (given_behind new.place rest))
+    ∙ ap (λ l. l ++ given_behind new.place rest) moved
+    ∙ ap (λ place. (part ++ old.ready) ++ given_behind place rest) stayed
+    ∙ append_assoc part old.ready (given_behind old.place rest)
+
+-- one byte more of the chunk
+pub byte_passed : (chunk part given : List ℕ) (taken byte : ℕ) (old now mid new : Piped) → taken < length chunk → byte ≡ get_or chunk taken 0 → Passes old chunk taken part now →
+    ((rest : List ℕ) → will_give mid rest ≡ will_give now (byte ∷ rest)) → given ++ new.ready ≡ part ++ mid.ready → new.place ≡ mid.place → Passes old chunk (taken + 1) given new
+byte_passed chunk part given taken byte old now mid new below is passes told moved stayed more =
+    let next : byte ∷ drop (taken + 1) chunk ≡ drop taken chunk = ap (λ n. byte ∷ drop n chunk) (add-one taken) ∙ ap (λ b. b ∷ drop (suc taken) chunk) is ∙ sym (drop-cons chunk taken 0 below) in
+    given_on part given mid new moved stayed (drop (taken + 1) chunk ++ more)
+    ∙ ap (λ l. part ++ l) (told (drop (taken + 1) chunk ++ more))
+    ∙ ap (λ l. part ++ will_give now (l ++ more)) next
+    ∙ passes more
+
+-- what stands behind a place stands behind each later one
+pub unchanged_on : (n m : ℕ) (xs ys : List ℕ) → n ≤ m → drop n xs ≡ drop n ys → drop m xs ≡ drop m ys
+unchanged_on n m xs ys onward same =
+    let split : m ≡ n + (m - n) = omega (arith, onward) in
+    ap (λ k. drop k xs) split ∙ sym (drop-drop (m - n) n xs) ∙ ap (drop (m - n)) same ∙ drop-drop (m - n) n ys ∙ sym (ap (λ k. drop k ys) split)
+
+-- a run at the front of a chunk, and what is given behind it
+pub run_on : (place : Place) (chunk front more : List ℕ) (k run : ℕ) → front ≡ take k chunk → run ≡ run_length place front → run ≤ length front → given_from place (chunk ++ more) ≡ take run front ++ given_from place (drop run chunk ++ more)
+run_on place chunk front more k run is so_many within =
+    let halves : chunk ≡ front ++ drop k chunk = sym (take-append-drop k chunk) ∙ ap (λ l. l ++ drop k chunk) (sym is) in
+    let later : drop run chunk ++ more ≡ drop run front ++ (drop k chunk ++ more) =
+    ap (λ l. drop run l ++ more) halves ∙ ap (λ l. l ++ more) (drop-append-le run front (drop k chunk) within) ∙ append_assoc (drop run front) (drop k chunk) more in
+    ap (λ l. given_from place (l ++ more)) halves
+    ∙ ap (given_from place) (append_assoc front (drop k chunk) more)
+    ∙ run_given place front (drop k chunk ++ more)
+    ∙ ap (λ n. take n front ++ given_from place (drop n front ++ (drop k chunk ++ more))) (sym so_many)
+    ∙ ap (λ l. take run front ++ given_from place l) (sym later)
+
+closing_gives : (place : Place) → closing place ≡ [] → ⊥
+closing_gives place none = elim (cases_Bool place.held) [
+  | inl held ↦ (let k = rw held at none in absurd (cc k))
+  | inr free ↦ elim (cases_Bool place.at_start) [ inl start ↦ (let k = rw (free, start) at none in absurd (cc k)) | inr inside ↦ (let k = rw (free, inside) at none in absurd (cc k)) ]
+]
+
+second_is_none : (xs ys : List ℕ) → xs ++ ys ≡ [] → ys ≡ []
+second_is_none [] ys none = none
+second_is_none (x ∷ xs) ys none = absurd (cc none)
+
+-- before the end of the body something is left
+pub some_is_left : (pipe : Piped) (place : Place) → pipe.place ≡ Some place → will_give pipe [] ≡ [] → ⊥
+some_is_left pipe place some none =
+    closing_gives place (second_is_none pipe.ready (closing place) (ap (λ p. pipe.ready ++ given_behind p []) (sym some) ∙ none))
+
+-- a run at the front of a chunk was given
+pub run_passed : (pipe : Piped) (place : Place) (chunk front old new : List ℕ) (at k run : ℕ) → pipe.place ≡ Some place → pipe.ready ≡ [] → front ≡ take k chunk → run ≡ run_length place front → run ≤ length front →
+    take (at + run) new ≡ take at old ++ take run front → (more : List ℕ) → take (at + run) new ++ will_give pipe (drop run chunk ++ more) ≡ take at old ++ will_give pipe (chunk ++ more)
+run_passed pipe place chunk front old new at k run some none is so_many within given more =
+    let gives : (rest : List ℕ) → will_give pipe rest ≡ given_from place rest = λ rest. ap (λ l. l ++ given_behind pipe.place rest) none ∙ ap (λ p. given_behind p rest) some in
+    ap (λ l. l ++ will_give pipe (drop run chunk ++ more)) given
+    ∙ append_assoc (take at old) (take run front) (will_give pipe (drop run chunk ++ more))
+    ∙ ap (λ l. take at old ++ (take run front ++ l)) (gives (drop run chunk ++ more))
+    ∙ ap (λ l. take at old ++ l) (sym (run_on place chunk front more k run is so_many within))
+    ∙ ap (λ l. take at old ++ l) (sym (gives (chunk ++ more)))
+
+-- a run more of the chunk
+pub run_taken : (chunk part given rest : List ℕ) (taken run : ℕ) (old now : Piped) → Passes old chunk taken part now → rest ≡ drop taken chunk →
+    ((more : List ℕ) → given ++ will_give now (drop run rest ++ more) ≡ part ++ will_give now (rest ++ more)) → Passes old chunk (taken + run) given now
+run_taken chunk part given rest taken run old now passes is run_given more =
+    ap (λ l. given ++ will_give now (l ++ more)) (sym (drop-drop run taken chunk) ∙ ap (drop run) (sym is))
+    ∙ run_given more
+    ∙ ap (λ l. part ++ will_give now (l ++ more)) is
+    ∙ passes more
