@@ -1,15 +1,15 @@
-use Rattle.std.proofs.Common.{◌++◌, ◌∙◌}
 use Rattle.host_types.specs.Change.{apply, touched}
-use Rattle.site_records.specs.Layout.{keys_in, keys_after, keys_of}
-use Rattle.site_records.specs.KeyLaws.{among-append, among-once, sorted-once}
-use Rattle.site_records.proofs.laws.changes_have_keys.Goals as goal
+use Rattle.site_pairs.specs.ChangeKeys.{keys_between, keys_of}
+use Rattle.site_pairs.specs.KeyLaws.{among-once, sorted-once}
+use Rattle.site_pairs.proofs.WordsOfChanges.{words_written}
+use Rattle.site_pairs.proofs.laws.changes_have_keys.Goals as goal
 
 pub returns : goal.returns
 unfolding keys_of
 returns c = λ s change now.
-    let before = keys_in s (touched s change) in
-    let after = keys_after (apply s change now) (touched s change) in
+    let keys = keys_between s (apply s change now) (touched s change) in
     record {
-      rise = sorted-once (before ++ after);
-      all = λ key. among-once (before ++ after) key ∙ among-append before after key;
+      rise = sorted-once keys;
+      all = λ key. among-once keys key;
+      words = λ t word selector applied. words_written s t change now word selector applied;
     }
