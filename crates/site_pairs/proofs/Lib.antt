@@ -3,3 +3,7 @@ pub mod ShortWords
 pub mod ShortSites
 pub mod Orders
 pub mod FirstPage
+pub mod EditValues
+pub mod WordKeys
+pub mod ChangedWords
+pub mod WordsOfChanges

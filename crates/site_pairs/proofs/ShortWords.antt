@@ -4,10 +4,12 @@ use Rattle.std.specs.Prelude.{filter, not, bytes_eq, All}
 use Rattle.std.specs.List.{AllByRecursion, slice_split}
 use Rattle.std.proofs.lemmas.List.{length-map}
 use Rattle.std.specs.Char.{to_ascii_lowercase}
-use Rattle.host_types.specs.Words.{word_of, words_in, is_some_run, is_gap, distinct, first_words, said_in, searched, words_of}
+use Rattle.host_types.specs.Words.{is_among, word_of, words_in, is_some_run, is_gap, distinct, first_words, said_in, searched, words_of}
 use Rattle.host_types.specs.Card.{card_of, viewed}
 use Rattle.host_types.specs.declared.card.Card.{Card}
 use Rattle.host_types.specs.declared.item.Item.{Item}
+use Rattle.word_index.specs.IndexChange.{dropped}
+use Rattle.site_pairs.specs.Edits.{words_at}
 
 abbrev pub AreShort : List (List ℕ) → Type 0
 AreShort words = AllByRecursion (λ w. length w ≤ 32) words
@@ -66,3 +68,10 @@ short_all item = short_first _ (short_said (card_of item) (searched (card_of ite
 
 pub short_words : (ws : List (List ℕ)) (item : Item) → ws ≡ words_of item → All (λ w. length w ≤ 32) ws
 short_words ws item is = subst (λ (l : List (List ℕ)). All (λ w. length w ≤ 32) l) (sym is) (each (words_of item) (short_all item))
+
+pub short_dropped : (ws : List (List ℕ)) (item other : Option Item) → ws ≡ dropped (words_at item) (words_at other) → All (λ w. length w ≤ 32) ws
+short_dropped ws item other is = subst (λ (l : List (List ℕ)). All (λ w. length w ≤ 32) l) (sym is) (each _ (short_filter (λ w. not (is_among (words_at other) w)) (words_at item) (short_at item)))
+  where
+    short_at : (item : Option Item) → AreShort (words_at item)
+    short_at None = tt
+    short_at (Some item) = short_all item

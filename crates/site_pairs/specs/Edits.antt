@@ -1,10 +1,12 @@
 -- The edits of pairs that make replacements.
-use Rattle.std.specs.Prelude.{ℕ, List, [], ◌∷◌, map, fold, Option, Some, None}
+use Rattle.std.specs.Prelude.{ℕ, List, [], ◌∷◌, ◌++◌, map, fold, Option, Some, None}
 use Rattle.std.specs.BTreeMap.{insert_entry}
 use Rattle.host_types.specs.Site.{byte_cmp}
+use Rattle.host_types.specs.Words.{words_of}
 use Rattle.host_types.specs.declared.item.Item.{Item}
 use Rattle.page_store.specs.declared.edit.Edit.{Edit}
-use Rattle.site_records.specs.Layout.{Pairs, item_pairs}
+use Rattle.site_records.specs.Layout.{Pairs, data_pairs, word_pairs}
+use Rattle.word_index.specs.IndexChange.{dropped}
 use Rattle.change_plan.specs.declared.replacement.Replacement.{Replacement}
 
 -- by their keys, in byte order: the value that comes, or none where the key is to go
@@ -24,14 +26,23 @@ abbrev pub without_all : Edits → Pairs → Edits
 without_all edits [] = edits
 without_all edits (p ∷ ps) = with_edit (without_all edits ps) p.0 None
 
--- the pairs of what stands at a selector, if anything does
-abbrev pub pairs_at : List ℕ → Option Item → Pairs
-pairs_at selector None = []
-pairs_at selector (Some item) = item_pairs selector item
+-- the data of what stands at a selector, if anything does
+abbrev pub data_at : List ℕ → Option Item → Pairs
+data_at selector None = []
+data_at selector (Some item) = data_pairs selector item
 
--- the old pairs go, and the new ones come
+-- the words of what stands at a selector, if anything does
+abbrev pub words_at : Option Item → List (List ℕ)
+words_at None = []
+words_at (Some item) = words_of item
+
+-- the pairs of what stands at a selector, but those of the words that something else has too
+abbrev pub pairs_beside : List ℕ → Option Item → Option Item → Pairs
+pairs_beside selector item other = data_at selector item ++ word_pairs selector (dropped (words_at item) (words_at other))
+
+-- the old data goes, with the words that the new item lacks, and the new data comes, with the words that the old item lacks
 abbrev pub with_replacement : Edits → Replacement → Edits
-with_replacement edits replacement = with_all (without_all edits (pairs_at replacement.selector replacement.before)) (pairs_at replacement.selector replacement.after)
+with_replacement edits r = with_all (without_all edits (pairs_beside r.selector r.before r.after)) (pairs_beside r.selector r.after r.before)
 
 abbrev pub edits_of : List Replacement → Edits
 edits_of replacements = fold with_replacement [] replacements

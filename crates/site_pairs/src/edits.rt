@@ -1,19 +1,21 @@
 // The batch of edits that makes a change.
-ghost use Rattle.std.specs.Prelude.{◌≡◌, List, IfOk, IfSome, OnOk, IsTrue, map};
+ghost use Rattle.std.specs.Prelude.{◌≡◌, ◌≤◌, ◌++◌, List, All, IfOk, IfSome, OnOk, IsTrue, length, map};
 ghost use Rattle.std.specs.List.{list_all, AllByRecursion};
 ghost use Rattle.page_store.specs.Batch.{is_edit};
+ghost use Rattle.site_records.specs.Layout.{word_pairs};
 ghost use Rattle.site_pairs.specs.Edits as spec;
 ghost use Rattle.change_plan.specs.Replacements.{IsFit};
 ghost use Rattle.site_pairs.specs.ShortReplacements.{IsShort, AreShort};
 
-use crate::item_pairs::item_pairs;
+use crate::item_pairs::{put_data, put_words};
 use crate::piece::Piece;
 use change_plan::Replacement;
-use host_types::{Bytes, Item, Selector};
+use host_types::{Bytes, Item, LineList, Selector};
 use page_store::Edit;
-use site_records::Key;
+use site_records::{Key, LONGEST_WORD};
 use std::alloc::{AllocError, Global};
 use std::collections::BTreeMap;
+use word_index::{index_change, words};
 
 /// All these keys go.
 #[tactic(auto, using(crate::proofs::ItemPairs::drop_last))]
@@ -45,22 +47,50 @@ fn put_all(
     Ok(())
 }
 
-/// The pairs of what stands at a selector, if anything does.
-fn pairs_at(
+/// The words of what stands at a selector, if anything does.
+fn words_at(alloc: Global, item: &Option<Item>) -> Result<LineList, AllocError>
+    ensures { IfOk result (λ words. words ≡ spec.words_at item.now) }
+{
+    match item {
+        Some(item) => words(alloc, item),
+        None => Ok(LineList::new(alloc)),
+    }
+}
+
+/// The data of what stands at a selector, if anything does.
+fn data_at(
     alloc: Global,
     selector: &Selector,
     item: &Option<Item>,
 ) -> Result<Vec<(Key, Piece)>, AllocError>
     requires { IfSome item.now IsShort }
-    ensures { IfOk result (λ pairs. pairs.items ≡ spec.pairs_at selector.now item.now) }
+    ensures { IfOk result (λ pairs. pairs.items ≡ spec.data_at selector.now item.now) }
 {
+    let mut pairs = Vec::new(alloc);
     match item {
-        Some(item) => item_pairs(alloc, selector, item),
-        None => Ok(Vec::new(alloc)),
+        Some(item) => put_data(alloc, &mut pairs, selector, item)?,
+        None => {}
     }
+    Ok(pairs)
 }
 
-/// The pairs of what stood at a selector go, and those of what is to stand there come.
+/// The data of what stands at a selector, and some words.
+fn pairs_with(
+    alloc: Global,
+    selector: &Selector,
+    item: &Option<Item>,
+    words: &LineList,
+) -> Result<Vec<(Key, Piece)>, AllocError>
+    requires item { IfSome item.now IsShort }
+    requires words { All (λ w. length w ≤ LONGEST_WORD) words.now }
+    ensures { IfOk result (λ pairs. pairs.items ≡ spec.data_at selector.now item.now ++ word_pairs selector.now words.now) }
+{
+    let mut pairs = data_at(alloc, selector, item)?;
+    put_words(alloc, &mut pairs, selector, words.as_slice())?;
+    Ok(pairs)
+}
+
+/// The old data goes and the new data comes. Of the words only those go and come that differ.
 fn put_replacement(
     alloc: Global,
     edits: &mut BTreeMap<Key, Option<Piece>>,
@@ -69,14 +99,16 @@ fn put_replacement(
     requires { IsFit IsShort replacement.now }
     ensures { OnOk result (edits.new.entries ≡ spec.with_replacement edits.old.entries replacement.now) }
 {
-    drop_all(
-        edits,
-        pairs_at(alloc, &replacement.selector, &replacement.before)?,
-    )?;
-    put_all(
-        edits,
-        pairs_at(alloc, &replacement.selector, &replacement.after)?,
-    )
+    let Replacement {
+        selector,
+        before,
+        after,
+    } = replacement;
+    let old_words = words_at(alloc, before)?;
+    let new_words = words_at(alloc, after)?;
+    let words = index_change(alloc, &old_words, &new_words)?;
+    drop_all(edits, pairs_with(alloc, selector, before, &words.drop)?)?;
+    put_all(edits, pairs_with(alloc, selector, after, &words.add)?)
 }
 
 #[tactic(auto, unfolding(page_store::specs::Batch::is_value))]

@@ -54,7 +54,7 @@ fn put_parts(
 }
 
 /// Adds the keys of some words.
-fn put_words(
+pub fn put_words(
     alloc: Global,
     pairs: &mut Vec<(Key, Piece)>,
     selector: &Selector,
@@ -112,7 +112,23 @@ fn parts_of(alloc: Global, body: &Body) -> Result<Vec<Bytes>, AllocError>
     }
 }
 
-/// Adds the pairs of an item: its record, the chunks of its parts, and its words.
+/// Adds the pairs of an item's data: its record, and the chunks of its parts.
+pub fn put_data(
+    alloc: Global,
+    pairs: &mut Vec<(Key, Piece)>,
+    selector: &Selector,
+    item: &Item,
+) -> Result<(), AllocError>
+    requires { IsTrue (is_short item.now) }
+    ensures { OnOk result (pairs.new.items ≡ pairs.old.items ++ spec.data_pairs selector.now item.now) }
+{
+    let record = Piece::new(record_of(alloc, item)?);
+    pairs.push((item_key(selector), record))?;
+    let parts = parts_of(alloc, &item.body)?;
+    put_parts(alloc, pairs, selector, &parts)
+}
+
+/// Adds the pairs of an item: its data, and its words.
 #[tactic(auto, using(crate::proofs::ShortWords::short_words), unfolding(site_records::specs::Layout::item_pairs))]
 pub fn put_item(
     alloc: Global,
@@ -123,24 +139,7 @@ pub fn put_item(
     requires { IsTrue (is_short item.now) }
     ensures { OnOk result (pairs.new.items ≡ pairs.old.items ++ spec.item_pairs selector.now item.now) }
 {
-    let record = Piece::new(record_of(alloc, item)?);
-    pairs.push((item_key(selector), record))?;
-    let parts = parts_of(alloc, &item.body)?;
-    put_parts(alloc, pairs, selector, &parts)?;
+    put_data(alloc, pairs, selector, item)?;
     let words = words(alloc, item)?;
     put_words(alloc, pairs, selector, words.as_slice())
-}
-
-/// The pairs of an item.
-pub fn item_pairs(
-    alloc: Global,
-    selector: &Selector,
-    item: &Item,
-) -> Result<Vec<(Key, Piece)>, AllocError>
-    requires { IsTrue (is_short item.now) }
-    ensures { IfOk result (λ pairs. pairs.items ≡ spec.item_pairs selector.now item.now) }
-{
-    let mut pairs = Vec::new(alloc);
-    put_item(alloc, &mut pairs, selector, item)?;
-    Ok(pairs)
 }

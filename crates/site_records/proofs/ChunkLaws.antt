@@ -14,7 +14,7 @@ use Rattle.host_types.specs.Words.{words_of, is_among}
 use Rattle.host_types.specs.declared.item.Item.{Item}
 use Rattle.site_records.specs.Keys.{Key, Record, Chunk, Word, item_key, chunk_key, word_key, keys_one_to_one, same_part, owner-key_bytes}
 use Rattle.site_records.specs.Records.{item_bytes, parts_of}
-use Rattle.site_records.specs.Layout.{chunk_count, chunk_pairs, part_pairs, word_pairs, item_pairs, layout, value_at, value_in, chunk_in, kept_chunk, has_word}
+use Rattle.site_records.specs.Layout.{chunk_count, chunk_pairs, part_pairs, word_pairs, data_pairs, item_pairs, layout, value_at, value_in, chunk_in, kept_chunk, has_word}
 use Rattle.site_records.specs.LayoutLaws.{is_at-Decides, at_itself, not_at, value_at-append, value_at-before, value_at-layout}
 
 -- ---- keys of other sorts
@@ -72,10 +72,16 @@ no_word_among_parts a v (part ∷ parts) w =
     value_at-append (chunk_pairs a v part (chunk_count (length part)) 0) (part_pairs a (v + 1) parts) (word_key w a) (no_word_among_chunks a v part (chunk_count (length part)) 0 w)
     ∙ no_word_among_parts a (v + 1) parts w
 
+-- no key of an item's data is one of a word
+pub no_word_among_data : (a : List ℕ) (item : Item) (w : List ℕ) → value_at (data_pairs a item) (word_key w a) ≡ None
+no_word_among_data a item w =
+    ap (λ (b : Bool). cond b (Some (item_bytes item)) (value_at (part_pairs a 0 (parts_of item.body)) (word_key w a))) (not_at (word_key w a) (item_key a) (word_no_record w a a))
+    ∙ no_word_among_parts a 0 (parts_of item.body) w
+
 abbrev pub empty_value : Option (List ℕ)
 empty_value = Some []
 
-among_words : (a : List ℕ) (words : List (List ℕ)) (w : List ℕ) → value_at (word_pairs a words) (word_key w a) ≡ cond (is_among words w) empty_value None
+pub among_words : (a : List ℕ) (words : List (List ℕ)) (w : List ℕ) → value_at (word_pairs a words) (word_key w a) ≡ cond (is_among words w) empty_value None
 among_words a [] w = refl
 among_words a (u ∷ words) w =
     let both : Decides (is_at (byte_cmp (word_key w a)) (word_key u a)) (w ≡ u) =
@@ -92,10 +98,7 @@ among_words a (u ∷ words) w =
 pub word_value : (a : List ℕ) (o : Option Item) (w : List ℕ) → value_in a o (word_key w a) ≡ cond (has_word o w) empty_value None
 unfolding item_pairs
 word_value a None w = refl
-word_value a (Some item) w =
-    ap (λ (b : Bool). cond b (Some (item_bytes item)) (value_at (part_pairs a 0 (parts_of item.body) ++ word_pairs a (words_of item)) (word_key w a))) (not_at (word_key w a) (item_key a) (word_no_record w a a))
-    ∙ value_at-append (part_pairs a 0 (parts_of item.body)) (word_pairs a (words_of item)) (word_key w a) (no_word_among_parts a 0 (parts_of item.body) w)
-    ∙ among_words a (words_of item) w
+word_value a (Some item) w = value_at-append (data_pairs a item) (word_pairs a (words_of item)) (word_key w a) (no_word_among_data a item w) ∙ among_words a (words_of item) w
 
 pub words_law : (s : Site) (w a : List ℕ) → IsTrue (is_sorted byte_cmp s.items) → value_at (layout s) (word_key w a) ≡ cond (has_word (item_at s a) w) empty_value None
 words_law s w a h =

@@ -14,7 +14,7 @@ use Rattle.host_types.specs.declared.change.Change.{Change}
 use Rattle.site_records.specs.Keys.{item_key, chunk_key, word_key, owner}
 use Rattle.site_records.specs.Records.{recorded, record_bytes, item_bytes}
 use Rattle.site_records.specs.Limits.{is_record}
-use Rattle.site_records.specs.Layout.{Pairs, item_pairs, layout, value_at, kept_chunk, has_word, keys_in, keys_after, keys_of}
+use Rattle.site_records.specs.Layout.{Pairs, item_pairs, layout, value_at, kept_chunk, has_word}
 use Rattle.site_records.specs.declared.record.Record.{Record}
 
 -- a site's items stand in byte order of their selectors
@@ -48,14 +48,6 @@ LayoutsHold = (s : Site) → IsSite s → LayoutHolds s
 
 abbrev pub LayoutsChange : Type 0
 LayoutsChange = (s : Site) → InOrder s → LayoutChanges s
-
--- The keys of a change: they rise in byte order, and are those of the items that it changes, before and after.
-pub record HasKeys (s : Site) (change : Change) (now : ℕ) : Type 0 where
-  pub rise : IsStrictlySortedBy byte_cmp (keys_of s change now)
-  pub all : (key : List ℕ) → is_among (keys_of s change now) key ≡ (is_among (keys_in s (touched s change)) key || is_among (keys_after (apply s change now) (touched s change)) key)
-
-abbrev pub ChangesHaveKeys : Type 0
-ChangesHaveKeys = (s : Site) (change : Change) (now : ℕ) → HasKeys s change now
 
 -- pairs in byte order of which each key has what it has in a layout are that layout
 abbrev pub ValuesTell : Type 0

@@ -1,17 +1,13 @@
 -- The layout of a site: the pairs of keys and values that represent it. docs/IMAGE.md, 'Layout of a site'.
-use Rattle.std.specs.Prelude.{ℕ, zero, suc, ◌+◌, ◌*◌, ◌/◌, Bool, false, List, [], ◌∷◌, ◌++◌, length, map, flat_map, nat_lt, slice_get, if◌then◌else◌, Option, Some, None, Result, Ok, Err}
+use Rattle.std.specs.Prelude.{ℕ, zero, suc, ◌+◌, ◌*◌, ◌/◌, Bool, false, List, [], ◌∷◌, ◌++◌, length, map, flat_map, nat_lt, slice_get, if◌then◌else◌, Option, Some, None}
 use Rattle.std.specs.Map.{lookup}
 use Rattle.std.specs.BTreeMap.{insert_entry, is_at}
-use Rattle.std.specs.BTreeSet.{insert_key}
 use Rattle.host_types.specs.Site.{Site, byte_cmp, item_at}
-use Rattle.host_types.specs.Change.{apply, touched}
-use Rattle.common_types.specs.declared.refused.Refused.{Refused}
 use Rattle.host_types.specs.Card.{chunk_of}
 use Rattle.host_types.specs.Words.{words_of, is_among}
 use Rattle.site_records.specs.Keys.{item_key, chunk_key, word_key}
 use Rattle.site_records.specs.Records.{item_bytes, parts_of}
 use Rattle.host_types.specs.declared.item.Item.{Item}
-use Rattle.host_types.specs.declared.change.Change.{Change}
 
 -- a key and its value
 abbrev pub Pair : Type 0
@@ -38,9 +34,13 @@ part_pairs selector v (part ∷ parts) = chunk_pairs selector v part (chunk_coun
 abbrev pub word_pairs : List ℕ → List (List ℕ) → Pairs
 word_pairs selector words = map (λ w. (word_key w selector, [])) words
 
--- the pairs of one item
+-- the pairs of an item's data: its record, and the chunks of its parts
+abbrev pub data_pairs : List ℕ → Item → Pairs
+data_pairs selector item = (item_key selector, item_bytes item) ∷ part_pairs selector 0 (parts_of item.body)
+
+-- the pairs of one item: its data, and its words
 unfoldable pub item_pairs : List ℕ → Item → Pairs
-item_pairs selector item = (item_key selector, item_bytes item) ∷ part_pairs selector 0 (parts_of item.body) ++ word_pairs selector (words_of item)
+item_pairs selector item = data_pairs selector item ++ word_pairs selector (words_of item)
 
 -- some pairs in the order of their keys. At a key that stands twice the first counts
 abbrev pub in_order : Pairs → Pairs
@@ -77,27 +77,3 @@ kept_chunk (Some item) v k = chunk_in (slice_get (parts_of item.body) v) k
 abbrev pub has_word : Option Item → List ℕ → Bool
 has_word None word = false
 has_word (Some item) word = is_among (words_of item) word
-
--- ---- the keys that a change touches
-
-abbrev pub keys_at : Option Item → List ℕ → List (List ℕ)
-keys_at None selector = []
-keys_at (Some item) selector = map (λ p. p.0) (item_pairs selector item)
-
--- the keys of what stands at these selectors
-abbrev pub keys_in : Site → List (List ℕ) → List (List ℕ)
-keys_in s [] = []
-keys_in s (selector ∷ selectors) = keys_at (item_at s selector) selector ++ keys_in s selectors
-
-abbrev pub keys_after : Result Site Refused → List (List ℕ) → List (List ℕ)
-keys_after (Ok t) selectors = keys_in t selectors
-keys_after (Err e) selectors = []
-
--- some keys in byte order, each once
-abbrev pub each_once : List (List ℕ) → List (List ℕ)
-each_once [] = []
-each_once (key ∷ keys) = insert_key byte_cmp (each_once keys) key
-
--- all keys of the layouts of the items that a change changes, before and after: each once, in byte order
-unfoldable pub keys_of : Site → Change → ℕ → List (List ℕ)
-keys_of s change now = each_once (keys_in s (touched s change) ++ keys_after (apply s change now) (touched s change))

@@ -20,7 +20,7 @@ use Rattle.host_types.specs.Words.{words_of}
 use Rattle.host_types.specs.declared.item.Item.{Item}
 use Rattle.site_records.specs.Keys.{Chunk, Word, item_key, owner, owner-key_bytes}
 use Rattle.site_records.specs.Records.{item_bytes, parts_of}
-use Rattle.site_records.specs.Layout.{Pairs, chunk_count, chunk_pairs, part_pairs, word_pairs, item_pairs, in_order, all_pairs, layout, value_at, value_in}
+use Rattle.site_records.specs.Layout.{Pairs, chunk_count, chunk_pairs, part_pairs, word_pairs, data_pairs, item_pairs, in_order, all_pairs, layout, value_at, value_in}
 
 -- ---- order
 
@@ -50,7 +50,7 @@ layout_from_values pairs s sorted same = same_pairs pairs (layout s) sorted (is_
 abbrev pub OwnedBy : List ℕ → Pairs → Type 0
 OwnedBy selector ps = AllByRecursion (λ p. owner p.0 ≡ selector) ps
 
-OwnedBy-append : (selector : List ℕ) (ps qs : Pairs) → OwnedBy selector ps → OwnedBy selector qs → OwnedBy selector (ps ++ qs)
+pub OwnedBy-append : (selector : List ℕ) (ps qs : Pairs) → OwnedBy selector ps → OwnedBy selector qs → OwnedBy selector (ps ++ qs)
 OwnedBy-append selector [] qs h k = k
 OwnedBy-append selector (p ∷ ps) qs h k = (h.0, OwnedBy-append selector ps qs h.1 k)
 
@@ -62,14 +62,16 @@ OwnedBy-part_pairs : (selector : List ℕ) (v : ℕ) (parts : List (List ℕ)) �
 OwnedBy-part_pairs selector v [] = tt
 OwnedBy-part_pairs selector v (part ∷ parts) = OwnedBy-append selector (chunk_pairs selector v part (chunk_count (length part)) 0) (part_pairs selector (v + 1) parts) (OwnedBy-chunk_pairs selector v part (chunk_count (length part)) 0) (OwnedBy-part_pairs selector (v + 1) parts)
 
-OwnedBy-word_pairs : (selector : List ℕ) (words : List (List ℕ)) → OwnedBy selector (word_pairs selector words)
+pub OwnedBy-word_pairs : (selector : List ℕ) (words : List (List ℕ)) → OwnedBy selector (word_pairs selector words)
 OwnedBy-word_pairs selector [] = tt
 OwnedBy-word_pairs selector (w ∷ words) = (owner-key_bytes (Word w selector), OwnedBy-word_pairs selector words)
 
+pub OwnedBy-data_pairs : (selector : List ℕ) (item : Item) → OwnedBy selector (data_pairs selector item)
+OwnedBy-data_pairs selector item = (refl, OwnedBy-part_pairs selector 0 (parts_of item.body))
+
 pub OwnedBy-item_pairs : (selector : List ℕ) (item : Item) → OwnedBy selector (item_pairs selector item)
 unfolding item_pairs
-OwnedBy-item_pairs selector item =
-    (refl, OwnedBy-append selector (part_pairs selector 0 (parts_of item.body)) (word_pairs selector (words_of item)) (OwnedBy-part_pairs selector 0 (parts_of item.body)) (OwnedBy-word_pairs selector (words_of item)))
+OwnedBy-item_pairs selector item = OwnedBy-append selector (data_pairs selector item) (word_pairs selector (words_of item)) (OwnedBy-data_pairs selector item) (OwnedBy-word_pairs selector (words_of item))
 
 -- ---- tests of keys
 

@@ -5,6 +5,5 @@ pub mod Limits
 pub mod Reading
 pub mod Layout
 pub mod LayoutLaws
-pub mod KeyLaws
 pub mod Laws
 pub mod RecordExamples

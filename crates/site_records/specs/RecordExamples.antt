@@ -6,10 +6,9 @@ use Rattle.host_types.specs.declared.item.Body.TheVariants.{Menu}
 use Rattle.host_types.specs.declared.menu.Entry.TheVariants.{Local, Info, Remote}
 use Rattle.host_types.specs.declared.menu.LinkKind.TheVariants.{Telnet}
 use Rattle.host_types.specs.declared.form.Question.TheVariants.{Ask, AskP, Choose}
-use Rattle.host_types.specs.declared.change.Change.TheVariants.{Remove}
 use Rattle.site_records.specs.Records.{recorded, entries_bytes, questions_bytes, item_bytes}
 use Rattle.site_records.specs.Reading.{entries_at, questions_at, record_at}
-use Rattle.site_records.specs.Layout.{Pairs, layout, keys_of}
+use Rattle.site_records.specs.Layout.{Pairs, layout}
 
 -- a stamp of 743878921 seconds in eight bytes
 abbrev pub moment : List ℕ
@@ -50,17 +49,10 @@ sample_pairs =
     ∷ (codes "W" ++ 5 ∷ codes "hello/about", [])
     ∷ []
 
--- the keys of the item at `/about`, in byte order
-abbrev pub about_keys : List (List ℕ)
-about_keys =
-    (codes "C" ++ 6 ∷ codes "/about" ++ 0 ∷ 0 ∷ 0 ∷ []) ∷ codes "I/about" ∷ (codes "W" ++ 2 ∷ codes "us/about") ∷ (codes "W" ++ 3 ∷ codes "dot/about")
-    ∷ (codes "W" ++ 4 ∷ codes "last/about") ∷ (codes "W" ++ 5 ∷ codes "about/about") ∷ (codes "W" ++ 5 ∷ codes "hello/about") ∷ []
-
 pub record RecordExamples : Type 0 where
   pub top_menu : item_bytes top ≡ top_record
   pub document : item_bytes about ≡ about_record
   pub pairs : layout sample ≡ sample_pairs
-  pub removed_keys : keys_of sample (Remove (codes "/about")) 743878921 ≡ about_keys
   pub link : entries_bytes (Remote Telnet (codes "T") (codes "s") (codes "h") 258 ∷ []) ≡ codes "R8" ++ 1 ∷ codes "T" ++ 1 ∷ codes "s" ++ 1 ∷ codes "h" ++ 1 ∷ 2 ∷ []
   pub form : questions_bytes (Ask (codes "Who") ∷ AskP (codes "Key") (codes "sesame") ∷ Choose (codes "Way") (codes "in" ∷ codes "out" ∷ []) ∷ []) ≡
       codes "A" ++ 3 ∷ codes "Who" ++ codes "P" ++ 3 ∷ codes "Key" ++ 6 ∷ codes "sesame" ++ codes "C" ++ 3 ∷ codes "Way" ++ 2 ∷ 2 ∷ codes "in" ++ 3 ∷ codes "out"

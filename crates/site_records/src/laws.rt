@@ -1,7 +1,7 @@
 // What holds of keys, records and the layout.
 ghost use Rattle.site_records.specs.Keys.{KeysAreOneToOne};
 ghost use Rattle.site_records.specs.RecordExamples.{RecordExamples};
-ghost use Rattle.site_records.specs.Laws.{ItemsShareNoKey, PairsStand, LayoutIsInOrder, LayoutsHold, LayoutsChange, ChangesHaveKeys, ValuesTell, RecordsTell, ItemsHaveRecords, RecordsHaveItems, LayoutTells};
+ghost use Rattle.site_records.specs.Laws.{ItemsShareNoKey, PairsStand, LayoutIsInOrder, LayoutsHold, LayoutsChange, ValuesTell, RecordsTell, ItemsHaveRecords, RecordsHaveItems, LayoutTells};
 
 /// The layout of a sample site, byte for byte, and other worked examples.
 pub fn worked_examples()
@@ -36,11 +36,6 @@ pub fn layouts_hold()
 /// What becomes of the layout where an item is put, or goes.
 pub fn layouts_change()
     ensures { LayoutsChange }
-{}
-
-/// The keys of a change stand in byte order, each once, and are those of the items that it changes, before and after.
-pub fn changes_have_keys()
-    ensures { ChangesHaveKeys }
 {}
 
 /// Pairs in byte order of which each key has what it has in a layout are that layout.

@@ -17,9 +17,9 @@ mod view_reading;
 pub use entry_reading::read_entries;
 pub use keys::{Key, LONGEST_KEY, LONGEST_WORD, chunk_key, item_key, word_key};
 pub use laws::{
-    changes_have_keys, items_have_records, items_share_no_key, keys_are_one_to_one,
-    layout_is_in_order, layout_tells, layouts_change, layouts_hold, pairs_stand,
-    records_have_items, records_tell, values_tell, worked_examples,
+    items_have_records, items_share_no_key, keys_are_one_to_one, layout_is_in_order, layout_tells,
+    layouts_change, layouts_hold, pairs_stand, records_have_items, records_tell, values_tell,
+    worked_examples,
 };
 pub use part_chunks::chunk_count;
 pub use part_writing::{entries_bytes, questions_bytes};

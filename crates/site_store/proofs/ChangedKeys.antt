@@ -1,5 +1,5 @@
 -- The keys that the batch of a change has.
-use Rattle.std.proofs.Common.{◌≡◌, ◌≢◌, ℕ, Bool, true, false, cond, List, [], ◌∷◌, ◌++◌, map, Option, Some, None, Result, Ok, refl, sym, ap, ◌∙◌}
+use Rattle.std.proofs.Common.{◌≡◌, ◌≢◌, ℕ, Bool, true, false, cond, List, [], ◌∷◌, map, Option, Some, None, Result, Ok, refl, sym, ap, ◌∙◌}
 use Rattle.std.specs.Prelude.{IsTrue, ◌&&◌, ◌||◌, is_some, bytes_eq, fold}
 use Rattle.std.specs.Map.{lookup}
 use Rattle.std.specs.BTreeMap.{is_at}
@@ -16,9 +16,10 @@ use Rattle.common_types.specs.declared.refused.Refused.{Refused}
 use Rattle.page_store.specs.Batch.{edit_key}
 use Rattle.page_store.specs.declared.banner.Banner.{Banner}
 use Rattle.site_records.specs.Keys.{owner}
-use Rattle.site_records.specs.Layout.{Pairs, keys_in, keys_after, keys_of}
-use Rattle.site_records.specs.KeyLaws.{entry_keys, has_key, has_value, keys_once, not_its_own, keys_in-among, among-append}
-use Rattle.site_pairs.specs.Edits.{Edits, with_all, without_all, pairs_at, with_replacement, edits_of, batch_of}
+use Rattle.site_records.specs.Layout.{Pairs}
+use Rattle.site_pairs.specs.ChangeKeys.{keys_in, keys_between, keys_of}
+use Rattle.site_pairs.specs.KeyLaws.{entry_keys, has_key, has_beside, keys_once, not_its_own, keys_in-among, among-append}
+use Rattle.site_pairs.specs.Edits.{Edits, with_all, without_all, pairs_beside, with_replacement, edits_of, batch_of}
 use Rattle.site_store.specs.Planned.{named}
 use Rattle.change_plan.specs.Replacements.{replaced_at, replaced, all_replaced, selectors_of, AreReplacements, AreApart, AreReplacementsAt}
 use Rattle.change_plan.specs.declared.replacement.Replacement.{Replacement}
@@ -47,16 +48,11 @@ gone_keys edits (p ∷ ps) q =
       | false ↦ gone_keys edits ps q
     ]
 
-pairs_have : (selector : List ℕ) (item : Option Item) (q : List ℕ) → has_key (pairs_at selector item) q ≡ has_value selector item q
-pairs_have selector None q = refl
-pairs_have selector (Some item) q = refl
-
-replacement_keys : (edits : Edits) (replacement : Replacement) (q : List ℕ) → has_key (with_replacement edits replacement) q ≡ (has_value replacement.selector replacement.after q || (has_value replacement.selector replacement.before q || has_key edits q))
-replacement_keys edits replacement q =
-    put_keys (without_all edits (pairs_at replacement.selector replacement.before)) (pairs_at replacement.selector replacement.after) q
-    ∙ ap (λ b. b || has_key (without_all edits (pairs_at replacement.selector replacement.before)) q) (pairs_have replacement.selector replacement.after q)
-    ∙ ap (λ b. has_value replacement.selector replacement.after q || b) (gone_keys edits (pairs_at replacement.selector replacement.before) q)
-    ∙ ap (λ b. has_value replacement.selector replacement.after q || (b || has_key edits q)) (pairs_have replacement.selector replacement.before q)
+replacement_keys : (edits : Edits) (r : Replacement) (q : List ℕ) → has_key (with_replacement edits r) q ≡ (has_beside r.selector r.after r.before q || (has_beside r.selector r.before r.after q || has_key edits q))
+replacement_keys edits r q =
+    let old = pairs_beside r.selector r.before r.after in
+    let new = pairs_beside r.selector r.after r.before in
+    put_keys (without_all edits old) new q ∙ ap (λ b. has_key new q || b) (gone_keys edits old q)
 
 -- ---- what stands at a selector once replacements are made
 
@@ -79,9 +75,9 @@ made_elsewhere (replacement ∷ replacements) s k sorted apart =
     made_elsewhere replacements (replaced s replacement) k (sorted_replacement s replacement.selector replacement.after sorted) parts.1
     ∙ replaced_stands s replacement k sorted ∙ ap (λ (b : Bool). cond b replacement.after (item_at s k)) parts.0
 
--- a key of what stands at its selector
-abbrev stands_at : Site → List ℕ → Bool
-stands_at s q = has_value (owner q) (item_at s (owner q)) q
+-- a key of what stands at its selector, but of no word that what stands there in another site has too
+abbrev stands_beside : Site → Site → List ℕ → Bool
+stands_beside s other q = has_beside (owner q) (item_at s (owner q)) (item_at other (owner q)) q
 
 here : (new old edit : Bool) → (new || (old || edit)) ≡ ((old || new) || edit)
 here true true edit = refl
@@ -93,35 +89,37 @@ abbrev all_keys : Bool → Bool → Bool → Bool → Bool
 all_keys among before after edit = (among && (before || after)) || edit
 
 made_keys : (replacements : List Replacement) (edits : Edits) (s : Site) (q : List ℕ) → IsTrue (is_sorted byte_cmp s.items) → AreReplacements s replacements → AreApart replacements
-    → has_key (fold with_replacement edits replacements) q ≡ all_keys (is_among (selectors_of replacements) (owner q)) (stands_at s q) (stands_at (all_replaced s replacements) q) (has_key edits q)
+    → has_key (fold with_replacement edits replacements) q ≡ all_keys (is_among (selectors_of replacements) (owner q)) (stands_beside s (all_replaced s replacements) q) (stands_beside (all_replaced s replacements) s q) (has_key edits q)
 made_keys [] edits s q sorted know apart = refl
-made_keys (replacement ∷ replacements) edits s q sorted know apart =
+made_keys (r ∷ replacements) edits s q sorted know apart =
     let k = owner q in
-    let s1 = replaced s replacement in
+    let s1 = replaced s r in
     let t = all_replaced s1 replacements in
-    let sorted1 = sorted_replacement s replacement.selector replacement.after sorted in
-    let rest = made_keys replacements (with_replacement edits replacement) s1 q sorted1 know.1 apart.1 in
+    let sorted1 = sorted_replacement s r.selector r.after sorted in
+    let rest = made_keys replacements (with_replacement edits r) s1 q sorted1 know.1 apart.1 in
     let among = is_among (selectors_of replacements) k in
-    rest ∙ elim (bytes_eq k replacement.selector) as (λ b. bytes_eq k replacement.selector ≡ b → all_keys among (stands_at s1 q) (stands_at t q) (has_key (with_replacement edits replacement) q) ≡ all_keys (b || among) (stands_at s q) (stands_at t q) (has_key edits q)) [
+    let edited = has_key (with_replacement edits r) q in
+    rest ∙ elim (bytes_eq k r.selector) as (λ b. bytes_eq k r.selector ≡ b → all_keys among (stands_beside s1 t q) (stands_beside t s1 q) edited ≡ all_keys (b || among) (stands_beside s t q) (stands_beside t s q) (has_key edits q)) [
       | true ↦ λ is.
-          let own : k ≡ replacement.selector = (bytes_eq-Decides k replacement.selector).0 is in
+          let own : k ≡ r.selector = (bytes_eq-Decides k r.selector).0 is in
           let none : among ≡ false = ap (is_among (selectors_of replacements)) own ∙ apart.0 in
-          let was : has_value replacement.selector replacement.before q ≡ stands_at s q = ap (λ (o : Option Item). has_value replacement.selector o q) know.0 ∙ ap (λ (x : List ℕ). has_value x (item_at s x) q) (sym own) in
-          let stands : item_at t k ≡ replacement.after = made_elsewhere replacements s1 k sorted1 none ∙ replaced_stands s replacement k sorted ∙ ap (λ (b : Bool). cond b replacement.after (item_at s k)) is in
-          let comes : has_value replacement.selector replacement.after q ≡ stands_at t q = ap (λ (x : List ℕ). has_value x replacement.after q) (sym own) ∙ ap (λ (o : Option Item). has_value k o q) (sym stands) in
-          ap (λ (b : Bool). all_keys b (stands_at s1 q) (stands_at t q) (has_key (with_replacement edits replacement) q)) none
-          ∙ replacement_keys edits replacement q
-          ∙ ap (λ (b : Bool). b || (has_value replacement.selector replacement.before q || has_key edits q)) comes
-          ∙ ap (λ (b : Bool). stands_at t q || (b || has_key edits q)) was
-          ∙ here (stands_at t q) (stands_at s q) (has_key edits q)
+          let was : r.before ≡ item_at s k = know.0 ∙ ap (item_at s) (sym own) in
+          let stands : r.after ≡ item_at t k = sym (made_elsewhere replacements s1 k sorted1 none ∙ replaced_stands s r k sorted ∙ ap (λ (b : Bool). cond b r.after (item_at s k)) is) in
+          let goes : has_beside r.selector r.before r.after q ≡ stands_beside s t q = λ i. has_beside (sym own i) (was i) (stands i) q in
+          let comes : has_beside r.selector r.after r.before q ≡ stands_beside t s q = λ i. has_beside (sym own i) (stands i) (was i) q in
+          ap (λ (b : Bool). all_keys b (stands_beside s1 t q) (stands_beside t s1 q) edited) none
+          ∙ replacement_keys edits r q
+          ∙ ap (λ (b : Bool). b || (has_beside r.selector r.before r.after q || has_key edits q)) comes
+          ∙ ap (λ (b : Bool). stands_beside t s q || (b || has_key edits q)) goes
+          ∙ here (stands_beside t s q) (stands_beside s t q) (has_key edits q)
       | false ↦ λ is.
-          let apart1 : k ≢ replacement.selector = λ same. clash (sym is ∙ (bytes_eq-Decides k replacement.selector).1 same) in
-          let stands : item_at s1 k ≡ item_at s k = replaced_stands s replacement k sorted ∙ ap (λ (b : Bool). cond b replacement.after (item_at s k)) is in
-          ap (λ (o : Option Item). all_keys among (has_value k o q) (stands_at t q) (has_key (with_replacement edits replacement) q)) stands
-          ∙ ap (all_keys among (stands_at s q) (stands_at t q)) (
-          replacement_keys edits replacement q
-          ∙ ap (λ (b : Bool). b || (has_value replacement.selector replacement.before q || has_key edits q)) (not_its_own replacement.after replacement.selector q apart1)
-          ∙ ap (λ (b : Bool). b || has_key edits q) (not_its_own replacement.before replacement.selector q apart1)
+          let apart1 : k ≢ r.selector = λ same. clash (sym is ∙ (bytes_eq-Decides k r.selector).1 same) in
+          let stands : item_at s1 k ≡ item_at s k = replaced_stands s r k sorted ∙ ap (λ (b : Bool). cond b r.after (item_at s k)) is in
+          ap (λ (o : Option Item). all_keys among (has_beside k o (item_at t k) q) (has_beside k (item_at t k) o q) edited) stands
+          ∙ ap (all_keys among (stands_beside s t q) (stands_beside t s q)) (
+          replacement_keys edits r q
+          ∙ ap (λ (b : Bool). b || (has_beside r.selector r.before r.after q || has_key edits q)) (not_its_own r.after r.before r.selector q apart1)
+          ∙ ap (λ (b : Bool). b || has_key edits q) (not_its_own r.before r.after r.selector q apart1)
           )
     ] refl
 
@@ -144,13 +142,13 @@ unfolding keys_of
 changed_keys s change now replacements banner sorted made applied =
     let selectors = touched s change in
     let t = named (all_replaced s replacements) banner in
-    let all = keys_in s selectors ++ keys_after (apply s change now) selectors in
+    let among = λ (q : List ℕ). is_among selectors (owner q) in
     batch_keys (edits_of replacements)
-    ∙ keys_once (edits_of replacements) all (sorted_replacements replacements [] refl) (λ q.
+    ∙ keys_once (edits_of replacements) (keys_between s (apply s change now) selectors) (sorted_replacements replacements [] refl) (λ q.
     made_keys replacements [] s q sorted made.know made.apart
-    ∙ ap (λ (b : Bool). all_keys b (stands_at s q) (stands_at t q) false) (made.at (owner q))
-    ∙ spread (is_among selectors (owner q)) (stands_at s q) (stands_at t q)
-    ∙ ap (λ (b : Bool). b || (is_among selectors (owner q) && stands_at t q)) (sym (keys_in-among s selectors q))
-    ∙ ap (λ (b : Bool). is_among (keys_in s selectors) q || b) (sym (keys_in-among t selectors q))
-    ∙ ap (λ (r : Result Site Refused). is_among (keys_in s selectors) q || is_among (keys_after r selectors) q) (sym applied)
-    ∙ sym (among-append (keys_in s selectors) (keys_after (apply s change now) selectors) q))
+    ∙ ap (λ (b : Bool). all_keys b (stands_beside s t q) (stands_beside t s q) false) (made.at (owner q))
+    ∙ spread (among q) (stands_beside s t q) (stands_beside t s q)
+    ∙ ap (λ (b : Bool). b || (among q && stands_beside t s q)) (sym (keys_in-among s t selectors q))
+    ∙ ap (λ (b : Bool). is_among (keys_in s t selectors) q || b) (sym (keys_in-among t s selectors q))
+    ∙ sym (among-append (keys_in s t selectors) (keys_in t s selectors) q)
+    ∙ ap (λ (r : Result Site Refused). is_among (keys_between s r selectors) q) (sym applied))

@@ -1,10 +1,9 @@
 -- The edits of some replacements make the layout of the site that the replacements make.
-use Rattle.std.proofs.Common.{◌≡◌, ◌≢◌, ℕ, Bool, true, false, cond, List, [], ◌∷◌, map, Option, Some, None, refl, sym, ap, subst, ◌∙◌}
-use Rattle.std.specs.Prelude.{IsTrue, ◌&&◌, fold}
+use Rattle.std.proofs.Common.{◌≡◌, ◌≢◌, ℕ, Bool, true, false, cond, List, [], ◌∷◌, map, Option, Some, None, inl, inr, refl, sym, ap, subst, ◌∙◌}
+use Rattle.std.specs.Prelude.{IsTrue, ◌&&◌, not, fold}
 use Rattle.std.specs.declared.cmp.Ordering.{Ordering}
 use Rattle.std.specs.declared.cmp.Ordering.TheVariants.{Less, Equal, Greater}
 use Rattle.std.specs.Ordering.{is_eq, is_lt}
-use Rattle.std.specs.Map.{lookup}
 use Rattle.std.specs.BTreeMap.{is_at}
 use Rattle.std.specs.FinMap.{is_sorted}
 use Rattle.std.specs.FinMap.Entries.{below_all}
@@ -16,26 +15,15 @@ use Rattle.page_store.specs.Batch.{updated, with_value, edit_key, is_edit, is_ba
 use Rattle.page_store.specs.declared.edit.Edit.{Edit}
 use Rattle.std.specs.List.{list_all}
 use Rattle.site_records.specs.Keys.{owner}
-use Rattle.site_records.specs.Layout.{Pairs, layout, value_at, value_in}
-use Rattle.site_records.specs.LayoutLaws.{OwnedBy, OwnedBy-item_pairs, value_at-not_owned, is_at-Decides, value_at-layout, value_at-with_item, value_at-without_item, layout_from_values, is_sorted-layout}
-use Rattle.site_pairs.specs.Edits.{Edits, with_all, without_all, pairs_at, with_replacement, edits_of, batch_of}
+use Rattle.site_records.specs.Layout.{Pairs, layout, value_at, value_in, has_word}
+use Rattle.site_records.specs.LayoutLaws.{value_at-not_owned, is_at-Decides, value_at-layout, value_at-with_item, value_at-without_item, layout_from_values, is_sorted-layout}
+use Rattle.site_records.proofs.ChunkLaws.{word_value}
+use Rattle.site_pairs.specs.Edits.{Edits, with_all, without_all, pairs_beside, with_replacement, edits_of, batch_of}
+use Rattle.site_pairs.specs.KeyLaws.{owned_beside}
+use Rattle.site_pairs.proofs.EditValues.{Value, edit_at, or_put, or_gone, replacement-at}
+use Rattle.site_pairs.proofs.WordKeys.{empty_where, word_or_none, word_beside, no_word_beside}
 use Rattle.change_plan.specs.Replacements.{replaced_at, replaced, all_replaced, AreReplacements}
 use Rattle.change_plan.specs.declared.replacement.Replacement.{Replacement}
-
-abbrev Value : Type 0
-Value = Option (List ℕ)
-
--- what is to become of a key, if anything
-abbrev edit_at : Edits → List ℕ → Option Value
-edit_at edits key = lookup (is_at (byte_cmp key)) edits
-
-abbrev or_put : Value → Option Value → Option Value
-or_put None edit = edit
-or_put (Some value) edit = Some (Some value)
-
-abbrev or_gone : Value → Option Value → Option Value
-or_gone None edit = edit
-or_gone (Some value) edit = Some None
 
 -- the value after an edit, if there is one
 abbrev after : Option Value → Value → Value
@@ -43,24 +31,6 @@ after None old = old
 after (Some value) old = value
 
 -- ---- single edits
-
-with_all-at : (edits : Edits) (ps : Pairs) (q : List ℕ) → edit_at (with_all edits ps) q ≡ or_put (value_at ps q) (edit_at edits q)
-with_all-at edits [] q = refl
-with_all-at edits (p ∷ ps) q =
-    lookup-insert_entry (with_all edits ps) p.0 (Some p.1) q
-    ∙ elim (is_at (byte_cmp q) p.0) as (λ b. cond b (Some (Some p.1)) (edit_at (with_all edits ps) q) ≡ or_put (cond b (Some p.1) (value_at ps q)) (edit_at edits q)) [
-      | true ↦ refl
-      | false ↦ with_all-at edits ps q
-    ]
-
-without_all-at : (edits : Edits) (ps : Pairs) (q : List ℕ) → edit_at (without_all edits ps) q ≡ or_gone (value_at ps q) (edit_at edits q)
-without_all-at edits [] q = refl
-without_all-at edits (p ∷ ps) q =
-    lookup-insert_entry (without_all edits ps) p.0 None q
-    ∙ elim (is_at (byte_cmp q) p.0) as (λ b. cond b (Some None) (edit_at (without_all edits ps) q) ≡ or_gone (cond b (Some p.1) (value_at ps q)) (edit_at edits q)) [
-      | true ↦ refl
-      | false ↦ without_all-at edits ps q
-    ]
 
 pub sorted_with : (edits : Edits) (ps : Pairs) → IsTrue (is_sorted byte_cmp edits) → IsTrue (is_sorted byte_cmp (with_all edits ps))
 sorted_with edits [] h = h
@@ -72,21 +42,14 @@ sorted_without edits (p ∷ ps) h = is_sorted-insert_entry (without_all edits ps
 
 pub sorted_replacements : (replacements : List Replacement) (edits : Edits) → IsTrue (is_sorted byte_cmp edits) → IsTrue (is_sorted byte_cmp (fold with_replacement edits replacements))
 sorted_replacements [] edits h = h
-sorted_replacements (replacement ∷ replacements) edits h =
-    sorted_replacements replacements (with_replacement edits replacement) (sorted_with (without_all edits (pairs_at replacement.selector replacement.before)) (pairs_at replacement.selector replacement.after) (sorted_without edits (pairs_at replacement.selector replacement.before) h))
+sorted_replacements (r ∷ replacements) edits h =
+    let old = pairs_beside r.selector r.before r.after in
+    sorted_replacements replacements (with_replacement edits r) (sorted_with (without_all edits old) (pairs_beside r.selector r.after r.before) (sorted_without edits old h))
 
 -- ---- one replacement
 
-owned_at : (selector : List ℕ) (item : Option Item) → OwnedBy selector (pairs_at selector item)
-owned_at selector None = tt
-owned_at selector (Some item) = OwnedBy-item_pairs selector item
-
-same_value : (selector : List ℕ) (item : Option Item) (q : List ℕ) → value_in selector item q ≡ value_at (pairs_at selector item) q
-same_value selector None q = refl
-same_value selector (Some item) q = refl
-
 replaced_at-value : (t : Site) (selector : List ℕ) (item : Option Item) (q : List ℕ) → IsTrue (is_sorted byte_cmp t.items) →
-    value_at (layout (replaced_at t selector item)) q ≡ cond (is_at (byte_cmp (owner q)) selector) (value_at (pairs_at selector item) q) (value_at (layout t) q)
+    value_at (layout (replaced_at t selector item)) q ≡ cond (is_at (byte_cmp (owner q)) selector) (value_in selector item q) (value_at (layout t) q)
 replaced_at-value t selector None q h = value_at-without_item t selector q h
 replaced_at-value t selector (Some item) q h = value_at-with_item t selector item q h
 
@@ -94,10 +57,35 @@ pub sorted_replacement : (t : Site) (selector : List ℕ) (item : Option Item) �
 sorted_replacement t selector None h = is_sorted-remove_entry t.items selector h
 sorted_replacement t selector (Some item) h = is_sorted-insert_entry t.items selector item h
 
-own_key : (new old : Value) (edit : Option Value) (was is : Value) → old ≡ is → after edit was ≡ is → after (or_put new (or_gone old edit)) was ≡ new
-own_key (Some v) old edit was is o h = refl
-own_key None (Some v) edit was is o h = refl
-own_key None None edit was is o h = h ∙ sym o
+-- what edits and a replacement after them make of a key
+abbrev remade : List ℕ → Option Item → Option Item → Option Value → Value → List ℕ → Value
+remade selector old new edit was q = after (or_put (value_at (pairs_beside selector new old) q) (or_gone (value_at (pairs_beside selector old new) q) edit)) was
+
+-- a key of the data
+data_key : (new old : Value) (edit : Option Value) (was : Value) → after edit was ≡ old → after (or_put new (or_gone old edit)) was ≡ new
+data_key (Some v) old edit was h = refl
+data_key None (Some v) edit was h = refl
+data_key None None edit was h = h
+
+-- the key of a word, which the old item has, or not, and the new one has, or not: that of a word of both keeps its value
+one_word : (new old : Bool) (edit : Option Value) (was : Value) → after edit was ≡ empty_where old → after (or_put (empty_where (new && not old)) (or_gone (empty_where (old && not new)) edit)) was ≡ empty_where new
+one_word true true edit was h = h
+one_word true false edit was h = refl
+one_word false true edit was h = refl
+one_word false false edit was h = h
+
+own_key : (selector : List ℕ) (old new : Option Item) (edit : Option Value) (was : Value) (q : List ℕ) → after edit was ≡ value_in selector old q → remade selector old new edit was q ≡ value_in selector new q
+own_key selector old new edit was q h =
+    elim (word_or_none selector q) [
+      | inl named ↦
+          let word = named.0 in
+          let comes : value_at (pairs_beside selector new old) q ≡ empty_where (has_word new word && not (has_word old word)) = ap (value_at (pairs_beside selector new old)) named.1 ∙ word_beside selector new old word in
+          let goes : value_at (pairs_beside selector old new) q ≡ empty_where (has_word old word && not (has_word new word)) = ap (value_at (pairs_beside selector old new)) named.1 ∙ word_beside selector old new word in
+          let stood : value_in selector old q ≡ empty_where (has_word old word) = ap (value_in selector old) named.1 ∙ word_value selector old word in
+          let stands : value_in selector new q ≡ empty_where (has_word new word) = ap (value_in selector new) named.1 ∙ word_value selector new word in
+          rw (comes, goes) (one_word (has_word new word) (has_word old word) edit was (h ∙ stood)) ∙ sym stands
+      | inr other ↦ rw (no_word_beside selector q new old other, no_word_beside selector q old new other) (data_key (value_in selector new q) (value_in selector old q) edit was h)
+    ]
 
 other_key : (new old : Value) (edit : Option Value) (was is : Value) → new ≡ None → old ≡ None → after edit was ≡ is → after (or_put new (or_gone old edit)) was ≡ is
 other_key new old edit was is n o h = rw (n, o) h
@@ -106,26 +94,22 @@ other_key new old edit was is n o h = rw (n, o) h
 abbrev Make : Edits → Pairs → Site → Type 0
 Make edits pairs t = (q : List ℕ) → after (edit_at edits q) (value_at pairs q) ≡ value_at (layout t) q
 
-one_replacement : (edits : Edits) (pairs : Pairs) (t : Site) (replacement : Replacement) → IsTrue (is_sorted byte_cmp t.items) → replacement.before ≡ item_at t replacement.selector → Make edits pairs t → Make (with_replacement edits replacement) pairs (replaced t replacement)
-one_replacement edits pairs t replacement sorted is make q =
-    let sel = replacement.selector in
-    let new = value_at (pairs_at sel replacement.after) q in
-    let old = value_at (pairs_at sel replacement.before) q in
+one_replacement : (edits : Edits) (pairs : Pairs) (t : Site) (r : Replacement) → IsTrue (is_sorted byte_cmp t.items) → r.before ≡ item_at t r.selector → Make edits pairs t → Make (with_replacement edits r) pairs (replaced t r)
+one_replacement edits pairs t r sorted is make q =
     let edit = edit_at edits q in
     let was = value_at pairs q in
-    let all : edit_at (with_replacement edits replacement) q ≡ or_put new (or_gone old edit) =
-    with_all-at (without_all edits (pairs_at sel replacement.before)) (pairs_at sel replacement.after) q ∙ ap (or_put new) (without_all-at edits (pairs_at sel replacement.before) q) in
-    ap (λ (e : Option Value). after e was) all
-    ∙ elim (is_at (byte_cmp (owner q)) sel) as (λ b. is_at (byte_cmp (owner q)) sel ≡ b → after (or_put new (or_gone old edit)) was ≡ cond b new (value_at (layout t) q)) [
+    ap (λ (e : Option Value). after e was) (replacement-at edits r q)
+    ∙ elim (is_at (byte_cmp (owner q)) r.selector) as (λ b. is_at (byte_cmp (owner q)) r.selector ≡ b → remade r.selector r.before r.after edit was q ≡ cond b (value_in r.selector r.after q) (value_at (layout t) q)) [
       | true ↦ λ t1.
-          let own : owner q ≡ sel = (is_at-Decides (owner q) sel).0 t1 in
-          let there : value_at (layout t) q ≡ value_at (pairs_at sel (item_at t sel)) q = value_at-layout t q sorted ∙ ap (λ (k : List ℕ). value_in k (item_at t k) q) own ∙ same_value sel (item_at t sel) q in
-          own_key new old edit was (value_at (layout t) q) (ap (λ (o : Option Item). value_at (pairs_at sel o) q) is ∙ sym there) (make q)
+          let own : owner q ≡ r.selector = (is_at-Decides (owner q) r.selector).0 t1 in
+          let there : value_at (layout t) q ≡ value_in r.selector r.before q = value_at-layout t q sorted ∙ ap (λ (k : List ℕ). value_in k (item_at t k) q) own ∙ ap (λ (o : Option Item). value_in r.selector o q) (sym is) in
+          own_key r.selector r.before r.after edit was q (make q ∙ there)
       | false ↦ λ t1.
-          let apart : owner q ≢ sel = λ same. absurd (clash (sym t1 ∙ (is_at-Decides (owner q) sel).1 same)) in
-          other_key new old edit was (value_at (layout t) q) (value_at-not_owned sel (pairs_at sel replacement.after) q (owned_at sel replacement.after) apart) (value_at-not_owned sel (pairs_at sel replacement.before) q (owned_at sel replacement.before) apart) (make q)
+          let apart : owner q ≢ r.selector = λ same. absurd (clash (sym t1 ∙ (is_at-Decides (owner q) r.selector).1 same)) in
+          let none = λ (item other : Option Item). value_at-not_owned r.selector (pairs_beside r.selector item other) q (owned_beside r.selector item other) apart in
+          other_key (value_at (pairs_beside r.selector r.after r.before) q) (value_at (pairs_beside r.selector r.before r.after) q) edit was (value_at (layout t) q) (none r.after r.before) (none r.before r.after) (make q)
     ] refl
-    ∙ sym (replaced_at-value t sel replacement.after q sorted)
+    ∙ sym (replaced_at-value t r.selector r.after q sorted)
   where
     clash : false ≡ true → ⊥
     clash h = cc h

@@ -20,7 +20,8 @@ use Rattle.page_store.specs.declared.banner.Banner.{Banner}
 use Rattle.page_store.specs.declared.edit.Edit.{Edit}
 use Rattle.page_store.specs.declared.fault.KeeperFault.{KeeperFault}
 use Rattle.page_store.specs.declared.fault.KeeperFault.TheVariants as kinds
-use Rattle.site_records.specs.Layout.{layout, keys_of}
+use Rattle.site_records.specs.Layout.{layout}
+use Rattle.site_pairs.specs.ChangeKeys.{keys_of}
 use Rattle.site_store.specs.ReadLaws.{kept_after}
 use Rattle.site_store.specs.Represented.{Shows, Represents, RepresentedBy, HasSite, no_site, where_passed, site_of, site_state_of, site_kept, site_is}
 use Rattle.site_store.specs.Lacking.{MayNeed, IsLacking}

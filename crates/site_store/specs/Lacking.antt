@@ -8,7 +8,8 @@ use Rattle.host_types.specs.declared.site_fault.SiteFault.TheVariants as faults
 use Rattle.page_store.specs.Batch.{updated, edit_key, is_batch}
 use Rattle.page_store.specs.StoreState.{StoreState, MayBeDeep, last_generation}
 use Rattle.page_store.specs.declared.edit.Edit.{Edit}
-use Rattle.site_records.specs.Layout.{layout, keys_of}
+use Rattle.site_records.specs.Layout.{layout}
+use Rattle.site_pairs.specs.ChangeKeys.{keys_of}
 
 -- Some edits are a batch, for which a keeper may need so much.
 abbrev pub MayNeed : {K : Type 0} → (K → List Edit → ℕ → Type 0) → K → List Edit → ℕ → Type 0

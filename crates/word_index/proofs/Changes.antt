@@ -11,7 +11,7 @@ both_false true = refl
 both_false false = refl
 
 -- a word is dropped where it is an old one that the new ones lack
-is_dropped : (old new : List (List ℕ)) (word : List ℕ) → is_among (dropped old new) word ≡ (is_among old word && not (is_among new word))
+pub is_dropped : (old new : List (List ℕ)) (word : List ℕ) → is_among (dropped old new) word ≡ (is_among old word && not (is_among new word))
 is_dropped [] new word = refl
 is_dropped (x ∷ old) new word =
     elim (cases_Bool (bytes_eq word x)) [

@@ -1,22 +1,20 @@
 use Rattle.std.proofs.Common.{refl}
 use Rattle.host_types.specs.Card.{chunk_of}
-use Rattle.host_types.specs.Change.{remove}
 use Rattle.host_types.specs.Items.{most_view_bytes}
 use Rattle.host_types.specs.Words.{word_of, first_words}
 use Rattle.site_records.specs.Records.{record_bytes}
 use Rattle.site_records.specs.Field.{number, byte, counted, passing, both, mapped, known, listed}
 use Rattle.site_records.specs.Limits.{is_menu_size, is_form_size, go_together}
 use Rattle.site_records.specs.Reading.{entry_behind, entry_at, entries_at, questions_at, head_at, view_at, views_at, board_at, body_behind, record_at}
-use Rattle.site_records.specs.Layout.{chunk_count, item_pairs, layout, keys_of}
+use Rattle.site_records.specs.Layout.{chunk_count, item_pairs, layout}
 use Rattle.site_records.proofs.laws.worked_examples.Goals as goal
 
 pub returns : goal.returns
-unfolding chunk_of remove most_view_bytes word_of first_words record_bytes number byte counted passing both mapped known listed is_menu_size is_form_size go_together entry_behind entry_at entries_at questions_at head_at view_at views_at board_at body_behind record_at chunk_count item_pairs layout keys_of
+unfolding chunk_of most_view_bytes word_of first_words record_bytes number byte counted passing both mapped known listed is_menu_size is_form_size go_together entry_behind entry_at entries_at questions_at head_at view_at views_at board_at body_behind record_at chunk_count item_pairs layout
 returns c = record {
   top_menu = refl;
   document = refl;
   pairs = refl;
-  removed_keys = refl;
   link = refl;
   form = refl;
   top_is_read = refl;

@@ -1,4 +1,4 @@
--- Laws of the keys that a change touches.
+-- Laws of the keys that a change puts or removes.
 use Rattle.std.specs.Prelude.{◌≡◌, ◌≢◌, ℕ, Bool, true, false, cond, ◌&&◌, ◌||◌, List, [], ◌∷◌, ◌++◌, map, Option, Some, None, is_some, bytes_eq, IsTrue, refl}
 use Rattle.std.proofs.Common.{ap, sym, subst, ◌∙◌}
 use Rattle.std.specs.List.{AllByRecursion}
@@ -19,8 +19,11 @@ use Rattle.host_types.specs.SiteLaws.{same_pairs}
 use Rattle.host_types.specs.Words.{is_among}
 use Rattle.host_types.specs.declared.item.Item.{Item}
 use Rattle.site_records.specs.Keys.{owner}
-use Rattle.site_records.specs.Layout.{Pairs, in_order, item_pairs, value_at, value_in, keys_at, keys_in, each_once}
-use Rattle.site_records.specs.LayoutLaws.{OwnedBy-item_pairs, value_at-not_owned, is_sorted-in_order, value_at-in_order}
+use Rattle.site_records.specs.Layout.{Pairs, word_pairs, in_order, value_at}
+use Rattle.site_records.specs.LayoutLaws.{OwnedBy, OwnedBy-append, OwnedBy-data_pairs, OwnedBy-word_pairs, value_at-not_owned, is_sorted-in_order, value_at-in_order}
+use Rattle.word_index.specs.IndexChange.{dropped}
+use Rattle.site_pairs.specs.Edits.{data_at, words_at, pairs_beside}
+use Rattle.site_pairs.specs.ChangeKeys.{keys_beside, keys_in, each_once}
 
 -- ---- keys of entries
 
@@ -138,31 +141,36 @@ among-append (k ∷ ks) ls q =
       | false ↦ among-append ks ls q
     ]
 
--- whether something stands at a key of what stands at a selector
-abbrev pub has_value : List ℕ → Option Item → List ℕ → Bool
-has_value selector item q = is_some (value_in selector item q)
+-- whether a key is one of what stands at a selector, but of no word that something else has too
+abbrev pub has_beside : List ℕ → Option Item → Option Item → List ℕ → Bool
+has_beside selector item other q = has_key (pairs_beside selector item other) q
 
-keys_at-among : (o : Option Item) (selector q : List ℕ) → is_among (keys_at o selector) q ≡ has_value selector o q
-keys_at-among None selector q = refl
-keys_at-among (Some item) selector q = sym (has_key-among (item_pairs selector item) q)
+owned_data : (selector : List ℕ) (item : Option Item) → OwnedBy selector (data_at selector item)
+owned_data selector None = tt
+owned_data selector (Some item) = OwnedBy-data_pairs selector item
 
-pub not_its_own : (o : Option Item) (selector q : List ℕ) → owner q ≢ selector → has_value selector o q ≡ false
-not_its_own None selector q apart = refl
-not_its_own (Some item) selector q apart = ap (λ v. is_some v) (value_at-not_owned selector (item_pairs selector item) q (OwnedBy-item_pairs selector item) apart)
+pub owned_beside : (selector : List ℕ) (item other : Option Item) → OwnedBy selector (pairs_beside selector item other)
+owned_beside selector item other =
+    let words = dropped (words_at item) (words_at other) in
+    OwnedBy-append selector (data_at selector item) (word_pairs selector words) (owned_data selector item) (OwnedBy-word_pairs selector words)
+
+pub not_its_own : (item other : Option Item) (selector q : List ℕ) → owner q ≢ selector → has_beside selector item other q ≡ false
+not_its_own item other selector q apart = ap (λ v. is_some v) (value_at-not_owned selector (pairs_beside selector item other) q (owned_beside selector item other) apart)
 
 -- a key is one of theirs where its selector is among them, and it is one of what stands there
-pub keys_in-among : (s : Site) (selectors : List (List ℕ)) (q : List ℕ) → is_among (keys_in s selectors) q ≡ (is_among selectors (owner q) && has_value (owner q) (item_at s (owner q)) q)
-keys_in-among s [] q = refl
-keys_in-among s (selector ∷ selectors) q =
-    among-append (keys_at (item_at s selector) selector) (keys_in s selectors) q
-    ∙ ap (λ b. b || is_among (keys_in s selectors) q) (keys_at-among (item_at s selector) selector q)
-    ∙ ap (λ b. has_value selector (item_at s selector) q || b) (keys_in-among s selectors q)
-    ∙ elim (bytes_eq (owner q) selector) as (λ b. bytes_eq (owner q) selector ≡ b → (has_value selector (item_at s selector) q || (is_among selectors (owner q) && has_value (owner q) (item_at s (owner q)) q)) ≡ ((b || is_among selectors (owner q)) && has_value (owner q) (item_at s (owner q)) q)) [
-      | true ↦ λ t.
-          let own : owner q ≡ selector = (bytes_eq-Decides (owner q) selector).0 t in
-          ap (λ (k : List ℕ). has_value k (item_at s k) q || (is_among selectors (owner q) && has_value (owner q) (item_at s (owner q)) q)) (sym own) ∙ absorbed (has_value (owner q) (item_at s (owner q)) q) (is_among selectors (owner q))
-      | false ↦ λ t.
-          ap (λ b. b || (is_among selectors (owner q) && has_value (owner q) (item_at s (owner q)) q)) (not_its_own (item_at s selector) selector q (λ same. clash (sym t ∙ (bytes_eq-Decides (owner q) selector).1 same)))
+pub keys_in-among : (s t : Site) (selectors : List (List ℕ)) (q : List ℕ) → is_among (keys_in s t selectors) q ≡ (is_among selectors (owner q) && has_beside (owner q) (item_at s (owner q)) (item_at t (owner q)) q)
+keys_in-among s t [] q = refl
+keys_in-among s t (selector ∷ selectors) q =
+    let has = λ (k : List ℕ). has_beside k (item_at s k) (item_at t k) q in
+    among-append (keys_beside selector (item_at s selector) (item_at t selector)) (keys_in s t selectors) q
+    ∙ ap (λ b. b || is_among (keys_in s t selectors) q) (sym (has_key-among (pairs_beside selector (item_at s selector) (item_at t selector)) q))
+    ∙ ap (λ b. has selector || b) (keys_in-among s t selectors q)
+    ∙ elim (bytes_eq (owner q) selector) as (λ b. bytes_eq (owner q) selector ≡ b → (has selector || (is_among selectors (owner q) && has (owner q))) ≡ ((b || is_among selectors (owner q)) && has (owner q))) [
+      | true ↦ λ t1.
+          let own : owner q ≡ selector = (bytes_eq-Decides (owner q) selector).0 t1 in
+          ap (λ (k : List ℕ). has k || (is_among selectors (owner q) && has (owner q))) (sym own) ∙ absorbed (has (owner q)) (is_among selectors (owner q))
+      | false ↦ λ t1.
+          ap (λ b. b || (is_among selectors (owner q) && has (owner q))) (not_its_own (item_at s selector) (item_at t selector) selector q (λ same. clash (sym t1 ∙ (bytes_eq-Decides (owner q) selector).1 same)))
     ] refl
   where
     absorbed : (a b : Bool) → (a || (b && a)) ≡ a
