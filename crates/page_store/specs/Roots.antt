@@ -1,5 +1,5 @@
 -- Root slots, and which of them is current.
-use Rattle.std.specs.Prelude.{◌≤◌, ℕ, zero, suc, ◌*◌, Bool, List, [], ◌∷◌, ◌++◌, length, take, drop, Option, Some, None, Result, Ok, Err, nat_lt, nat_le, ◌==◌, ◌&&◌, if◌then◌else◌}
+use Rattle.std.specs.Prelude.{◌≤◌, ◌<◌, ℕ, zero, suc, ◌*◌, Bool, List, [], ◌∷◌, ◌++◌, length, take, drop, Option, Some, None, Result, Ok, Err, nat_lt, nat_le, ◌==◌, ◌&&◌, if◌then◌else◌}
 use Rattle.std.specs.Prelude.{bytes_eq}
 use Rattle.std.specs.List.{list_all}
 use Rattle.std.specs.Int.{w16, w32, w64, from_be_bytes}
@@ -65,6 +65,10 @@ root_at sectors bytes = do
 -- the root's image is on a device of so many sectors
 abbrev pub FitsDevice : ℕ → Root → Type 0
 FitsDevice sectors root = (16 ≤ root.pages) × (root.pages ≤ 65536) × (8 * root.pages ≤ sectors)
+
+-- What a slot is that is found on a device of so many sectors, whatever the device says.
+abbrev pub IsFoundSlot : ℕ → Slot → Type 0
+IsFoundSlot sectors slot = (slot.number < 2) × (0 < slot.root.banner.port) × FitsDevice sectors slot.root
 
 -- slot s on a device of so many sectors, where it is valid: its eight sectors bear their magic word and number and share a seal, and its record reads
 unfoldable pub slot_in : ℕ → Image → ℕ → Option Slot

@@ -13,7 +13,7 @@ ghost use Rattle.page_store.specs.Steps.{crash_states_of};
 ghost use Rattle.page_store.specs.DeviceEffects.{KeepsDevice, IsReadCall};
 ghost use Rattle.page_store.specs.FlatState.{IsFitted, CrashStatesDoRepresent, IsOpened, IsSlotFault, IsOpenFault, HasOpened, found_in_half};
 ghost use Rattle.page_store.specs.FlatSeen.{pairs_of, banner_of, device_of, top_of, is_open};
-ghost use Rattle.page_store.specs.Roots.{FitsDevice, current, greatest_seal};
+ghost use Rattle.page_store.specs.Roots.{IsFoundSlot, current, greatest_seal};
 ghost use Rattle.common_types.specs.CrashStates.{AddsNone};
 
 use crate::flat_reading::read_half;
@@ -51,7 +51,7 @@ fn flat_slot<D: Device>(device: &mut D) -> Result<(Slot, u64), KeeperFault>
     requires { 128 ≤ (D.state device.old).size }
     ensures slot { IsTrue (D.state device.old).honest → IfOk result (λ found. current (D.state device.old).disk.view ≡ Some found.0) }
     ensures top { IsTrue (D.state device.old).honest → IfOk result (λ found. greatest_seal (D.state device.old).disk.view 16 ≡ found.1) }
-    ensures fits { IfOk result (λ found. (found.0.number < 2) × FitsDevice (D.state device.old).size found.0.root) }
+    ensures fits { IfOk result (λ found. IsFoundSlot (D.state device.old).size found.0) }
     ensures version { IfOk result (λ found. found.0.root.banner.version ≡ 0) }
     ensures fault { IfErr result (IsSlotFault (D.state device.old)) }
     ensures device { IsReadCall D.state (crash_states_of D.moment D.possible_since) device.old device.new }
@@ -73,7 +73,7 @@ fn flat_slot<D: Device>(device: &mut D) -> Result<(Slot, u64), KeeperFault>
 /// Makes sure of what is there, and finds the current slot of a flat image and the greatest seal.
 fn open_slot<D: Device>(device: &mut D) -> Result<(Slot, u64), KeeperFault>
     ensures opened { IfOk result (λ found. IsOpened (D.state device.old) (D.state device.new) (crash_states_of D.moment D.possible_since device.new) found.0 found.1) }
-    ensures fits { IfOk result (λ found. (found.0.number < 2) × FitsDevice (D.state device.old).size found.0.root) }
+    ensures fits { IfOk result (λ found. IsFoundSlot (D.state device.old).size found.0) }
     ensures version { IfOk result (λ found. found.0.root.banner.version ≡ 0) }
     ensures large { IfOk result (λ found. 128 ≤ (D.state device.old).size) }
     ensures fault { IfErr result (IsOpenFault (D.state device.old) (D.state device.new)) }

@@ -1,5 +1,5 @@
 // Fields, entries and flat pages, read from left to right.
-ghost use Rattle.std.specs.Prelude.{◌≡◌, ◌*◌, ◌≤◌, option_map, length, IfSome};
+ghost use Rattle.std.specs.Prelude.{◌≡◌, ◌*◌, ◌≤◌, ◌<◌, option_map, length, IfSome};
 ghost use Rattle.std.specs.Int.{w16, w32, w64};
 ghost use Rattle.page_store.specs.Reading.{number_at, byte_at, piece_at};
 ghost use Rattle.std.specs.List.{list_all};
@@ -88,6 +88,7 @@ pub fn are_zero(bytes: &[u8]) -> bool
 pub(crate) fn root_at(sectors: u64, bytes: &[u8]) -> Option<Root>
     ensures root { result ≡ root_at sectors bytes.now }
     ensures fits { IfSome result (λ root. FitsDevice sectors root) }
+    ensures port { IfSome result (λ root. 0 < root.banner.port) }
 {
     let (version, rest) = u16_at(bytes)?;
     let (pages, rest) = u32_at(rest)?;

@@ -1,7 +1,7 @@
 // Which root slots are valid, and which is current.
 ghost use Rattle.std.specs.Prelude.{◌⊎◌, IfSome, ◌≡◌, ◌+◌, ◌*◌, ◌<◌, ◌≤◌, ℕ, IfOk, length, drop, ◌++◌};
 ghost use Rattle.page_store.specs.Sectors.{sector};
-ghost use Rattle.page_store.specs.Roots.{FitsDevice, shared_seal, record_from, slot_in, newer, current, greater, seal_or_zero, greatest_seal};
+ghost use Rattle.page_store.specs.Roots.{IsFoundSlot, shared_seal, record_from, slot_in, newer, current, greater, seal_or_zero, greatest_seal};
 ghost use Rattle.page_store.specs.Steps.{crash_states_of};
 ghost use Rattle.page_store.specs.DeviceEffects.{ReadsDevice};
 
@@ -64,7 +64,7 @@ fn record_of(sectors: &[[u8; 512]; 16], slot: usize) -> ArrayVec<u8, 3904>
 fn slot_in(total: u64, sectors: &[[u8; 512]; 16], slot: usize) -> Option<Slot>
     requires { slot < 2 }
     ensures slot { result ≡ slot_in total sectors.now slot }
-    ensures fits { IfSome result (λ found. (found.number ≡ slot) × FitsDevice total found.root) }
+    ensures fits { IfSome result (λ found. (found.number ≡ slot) × IsFoundSlot total found) }
 {
     let seal = shared_seal(sectors, slot)?;
     let root = root_at(total, record_of(sectors, slot).as_slice())?;
@@ -90,7 +90,7 @@ fn newer(a: Option<Slot>, b: Option<Slot>) -> Option<Slot>
 /// The current slot on a device of so many sectors.
 fn current_of(total: u64, sectors: &[[u8; 512]; 16]) -> Option<Slot>
     ensures current { result ≡ newer (slot_in total sectors.now 0) (slot_in total sectors.now 1) }
-    ensures fits { IfSome result (λ slot. (slot.number < 2) × FitsDevice total slot.root) }
+    ensures fits { IfSome result (IsFoundSlot total) }
 {
     newer(slot_in(total, sectors, 0), slot_in(total, sectors, 1))
 }
@@ -127,7 +127,7 @@ fn read_slots<D: Device>(device: &mut D, sectors: &mut [[u8; 512]; 16]) -> Resul
 pub fn open_roots<D: Device>(device: &mut D) -> Result<Roots, DeviceFault>
     requires { 16 ≤ (D.state device.old).size }
     ensures roots { ReadsDevice D.state (crash_states_of D.moment D.possible_since) device.old device.new result (λ view roots. (roots.current ≡ current view) × (roots.greatest ≡ greatest_seal view 16)) }
-    ensures fits { IfOk result (λ roots. IfSome roots.current (λ slot. (slot.number < 2) × FitsDevice (D.state device.old).size slot.root)) }
+    ensures fits { IfOk result (λ roots. IfSome roots.current (IsFoundSlot (D.state device.old).size)) }
 {
     let mut sectors = [[0; 512]; 16];
     read_slots(device, &mut sectors)?;

@@ -23,7 +23,7 @@ returns-in-Err-clause-counts_fault g c =
     half_counts (g.D.Device.state c.args.device.now) (g.D.Device.state c.open_slot.new.device) (g.D.Device.state c.read_half.new.device) c.in-Err.fault c.in_ok-slot.ensures.counts c.in-Err.ensures.reads c.read_half.ensures.device.only.writes
 
 pub returns-then-not-is_map-clause-fault : goal.returns-then-not-is_map-clause-fault
-returns-then-not-is_map-clause-fault g c = let opened = c.in_ok-slot.ensures.opened in let least = c.in_ok-slot.ensures.fits.1.0 in (
+returns-then-not-is_map-clause-fault g c = let opened = c.in_ok-slot.ensures.opened in let least = c.in_ok-slot.ensures.fits.2.0 in (
   c.in_ok-slot.ensures.large,
   λ keeps.
       let keeps1 : IsTrue (g.D.Device.state c.open_slot.new.device).honest = subst IsTrue (sym c.open_slot.ensures.device.same.honest) keeps in
