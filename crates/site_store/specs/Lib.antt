@@ -11,5 +11,7 @@ pub mod Lacking
 pub mod CrashStatesRepresent
 pub mod Opening
 pub mod Walking
+pub mod FilterSearch
+pub mod WordWalks
 pub mod Searching
 pub mod Counting
