@@ -6,7 +6,7 @@ use Rattle.site_store.specs.Walking.{selector_after}
 use Rattle.site_store.proofs.FoundItems.{kept_sorted}
 use Rattle.site_store.proofs.RisingKeys.{rest_of, none_left, next_left, first_entry}
 use Rattle.site_store.proofs.ItemWalks.{has_top, next_stands}
-use Rattle.site_store.proofs.Searches.{none_above}
+use Rattle.site_store.proofs.FilterSearches.{none_above}
 
 -- the first item is one
 pub first_counted : (s : Site) (counted : ℕ) (top : List ℕ) → ∥ IsSite s ∥₁ → counted ≡ 1 → top ≡ [] → IsCounted s counted top

@@ -13,6 +13,11 @@ pub mod PairsInOrder
 pub mod SitesRead
 pub mod RisingKeys
 pub mod ItemWalks
+pub mod FilterSearches
+pub mod KeyFronts
+pub mod KeptEntries
+pub mod WordKeys
+pub mod AskedWords
 pub mod Searches
 pub mod ItemCounts
 pub mod SitesCompacted

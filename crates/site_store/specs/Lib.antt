@@ -11,6 +11,8 @@ pub mod Lacking
 pub mod CrashStatesRepresent
 pub mod Opening
 pub mod Walking
+pub mod FilterSearch
+pub mod WordWalks
 pub mod Searching
 pub mod Counting
 pub mod Compacting

@@ -1,21 +1,42 @@
--- A search that looks at one item after another.
-use Rattle.std.specs.Prelude.{◌≡◌, ℕ, Bool, true, false, List, [], ◌∷◌, fold, filter, Some}
+-- A search over the keys of a word.
+use Rattle.std.specs.Prelude.{◌≡◌, ℕ, ◌<◌, ◌≤◌, Bool, true, false, List, [], ◌∷◌, ◌++◌, length, Option, Some, None, nat_eq, nat_lt, fold, filter, if◌then◌else◌}
+use Rattle.std.specs.List.{AllByRecursion, list_all, starts_with}
 use Rattle.std.specs.Ordering.{is_lt}
-use Rattle.host_types.specs.Site.{Site, byte_cmp, item_at}
+use Rattle.host_types.specs.Site.{Site, byte_cmp}
+use Rattle.host_types.specs.Words.{words_of, is_among}
 use Rattle.host_types.specs.declared.item.Item.{Item}
 use Rattle.word_index.specs.Gathered.{searched_at}
+use Rattle.site_store.specs.FilterSearch.{all_found}
+use Rattle.site_store.specs.WordWalks.{items_with}
 
--- what is found where all items are examined
-abbrev pub all_found : Site → List ℕ → List (List ℕ) → List (List ℕ)
-all_found s scope asked = fold (searched_at scope asked) [] s.items
+-- The first of the longest words.
+pub record IsLongest (words : List (List ℕ)) (word : List ℕ) : Type 0 where
+  pub before : List (List ℕ)
+  pub after : List (List ℕ)
+  pub stands : words ≡ before ++ word ∷ after
+  pub shorter : AllByRecursion (λ w. length w < length word) before
+  pub no_longer : AllByRecursion (λ w. length w ≤ length word) after
 
--- An item stands at the selector, and where it and those above it are scanned too, all that is to be found is found.
-pub record IsLeft (s : Site) (scope : List ℕ) (asked found : List (List ℕ)) (selector : List ℕ) : Type 0 where
-  pub item : Item
-  pub stands : item_at s selector ≡ Some item
-  pub rest : fold (searched_at scope asked) found ((selector, item) ∷ filter (λ e. is_lt (byte_cmp selector e.0)) s.items) ≡ all_found s scope asked
+-- With no words there is none.
+abbrev pub IsLongestIn : List (List ℕ) → Option (List ℕ) → Type 0
+IsLongestIn words None = words ≡ []
+IsLongestIn words (Some word) = IsLongest words word
+
+-- the longer of two words, the first where both are as long; with no first one the other
+abbrev pub longer : Option (List ℕ) → List ℕ → List ℕ
+longer None other = other
+longer (Some first) other = if nat_lt (length first) (length other) then other else first
+
+-- what is found once an item has been looked at, where all words that are asked for are to be among its own
+abbrev pub found_with : List (List ℕ) → List (List ℕ) → List ℕ → Item → List (List ℕ)
+found_with asked found selector item = if list_all (is_among (words_of item)) asked then found ++ selector ∷ [] else found
+
+-- Where the items with the word above a selector of the scope are looked at too, all that is to be found is found.
+pub record IsLeft (s : Site) (scope word : List ℕ) (asked found : List (List ℕ)) (selector : List ℕ) : Type 0 where
+  pub within : starts_with nat_eq selector scope ≡ true
+  pub rest : fold (searched_at scope asked) found (filter (λ e. is_lt (byte_cmp selector e.0)) (items_with s scope word)) ≡ all_found s scope asked
 
 -- Items are left, or all is found.
-abbrev pub IsFurther : Site → List ℕ → List (List ℕ) → Bool → List (List ℕ) → List ℕ → Type 0
-IsFurther s scope asked true found selector = IsLeft s scope asked found selector
-IsFurther s scope asked false found selector = found ≡ all_found s scope asked
+abbrev pub IsFurther : Site → List ℕ → List ℕ → List (List ℕ) → Bool → List (List ℕ) → List ℕ → Type 0
+IsFurther s scope word asked true found selector = IsLeft s scope word asked found selector
+IsFurther s scope word asked false found selector = found ≡ all_found s scope asked

@@ -1,87 +1,120 @@
-// Searching a site: each item is examined, one after another.
-ghost use Rattle.std.specs.Prelude.{◌≡◌};
+// Searching a site over the keys of words: those of the longest word that is asked for are walked, and the others looked up.
+ghost use Rattle.std.specs.Prelude.{◌≡◌, ◌≤◌, ◌<◌, All, IsTrue};
+ghost use Rattle.std.specs.Prelude as list;
+ghost use Rattle.host_types.specs.Words.{is_among};
 ghost use Rattle.site_store.specs.Represented.{RepresentedBy};
-ghost use Rattle.site_store.specs.StoreReads.{StandsAt};
 ghost use Rattle.site_store.specs.Reads.{ReadsKnown};
+ghost use Rattle.site_store.specs.FilterSearch.{all_found};
+ghost use Rattle.site_store.specs.WordWalks.{StandsWith};
 ghost use Rattle.site_store.specs.Searching as spec;
-ghost use Rattle.word_index.specs.Gathered.{searched_at};
 ghost use Rattle.word_index.specs.Search.{search_of};
-ghost use Rattle.host_types.specs.Words as words;
 
 use crate::SiteOpenFault;
-use crate::items::item_in;
-use crate::walking::selector_after;
-use host_types::{LineList, Selector};
+use crate::longest::longest;
+use crate::word_walk::{has_all, has_word, next_with};
+use host_types::{Bytes, Selector};
 use page_store::Keeper;
+use site_records::LONGEST_WORD;
 use std::alloc::Global;
-use word_index::{MOST_FOUND, SelectorList, look_at, words_in};
+use word_index::{MOST_FOUND, SelectorList, words_in};
 
-/// Looks at the item that is to stand at a selector: it is read where the selector begins with the scope.
-#[tactic(auto, using(crate::proofs::Searches::out_of_scope))]
+/// Looks at an item that has the word: it is found where it has all words that are asked for.
 fn look_in<K: Keeper>(
-    alloc: Global,
     keeper: &mut K,
     found: &mut SelectorList,
-    scope: &Selector,
-    asked: &LineList,
     selector: &Selector,
+    word: &Bytes,
+    asked: &[Bytes],
 ) -> Result<(), SiteOpenFault>
-    ensures found { ReadsKnown K.store_state K.may_need K.crash_states keeper.old keeper.new result (StandsAt selector.now) (λ item _. found.new ≡ searched_at scope.now asked.now found.old (selector.now, item)) }
+    requires { All (λ w. list.length w ≤ LONGEST_WORD) asked.now }
+    ensures found { ReadsKnown K.store_state K.may_need K.crash_states keeper.old keeper.new result (StandsWith selector.now word.now) (λ item _. found.new ≡ spec.found_with asked.now found.old selector.now item) }
 {
-    if !selector.as_bytes().starts_with(scope.as_bytes()) {
-        return Ok(());
-    }
-    match item_in(alloc, keeper, selector) {
-        Ok(Some(item)) => {
-            look_at(alloc, found, scope, asked, (selector, &item))?;
+    match has_all(keeper, selector, word, asked) {
+        Ok(true) => {
+            found.push(selector.clone()?)?;
             Ok(())
         }
-        Ok(None) => Err(SiteOpenFault::BadRecord),
+        Ok(false) => Ok(()),
         Err(fault) => Err(fault),
     }
 }
 
-/// Looks at an item and goes on to the next; false where all that is to be found is found.
-fn step<K: Keeper>(
+/// Looks at the item at the scope itself, whose key is the first of those with the word.
+fn begin<K: Keeper>(
     alloc: Global,
+    keeper: &mut K,
+    scope: &Selector,
+    word: &Bytes,
+    asked: &[Bytes],
+) -> Result<SelectorList, SiteOpenFault>
+    requires word { list.length word.now ≤ LONGEST_WORD }
+    requires short { All (λ w. list.length w ≤ LONGEST_WORD) asked.now }
+    requires asked { IsTrue (is_among asked.now word.now) }
+    ensures left { ReadsKnown K.store_state K.may_need K.crash_states keeper.old keeper.new result RepresentedBy (λ s found. spec.IsLeft s scope.now word.now asked.now found scope.now) }
+{
+    let mut found = SelectorList::new(alloc);
+    match has_word(keeper, word, scope) {
+        Ok(true) => {}
+        Ok(false) => return Ok(found),
+        Err(fault) => return Err(fault),
+    }
+    match look_in(keeper, &mut found, scope, word, asked) {
+        Ok(()) => Ok(found),
+        Err(fault) => Err(fault),
+    }
+}
+
+/// Goes on to the next item that has the word and looks at it; false where all that is to be found is found.
+fn step<K: Keeper>(
     keeper: &mut K,
     found: &mut SelectorList,
     scope: &Selector,
-    asked: &LineList,
-    selector: &mut Selector,
+    word: &Bytes,
+    asked: &[Bytes],
+    last: &mut Selector,
 ) -> Result<bool, SiteOpenFault>
-    ensures further { ReadsKnown K.store_state K.may_need K.crash_states keeper.old keeper.new result (λ h s. RepresentedBy h s × spec.IsLeft s scope.now asked.now found.old selector.old) (λ s more. spec.IsFurther s scope.now asked.now more found.new selector.new) }
+    requires word { list.length word.now ≤ LONGEST_WORD }
+    requires short { All (λ w. list.length w ≤ LONGEST_WORD) asked.now }
+    requires asked { IsTrue (is_among asked.now word.now) }
+    ensures further { ReadsKnown K.store_state K.may_need K.crash_states keeper.old keeper.new result (λ h s. RepresentedBy h s × spec.IsLeft s scope.now word.now asked.now found.old last.old) (λ s more. spec.IsFurther s scope.now word.now asked.now more found.new last.new) }
 {
-    match look_in(alloc, keeper, found, scope, asked, selector) {
-        Ok(()) => {}
-        Err(fault) => return Err(fault),
-    }
     if found.as_slice().len() >= MOST_FOUND {
         return Ok(false);
     }
-    match selector_after(keeper, selector) {
-        Ok(Some(next)) => {
-            *selector = next;
+    let next = match next_with(keeper, scope, word, last) {
+        Ok(Some(next)) => next,
+        Ok(None) => return Ok(false),
+        Err(fault) => return Err(fault),
+    };
+    match look_in(keeper, found, &next, word, asked) {
+        Ok(()) => {
+            *last = next;
             Ok(true)
         }
-        Ok(None) => Ok(false),
         Err(fault) => Err(fault),
     }
 }
 
-/// Looks at all items from the first on, until enough are found.
+/// Looks at the items within the scope that have the word, until enough are found.
 fn search_in<K: Keeper>(
     alloc: Global,
     keeper: &mut K,
     scope: &Selector,
-    asked: &LineList,
+    word: &Bytes,
+    asked: &[Bytes],
 ) -> Result<SelectorList, SiteOpenFault>
-    ensures found { ReadsKnown K.store_state K.may_need K.crash_states keeper.old keeper.new result RepresentedBy (λ s found. found ≡ spec.all_found s scope.now asked.now) }
+    requires word { list.length word.now ≤ LONGEST_WORD }
+    requires short { All (λ w. list.length w ≤ LONGEST_WORD) asked.now }
+    requires asked { IsTrue (is_among asked.now word.now) }
+    ensures found { ReadsKnown K.store_state K.may_need K.crash_states keeper.old keeper.new result RepresentedBy (λ s found. found ≡ all_found s scope.now asked.now) }
 {
-    let mut found = SelectorList::new(alloc);
-    let mut selector = Selector::root();
+    let mut last = scope.clone()?;
+    let mut found = match begin(alloc, keeper, scope, word, asked) {
+        Ok(found) => found,
+        Err(fault) => return Err(fault),
+    };
     for _ in 0..u64::MAX {
-        match step(alloc, keeper, &mut found, scope, asked, &mut selector) {
+        match step(keeper, &mut found, scope, word, asked, &mut last) {
             Ok(true) => {}
             Ok(false) => return Ok(found),
             Err(fault) => return Err(fault),
@@ -91,8 +124,7 @@ fn search_in<K: Keeper>(
     Err(SiteOpenFault::Memory)
 }
 
-/// The first items of a site that are found.
-#[tactic(auto, unfolding(word_index::specs::Search::search_of))]
+/// The first items of a site that are found. Only keys are read.
 pub fn search_all<K: Keeper>(
     alloc: Global,
     keeper: &mut K,
@@ -101,6 +133,10 @@ pub fn search_all<K: Keeper>(
 ) -> Result<SelectorList, SiteOpenFault>
     ensures found { ReadsKnown K.store_state K.may_need K.crash_states keeper.old keeper.new result RepresentedBy (λ s found. found ≡ search_of s scope.now query.now) }
 {
-    let asked = words_in(alloc, query)?;
-    search_in(alloc, keeper, scope, &asked)
+    let words = words_in(alloc, query)?;
+    let asked = words.as_slice();
+    match longest(asked) {
+        Some(word) => search_in(alloc, keeper, scope, word, asked),
+        None => Ok(SelectorList::new(alloc)),
+    }
 }

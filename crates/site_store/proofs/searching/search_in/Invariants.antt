@@ -5,12 +5,12 @@ use Rattle.site_store.specs.StoreReads.{ReadsOnly, NoneFailed}
 use Rattle.site_store.specs.Searching.{IsLeft}
 use Rattle.site_store.proofs.searching.search_in.Given as goal
 
--- the item at the selector and those above it are left
+-- the items with the word above the last one are left
 abbrev pub invariant-loop : goal.invariant-loop
 invariant-loop g l =
     let store_state = g.K.Keeper.store_state in
     record {
       only : ReadsOnly store_state g.K.Keeper.may_need g.K.Keeper.crash_states l.fn.keeper l.keeper;
       none : NoneFailed (store_state l.fn.keeper) (store_state l.keeper);
-      left : IsTrue (store_state l.fn.keeper).honest → (s : Site) → RepresentedBy (store_state l.fn.keeper) s → IsLeft s l.scope l.asked l.found l.selector;
+      left : IsTrue (store_state l.fn.keeper).honest → (s : Site) → RepresentedBy (store_state l.fn.keeper) s → IsLeft s l.scope l.word l.asked l.found l.last;
     }

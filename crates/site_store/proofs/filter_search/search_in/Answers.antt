@@ -1,7 +1,7 @@
 use Rattle.std.proofs.Common.{refl}
 use Rattle.site_store.specs.ReadLaws.{not_yet}
-use Rattle.site_store.proofs.Searches.{first_left}
-use Rattle.site_store.proofs.searching.search_in.Goals as goal
+use Rattle.site_store.proofs.FilterSearches.{first_left}
+use Rattle.site_store.proofs.filter_search.search_in.Goals as goal
 
 pub loop-init : goal.loop-init
 loop-init g c =

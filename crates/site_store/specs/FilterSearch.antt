@@ -1,0 +1,21 @@
+-- A search that looks at one item after another.
+use Rattle.std.specs.Prelude.{◌≡◌, ℕ, Bool, true, false, List, [], ◌∷◌, fold, filter, Some}
+use Rattle.std.specs.Ordering.{is_lt}
+use Rattle.host_types.specs.Site.{Site, byte_cmp, item_at}
+use Rattle.host_types.specs.declared.item.Item.{Item}
+use Rattle.word_index.specs.Gathered.{searched_at}
+
+-- what is found where all items are examined
+abbrev pub all_found : Site → List ℕ → List (List ℕ) → List (List ℕ)
+all_found s scope asked = fold (searched_at scope asked) [] s.items
+
+-- An item stands at the selector, and where it and those above it are scanned too, all that is to be found is found.
+pub record IsLeft (s : Site) (scope : List ℕ) (asked found : List (List ℕ)) (selector : List ℕ) : Type 0 where
+  pub item : Item
+  pub stands : item_at s selector ≡ Some item
+  pub rest : fold (searched_at scope asked) found ((selector, item) ∷ filter (λ e. is_lt (byte_cmp selector e.0)) s.items) ≡ all_found s scope asked
+
+-- Items are left, or all is found.
+abbrev pub IsFurther : Site → List ℕ → List (List ℕ) → Bool → List (List ℕ) → List ℕ → Type 0
+IsFurther s scope asked true found selector = IsLeft s scope asked found selector
+IsFurther s scope asked false found selector = found ≡ all_found s scope asked
