@@ -3,9 +3,8 @@ ghost use Rattle.std.specs.Prelude.{◌≡◌, ◌≤◌, ℕ, true, false, OnOk
 ghost use Rattle.host_types.specs.CrashStates.{AddsOnly, AddsNone};
 ghost use Rattle.host_types.specs.declared.site_fault.SiteFault.TheVariants.{Failed};
 ghost use Rattle.page_store.specs.Compaction.{IsCompacted};
-ghost use Rattle.page_store.specs.Counting.{CountsWrites};
 ghost use Rattle.page_store.specs.StoreState.{HasTried};
-ghost use Rattle.site_store.specs.Compacting.{IsSiteCompactFault};
+ghost use Rattle.site_store.specs.Compacting.{IsSiteCompactFault, CountsNothing};
 ghost use Rattle.site_store.specs.Represented.{site_of, Represents};
 
 use crate::DiskSite;
@@ -22,6 +21,7 @@ impl<K: CompactKeeper> DiskSite<K> {
         ensures done { OnOk result (IsCompacted (K.store_state self.old.keeper) (K.store_state self.new.keeper)) }
         ensures fits { IsTrue (K.store_state self.old.keeper).honest → OnOk result ((n : ℕ) × K.compact_need self.old.keeper n × (n ≤ (K.store_state self.old.keeper).free)) }
         ensures fault { IfErr result (IsSiteCompactFault (K.store_state self.old.keeper) (K.store_state self.new.keeper) (K.compact_need self.old.keeper)) }
+        ensures counts { OnOk result (CountsNothing (K.store_state self.old.keeper) (K.store_state self.new.keeper)) }
         ensures closed { (K.store_state self.old.keeper).usable ≡ false → IsErrOf result Failed }
         ensures tried { HasTried (K.store_state self.old.keeper) (K.store_state self.new.keeper) }
 

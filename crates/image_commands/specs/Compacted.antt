@@ -1,0 +1,51 @@
+-- What `compact` does to an image, and what it prints, without the LF.
+use Rattle.std.specs.Prelude.{◌≡◌, ◌⊎◌, ◌≤◌, ◌<◌, ℕ, List, ◌++◌, Some, codes, decimal, IsTrue}
+use Rattle.common_types.specs.Counts.{counted}
+use Rattle.common_types.specs.CrashStates.{CrashStates, AddsOnly, AddsNone}
+use Rattle.host_types.specs.Site.{Site}
+use Rattle.sector_device.specs.Device.{State, NothingCounted}
+use Rattle.page_store.specs.Sectors.{Image}
+use Rattle.page_store.specs.Roots.{current}
+use Rattle.page_store.specs.declared.slot.Slot.{Slot}
+use Rattle.page_store.specs.declared.fault.KeeperFault.{KeeperFault}
+use Rattle.page_store.specs.declared.fault.KeeperFault.TheVariants as store
+use Rattle.cow_tree.specs.TreeState.{unreached}
+use Rattle.host_on_disk.specs.ImageSites.{ImageRepresents}
+use Rattle.image_commands.specs.Faults.{IsNotOpened}
+use Rattle.image_commands.specs.declared.fault.ImageFault.{ImageFault}
+use Rattle.image_commands.specs.declared.fault.ImageFault.TheVariants.{Refused, NoFile, BadRecord, Store, Memory}
+
+abbrev pub free_line : ℕ → List ℕ
+free_line free = codes "free " ++ decimal free
+
+-- The one site that reads of a device give at first is written anew: opening it writes nothing, and a crash at any moment after that leaves what represents it.
+pub record KeepsSite {D : Type 0} (state : D → State) (crash_states : D → CrashStates Image) (old new : D) : Type 0 where
+  pub site : Site
+  pub stands : ImageRepresents (state old).disk.view site
+  pub alone : (s : Site) → ImageRepresents (state old).disk.view s → s ≡ site
+  pub opened : D
+  pub no_new_crash_state : AddsNone (crash_states old) (crash_states opened)
+  pub at_crash : AddsOnly (crash_states opened) (crash_states new) (λ image. ImageRepresents image site)
+  pub shows : ImageRepresents (state new).disk.view site
+
+-- The line tells how many pages the tree of the current root slot leaves unreached.
+pub record TellsFree (image : Image) (line : List ℕ) : Type 0 where
+  pub slot : Slot
+  pub current_is : current image ≡ Some slot
+  pub line_is : line ≡ free_line (unreached slot image)
+
+-- The image was opened, but not written anew: a read failed, no further generation is there, the pages don't suffice, or a write or a sync failed; or memory was lacking, which may be for what is printed.
+abbrev pub IsNotWritten : State → State → ImageFault → Type 0
+IsNotWritten old new (Refused refused) = ⊥
+IsNotWritten old new NoFile = ⊥
+IsNotWritten old new BadRecord = ⊥
+IsNotWritten old new (Store store.Device) = (new.failed_writes ≡ old.failed_writes) × (IsTrue old.honest → new.failed_reads ≡ counted old.failed_reads)
+IsNotWritten old new (Store store.Spent) = NothingCounted old new
+IsNotWritten old new (Store (store.Full need free)) = NothingCounted old new × (free < need)
+IsNotWritten old new (Store store.Failed) = (new.failed_writes ≡ counted old.failed_writes) × (new.failed_reads ≡ old.failed_reads)
+IsNotWritten old new (Store other) = ⊥
+IsNotWritten old new Memory = NothingCounted old new
+
+-- When a fault may come of writing an image anew.
+abbrev pub IsCompactingFault : State → State → ImageFault → Type 0
+IsCompactingFault old new fault = IsNotOpened old new fault ⊎ ((128 ≤ old.size) × IsNotWritten old new fault)
