@@ -1,5 +1,5 @@
 // Searching a site over the keys of words: those of the longest word that is asked for are walked, and the others looked up.
-ghost use Rattle.std.specs.Prelude.{◌≡◌, ◌≤◌, ◌<◌, All, IsTrue};
+ghost use Rattle.std.specs.Prelude.{◌≡◌, ◌≤◌, All, IsTrue};
 ghost use Rattle.std.specs.Prelude as list;
 ghost use Rattle.host_types.specs.Words.{is_among};
 ghost use Rattle.site_store.specs.Represented.{RepresentedBy};
