@@ -67,9 +67,8 @@ fn data_at(
     ensures { IfOk result (λ pairs. pairs.items ≡ spec.data_at selector.now item.now) }
 {
     let mut pairs = Vec::new(alloc);
-    match item {
-        Some(item) => put_data(alloc, &mut pairs, selector, item)?,
-        None => {}
+    if let Some(item) = item {
+        put_data(alloc, &mut pairs, selector, item)?;
     }
     Ok(pairs)
 }
