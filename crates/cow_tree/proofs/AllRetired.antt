@@ -11,6 +11,7 @@ use Rattle.page_alloc.specs.Calls.{retiring}
 use Rattle.page_store.specs.Sectors.{Image}
 use Rattle.page_store.specs.Pages.{Pair}
 use Rattle.page_store.specs.Batch.{is_map}
+use Rattle.page_store.specs.Commit.{numbers}
 use Rattle.page_store.specs.declared.slot.Slot.{Slot}
 use Rattle.tree_nodes.specs.Tree.{Tree, OldPages, page, leaf, branch}
 use Rattle.tree_nodes.specs.Valid.{IsValid, left_pages}
@@ -26,8 +27,11 @@ use Rattle.page_store.specs.declared.fault.KeeperFault.TheVariants as faults
 use Rattle.cow_tree.specs.Drafts.{bytes_in, old_under, one_if, IsDraft, IsCounted, OnlyRetires, Tells}
 use Rattle.cow_tree.specs.declared.drafts.Draft.{Draft}
 use Rattle.cow_tree.specs.TreeState.{found_under}
-use Rattle.cow_tree.specs.Plans.{IsRoomFault}
-use Rattle.cow_tree.specs.Compacting.{most_pairs, NeedsFilled, IsPairsFault, IsFillFault}
+use Rattle.cow_tree.specs.Plans.{levels_under, levels_of, IsPlanned, IsRoomFault}
+use Rattle.cow_tree.specs.declared.plans.Plan.{Plan}
+use Rattle.cow_tree.specs.Compacting.{most_pairs, NeedsFilled, IsFillPlan, IsPairsFault, IsFillFault}
+use Rattle.cow_tree.proofs.DraftSteps.{no_pages}
+use Rattle.cow_tree.proofs.PageCounts.{numbers_length, same_length}
 use Rattle.cow_tree.proofs.PlansMade.{room_told}
 
 -- ---- one page is given up
@@ -194,3 +198,22 @@ pub needs_filled : (slot : Slot) (view : Image) (pairs : List Pair) (need : ℕ)
 needs_filled slot view pairs need map is exact =
     let all = exact ∙ ap (λ (l : List Pair). owned_under (filled l).root) is in
     record { exact = all; most = let most = filled_owned (found_under slot view).pairs map in omega (arith, most, all) }
+
+-- a filled tree without a root has no levels
+pub filled_levels : (pairs : List Pair) → is_map pairs ≡ true → levels_of (filled pairs) ≡ (filled pairs).height
+filled_levels pairs map = go (filled pairs).root (filled_valid no_pages pairs map)
+  where
+    go : (root : Option Tree) → IsValidRoot no_pages root (filled pairs).height → levels_under root (filled pairs).height ≡ (filled pairs).height
+    go None flat = sym flat
+    go (Some tree) valid = refl
+
+-- a plan of the same pairs in filled pages, where no page of the old tree is left
+pub fill_plan : (view : Image) (slot : Slot) (top : ℕ) (ledger : LedgerState) (plan : Plan) (pairs : List Pair) → pairs ≡ (found_under slot view).pairs → IsPlanned view slot top pairs ledger plan → ((n : ℕ) → is_alive ledger n ≡ false) → length plan.pages.items ≡ owned_under (filled pairs).root
+    → plan.slot.root.height ≡ (filled pairs).height → IsFillPlan view slot top ledger plan
+fill_plan view slot top ledger plan pairs is planned dead count levels = record {
+  planned = record { found = planned.found; plan_is = planned.plan_is; next = planned.next; pairs_are = planned.pairs_are ∙ is; reaches = planned.reaches };
+  levels = levels ∙ ap (λ (l : List Pair). (filled l).height) is;
+  pages =
+      same_length planned.found.pages (numbers plan.pages.items) (λ n. let r = planned.reaches n in let zero_is = ap one_if (dead n) in omega (arith, r, zero_is))
+      ∙ numbers_length plan.pages.items ∙ count ∙ ap (λ (l : List Pair). owned_under (filled l).root) is;
+}

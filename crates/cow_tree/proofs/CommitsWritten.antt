@@ -85,11 +85,11 @@ module _ (view : Image) (crash_states : CrashStates Image) (slot : Slot) (ledger
       sym (subst (λ (m : ℕ). sector c m ≡ sector view m) is (b.kept.each n part (outside n among) (omega (arith, ge, lt)))))
 
   pub is_committed : (now : Image) (after : CrashStates Image) → IsDone the_commit plan.pages.items after view now → ((n : ℕ) → n < length ledger.lives → has_page (advanced plan.slot.seal ledger) plan.slot.seal n ≡ has_page_next ledger n)
-      → IsCommitted now after plan (advanced plan.slot.seal ledger) w.pairs
+      → IsCommitted now after plan (advanced plan.slot.seal ledger) w.planned.found
   is_committed now after done advances = record {
     all = done.all;
     current_is = now_current view now slot w.top ledger plan.pages.items plan.slot w.planned.found after w.planned.plan_is done;
     there = now_there view now slot w.top ledger plan.pages.items plan.slot w.planned.found after w.planned.plan_is done w.planned.next advances;
-    pairs_are = ap (λ (x : Found). x.pairs) (now_found view now slot w.top ledger plan.pages.items plan.slot w.planned.found after w.planned.plan_is done) ∙ w.planned.pairs_are;
+    found_is = now_found view now slot w.top ledger plan.pages.items plan.slot w.planned.found after w.planned.plan_is done;
     seals = let s = now_seals view now slot w.top ledger plan.pages.items plan.slot w.planned.found after w.planned.plan_is done w.held.seals in let e = w.planned.plan_is.seal in omega (arith, s, e);
   }

@@ -99,7 +99,7 @@ same_walk slot image found e whole =
 
 -- ---- the tree that was found
 
-distinct_found : (slot : Slot) (a : ℕ → List ℕ) (found : Found) → tree_found slot a ≡ Some found → are_distinct found.pages ≡ true
+pub distinct_found : (slot : Slot) (a : ℕ → List ℕ) (found : Found) → tree_found slot a ≡ Some found → are_distinct found.pages ≡ true
 unfolding tree_found
 distinct_found slot a found e =
     let f = bind_some (tree_of a (bounds_under slot) slot.root.height slot.root.tree) (λ x. where_true (are_distinct x.pages && (length x.pairs == slot.root.keys)) (Some x)) found e in

@@ -24,6 +24,7 @@ pub mod DraftEdits
 pub mod RootsPlaced
 pub mod Taken
 pub mod DraftsBegin
+pub mod PageCounts
 pub mod PlansMade
 pub mod Planned
 pub mod CommitsWritten

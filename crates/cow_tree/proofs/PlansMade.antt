@@ -36,9 +36,10 @@ use Rattle.page_store.specs.declared.edit.Edit.{Edit}
 use Rattle.cow_tree.specs.Needs.{NeedsPages, drafted}
 use Rattle.cow_tree.specs.Drafts.{old_under, bytes_in, one_if, most_nodes, OnlyMarks, Tells, IsDraft}
 use Rattle.cow_tree.specs.Taken.{Takes}
-use Rattle.cow_tree.specs.Plans.{IsHeld, IsPlan, IsPlannedAt, IsRootWritten, IsRootInside, IsRoomFault, IsPlanFault}
+use Rattle.cow_tree.specs.Plans.{levels_under, IsHeld, IsPlan, IsPlannedAt, IsRootWritten, IsRootInside, IsRoomFault, IsPlanFault}
 use Rattle.cow_tree.proofs.Reaching.{count_most}
-use Rattle.cow_tree.proofs.Taken.{free_inside, free_unheld, taken_was_free, taken_once, next_are, taking_marks}
+use Rattle.cow_tree.proofs.PageCounts.{numbers_length}
+use Rattle.cow_tree.proofs.Taken.{free_inside, free_unheld, taken_was_free, taken_once, next_are, taking_marks, alive_still}
 use Rattle.std.proofs.lemmas.List.{take_all}
 
 among_by : (n : ℕ) (ns : List ℕ) (b : Bool) → (b ≡ true → 1 ≤ times n ns) → (b ≡ false → times n ns ≡ 0) → b ≡ is_among n ns
@@ -105,6 +106,9 @@ module _ (view : Image) (slot : Slot) (top edits : ℕ) (pairs : List Pair) (led
   next_is : (m : ℕ) → has_page_next now m ≡ (is_alive ledger m || is_among m given)
   next_is m = ap (λ (s : LedgerState). has_page_next s m) t.taken ∙ next_are ledger given t.free marks_fit d.alive.untaken m
 
+  alive_now : (m : ℕ) → is_alive now m ≡ is_alive ledger m
+  alive_now m = ap (λ (s : LedgerState). is_alive s m) t.taken ∙ alive_still ledger given t.free marks_fit m
+
   size_now : length now.lives ≡ new.root.pages
   size_now = ap (λ (s : LedgerState). length s.lives) t.taken ∙ ap length (taking_marks ledger given).lives ∙ lives ∙ sym size
 
@@ -150,6 +154,7 @@ module _ (view : Image) (slot : Slot) (top edits : ℕ) (pairs : List Pair) (led
           whole = λ n among. absurd (cc among);
         };
         pairs_are = sym empty;
+        reaches = λ m. let a = dead m in let b = ap (times m) (are ∙ no_given) in let e = ap one_if (alive_now m) in omega (arith, a, b, e);
       }
 
   -- ---- a tree with pairs
@@ -227,6 +232,7 @@ module _ (view : Image) (slot : Slot) (top edits : ℕ) (pairs : List Pair) (led
       plan_is = plan_of holds.found used.1 holds.content;
       next = record { size = size_now; next = next_found holds.found found_reaches; whole = whole_now };
       pairs_are = holds.pairs ∙ root_pairs_are;
+      reaches = λ m. let f = found_reaches m in let u = ap (times m) used.1 in let e = ap one_if (alive_now m) in omega (arith, f, u, e);
     }
 
   pub planned_at : (r : Option Tree) → tree.root ≡ r → tree.height ≤ 16 → (new.root.tree ≡ 0 → new.root.height ≡ 0) → ((new.root.tree ≡ 0 → ⊥) → new.root.height ≡ tree.height) → IsRootWritten slot.root.pages new.seal given tree.height r pages new.root.tree
@@ -249,6 +255,18 @@ made_inside count seal height given None pages n size w inside i d lt = let none
 made_inside count seal height given (Some root) pages n size w inside i d lt =
     let used = all_used given seal (height - 1) pages root n size w.0 in
     inside (get_or pages i d).number (subst (λ (l : List ℕ). 1 ≤ times (get_or pages i d).number l) used.1 (page_times pages i d lt))
+
+-- each node that is owned has a page
+pub made_count : (count seal height : ℕ) (given : List ℕ) (r : Option Tree) (pages : List NewPage) (n : ℕ) → length given ≡ owned_under r → IsRootWritten count seal given height r pages n → length pages ≡ owned_under r
+made_count count seal height given None pages n size w = ap (λ (l : List NewPage). length l) w.0
+made_count count seal height given (Some root) pages n size w =
+    let used = all_used given seal (height - 1) pages root n size w.0 in
+    sym (numbers_length pages) ∙ ap (λ (l : List ℕ). length l) used.1 ∙ size
+
+-- a root slot has the levels of the tree, none where there is no root
+pub made_levels : (count seal height : ℕ) (given : List ℕ) (r : Option Tree) (pages : List NewPage) (n levels : ℕ) → IsRootWritten count seal given height r pages n → (n ≡ 0 → levels ≡ 0) → ((n ≡ 0 → ⊥) → levels ≡ height) → levels ≡ levels_under r height
+made_levels count seal height given None pages n levels w flat tall = flat w.1
+made_levels count seal height given (Some root) pages n levels w flat tall = tall (λ zero_is. let first = w.2.0 in absurd (omega (arith, zero_is, first)))
 
 pub made_root : (count seal height : ℕ) (given : List ℕ) (r : Option Tree) (pages : List NewPage) (n : ℕ) → IsRootWritten count seal given height r pages n → (n ≡ 0 → ⊥) → IsTreePage count n
 made_root count seal height given None pages n w some = absurd (some w.1)

@@ -24,7 +24,7 @@ use Rattle.page_store.specs.declared.fault.KeeperFault.TheVariants as faults
 use Rattle.page_store.proofs.ReachedPages.{content_under-local}
 use Rattle.cow_tree.specs.TreeState.{IsFitted, IsThere, IsSettled, found_under, or_nothing}
 use Rattle.cow_tree.specs.Drafts.{Tells, OnlyMarks}
-use Rattle.cow_tree.specs.Plans.{IsHeld, Starts, IsMade, IsPlanned, IsPlanFault}
+use Rattle.cow_tree.specs.Plans.{IsHeld, Starts, IsMade, IsPlan, HasNext, IsPlanned, IsPlanFault}
 use Rattle.cow_tree.specs.Compacting.{IsFillFault}
 use Rattle.cow_tree.specs.Committed.{is_tree_version, MayBeWritten, IsTreeBetween}
 use Rattle.cow_tree.specs.declared.plans.Plan.{Plan}
@@ -66,7 +66,13 @@ may_be_written view mid states slot ledger now top plan pairs held marks planned
   top = top;
   pairs = pairs;
   held = subst (λ (v : Image). IsHeld v slot top now) (sym same) (held_still view slot top ledger now marks held);
-  planned = subst (λ (v : Image). IsPlanned v slot top pairs now plan) (sym same) planned;
+  planned = record {
+    found = planned.found;
+    plan_is = subst (λ (v : Image). IsPlan v slot top plan.pages.items plan.slot planned.found) (sym same) planned.plan_is;
+    next = subst (λ (v : Image). HasNext v now plan.pages.items plan.slot planned.found) (sym same) planned.next;
+    pairs_are = planned.pairs_are;
+    reaches = planned.reaches;
+  };
   version = version;
   sure = sure;
 }

@@ -32,12 +32,12 @@ pub record MayBeWritten (view : Image) (crash_states : CrashStates Image) (slot 
   pub version : slot.root.banner.version ≡ 1
   pub sure : AllAre crash_states view
 
--- The plan is what every image shows, with these pairs, and the ledger has the pages of its tree.
-pub record IsCommitted (now : Image) (crash_states : CrashStates Image) (plan : Plan) (ledger : LedgerState) (pairs : List Pair) : Type 0 where
+-- The plan is what every image shows, with this tree, and the ledger has the pages of it.
+pub record IsCommitted (now : Image) (crash_states : CrashStates Image) (plan : Plan) (ledger : LedgerState) (found : Found) : Type 0 where
   pub all : AllAre crash_states now
   pub current_is : current now ≡ Some plan.slot
   pub there : IsThere now plan.slot ledger
-  pub pairs_are : (found_under plan.slot now).pairs ≡ pairs
+  pub found_is : found_under plan.slot now ≡ found
   pub seals : greatest_seal now 16 ≤ plan.slot.seal
 
 -- What a crash within a commit may leave: an image on the way from the slot to the other one, of the generation above the top. The new tree has these pairs;

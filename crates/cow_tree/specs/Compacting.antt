@@ -1,6 +1,7 @@
 -- Writing all pairs of a tree anew, in filled pages.
 use Rattle.std.specs.Prelude.{◌≡◌, ◌≤◌, ◌*◌, ℕ, List, length, IsTrue}
 use Rattle.sector_device.specs.Device.{State}
+use Rattle.page_alloc.specs.LedgerState.{LedgerState}
 use Rattle.page_store.specs.Sectors.{Image}
 use Rattle.page_store.specs.declared.slot.Slot.{Slot}
 use Rattle.page_store.specs.declared.fault.KeeperFault.{KeeperFault}
@@ -8,7 +9,8 @@ use Rattle.page_store.specs.declared.fault.KeeperFault.TheVariants as faults
 use Rattle.tree_nodes.specs.Growth.{owned_under}
 use Rattle.tree_loading.specs.Filled.{filled}
 use Rattle.cow_tree.specs.TreeState.{found_under}
-use Rattle.cow_tree.specs.Plans.{IsTreeFault, IsRoomFault}
+use Rattle.cow_tree.specs.Plans.{IsPlanned, IsTreeFault, IsRoomFault}
+use Rattle.cow_tree.specs.declared.plans.Plan.{Plan}
 
 -- no image has more pairs: it has 65,536 pages, and a page has 1,024 pairs, at most
 abbrev pub most_pairs : ℕ
@@ -28,6 +30,17 @@ pub record HasRoomToFill (slot : Slot) (image : Image) (free : ℕ) : Type 0 whe
   pub need : ℕ
   pub needs : NeedsFilled slot image need
   pub fits : need ≤ free
+
+-- The tree under a slot of an image is in filled pages: it has as many levels, and as many pages as nodes, as the filled tree of its pairs.
+pub record IsFilled (slot : Slot) (image : Image) : Type 0 where
+  pub levels : slot.root.height ≡ (filled (found_under slot image).pairs).height
+  pub pages : length (found_under slot image).pages ≡ owned_under (filled (found_under slot image).pairs).root
+
+-- Pages and a root over them that may be committed, after which the tree has the same pairs in filled pages.
+pub record IsFillPlan (view : Image) (slot : Slot) (top : ℕ) (ledger : LedgerState) (plan : Plan) : Type 0 where
+  pub planned : IsPlanned view slot top (found_under slot view).pairs ledger plan
+  pub levels : plan.slot.root.height ≡ (filled (found_under slot view).pairs).height
+  pub pages : length planned.found.pages ≡ owned_under (filled (found_under slot view).pairs).root
 
 -- the faults of reading all pairs
 abbrev pub IsPairsFault : KeeperFault → Type 0

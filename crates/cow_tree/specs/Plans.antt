@@ -1,12 +1,12 @@
 -- What a commit of a tree is to write, by the ledger that its pages were taken from.
 use Rattle.std.specs.Prelude.{◌≡◌, ◌≤◌, ◌<◌, ◌+◌, ◌-◌, ◌*◌, ℕ, true, List, [], length, All, Option, None, Some, IsTrue}
-use Rattle.page_alloc.specs.LedgerState.{LedgerState, has_page, has_page_next}
+use Rattle.page_alloc.specs.LedgerState.{LedgerState, has_page, has_page_next, is_alive}
 use Rattle.page_store.specs.Sectors.{Image, page_of}
 use Rattle.page_store.specs.Roots.{greatest_seal}
 use Rattle.page_store.specs.Pages.{Pair}
 use Rattle.page_store.specs.Batch.{is_map}
 use Rattle.page_store.specs.Switch.{IsSlotPage}
-use Rattle.page_store.specs.Commit.{Commit, AreFree, patched}
+use Rattle.page_store.specs.Commit.{Commit, AreFree, numbers, patched}
 use Rattle.page_store.specs.Content.{Found, content, content_under, is_among}
 use Rattle.page_store.specs.declared.banner.Banner.{Banner}
 use Rattle.page_store.specs.declared.commit.NewPage.{NewPage}
@@ -17,7 +17,9 @@ use Rattle.tree_nodes.specs.Tree.{Tree, page}
 use Rattle.tree_pages.specs.Written.{AddsTree, AllFit, IsTreePage}
 use Rattle.cow_tree.specs.Opening.{IsRooted}
 use Rattle.cow_tree.specs.TreeState.{found_under}
-use Rattle.cow_tree.specs.Drafts.{IsDraft, root_under}
+use Rattle.tree_pages.specs.Reached.{times}
+use Rattle.tree_nodes.specs.Steps.{RootState}
+use Rattle.cow_tree.specs.Drafts.{IsDraft, one_if, root_under}
 use Rattle.cow_tree.specs.declared.plans.Plan.{Plan}
 
 -- the commit from the tree under a slot to another
@@ -52,15 +54,24 @@ pub record Starts (slot : Slot) (view : Image) (pairs : List Pair) (ledger : Led
   pub map : is_map pairs ≡ true
   pub few : length pairs ≤ 1024 * 65536
 
--- Pages and a root over them that may be committed, after which the tree has these pairs.
+-- Pages and a root over them that may be committed, after which the tree has these pairs, and as its pages the new ones and those that are alive, each once.
 pub record IsPlannedAt (view : Image) (slot : Slot) (top : ℕ) (pairs : List Pair) (ledger : LedgerState) (pages : List NewPage) (new : Slot) : Type 0 where
   pub found : Found
   pub plan_is : IsPlan view slot top pages new found
   pub next : HasNext view ledger pages new found
   pub pairs_are : found.pairs ≡ pairs
+  pub reaches : (n : ℕ) → times n found.pages ≡ times n (numbers pages) + one_if (is_alive ledger n)
 
 abbrev pub IsPlanned : Image → Slot → ℕ → List Pair → LedgerState → Plan → Type 0
 IsPlanned view slot top pairs ledger plan = IsPlannedAt view slot top pairs ledger plan.pages.items plan.slot
+
+-- how many levels a tree has: none where it has no root
+abbrev pub levels_under : Option Tree → ℕ → ℕ
+levels_under None height = 0
+levels_under (Some tree) height = height
+
+abbrev pub levels_of : RootState → ℕ
+levels_of tree = levels_under tree.root tree.height
 
 -- What a plan is on every device: pages of the image, and a root for the other slot.
 pub record IsMade (slot : Slot) (seal : ℕ) (banner : Banner) (plan : Plan) : Type 0 where

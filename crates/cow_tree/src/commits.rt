@@ -28,7 +28,7 @@ pub(crate) fn write_plan<D: Device>(
     requires later { ledger.old.generation < plan.now.slot.seal }
     requires planned { IsTrue (D.state device.old).honest → MayBeWritten (D.state device.old).disk.view (crash_states_of D.moment D.possible_since device.old) slot.now ledger.old plan.now }
     ensures done { IsTrue (D.state device.old).honest → (w : MayBeWritten (D.state device.old).disk.view (crash_states_of D.moment D.possible_since device.old) slot.now ledger.old plan.now) →
-        OnOk result (IsCommitted (D.state device.new).disk.view (crash_states_of D.moment D.possible_since device.new) plan.now ledger.new w.pairs) }
+        OnOk result (IsCommitted (D.state device.new).disk.view (crash_states_of D.moment D.possible_since device.new) plan.now ledger.new w.planned.found) }
     ensures kept { IsTrue (D.state device.old).honest → MayBeWritten (D.state device.old).disk.view (crash_states_of D.moment D.possible_since device.old) slot.now ledger.old plan.now →
         OnErr result (Agree (found_under slot.now (D.state device.old).disk.view).pages (page_of (D.state device.old).disk.view) (page_of (D.state device.new).disk.view)) }
     ensures at_crash { IsTrue (D.state device.old).honest → (w : MayBeWritten (D.state device.old).disk.view (crash_states_of D.moment D.possible_since device.old) slot.now ledger.old plan.now) →

@@ -6,7 +6,7 @@ ghost use Rattle.page_store.specs.Counting.{CountsReads, CountsWrites};
 ghost use Rattle.page_store.specs.StoreState.{HasTried, last_generation};
 ghost use Rattle.page_store.specs.Steps.{crash_states_of};
 ghost use Rattle.page_store.specs.declared.fault.KeeperFault.TheVariants.{Failed, Spent};
-ghost use Rattle.cow_tree.specs.Compacting.{MayNeedFilled};
+ghost use Rattle.cow_tree.specs.Compacting.{MayNeedFilled, IsFilled};
 ghost use Rattle.cow_tree.specs.Committed.{TreeHas, IsTreeBetween};
 ghost use Rattle.cow_tree.specs.TreeSeen.{held, device_of, slot_of, top_of};
 
@@ -24,6 +24,8 @@ impl<D: Device> CompactKeeper for TreeKeeper<D> {
     fn compact(&mut self) -> Result<(), KeeperFault>
         ensures done { OnOk result (IsCompacted (held D.state self.old) (held D.state self.new)) }
         ensures fits { IsTrue (held D.state self.old).honest → OnOk result ((n : ℕ) × MayNeedFilled (slot_of self.old) (D.state (device_of self.old)) n × (n ≤ (held D.state self.old).free)) }
+        // The tree is in filled pages.
+        ensures filled { IsTrue (held D.state self.old).honest → OnOk result (IsFilled (slot_of self.new) (D.state (device_of self.new)).disk.view) }
         ensures fault { IfErr result (IsCompactFault (held D.state self.old) (held D.state self.new) (MayNeedFilled (slot_of self.old) (D.state (device_of self.old)))) }
         ensures closed { (held D.state self.old).usable ≡ false → IsErrOf result Failed }
         ensures spent { (held D.state self.old).usable ≡ true → (held D.state self.old).top ≡ last_generation → IsErrOf result Spent }

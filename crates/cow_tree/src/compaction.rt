@@ -6,10 +6,10 @@ ghost use Rattle.page_store.specs.Batch.{is_map};
 ghost use Rattle.page_store.specs.Steps.{crash_states_of};
 ghost use Rattle.tree_nodes.specs.Growth.{owned_under};
 ghost use Rattle.tree_loading.specs.Filled.{filled};
-ghost use Rattle.cow_tree.specs.TreeState.{IsFitted, IsFittedSlot, IsThere, found_under};
+ghost use Rattle.cow_tree.specs.TreeState.{IsFitted, IsFittedSlot, IsThere};
 ghost use Rattle.cow_tree.specs.Drafts.{IsCountedRead, OnlyMarks, OnlyRetires, Tells};
 ghost use Rattle.cow_tree.specs.Plans.{IsHeld, IsPlanned, IsMade, IsRoomFault};
-ghost use Rattle.cow_tree.specs.Compacting.{most_pairs, NeedsFilled, HasRoomToFill, IsFillFault};
+ghost use Rattle.cow_tree.specs.Compacting.{most_pairs, NeedsFilled, HasRoomToFill, IsFillPlan, IsFillFault};
 
 use crate::all_pairs::all_pairs;
 use crate::drafts::Draft;
@@ -52,6 +52,9 @@ fn plan_pairs(
     ensures made { IfOk result (IsMade slot.now seal slot.now.root.banner) }
     ensures fits { IfOk result (λ plan. owned_under (filled pairs.items).root ≤ free_count ledger.old) }
     ensures room { IfOk result (λ plan. length plan.pages.items ≤ free_count ledger.old) }
+    ensures count { IfOk result (λ plan. length plan.pages.items ≡ owned_under (filled pairs.items).root) }
+    ensures levels { IfOk result (λ plan. plan.slot.root.height ≡ (filled pairs.items).height) }
+    ensures none { (n : ℕ) → IfOk result (λ plan. is_alive ledger.new n ≡ false) }
     ensures planned { (view : Image) (top : ℕ) → IsHeld view slot.now top ledger.old → ((n : ℕ) → is_taken (mark_of ledger.old n) ≡ false) → seal ≡ top + 1 →
         Tells ⊥ result (IsPlanned view slot.now top pairs.items ledger.new) }
     ensures marks { OnlyMarks ledger.old ledger.new }
@@ -78,7 +81,7 @@ pub(crate) fn plan_compaction<D: Device>(
     ensures made { IfOk result (IsMade slot.now seal slot.now.root.banner) }
     ensures room { IfOk result (λ plan. length plan.pages.items ≤ free_count ledger.old) }
     ensures planned { IsTrue (D.state device.old).honest → (top : ℕ) → IsHeld (D.state device.old).disk.view slot.now top ledger.old → IsThere (D.state device.old).disk.view slot.now ledger.old → seal ≡ top + 1 →
-        Tells ⊥ result (λ plan. IsPlanned (D.state device.old).disk.view slot.now top (found_under slot.now (D.state device.old).disk.view).pairs ledger.new plan × HasRoomToFill slot.now (D.state device.old).disk.view (free_count ledger.old)) }
+        Tells ⊥ result (λ plan. IsFillPlan (D.state device.old).disk.view slot.now top ledger.new plan × HasRoomToFill slot.now (D.state device.old).disk.view (free_count ledger.old)) }
     ensures marks { OnlyMarks ledger.old ledger.new }
     ensures refused { OnErr result (ledger.new ≡ ledger.old) }
     ensures fault { IfErr result (IsFillFault (free_count ledger.old) (λ need. IsTrue (D.state device.old).honest → IsThere (D.state device.old).disk.view slot.now ledger.old → NeedsFilled slot.now (D.state device.old).disk.view need)) }

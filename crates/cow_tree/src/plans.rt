@@ -1,6 +1,6 @@
 // What a commit is to write, worked out whole before anything is written.
 ghost use Rattle.std.specs.Prelude.{◌≡◌, ◌≤◌, ◌<◌, ◌+◌, ◌-◌, ◌^◌, ℕ, List, IsTrue, OnErr, IfOk, IfErr, All, length, min};
-ghost use Rattle.page_alloc.specs.LedgerState.{free_count};
+ghost use Rattle.page_alloc.specs.LedgerState.{free_count, is_alive};
 ghost use Rattle.page_store.specs.Sectors.{Image};
 ghost use Rattle.page_store.specs.Pages.{Pair};
 ghost use Rattle.page_store.specs.Batch.{updated, is_batch};
@@ -15,7 +15,7 @@ ghost use Rattle.tree_pages.specs.Written.{IsTreePage};
 ghost use Rattle.cow_tree.specs.TreeState.{IsFitted, IsFittedSlot};
 ghost use Rattle.cow_tree.specs.Drafts.{IsCountedRead, IsCounted, OnlyMarks, Tells, MayBeTooDeep};
 ghost use Rattle.cow_tree.specs.Needs.{NeedsPages, HasRoom};
-ghost use Rattle.cow_tree.specs.Plans.{IsHeld, Starts, IsPlanned, IsMade, IsPlanFault, IsRoomFault, IsTreeFault, IsRootWritten, IsRootInside};
+ghost use Rattle.cow_tree.specs.Plans.{levels_of, IsHeld, Starts, IsPlanned, IsMade, IsPlanFault, IsRoomFault, IsTreeFault, IsRootWritten, IsRootInside};
 
 use crate::drafts::{Draft, draft_batch};
 use crate::taking::take_pages;
@@ -81,7 +81,9 @@ pub(crate) fn plan_draft(
     ensures made { IfOk result (IsMade slot.now seal banner) }
     ensures room { IfOk result (λ plan. length plan.pages.items ≤ free_count ledger.old) }
     ensures enough { IfOk result (λ plan. min (owned_under (state_of draft.now.tree).root) (2 ^ 64 - 1) ≤ free_count ledger.old) }
-    ensures used { IfOk result (λ plan. length plan.pages.items ≤ owned_under (state_of draft.now.tree).root) }
+    ensures used { IfOk result (λ plan. length plan.pages.items ≡ owned_under (state_of draft.now.tree).root) }
+    ensures levels { IfOk result (λ plan. plan.slot.root.height ≡ levels_of (state_of draft.now.tree)) }
+    ensures alive { length ledger.old.marks ≡ length ledger.old.lives → (n : ℕ) → is_alive ledger.new n ≡ is_alive ledger.old n }
     ensures planned { (view : Image) (top edits : ℕ) (pairs : List Pair) → IsHeld view slot.now top ledger.old → IsCounted slot.now view edits pairs ledger.old draft.now → seal ≡ top + 1 → banner.version ≡ 1 →
         Tells (Unit {0}) result (IsPlanned view slot.now top pairs ledger.new) }
     ensures marks { OnlyMarks ledger.old ledger.new }

@@ -90,6 +90,15 @@ fn check<'a>(alloc: Global) -> Result<Command<'a>, AllocError> {
         .arg(image(alloc))
 }
 
+fn compact<'a>(alloc: Global) -> Result<Command<'a>, AllocError> {
+    Command::new(alloc, "compact")
+        .about(
+            "Writes the whole site anew in as few pages as it takes, in one step that a crash can't halve, and prints how many pages are free then; it needs free pages for all of it",
+        )
+        .after_help("Example: gopher_host compact site.img")
+        .arg(image(alloc))
+}
+
 fn replay<'a>(alloc: Global) -> Result<Command<'a>, AllocError> {
     let image = path(
         alloc,
@@ -158,6 +167,7 @@ pub fn command_line<'a>(alloc: Global) -> Result<Command<'a>, AllocError> {
         .subcommand(apply(alloc)?)?
         .subcommand(show(alloc)?)?
         .subcommand(check(alloc)?)?
+        .subcommand(compact(alloc)?)?
         .subcommand(replay(alloc)?)?
         .subcommand(serve(alloc)?)
 }

@@ -7,7 +7,8 @@ use host_script::small_site;
 use host_types::{Refused, Stamp};
 use image_changes::apply_on;
 use image_commands::{
-    ImageFault, SiteNames, check_image, format_image, formatted_line, sectors_of, show_image,
+    ImageFault, SiteNames, check_image, compact_image, format_image, formatted_line, sectors_of,
+    show_image,
 };
 use image_server::{ServingFault, serve_clients, serve_image, served_line};
 use image_sessions::{replay_on, replay_over};
@@ -109,6 +110,15 @@ pub fn show(rt: &HostRuntime, image: &str) -> Result<(), Fault> {
 pub fn check(rt: &HostRuntime, image: &str) -> Result<(), Fault> {
     let device = open(rt, image)?;
     match check_image(rt.alloc(), device) {
+        Ok((line, _)) => print_line(rt, &line),
+        Err((fault, _)) => Err(Fault::from(fault)),
+    }
+}
+
+/// Writes an image anew, and prints the line of the pages that are free then.
+pub fn compact(rt: &HostRuntime, image: &str) -> Result<(), Fault> {
+    let device = open(rt, image)?;
+    match compact_image(rt.alloc(), device) {
         Ok((line, _)) => print_line(rt, &line),
         Err((fault, _)) => Err(Fault::from(fault)),
     }

@@ -22,6 +22,7 @@ fn run(rt: &HostRuntime, task: Task<'_>) -> Result<(), Fault> {
         Task::Apply { image, file, now } => commands::apply(rt, image, file, now),
         Task::Show { image } => commands::show(rt, image),
         Task::Check { image } => commands::check(rt, image),
+        Task::Compact { image } => commands::compact(rt, image),
         Task::Replay { image } => commands::replay(rt, image),
         Task::ServeRounds {
             image,

@@ -36,6 +36,10 @@ pub enum Task<'a> {
     Check {
         image: &'a str,
     },
+    /// Writes an image anew in as few pages as it takes.
+    Compact {
+        image: &'a str,
+    },
     /// Runs the script on standard input, and prints its answers.
     Replay {
         image: Option<&'a str>,
@@ -178,6 +182,7 @@ fn task_of<'a>(name: &str, matches: &ArgMatches<'a>) -> Option<Task<'a>> {
         }),
         "show" => Some(Task::Show { image: image? }),
         "check" => Some(Task::Check { image: image? }),
+        "compact" => Some(Task::Compact { image: image? }),
         "replay" => Some(Task::Replay { image }),
         "serve" => serving(image?, matches),
         _ => None,

@@ -26,7 +26,12 @@ pub record KeepsSite {D : Type 0} (state : D → State) (crash_states : D → Cr
   pub opened : D
   pub no_new_crash_state : AddsNone (crash_states old) (crash_states opened)
   pub at_crash : AddsOnly (crash_states opened) (crash_states new) (λ image. ImageRepresents image site)
-  pub shows : ImageRepresents (state new).disk.view site
+
+-- Reads of a device give the same site as before.
+pub record ShowsSite {D : Type 0} (state : D → State) (old new : D) : Type 0 where
+  pub site : Site
+  pub before : ImageRepresents (state old).disk.view site
+  pub now : ImageRepresents (state new).disk.view site
 
 -- The line tells how many pages the tree of the current root slot leaves unreached.
 pub record TellsFree (image : Image) (line : List ℕ) : Type 0 where

@@ -4,3 +4,4 @@ pub mod Formatted
 pub mod Faults
 pub mod FaultLines
 pub mod CommandExamples
+pub mod Compacted

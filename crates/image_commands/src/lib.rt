@@ -2,6 +2,7 @@
 #![tactic(auto)]
 
 mod checking;
+mod compacting;
 mod fault;
 mod fault_lines;
 mod formatting;
@@ -11,6 +12,7 @@ mod names;
 mod showing;
 
 pub use checking::{check_image, check_site, figures_line};
+pub use compacting::{compact_image, free_line};
 pub use fault::ImageFault;
 pub use fault_lines::{advice, fault_line};
 pub use formatting::{format_image, formatted_line, sectors_of};

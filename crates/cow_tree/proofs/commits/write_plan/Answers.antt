@@ -31,7 +31,7 @@ returns-in-Ok-clause-done g c = λ keeps w.
     let commit = the_commit view states c.args.slot.now c.args.ledger.now c.args.plan.now w in
     let rd = subst (λ (l : List NewPage). IsReady commit l view) (sym c.deref.ensures.value) (ready view states c.args.slot.now c.args.ledger.now c.args.plan.now w) in
     let done = subst (λ (l : List NewPage). IsDone commit l after view now) c.deref.ensures.value (c.in-Ok.ensures.done keeps commit refl rd) in
-    subst (λ (l : LedgerState). IsCommitted now after c.args.plan.now l w.pairs) (sym c.advance.ensures.advanced)
+    subst (λ (l : LedgerState). IsCommitted now after c.args.plan.now l w.planned.found) (sym c.advance.ensures.advanced)
     (is_committed view states c.args.slot.now c.args.ledger.now c.args.plan.now w now after done
     (subst (λ (l : LedgerState). (n : ℕ) → n < length c.args.ledger.now.lives → has_page l c.args.plan.now.slot.seal n ≡ has_page_next c.args.ledger.now n) c.advance.ensures.advanced c.advance.ensures.pages))
 

@@ -1,15 +1,13 @@
-use Rattle.std.proofs.Common.{◌≡◌, ◌≤◌, ℕ, List, refl, ap, subst, ◌∙◌}
+use Rattle.std.proofs.Common.{◌≡◌, refl, ap, ◌∙◌}
 use Rattle.std.proofs.lemmas.Result.{err_from_is_err_and}
-use Rattle.page_alloc.specs.LedgerState.{is_taken, free_count}
-use Rattle.page_store.specs.Pages.{Pair}
+use Rattle.page_alloc.specs.LedgerState.{is_taken}
 use Rattle.tree_nodes.specs.Growth.{owned_under}
 use Rattle.tree_loading.specs.Filled.{filled}
 use Rattle.cow_tree.specs.TreeState.{found_under}
-use Rattle.cow_tree.specs.Plans.{IsPlanned}
 use Rattle.cow_tree.proofs.PathReads.{tells_fault}
 use Rattle.cow_tree.proofs.Taken.{untaken_at_rest, abandoned_again}
 use Rattle.cow_tree.proofs.DraftsBegin.{keys_bounded}
-use Rattle.cow_tree.proofs.AllRetired.{fill_fault, needs_filled}
+use Rattle.cow_tree.proofs.AllRetired.{fill_fault, needs_filled, fill_plan}
 use Rattle.cow_tree.proofs.compaction.plan_compaction.Goals as goal
 
 pub returns-in_err-pairs-clause-planned : goal.returns-in_err-pairs-clause-planned
@@ -30,7 +28,7 @@ returns-in-Ok-clause-planned g c = λ keeps top held there seal.
     let pairs = c.in_ok-pairs.pairs.items in
     let is : pairs ≡ found.pairs = c.in_ok-pairs.ensures.pairs keeps found there.found_is (keys_bounded state.size slot view ledger c.requires.fitted there) in
     let planned = c.in-Ok.ensures.planned view top held (λ n. ap is_taken (untaken_at_rest ledger c.requires.fitted.rest.unmarked n)) seal in (
-      subst (λ (l : List Pair). IsPlanned view slot top l c.plan_pairs.new.ledger c.in-Ok.plan) is planned,
+      fill_plan view slot top c.plan_pairs.new.ledger c.in-Ok.plan pairs is planned c.in-Ok.ensures.none c.in-Ok.ensures.count c.in-Ok.ensures.levels,
       record {
         need = owned_under (filled pairs).root;
         needs = needs_filled slot view pairs (owned_under (filled pairs).root) there.map is refl;

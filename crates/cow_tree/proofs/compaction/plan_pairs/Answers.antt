@@ -1,12 +1,13 @@
-use Rattle.std.proofs.Common.{◌≡◌, ◌≤◌, ℕ, refl, ap, ◌∙◌, arith}
+use Rattle.std.proofs.Common.{◌≡◌, ◌≤◌, ℕ, length, refl, sym, ap, ◌∙◌, arith}
 use Rattle.std.proofs.lemmas.Result.{IfOk-weaker, IfErr-weaker}
 use Rattle.page_store.specs.declared.banner.Banner.{Banner}
 use Rattle.tree_nodes.specs.Growth.{owned_under}
 use Rattle.tree_nodes.specs.Steps.{RootState}
 use Rattle.tree_loading.specs.Filled.{filled}
 use Rattle.tree_loading.proofs.RootsMade.{filled_height}
+use Rattle.cow_tree.specs.Plans.{levels_of}
 use Rattle.cow_tree.proofs.PlansMade.{held_still}
-use Rattle.cow_tree.proofs.AllRetired.{edits_for, filled_counted, filled_bounded, told_again, room_fault_again}
+use Rattle.cow_tree.proofs.AllRetired.{edits_for, filled_counted, filled_bounded, filled_levels, told_again, room_fault_again}
 use Rattle.cow_tree.proofs.compaction.plan_pairs.Goals as goal
 
 pub plan_draft-requires-clause-low : goal.plan_draft-requires-clause-low
@@ -38,3 +39,19 @@ returns-clause-fault c =
     let pairs = c.args.pairs.items in
     let tree = ap (λ (s : RootState). owned_under s.root) c.in_ok-tree.ensures in
     IfErr-weaker c.plan_draft.result _ _ (λ e fault. room_fault_again e _ _ _ _ c.retire_all.ensures.only.free (λ need is. filled_bounded pairs need c.requires.map c.requires.few (let t = tree in omega (arith, is, t))) fault) c.plan_draft.ensures.fault
+
+pub returns-clause-count : goal.returns-clause-count
+returns-clause-count c =
+    let tree = ap (λ (s : RootState). owned_under s.root) c.in_ok-tree.ensures in
+    IfOk-weaker c.plan_draft.result _ _ (λ plan used. used ∙ tree) c.plan_draft.ensures.used
+
+pub returns-clause-levels : goal.returns-clause-levels
+returns-clause-levels c =
+    let tree = ap (λ (s : RootState). levels_of s) c.in_ok-tree.ensures in
+    IfOk-weaker c.plan_draft.result _ _ (λ plan levels. levels ∙ tree ∙ filled_levels c.args.pairs.items c.requires.map) c.plan_draft.ensures.levels
+
+pub returns-clause-none : goal.returns-clause-none
+returns-clause-none c = λ n.
+    let marks = c.retire_all.ensures.only.marks in
+    let fit = marks.size ∙ c.requires.marked ∙ sym c.requires.lives ∙ sym (ap length marks.lives) in
+    IfOk-weaker c.plan_draft.result _ _ (λ plan enough. c.plan_draft.ensures.alive fit n ∙ c.retire_all.ensures.none n) c.plan_draft.ensures.enough

@@ -6,7 +6,7 @@ use Rattle.tree_pages.specs.Written.{IsTreePage}
 use Rattle.cow_tree.specs.Drafts.{old_under}
 use Rattle.cow_tree.specs.Taken.{Takes}
 use Rattle.cow_tree.specs.Plans.{IsRootWritten}
-use Rattle.cow_tree.proofs.PlansMade.{planned_at, made_inside, made_root, given_inside, all_owned, free_few, root_is_inside, numbers_inside}
+use Rattle.cow_tree.proofs.PlansMade.{planned_at, made_inside, made_count, made_levels, made_root, given_inside, all_owned, free_few, root_is_inside, numbers_inside}
 use Rattle.cow_tree.proofs.plans.plan_draft.Goals as goal
 use Rattle.cow_tree.proofs.plans.plan_draft.Goals.{then-tree-eq0, else-tree-eq0}
 
@@ -55,6 +55,34 @@ returns-clause-made c =
       ];
       page = λ sectors fits. c.in_ok-root.ensures.valid sectors c.ranges.seal.fits (c.requires.fitted.least, most, fits) c.requires.port;
     }
+
+pub returns-clause-used : goal.returns-clause-used
+returns-clause-used c =
+    let slot = c.args.slot.now in
+    let ledger = c.args.ledger.now in
+    let tree = state_of c.args.draft.now.tree in
+    let given = c.in_ok-numbers.numbers.items in
+    let free = c.if-need-free.false in
+    let few = free_few ledger in
+    let most = c.requires.fitted.most in
+    let lives = c.requires.lives in
+    let free_is = c.free-free.ensures in
+    let owned = all_owned c.owned_nodes-need.result (owned_under tree.root) c.free-free.result slot.root.pages c.owned_nodes-need.ensures (omega (arith, free)) (omega (arith, few, lives, free_is)) most in
+    let taken : Takes c.owned_nodes-need.result ledger c.take_pages.new.ledger given = c.in_ok-numbers.ensures.taken in
+    let written : IsRootWritten slot.root.pages c.args.seal given tree.height tree.root c.in_ok-tree.pages.items c.in_ok-tree.tree =
+    subst (λ (l : List ℕ). IsRootWritten slot.root.pages c.args.seal l tree.height tree.root c.in_ok-tree.pages.items c.in_ok-tree.tree) c.deref.ensures.value c.in_ok-tree.ensures.written in
+    made_count slot.root.pages c.args.seal tree.height given tree.root c.in_ok-tree.pages.items c.in_ok-tree.tree (taken.count_is ∙ owned) written
+
+pub returns-clause-levels : goal.returns-clause-levels
+returns-clause-levels c =
+    let slot = c.args.slot.now in
+    let tree = state_of c.args.draft.now.tree in
+    let given = c.in_ok-numbers.numbers.items in
+    let written : IsRootWritten slot.root.pages c.args.seal given tree.height tree.root c.in_ok-tree.pages.items c.in_ok-tree.tree =
+    subst (λ (l : List ℕ). IsRootWritten slot.root.pages c.args.seal l tree.height tree.root c.in_ok-tree.pages.items c.in_ok-tree.tree) c.deref.ensures.value c.in_ok-tree.ensures.written in
+    made_levels slot.root.pages c.args.seal tree.height given tree.root c.in_ok-tree.pages.items c.in_ok-tree.tree _ written
+    (λ z. elim c.if-tree-eq0.branch [ then-tree-eq0 w ↦ w.height-is | else-tree-eq0 w ↦ let ne = w.if-tree-eq0.false in absurd (omega (arith, ne, z)) ])
+    (λ some. elim c.if-tree-eq0.branch [ then-tree-eq0 w ↦ let e = w.if-tree-eq0.true in absurd (some e) | else-tree-eq0 w ↦ w.height-is ∙ w.height-height.ensures ])
 
 pub returns-clause-planned : goal.returns-clause-planned
 returns-clause-planned c = λ view top edits pairs held counted seal version.

@@ -1,10 +1,13 @@
-use Rattle.std.proofs.Common.{◌≡◌, ◌⊎◌, inl, inr, ℕ, length, refl, sym, ap, subst, ◌∙◌, arith, IsTrue}
+use Rattle.std.proofs.Common.{◌≡◌, ◌⊎◌, inl, inr, ℕ, List, length, refl, sym, ap, subst, ◌∙◌, arith, IsTrue}
 use Rattle.common_types.specs.Counts.{counted, counted_rises}
 use Rattle.common_types.specs.CrashStates.{may_crash_to, no_new_crash_state, adds_both}
 use Rattle.sector_device.specs.Disk.{Disk}
 use Rattle.page_alloc.specs.LedgerState.{LedgerState}
 use Rattle.page_store.specs.Sectors.{Image}
+use Rattle.page_store.specs.Pages.{Pair}
 use Rattle.page_store.specs.Content.{Found}
+use Rattle.tree_nodes.specs.Growth.{owned_under}
+use Rattle.tree_loading.specs.Filled.{filled}
 use Rattle.page_store.specs.Steps.{crash_states_of}
 use Rattle.page_store.specs.StoreState.{HasStayed}
 use Rattle.cow_tree.specs.TreeState.{IsFitted, IsThere, found_under, tree_holding}
@@ -89,7 +92,7 @@ write_plan-requires-clause-planned g c = λ keeps2.
     let e : i ≡ mid.disk.view = (k.settled keeps up).images i (d.crash_states_are_images k.device i keeps ((c.plan_compaction.ensures.reads.device.no_new_crash_state keeps).now i left)) ∙ sym (same keeps) in e in
     let ready = λ (keeps : IsTrue old.honest).
     may_be_written old.disk.view mid.disk.view (states c.plan_compaction.new.device) k.slot k.ledger c.plan_compaction.new.ledger k.top c.in-Ok.plan pairs (held_by keeps) c.plan_compaction.ensures.marks
-    (c.in-Ok.ensures.planned keeps k.top (held_by keeps) (k.there keeps) refl).0 k.fitted.version (same keeps) (sure keeps) in
+    (c.in-Ok.ensures.planned keeps k.top (held_by keeps) (k.there keeps) refl).0.planned k.fitted.version (same keeps) (sure keeps) in
     ready (subst IsTrue only.same.honest keeps2)
 
 pub invariant_of-self-in-Ok-write_plan : goal.invariant_of-self-in-Ok-write_plan
@@ -110,7 +113,7 @@ invariant_of-self-in-Ok-write_plan g c =
     let e : i ≡ mid.disk.view = (k.settled keeps up).images i (d.crash_states_are_images k.device i keeps ((c.plan_compaction.ensures.reads.device.no_new_crash_state keeps).now i left)) ∙ sym (same keeps) in e in
     let ready = λ (keeps : IsTrue old.honest).
     may_be_written old.disk.view mid.disk.view (states c.plan_compaction.new.device) k.slot k.ledger c.plan_compaction.new.ledger k.top c.in-Ok.plan pairs (held_by keeps) c.plan_compaction.ensures.marks
-    (c.in-Ok.ensures.planned keeps k.top (held_by keeps) (k.there keeps) refl).0 k.fitted.version (same keeps) (sure keeps) in
+    (c.in-Ok.ensures.planned keeps k.top (held_by keeps) (k.there keeps) refl).0.planned k.fitted.version (same keeps) (sure keeps) in
     let new = state c.write_plan.new.device in
     let wrote = c.write_plan.ensures.outcome in
     let keeps1 = λ (keeps : IsTrue old.honest). let h : IsTrue mid.honest = subst IsTrue (sym only.same.honest) keeps in h in
@@ -148,15 +151,43 @@ returns-in-Ok-write_plan-clause-done g c =
     let e : i ≡ mid.disk.view = (k.settled keeps up).images i (d.crash_states_are_images k.device i keeps ((c.plan_compaction.ensures.reads.device.no_new_crash_state keeps).now i left)) ∙ sym (same keeps) in e in
     let ready = λ (keeps : IsTrue old.honest).
     may_be_written old.disk.view mid.disk.view (states c.plan_compaction.new.device) k.slot k.ledger c.plan_compaction.new.ledger k.top c.in-Ok.plan pairs (held_by keeps) c.plan_compaction.ensures.marks
-    (c.in-Ok.ensures.planned keeps k.top (held_by keeps) (k.there keeps) refl).0 k.fitted.version (same keeps) (sure keeps) in
+    (c.in-Ok.ensures.planned keeps k.top (held_by keeps) (k.there keeps) refl).0.planned k.fitted.version (same keeps) (sure keeps) in
     let keeps1 = λ (keeps : IsTrue old.honest). let h : IsTrue mid.honest = subst IsTrue (sym only.same.honest) keeps in h in
     record {
-      pairs = λ keeps. (c.in-Ok-write_plan.ensures.done (keeps1 keeps) (ready keeps)).pairs_are;
+      pairs = λ keeps. ap (λ (x : Found). x.pairs) (c.in-Ok-write_plan.ensures.done (keeps1 keeps) (ready keeps)).found_is ∙ (ready keeps).planned.pairs_are;
       banner = c.in-Ok.ensures.made.banner_is;
       usable = refl;
       generation = c.in-Ok.ensures.made.seal_is;
       top = refl;
       pins = λ keeps. refl;
+    }
+
+pub returns-in-Ok-write_plan-clause-filled : goal.returns-in-Ok-write_plan-clause-filled
+returns-in-Ok-write_plan-clause-filled g c = λ keeps.
+    let d = g.met.D.Device in
+    let k = c.args.self.now in
+    let state = g.D.Device.state in
+    let old = state k.device in
+    let mid = state c.plan_compaction.new.device in
+    let only = c.plan_compaction.ensures.reads.device.only in
+    let states = crash_states_of g.D.Device.moment g.D.Device.possible_since in
+    let up = c.if-not-self.false in
+    let version = k.fitted.version in
+    let pairs = (found_under k.slot old.disk.view).pairs in
+    let held_by = λ (keeps : IsTrue old.honest). is_held old.size k.slot old.disk k.ledger k.top k.fitted (k.there keeps) (k.settled keeps up) k.sealed in
+    let same = λ (keeps : IsTrue old.honest). let e : mid.disk.view ≡ old.disk.view = ap (λ (x : Disk). x.view) (only.disk keeps) in e in
+    let sure = λ (keeps : IsTrue old.honest) (i : Image) (left : may_crash_to (states c.plan_compaction.new.device) i).
+    let e : i ≡ mid.disk.view = (k.settled keeps up).images i (d.crash_states_are_images k.device i keeps ((c.plan_compaction.ensures.reads.device.no_new_crash_state keeps).now i left)) ∙ sym (same keeps) in e in
+    let ready = λ (keeps : IsTrue old.honest).
+    may_be_written old.disk.view mid.disk.view (states c.plan_compaction.new.device) k.slot k.ledger c.plan_compaction.new.ledger k.top c.in-Ok.plan pairs (held_by keeps) c.plan_compaction.ensures.marks
+    (c.in-Ok.ensures.planned keeps k.top (held_by keeps) (k.there keeps) refl).0.planned k.fitted.version (same keeps) (sure keeps) in
+    let keeps1 = λ (keeps : IsTrue old.honest). let h : IsTrue mid.honest = subst IsTrue (sym only.same.honest) keeps in h in
+    let fill = (c.in-Ok.ensures.planned keeps k.top (held_by keeps) (k.there keeps) refl).0 in
+    let done = c.in-Ok-write_plan.ensures.done (keeps1 keeps) (ready keeps) in
+    let still = ap (λ (x : Found). x.pairs) done.found_is ∙ (ready keeps).planned.pairs_are in
+    record {
+      levels = fill.levels ∙ ap (λ (l : List Pair). (filled l).height) (sym still);
+      pages = ap (λ (x : Found). length x.pages) done.found_is ∙ fill.pages ∙ ap (λ (l : List Pair). owned_under (filled l).root) (sym still);
     }
 
 pub returns-in-Ok-write_plan-clause-at_crash : goal.returns-in-Ok-write_plan-clause-at_crash
@@ -177,7 +208,7 @@ returns-in-Ok-write_plan-clause-at_crash g c = λ keeps usable.
     let e : i ≡ mid.disk.view = (k.settled keeps up).images i (d.crash_states_are_images k.device i keeps ((c.plan_compaction.ensures.reads.device.no_new_crash_state keeps).now i left)) ∙ sym (same keeps) in e in
     let ready = λ (keeps : IsTrue old.honest).
     may_be_written old.disk.view mid.disk.view (states c.plan_compaction.new.device) k.slot k.ledger c.plan_compaction.new.ledger k.top c.in-Ok.plan pairs (held_by keeps) c.plan_compaction.ensures.marks
-    (c.in-Ok.ensures.planned keeps k.top (held_by keeps) (k.there keeps) refl).0 k.fitted.version (same keeps) (sure keeps) in
+    (c.in-Ok.ensures.planned keeps k.top (held_by keeps) (k.there keeps) refl).0.planned k.fitted.version (same keeps) (sure keeps) in
     let keeps1 = λ (keeps : IsTrue old.honest). let h : IsTrue mid.honest = subst IsTrue (sym only.same.honest) keeps in h in
     adds_both (states k.device) (states c.plan_compaction.new.device) (states c.write_plan.new.device) (may_crash_to (states k.device)) (IsTreeBetween mid.disk.view k.slot k.top pairs c.in-Ok.plan.slot.root.banner) (λ (i : Image). TreeHas i pairs k.slot.root.banner)
     (c.plan_compaction.ensures.reads.device.no_new_crash_state keeps) (c.write_plan.ensures.at_crash (keeps1 keeps) (ready keeps))
@@ -202,7 +233,7 @@ invariant_of-self-in-Err-write_plan g c =
     let e : i ≡ mid.disk.view = (k.settled keeps up).images i (d.crash_states_are_images k.device i keeps ((c.plan_compaction.ensures.reads.device.no_new_crash_state keeps).now i left)) ∙ sym (same keeps) in e in
     let ready = λ (keeps : IsTrue old.honest).
     may_be_written old.disk.view mid.disk.view (states c.plan_compaction.new.device) k.slot k.ledger c.plan_compaction.new.ledger k.top c.in-Ok.plan pairs (held_by keeps) c.plan_compaction.ensures.marks
-    (c.in-Ok.ensures.planned keeps k.top (held_by keeps) (k.there keeps) refl).0 k.fitted.version (same keeps) (sure keeps) in
+    (c.in-Ok.ensures.planned keeps k.top (held_by keeps) (k.there keeps) refl).0.planned k.fitted.version (same keeps) (sure keeps) in
     let new = state c.write_plan.new.device in
     let wrote = c.write_plan.ensures.outcome in
     let keeps1 = λ (keeps : IsTrue old.honest). let h : IsTrue mid.honest = subst IsTrue (sym only.same.honest) keeps in h in
@@ -237,7 +268,7 @@ returns-clause-fault g c =
     let e : i ≡ mid.disk.view = (k.settled keeps up).images i (d.crash_states_are_images k.device i keeps ((c.plan_compaction.ensures.reads.device.no_new_crash_state keeps).now i left)) ∙ sym (same keeps) in e in
     let ready = λ (keeps : IsTrue old.honest).
     may_be_written old.disk.view mid.disk.view (states c.plan_compaction.new.device) k.slot k.ledger c.plan_compaction.new.ledger k.top c.in-Ok.plan pairs (held_by keeps) c.plan_compaction.ensures.marks
-    (c.in-Ok.ensures.planned keeps k.top (held_by keeps) (k.there keeps) refl).0 k.fitted.version (same keeps) (sure keeps) in
+    (c.in-Ok.ensures.planned keeps k.top (held_by keeps) (k.there keeps) refl).0.planned k.fitted.version (same keeps) (sure keeps) in
     let new = state c.write_plan.new.device in
     let wrote = c.write_plan.ensures.outcome in
     let keeps1 = λ (keeps : IsTrue old.honest). let h : IsTrue mid.honest = subst IsTrue (sym only.same.honest) keeps in h in
@@ -285,7 +316,7 @@ returns-clause-at_crash g c = λ keeps usable.
     let e : i ≡ mid.disk.view = (k.settled keeps up).images i (d.crash_states_are_images k.device i keeps ((c.plan_compaction.ensures.reads.device.no_new_crash_state keeps).now i left)) ∙ sym (same keeps) in e in
     let ready = λ (keeps : IsTrue old.honest).
     may_be_written old.disk.view mid.disk.view (states c.plan_compaction.new.device) k.slot k.ledger c.plan_compaction.new.ledger k.top c.in-Ok.plan pairs (held_by keeps) c.plan_compaction.ensures.marks
-    (c.in-Ok.ensures.planned keeps k.top (held_by keeps) (k.there keeps) refl).0 k.fitted.version (same keeps) (sure keeps) in
+    (c.in-Ok.ensures.planned keeps k.top (held_by keeps) (k.there keeps) refl).0.planned k.fitted.version (same keeps) (sure keeps) in
     let keeps1 = λ (keeps : IsTrue old.honest). let h : IsTrue mid.honest = subst IsTrue (sym only.same.honest) keeps in h in
     adds_both (states k.device) (states c.plan_compaction.new.device) (states c.write_plan.new.device) (may_crash_to (states k.device)) (IsTreeBetween mid.disk.view k.slot k.top pairs c.in-Ok.plan.slot.root.banner) (λ (i : Image). TreeHas i pairs k.slot.root.banner)
     (c.plan_compaction.ensures.reads.device.no_new_crash_state keeps) (c.write_plan.ensures.at_crash (keeps1 keeps) (ready keeps))
@@ -331,7 +362,7 @@ returns-in-Ok-write_plan-clause-between g c = λ keeps usable.
     let e : i ≡ mid.disk.view = (k.settled keeps up).images i (d.crash_states_are_images k.device i keeps ((c.plan_compaction.ensures.reads.device.no_new_crash_state keeps).now i left)) ∙ sym (same keeps) in e in
     let ready = λ (keeps : IsTrue old.honest).
     may_be_written old.disk.view mid.disk.view (states c.plan_compaction.new.device) k.slot k.ledger c.plan_compaction.new.ledger k.top c.in-Ok.plan pairs (held_by keeps) c.plan_compaction.ensures.marks
-    (c.in-Ok.ensures.planned keeps k.top (held_by keeps) (k.there keeps) refl).0 k.fitted.version (same keeps) (sure keeps) in
+    (c.in-Ok.ensures.planned keeps k.top (held_by keeps) (k.there keeps) refl).0.planned k.fitted.version (same keeps) (sure keeps) in
     let keeps1 = λ (keeps : IsTrue old.honest). let h : IsTrue mid.honest = subst IsTrue (sym only.same.honest) keeps in h in
     adds_both (states k.device) (states c.plan_compaction.new.device) (states c.write_plan.new.device) (may_crash_to (states k.device)) (IsTreeBetween mid.disk.view k.slot k.top pairs c.in-Ok.plan.slot.root.banner) (λ (i : Image). may_crash_to (states k.device) i ⊎ IsTreeBetween old.disk.view k.slot k.top pairs k.slot.root.banner i)
     (c.plan_compaction.ensures.reads.device.no_new_crash_state keeps) (c.write_plan.ensures.at_crash (keeps1 keeps) (ready keeps)) (λ i left. inl left)
@@ -355,7 +386,7 @@ returns-clause-between g c = λ keeps usable.
     let e : i ≡ mid.disk.view = (k.settled keeps up).images i (d.crash_states_are_images k.device i keeps ((c.plan_compaction.ensures.reads.device.no_new_crash_state keeps).now i left)) ∙ sym (same keeps) in e in
     let ready = λ (keeps : IsTrue old.honest).
     may_be_written old.disk.view mid.disk.view (states c.plan_compaction.new.device) k.slot k.ledger c.plan_compaction.new.ledger k.top c.in-Ok.plan pairs (held_by keeps) c.plan_compaction.ensures.marks
-    (c.in-Ok.ensures.planned keeps k.top (held_by keeps) (k.there keeps) refl).0 k.fitted.version (same keeps) (sure keeps) in
+    (c.in-Ok.ensures.planned keeps k.top (held_by keeps) (k.there keeps) refl).0.planned k.fitted.version (same keeps) (sure keeps) in
     let keeps1 = λ (keeps : IsTrue old.honest). let h : IsTrue mid.honest = subst IsTrue (sym only.same.honest) keeps in h in
     adds_both (states k.device) (states c.plan_compaction.new.device) (states c.write_plan.new.device) (may_crash_to (states k.device)) (IsTreeBetween mid.disk.view k.slot k.top pairs c.in-Ok.plan.slot.root.banner) (λ (i : Image). may_crash_to (states k.device) i ⊎ IsTreeBetween old.disk.view k.slot k.top pairs k.slot.root.banner i)
     (c.plan_compaction.ensures.reads.device.no_new_crash_state keeps) (c.write_plan.ensures.at_crash (keeps1 keeps) (ready keeps)) (λ i left. inl left)

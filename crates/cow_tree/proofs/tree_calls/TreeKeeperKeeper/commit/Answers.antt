@@ -161,7 +161,7 @@ returns-in-Ok-write_plan-clause-done g c = λ keeps.
     may_be_written old.disk.view mid.disk.view (states c.plan_commit.new.device) k.slot k.ledger c.plan_commit.new.ledger k.top c.in-Ok.plan (updated pairs batch) (held_by keeps) c.plan_commit.ensures.marks
     (c.in-Ok.ensures.planned keeps k.top pairs (held_by keeps) (first keeps) refl version).0 k.fitted.version (same keeps) (sure keeps) in
     let keeps1 = λ (keeps : IsTrue old.honest). let h : IsTrue mid.honest = subst IsTrue (sym only.same.honest) keeps in h in
-    (c.in-Ok-write_plan.ensures.done (keeps1 keeps) (ready keeps)).pairs_are
+    ap (λ (x : Found). x.pairs) (c.in-Ok-write_plan.ensures.done (keeps1 keeps) (ready keeps)).found_is ∙ (ready keeps).planned.pairs_are
 
 pub returns-in-Ok-write_plan-clause-at_crash : goal.returns-in-Ok-write_plan-clause-at_crash
 returns-in-Ok-write_plan-clause-at_crash g c = λ keeps usable.
