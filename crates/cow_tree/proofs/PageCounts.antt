@@ -21,7 +21,7 @@ use Rattle.cow_tree.proofs.RootWalks.{found_tree}
 
 -- ---- lists that have each number as often are as long
 
-without_first : ℕ → List ℕ → List ℕ
+abbrev without_first : ℕ → List ℕ → List ℕ
 without_first n [] = []
 without_first n (m ∷ ms) = if n == m then ms else m ∷ without_first n ms
 

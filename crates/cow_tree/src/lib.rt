@@ -23,7 +23,7 @@ mod tree_keeper;
 
 pub use formatting::{a_first_leaf, format};
 pub use laws::{
-    a_run_tells_the_next_pair, a_walk_goes_on_in_its_leaf, every_other_page_is_free,
-    pairs_of_a_tree_are_a_map,
+    a_run_tells_the_next_pair, a_walk_goes_on_in_its_leaf, each_page_is_free_or_reached,
+    every_other_page_is_free, pairs_of_a_tree_are_a_map,
 };
 pub use tree_keeper::TreeKeeper;

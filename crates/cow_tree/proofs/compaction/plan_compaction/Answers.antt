@@ -28,7 +28,7 @@ returns-in-Ok-clause-planned g c = λ keeps top held there seal.
     let pairs = c.in_ok-pairs.pairs.items in
     let is : pairs ≡ found.pairs = c.in_ok-pairs.ensures.pairs keeps found there.found_is (keys_bounded state.size slot view ledger c.requires.fitted there) in
     let planned = c.in-Ok.ensures.planned view top held (λ n. ap is_taken (untaken_at_rest ledger c.requires.fitted.rest.unmarked n)) seal in (
-      fill_plan view slot top c.plan_pairs.new.ledger c.in-Ok.plan pairs is planned c.in-Ok.ensures.none c.in-Ok.ensures.count c.in-Ok.ensures.levels,
+      fill_plan view slot top c.plan_pairs.new.ledger c.in-Ok.plan pairs is planned (λ n. c.in-Ok.ensures.none n) c.in-Ok.ensures.count c.in-Ok.ensures.levels,
       record {
         need = owned_under (filled pairs).root;
         needs = needs_filled slot view pairs (owned_under (filled pairs).root) there.map is refl;

@@ -54,4 +54,4 @@ pub returns-clause-none : goal.returns-clause-none
 returns-clause-none c = λ n.
     let marks = c.retire_all.ensures.only.marks in
     let fit = marks.size ∙ c.requires.marked ∙ sym c.requires.lives ∙ sym (ap length marks.lives) in
-    IfOk-weaker c.plan_draft.result _ _ (λ plan enough. c.plan_draft.ensures.alive fit n ∙ c.retire_all.ensures.none n) c.plan_draft.ensures.enough
+    IfOk-weaker c.plan_draft.result _ _ (λ plan alive. alive ∙ c.retire_all.ensures.none n) (c.plan_draft.ensures.alive n fit)

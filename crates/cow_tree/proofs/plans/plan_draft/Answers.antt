@@ -1,11 +1,13 @@
-use Rattle.std.proofs.Common.{◌<◌, ℕ, List, refl, sym, subst, ◌∙◌, arith, length, get_or}
+use Rattle.std.proofs.Common.{◌<◌, ℕ, List, refl, sym, ap, subst, ◌∙◌, arith, length, get_or}
 use Rattle.std.proofs.lemmas.Result.{err_from_is_err_and}
+use Rattle.page_alloc.specs.LedgerState.{LedgerState, is_alive}
 use Rattle.tree_nodes.specs.OwnedTrees.{state_of}
 use Rattle.tree_nodes.specs.Growth.{owned_under}
 use Rattle.tree_pages.specs.Written.{IsTreePage}
 use Rattle.cow_tree.specs.Drafts.{old_under}
 use Rattle.cow_tree.specs.Taken.{Takes}
 use Rattle.cow_tree.specs.Plans.{IsRootWritten}
+use Rattle.cow_tree.proofs.Taken.{alive_still}
 use Rattle.cow_tree.proofs.PlansMade.{planned_at, made_inside, made_count, made_levels, made_root, given_inside, all_owned, free_few, root_is_inside, numbers_inside}
 use Rattle.cow_tree.proofs.plans.plan_draft.Goals as goal
 use Rattle.cow_tree.proofs.plans.plan_draft.Goals.{then-tree-eq0, else-tree-eq0}
@@ -55,6 +57,11 @@ returns-clause-made c =
       ];
       page = λ sectors fits. c.in_ok-root.ensures.valid sectors c.ranges.seal.fits (c.requires.fitted.least, most, fits) c.requires.port;
     }
+
+pub returns-clause-alive : goal.returns-clause-alive
+returns-clause-alive c = λ n fit.
+    let taken = c.in_ok-numbers.ensures.taken in
+    ap (λ (s : LedgerState). is_alive s n) taken.taken ∙ alive_still c.args.ledger.now c.in_ok-numbers.numbers.items taken.free fit n
 
 pub returns-clause-used : goal.returns-clause-used
 returns-clause-used c =
