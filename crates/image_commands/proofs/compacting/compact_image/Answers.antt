@@ -2,14 +2,15 @@ use Rattle.std.proofs.Common.{◌≡◌, inr, true, sym, ap, subst, ◌∙◌, I
 use Rattle.std.specs.String.{string_bytes}
 use Rattle.host_types.specs.CrashStates.{AddsOnly}
 use Rattle.page_store.specs.Steps.{crash_states_of}
-use Rattle.cow_tree.specs.TreeSeen.{held, device_of, is_open}
+use Rattle.cow_tree.specs.TreeSeen.{held, device_of, slot_of, is_open}
+use Rattle.cow_tree.specs.Compacting.{IsFilled}
 use Rattle.cow_tree.specs.KeeperLaws.{crash_states_have_the_tree}
 use Rattle.cow_tree.proofs.FreePages.{free_is}
 use Rattle.site_store.specs.Represented.{RepresentedBy, site_kept}
 use Rattle.site_store.specs.Seen.{seen_site}
 use Rattle.host_on_disk.specs.ImageSites.{ImageRepresents}
 use Rattle.host_on_disk.proofs.Images.{kept_stands}
-use Rattle.image_commands.specs.Compacted.{free_line, KeepsSite, TellsFree}
+use Rattle.image_commands.specs.Compacted.{free_line, KeepsSite, IsWrittenAnew}
 use Rattle.image_commands.proofs.compacting.compact_image.Goals as goal
 
 pub returns-in-Ok-free_line-clause-kept : goal.returns-in-Ok-free_line-clause-kept
@@ -47,8 +48,8 @@ returns-in-Ok-free_line-clause-shows g c = λ honest.
     let stands = kept_stands disk.view (held state k).pairs k.slot.root.banner (seen_site site) has.0 k.fitted.version (subst (λ x. RepresentedBy (held state x) (seen_site site)) (sym same) shown) in
     record { site = seen_site site; before = opened.site honest; now = subst (λ d. ImageRepresents (state d).disk.view (seen_site site)) (sym c.into_device-device.ensures) stands }
 
-pub returns-in-Ok-free_line-clause-line : goal.returns-in-Ok-free_line-clause-line
-returns-in-Ok-free_line-clause-line g c = λ honest.
+pub returns-in-Ok-free_line-clause-anew : goal.returns-in-Ok-free_line-clause-anew
+returns-in-Ok-free_line-clause-anew g c = λ honest.
     let state = g.D.Device.state in
     let opened = c.in-Ok.ensures in
     let site = c.in-Ok.site in
@@ -61,10 +62,11 @@ returns-in-Ok-free_line-clause-line g c = λ honest.
     let usable : k.usable ≡ true = ap (λ x. is_open x) same ∙ c.in-Ok-compacted.ensures.done.usable in
     let disk = (state k.device).disk in
     let settled = k.settled now usable in
-    subst (λ d. TellsFree (state d).disk.view (string_bytes c.in-Ok-free_line.line)) (sym c.into_device-device.ensures)
+    subst (λ d. IsWrittenAnew (state d).disk.view (string_bytes c.in-Ok-free_line.line)) (sym c.into_device-device.ensures)
     (record {
       slot = k.slot;
       current_is = settled.current_is;
+      filled = subst (λ x. IsFilled (slot_of x) (state (device_of x)).disk.view) (sym same) (c.in-Ok-compacted.ensures.filled still);
       line_is = c.in-Ok-free_line.ensures ∙ ap free_line (c.figures-free.ensures.free now ∙ free_is disk.view k.slot k.ledger k.fitted.rest (k.there now));
     })
 
