@@ -41,6 +41,11 @@ def guest_book():
     return put("/book", "Book", "board = 100") + put("/sign", "Sign", 'form = {board = "/book", questions = [{ask = "Name"}]}')
 
 
+def search():
+    """A search of all items."""
+    return put("/find", "Find", 'search = ""')
+
+
 def short_text():
     return put("/1k", "1k", f"text = {json.dumps(TEXTS['/1k'])}")
 
