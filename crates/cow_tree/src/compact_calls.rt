@@ -19,13 +19,14 @@ use sector_device::Device;
 impl<D: Device> CompactKeeper for TreeKeeper<D> {
     ghost compact_need = { λ k need. MayNeedFilled (slot_of k) (D.state (device_of k)) need };
 
+    ghost is_filled = { λ k. IsFilled (slot_of k) (D.state (device_of k)).disk.view };
+
     ghost few_pages = { λ k n honest need. (need honest).most };
 
     fn compact(&mut self) -> Result<(), KeeperFault>
         ensures done { OnOk result (IsCompacted (held D.state self.old) (held D.state self.new)) }
-        ensures fits { IsTrue (held D.state self.old).honest → OnOk result ((n : ℕ) × MayNeedFilled (slot_of self.old) (D.state (device_of self.old)) n × (n ≤ (held D.state self.old).free)) }
-        // The tree is in filled pages.
         ensures filled { IsTrue (held D.state self.old).honest → OnOk result (IsFilled (slot_of self.new) (D.state (device_of self.new)).disk.view) }
+        ensures fits { IsTrue (held D.state self.old).honest → OnOk result ((n : ℕ) × MayNeedFilled (slot_of self.old) (D.state (device_of self.old)) n × (n ≤ (held D.state self.old).free)) }
         ensures fault { IfErr result (IsCompactFault (held D.state self.old) (held D.state self.new) (MayNeedFilled (slot_of self.old) (D.state (device_of self.old)))) }
         ensures closed { (held D.state self.old).usable ≡ false → IsErrOf result Failed }
         ensures spent { (held D.state self.old).usable ≡ true → (held D.state self.old).top ≡ last_generation → IsErrOf result Spent }

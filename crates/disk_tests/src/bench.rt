@@ -316,6 +316,7 @@ fn on_site(
     match word {
         "next" => sites::next(site, line, fields),
         "figures" => sites::figures(site, line),
+        "compact" => sites::compact(site),
         _ => sites::call(alloc, site, line, now, word, fields),
     }
 }

@@ -7,6 +7,7 @@ use crate::trouble::Trouble;
 use cow_tree::TreeKeeper;
 use host_on_disk::{open_site, run_on, run_over};
 use host_types::{Admin, Bytes, Host, Stamp, Title};
+use image_commands::compact_image;
 use mem_site::MemSite;
 use page_store::Keeper;
 use sector_device::{Device, FuseDisk, MemDisk};
@@ -209,4 +210,28 @@ pub fn survives(
         }
     }
     Ok(Some(answered == events.len()))
+}
+
+/// The image of a site is written anew on a disk that crashes after so many calls: whether that was done. Each image that the crash leaves, by the sets of the writes since the last sync, is the same site, and
+/// can be used.
+pub fn compacts(
+    alloc: Global,
+    image: &[[u8; 512]],
+    calls: u64,
+    used: &[Event],
+) -> Result<bool, Trouble> {
+    let fuse = FuseDisk::new(disk_of(alloc, image)?, calls);
+    let (is_done, fuse) = match compact_image(alloc, fuse) {
+        Ok((_, fuse)) => (true, fuse),
+        Err((_, fuse)) => (false, fuse),
+    };
+    let disk = fuse.into_inner();
+    let before = kept_after(alloc, image, &[], 0)?;
+    for picks in &sets_of(alloc, unsynced(&disk), calls)? {
+        let left = MemDisk::of(alloc, disk.after_stop(alloc, picks)?)?;
+        if kept_and_used(alloc, left, used)?.as_slice() != before.as_slice() {
+            return Err(Trouble::Wrong("another site"));
+        }
+    }
+    Ok(is_done)
 }

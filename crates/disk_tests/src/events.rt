@@ -1,7 +1,7 @@
 // Events, and the scripts and crashes of an image.
 use crate::bench;
 use crate::bench::Bench;
-use crate::crashes::{disk_of, is_alike, kept_after, kept_and_used, survives};
+use crate::crashes::{compacts, disk_of, is_alike, kept_after, kept_and_used, survives};
 use crate::items::{change, event};
 use crate::line::{Line, number, text_of};
 use crate::scripts::{Dice, script};
@@ -20,6 +20,12 @@ fn show_survival(bench: &Bench, line: &mut Line, calls: &[u8]) -> Result<(), Tro
         Some(false) => "stopped",
         Some(true) => "answered",
     })
+}
+
+/// `compacts CALLS`: whether the image is written anew on a disk that crashes after so many calls. What the crash leaves is always the same site, and can be used.
+fn show_compaction(bench: &Bench, line: &mut Line, calls: &[u8]) -> Result<(), Trouble> {
+    let is_done = compacts(bench.alloc, &bench.image, number(calls)?, &bench.used)?;
+    line.word(if is_done { "done" } else { "stopped" })
 }
 
 /// A script of the requests and changes that were given.
@@ -132,6 +138,7 @@ pub fn call(
         ("choice", [times, word, rest @ ..]) => choose(bench, times, word, rest),
         ("request", [bytes]) => request(bench, bytes),
         ("survives", [calls]) => show_survival(bench, line, calls),
+        ("compacts", [calls]) => show_compaction(bench, line, calls),
         ("alike", [seed]) => alike(bench, seed),
         ("stopped", [calls, seed]) => stopped(bench, calls, seed),
         _ => alone(bench, line, word, fields),

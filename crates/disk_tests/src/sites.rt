@@ -4,7 +4,7 @@ use crate::keepers::{show_figures, show_usable};
 use crate::line::{Line, number};
 use crate::trouble::Trouble;
 use host_types::{Card, CardBody, Selector, SiteKeeper, Stamp};
-use page_store::Keeper;
+use page_store::{CompactKeeper, Keeper};
 use site_store::DiskSite;
 use std::alloc::Global;
 use word_index::SearchKeeper;
@@ -99,6 +99,11 @@ pub fn call<S: SearchKeeper>(
         ("search", [scope, query]) => search(site, line, scope, query),
         _ => make(alloc, site, now, word, fields),
     }
+}
+
+/// `compact`: the site is written anew.
+pub fn compact<K: CompactKeeper>(site: &mut DiskSite<K>) -> Result<(), Trouble> {
+    Ok(site.compact()?)
 }
 
 /// `figures`: items, and the figures of the keeper.

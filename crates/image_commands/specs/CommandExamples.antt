@@ -5,6 +5,7 @@ use Rattle.host_types.specs.Site.{Site, text_item, fresh_site, with_item}
 use Rattle.host_types.specs.declared.item.Item.{Item}
 use Rattle.host_types.specs.declared.item.Body.TheVariants.{Moved}
 use Rattle.page_store.specs.declared.fault.KeeperFault.TheVariants as store
+use Rattle.image_commands.specs.Compacted.{free_line}
 use Rattle.image_commands.specs.Lines.{formatted_line, figures_line}
 use Rattle.image_commands.specs.Listing.{listing}
 use Rattle.image_commands.specs.Formatted.{names_of, sectors_of}
@@ -22,6 +23,7 @@ small_site = with_item (with_item (fresh_site (codes "localhost") 7070 [] (codes
 pub record CommandExamples : Type 0 where
   pub formatted : formatted_line 64 ≡ codes "formatted 64 pages"
   pub figures : figures_line 2 10 61 3 ≡ codes "items 2 keys 10 free 61 generation 3"
+  pub free : free_line 61 ≡ codes "free 61"
   pub shown : listing small_site ≡ codes "1  Top\n0 /about About\\x20us\n> /from Old\n"
   pub pages : sectors_of 64 ≡ Ok 512
   pub few_pages : sectors_of 15 ≡ Err store.Small

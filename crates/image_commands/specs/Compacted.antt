@@ -10,6 +10,7 @@ use Rattle.page_store.specs.declared.slot.Slot.{Slot}
 use Rattle.page_store.specs.declared.fault.KeeperFault.{KeeperFault}
 use Rattle.page_store.specs.declared.fault.KeeperFault.TheVariants as store
 use Rattle.cow_tree.specs.TreeState.{unreached}
+use Rattle.cow_tree.specs.Compacting.{IsFilled}
 use Rattle.host_on_disk.specs.ImageSites.{ImageRepresents}
 use Rattle.image_commands.specs.Faults.{IsNotOpened}
 use Rattle.image_commands.specs.declared.fault.ImageFault.{ImageFault}
@@ -33,10 +34,11 @@ pub record ShowsSite {D : Type 0} (state : D → State) (old new : D) : Type 0 w
   pub before : ImageRepresents (state old).disk.view site
   pub now : ImageRepresents (state new).disk.view site
 
--- The line tells how many pages the tree of the current root slot leaves unreached.
-pub record TellsFree (image : Image) (line : List ℕ) : Type 0 where
+-- The tree of the current root slot is in filled pages, and the line tells how many pages it leaves unreached.
+pub record IsWrittenAnew (image : Image) (line : List ℕ) : Type 0 where
   pub slot : Slot
   pub current_is : current image ≡ Some slot
+  pub filled : IsFilled slot image
   pub line_is : line ≡ free_line (unreached slot image)
 
 -- The image was opened, but not written anew: a read failed, no further generation is there, the pages don't suffice, or a write or a sync failed; or memory was lacking, which may be for what is printed.

@@ -6,7 +6,7 @@ ghost use Rattle.sector_device.specs.Device.{NothingCounted};
 ghost use Rattle.page_store.specs.Steps.{crash_states_of};
 ghost use Rattle.page_store.specs.declared.fault.KeeperFault.TheVariants.{Small};
 ghost use Rattle.image_commands.specs.Compacted as spec;
-ghost use Rattle.image_commands.specs.Compacted.{KeepsSite, ShowsSite, TellsFree, IsCompactingFault};
+ghost use Rattle.image_commands.specs.Compacted.{KeepsSite, ShowsSite, IsWrittenAnew, IsCompactingFault};
 ghost use Rattle.image_commands.specs.declared.fault.ImageFault.TheVariants.{Store};
 
 use crate::ImageFault;
@@ -28,7 +28,7 @@ pub fn free_line(alloc: Global, free: u64) -> Result<String, AllocError>
 pub fn compact_image<D: Device>(alloc: Global, device: D) -> Result<(String, D), (ImageFault, D)>
     ensures kept { IsTrue (D.state device).honest → IfOk result (λ r. KeepsSite D.state (crash_states_of D.moment D.possible_since) device r.1) }
     ensures shows { IsTrue (D.state device).honest → IfOk result (λ r. ShowsSite D.state device r.1) }
-    ensures line { IsTrue (D.state device).honest → IfOk result (λ r. TellsFree (D.state r.1).disk.view (string_bytes r.0)) }
+    ensures anew { IsTrue (D.state device).honest → IfOk result (λ r. IsWrittenAnew (D.state r.1).disk.view (string_bytes r.0)) }
     ensures counts { IfOk result (λ r. NothingCounted (D.state device) (D.state r.1)) }
     ensures refused { IfErr result (λ e. IsCompactingFault (D.state device) (D.state e.1) e.0) }
     ensures kept_on_fault { IsTrue (D.state device).honest → IfErr result (λ e. AddsNone (crash_states_of D.moment D.possible_since device) (crash_states_of D.moment D.possible_since e.1) ⊎ KeepsSite D.state (crash_states_of D.moment D.possible_since) device e.1) }

@@ -13,11 +13,15 @@ pub trait CompactKeeper: Keeper {
     /// How many pages that takes.
     ghost compact_need: { Self → ℕ → Type 0 };
 
+    /// It stands in so few pages.
+    ghost is_filled: { Self → Type 0 };
+
     /// Writes the same pairs and the same banner anew, in one step.
     ///
     /// Faults in order: `Failed`, `Spent`, `Device` and `Damaged`, `Full`, and `Failed` again once a write or a sync has failed; never `Deep`. `Memory` may stand in place of any fault or success after `Spent`; nothing is written then.
     fn compact(&mut self) -> Result<(), KeeperFault>
         ensures done { OnOk result (IsCompacted (Self.store_state self.old) (Self.store_state self.new)) }
+        ensures filled { IsTrue (Self.store_state self.old).honest → OnOk result (is_filled self.new) }
         ensures fits { IsTrue (Self.store_state self.old).honest → OnOk result ((n : ℕ) × compact_need self.old n × (n ≤ (Self.store_state self.old).free)) }
         ensures fault { IfErr result (IsCompactFault (Self.store_state self.old) (Self.store_state self.new) (compact_need self.old)) }
         ensures closed { (Self.store_state self.old).usable ≡ false → IsErrOf result Failed }

@@ -19,6 +19,7 @@ impl<K: CompactKeeper> DiskSite<K> {
     pub fn compact(&mut self) -> Result<(), SiteFault>
         ensures site { IsTrue (K.store_state self.old.keeper).honest → site_of (K.store_state self.new.keeper) self.new.kept ≡ site_of (K.store_state self.old.keeper) self.old.kept }
         ensures done { OnOk result (IsCompacted (K.store_state self.old.keeper) (K.store_state self.new.keeper)) }
+        ensures filled { IsTrue (K.store_state self.old.keeper).honest → OnOk result (K.is_filled self.new.keeper) }
         ensures fits { IsTrue (K.store_state self.old.keeper).honest → OnOk result ((n : ℕ) × K.compact_need self.old.keeper n × (n ≤ (K.store_state self.old.keeper).free)) }
         ensures fault { IfErr result (IsSiteCompactFault (K.store_state self.old.keeper) (K.store_state self.new.keeper) (K.compact_need self.old.keeper)) }
         ensures counts { OnOk result (CountsNothing (K.store_state self.old.keeper) (K.store_state self.new.keeper)) }

@@ -8,6 +8,7 @@ unfolding digits computing
 returns c = record {
   formatted = refl;
   figures = refl;
+  free = refl;
   shown = refl;
   pages = refl;
   few_pages = refl;

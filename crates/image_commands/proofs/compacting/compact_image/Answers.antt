@@ -1,0 +1,103 @@
+use Rattle.std.proofs.Common.{◌≡◌, inr, true, sym, ap, subst, ◌∙◌, IsTrue}
+use Rattle.std.specs.String.{string_bytes}
+use Rattle.host_types.specs.CrashStates.{AddsOnly}
+use Rattle.page_store.specs.Steps.{crash_states_of}
+use Rattle.cow_tree.specs.TreeSeen.{held, device_of, slot_of, is_open}
+use Rattle.cow_tree.specs.Compacting.{IsFilled}
+use Rattle.cow_tree.specs.KeeperLaws.{crash_states_have_the_tree}
+use Rattle.cow_tree.proofs.FreePages.{free_is}
+use Rattle.site_store.specs.Represented.{RepresentedBy, site_kept}
+use Rattle.site_store.specs.Seen.{seen_site}
+use Rattle.host_on_disk.specs.ImageSites.{ImageRepresents}
+use Rattle.host_on_disk.proofs.Images.{kept_stands}
+use Rattle.image_commands.specs.Compacted.{free_line, KeepsSite, IsWrittenAnew}
+use Rattle.image_commands.proofs.compacting.compact_image.Goals as goal
+
+pub returns-in-Ok-free_line-clause-kept : goal.returns-in-Ok-free_line-clause-kept
+returns-in-Ok-free_line-clause-kept g c = λ honest.
+    let states = crash_states_of g.D.Device.moment g.D.Device.possible_since in
+    let opened = c.in-Ok.ensures in
+    let site = c.in-Ok.site in
+    let still = subst IsTrue (sym opened.honest) honest in
+    let back = c.into_device-device.ensures ∙ ap (λ k. device_of k) c.into_keeper-keeper.ensures in
+    record {
+      site = seen_site site;
+      stands = opened.site honest;
+      alone = opened.alone honest;
+      opened = site.keeper.device;
+      no_new_crash_state = opened.at_crash honest;
+      at_crash = subst (λ d. AddsOnly (states site.keeper.device) (states d) (λ i. ImageRepresents i (seen_site site))) (sym back) (c.compact-compacted.ensures.at_crash still opened.usable);
+    }
+
+pub returns-in-Ok-free_line-clause-shows : goal.returns-in-Ok-free_line-clause-shows
+returns-in-Ok-free_line-clause-shows g c = λ honest.
+    let state = g.D.Device.state in
+    let opened = c.in-Ok.ensures in
+    let site = c.in-Ok.site in
+    let written = c.compact-compacted.new.self in
+    let still = subst IsTrue (sym opened.honest) honest in
+    let same = c.into_keeper-keeper.ensures in
+    let k = c.into_keeper-keeper.result in
+    let before = subst IsTrue (sym c.compact-compacted.ensures.tried.honest) still in
+    let now = subst (λ x. IsTrue (state (device_of x)).honest) (sym same) before in
+    let usable : k.usable ≡ true = ap (λ x. is_open x) same ∙ c.in-Ok-compacted.ensures.done.usable in
+    let disk = (state k.device).disk in
+    let settled = k.settled now usable in
+    let shown = subst (λ s. RepresentedBy (held state written.keeper) s) (c.compact-compacted.ensures.site still) (site_kept (held state written.keeper) written.kept before) in
+    let has = crash_states_have_the_tree disk k.slot k.ledger k.top k.fitted.version (k.there now) settled disk.view (g.met.D.Device.view_is_image k.device now) in
+    let stands = kept_stands disk.view (held state k).pairs k.slot.root.banner (seen_site site) has.0 k.fitted.version (subst (λ x. RepresentedBy (held state x) (seen_site site)) (sym same) shown) in
+    record { site = seen_site site; before = opened.site honest; now = subst (λ d. ImageRepresents (state d).disk.view (seen_site site)) (sym c.into_device-device.ensures) stands }
+
+pub returns-in-Ok-free_line-clause-anew : goal.returns-in-Ok-free_line-clause-anew
+returns-in-Ok-free_line-clause-anew g c = λ honest.
+    let state = g.D.Device.state in
+    let opened = c.in-Ok.ensures in
+    let site = c.in-Ok.site in
+    let written = c.compact-compacted.new.self in
+    let still = subst IsTrue (sym opened.honest) honest in
+    let same = c.into_keeper-keeper.ensures in
+    let k = c.into_keeper-keeper.result in
+    let before = subst IsTrue (sym c.compact-compacted.ensures.tried.honest) still in
+    let now = subst (λ x. IsTrue (state (device_of x)).honest) (sym same) before in
+    let usable : k.usable ≡ true = ap (λ x. is_open x) same ∙ c.in-Ok-compacted.ensures.done.usable in
+    let disk = (state k.device).disk in
+    let settled = k.settled now usable in
+    subst (λ d. IsWrittenAnew (state d).disk.view (string_bytes c.in-Ok-free_line.line)) (sym c.into_device-device.ensures)
+    (record {
+      slot = k.slot;
+      current_is = settled.current_is;
+      filled = subst (λ x. IsFilled (slot_of x) (state (device_of x)).disk.view) (sym same) (c.in-Ok-compacted.ensures.filled still);
+      line_is = c.in-Ok-free_line.ensures ∙ ap free_line (c.figures-free.ensures.free now ∙ free_is disk.view k.slot k.ledger k.fitted.rest (k.there now));
+    })
+
+pub returns-in-Err-free_line-clause-kept_on_fault : goal.returns-in-Err-free_line-clause-kept_on_fault
+returns-in-Err-free_line-clause-kept_on_fault g c = λ honest.
+    let states = crash_states_of g.D.Device.moment g.D.Device.possible_since in
+    let opened = c.in-Ok.ensures in
+    let site = c.in-Ok.site in
+    let still = subst IsTrue (sym opened.honest) honest in
+    let back = c.into_device-device.ensures ∙ ap (λ k. device_of k) c.into_keeper-keeper.ensures in
+    inr (record {
+      site = seen_site site;
+      stands = opened.site honest;
+      alone = opened.alone honest;
+      opened = site.keeper.device;
+      no_new_crash_state = opened.at_crash honest;
+      at_crash = subst (λ d. AddsOnly (states site.keeper.device) (states d) (λ i. ImageRepresents i (seen_site site))) (sym back) (c.compact-compacted.ensures.at_crash still opened.usable);
+    })
+
+pub returns-in-Err-compacted-clause-kept_on_fault : goal.returns-in-Err-compacted-clause-kept_on_fault
+returns-in-Err-compacted-clause-kept_on_fault g c = λ honest.
+    let states = crash_states_of g.D.Device.moment g.D.Device.possible_since in
+    let opened = c.in-Ok.ensures in
+    let site = c.in-Ok.site in
+    let still = subst IsTrue (sym opened.honest) honest in
+    let back = c.into_device-device.ensures ∙ ap (λ k. device_of k) c.into_keeper-keeper.ensures in
+    inr (record {
+      site = seen_site site;
+      stands = opened.site honest;
+      alone = opened.alone honest;
+      opened = site.keeper.device;
+      no_new_crash_state = opened.at_crash honest;
+      at_crash = subst (λ d. AddsOnly (states site.keeper.device) (states d) (λ i. ImageRepresents i (seen_site site))) (sym back) (c.compact-compacted.ensures.at_crash still opened.usable);
+    })
