@@ -11,6 +11,7 @@ CHUNK = 1000
 BODY = 65536
 ROOT_PART = 488
 FIRST_GENERATION = 1
+RARE, RARE_AT = "lighthouse", 7
 HOST, ADMIN, TITLE = "localhost", "Ada <ada@localhost>", "Top"
 
 
@@ -38,6 +39,11 @@ def put(selector, title, body):
 def guest_book():
     """A board of 100 posts and its form."""
     return put("/book", "Book", "board = 100") + put("/sign", "Sign", 'form = {board = "/book", questions = [{ask = "Name"}]}')
+
+
+def search():
+    """A search of all items."""
+    return put("/find", "Find", 'search = ""')
 
 
 def short_text():
@@ -187,10 +193,10 @@ def written(image, pages, port, bytes_of_pairs):
 
 
 def written_items(image, pages, port, items):
-    """Writes an image with so many short documents under an empty top menu. Returns how many pages and levels its tree has."""
+    """Writes an image with so many short documents, of which one alone has the rare word, under an empty top menu. Returns how many pages and levels its tree has."""
     source, vocabulary = random.Random(items), [f"word{place}".encode() for place in range(2000)]
     pairs = [(b"I", record(b"M", TITLE.encode(), number(0, 4))), (b"W" + short(TITLE.lower().encode()), b"")]
     for place in range(items):
-        body = b" ".join(source.choices(vocabulary, k=20))
+        body = b" ".join(source.choices(vocabulary, k=20) + [RARE.encode()] * (place == RARE_AT))
         pairs += document_pairs(f"/d/{place:05}".encode(), f"Document {place}".encode(), body)
     return put_image(image, pages, port, sorted(pairs))

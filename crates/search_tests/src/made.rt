@@ -1,0 +1,110 @@
+// New sites: on a disk in memory, and in memory.
+use crate::batches::commit;
+use crate::counting::{CountingDisk, Reads};
+use crate::trouble::Trouble;
+use cow_tree::{TreeKeeper, format};
+use host_types::{Admin, Bytes, Host, Stamp, Title};
+use mem_site::MemSite;
+use page_store::{Banner, Edit};
+use sector_device::MemDisk;
+use site_store::{DiskSite, first_pairs};
+use std::alloc::Global;
+
+/// A site over a tree on a disk in memory.
+pub type TreeSite = DiskSite<Tree>;
+
+/// A tree on a disk in memory whose reads are counted.
+pub type Tree = TreeKeeper<CountingDisk<MemDisk>>;
+
+/// How many pages an image has.
+const PAGES: u16 = 256;
+
+const PORT: u16 = 7070;
+
+/// What a site is named by.
+#[derive(Drop)]
+struct Names {
+    host: Host,
+    admin: Admin,
+    title: Title,
+}
+
+impl Names {
+    fn new() -> Result<Names, Trouble> {
+        Ok(Names {
+            host: Host::new(b"localhost")?,
+            admin: Admin::new(b"Ada <ada@localhost>")?,
+            title: Title::new(b"top")?,
+        })
+    }
+}
+
+/// The edits that put the pairs of a site of which only the top menu is there.
+fn first_edits(alloc: Global, title: &Title) -> Result<Vec<Edit>, Trouble> {
+    let mut edits = Vec::new(alloc);
+    for pair in &first_pairs(alloc, title, Stamp::start())? {
+        let key = Bytes::from_slice(alloc, pair.key())?;
+        let value = Some(Bytes::from_slice(alloc, pair.value())?);
+        edits.push(Edit { key, value })?;
+    }
+    Ok(edits)
+}
+
+/// A disk with an image of a tree without pairs.
+fn formatted(alloc: Global, host: Host, admin: Admin) -> Result<MemDisk, Trouble> {
+    let mut disk = MemDisk::new(alloc, 8 * PAGES as usize)?;
+    let banner = Banner {
+        version: 1,
+        host,
+        port: PORT,
+        admin,
+    };
+    format(alloc, &mut disk, PAGES.into(), banner, &[])?;
+    Ok(disk)
+}
+
+fn keeper_on(alloc: Global, disk: MemDisk, reads: Reads) -> Result<Tree, Trouble> {
+    match TreeKeeper::open(alloc, CountingDisk::new(disk, reads)) {
+        Ok(keeper) => Ok(keeper),
+        Err((fault, _)) => Err(Trouble::Keeper(fault)),
+    }
+}
+
+/// The site that a keeper has.
+pub fn site_in(alloc: Global, keeper: Tree) -> Result<TreeSite, Trouble> {
+    match DiskSite::open(alloc, keeper) {
+        Ok(site) => Ok(site),
+        Err((fault, _)) => Err(Trouble::Open(fault)),
+    }
+}
+
+/// A new site on a disk in memory: its top menu, `top`, without entries.
+pub fn on_disk(alloc: Global, reads: Reads) -> Result<TreeSite, Trouble> {
+    let Names { host, admin, title } = Names::new()?;
+    let mut keeper = keeper_on(alloc, formatted(alloc, host, admin)?, reads)?;
+    commit(&mut keeper, &first_edits(alloc, &title)?)?;
+    site_in(alloc, keeper)
+}
+
+/// The sectors of an image.
+fn sectors_of(alloc: Global, image: &[u8]) -> Result<Vec<[u8; 512]>, Trouble> {
+    let mut sectors = Vec::with_capacity(alloc, image.len() / 512)?;
+    for bytes in image.chunks_exact(512) {
+        let mut sector = [0; 512];
+        sector.copy_from_slice(bytes);
+        sectors.push(sector)?;
+    }
+    Ok(sectors)
+}
+
+/// The site of an image.
+pub fn of_image(alloc: Global, image: &[u8], reads: Reads) -> Result<TreeSite, Trouble> {
+    let disk = MemDisk::of(alloc, sectors_of(alloc, image)?)?;
+    site_in(alloc, keeper_on(alloc, disk, reads)?)
+}
+
+/// The new site in memory.
+pub fn in_memory(alloc: Global) -> Result<MemSite, Trouble> {
+    let Names { host, admin, title } = Names::new()?;
+    Ok(MemSite::new(alloc, host, PORT, admin, title, Stamp::start())?)
+}
