@@ -15,6 +15,7 @@ mod opening_walk;
 mod page_bounds;
 mod page_fault;
 mod page_reads;
+mod pinned_tree;
 mod plans;
 mod taking;
 mod tree_calls;

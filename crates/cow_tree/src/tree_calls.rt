@@ -4,7 +4,7 @@ ghost use Rattle.common_types.specs.CrashStates.{AddsOnly, AddsNone, may_crash_t
 ghost use Rattle.page_store.specs.Sectors.{Image};
 ghost use Rattle.page_store.specs.Batch.{is_batch, updated, pair_after};
 ghost use Rattle.page_store.specs.Counting.{CountsReads, CountsWrites};
-ghost use Rattle.page_store.specs.StoreState.{HasRead, HasTried, NeedsTheSame, IsFilled, IsReadFault, IsCommitFault, last_generation};
+ghost use Rattle.page_store.specs.StoreState.{HasRead, HasTried, NeedsTheSame, IsFilled, IsReadFault, IsCommitFault, numbers_out, last_generation};
 ghost use Rattle.page_store.specs.declared.fault.KeeperFault.TheVariants.{Failed, Spent};
 ghost use Rattle.page_store.specs.Steps.{crash_states_of};
 ghost use Rattle.cow_tree.specs.Needs.{MayNeed};
@@ -113,6 +113,7 @@ impl<D: Device> Keeper for TreeKeeper<D> {
         ensures banner { OnOk result ((held D.state self.new).banner ≡ banner) }
         ensures still_usable { OnOk result ((held D.state self.new).usable ≡ true) }
         ensures rises { OnOk result ((held D.state self.new).top ≡ (held D.state self.old).top + 1) }
+        ensures out { OnOk result (numbers_out (held D.state self.new) ≡ numbers_out (held D.state self.old)) }
         ensures pins { IsTrue (held D.state self.old).honest → OnOk result ((held D.state self.new).pins ≡ (held D.state self.old).pins) }
         ensures generation { OnOk result ((held D.state self.new).generation ≡ (held D.state self.old).top + 1) }
         ensures fits { IsTrue (held D.state self.old).honest → OnOk result ((n : ℕ) × MayNeed (slot_of self.old) (D.state (device_of self.old)) batch.now n × (n ≤ (held D.state self.old).free)) }
