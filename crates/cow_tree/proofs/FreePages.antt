@@ -7,7 +7,7 @@ use Rattle.page_store.specs.Sectors.{Image}
 use Rattle.page_store.specs.Content.{is_among}
 use Rattle.page_store.specs.declared.slot.Slot.{Slot}
 use Rattle.cow_tree.specs.PinnedTrees.{found_at, seal_of, pins_from, keep_page, AreKept}
-use Rattle.cow_tree.specs.declared.pinned_tree.PinnedTree.{PinnedTree}
+use Rattle.cow_tree.specs.declared.tree_root.TreeRoot.{TreeRoot}
 use Rattle.cow_tree.specs.TreeState.{IsAtRest, IsThere, found_under, unreached}
 use Rattle.cow_tree.proofs.Taken.{untaken_at_rest}
 
@@ -20,8 +20,8 @@ same_count : (f g : ℕ → Bool) (n : ℕ) → ((k : ℕ) → k < n → f k ≡
 same_count f g zero each = refl
 same_count f g (suc n) each = rw (each n (omega arith), same_count f g n (λ k lt. each k (omega (arith, lt)))) refl
 
-module _ (image : Image) (slot : Slot) (ledger : LedgerState) (trees : List (Option PinnedTree)) (rest : IsAtRest slot ledger) (seals : ledger.pins ≡ map seal_of trees) (kept : AreKept image ledger trees) (there : IsThere image slot ledger) where
-  pinned_have : (some : List (Option PinnedTree)) → AreKept image ledger some → (n : ℕ) → have_page ledger (pinned (map seal_of some)) n ≡ keep_page image some n
+module _ (image : Image) (slot : Slot) (ledger : LedgerState) (trees : List (Option TreeRoot)) (rest : IsAtRest slot ledger) (seals : ledger.pins ≡ map seal_of trees) (kept : AreKept image ledger trees) (there : IsThere image slot ledger) where
+  pinned_have : (some : List (Option TreeRoot)) → AreKept image ledger some → (n : ℕ) → have_page ledger (pinned (map seal_of some)) n ≡ keep_page image some n
   pinned_have [] k n = refl
   pinned_have (None ∷ some) k n = pinned_have some (λ number tree is. k (suc number) tree is) n
   pinned_have (Some tree ∷ some) k n =
@@ -53,12 +53,12 @@ module _ (image : Image) (slot : Slot) (ledger : LedgerState) (trees : List (Opt
       (λ n lt. page_is_free n ∙ ap (λ (b : Bool). nat_le 2 n && (b && not (keep_page image trees n || is_among n (found_under slot image).pages))) (lt-ltb n slot.root.pages lt))
 
 -- where no pin is out, no tree keeps a page
-none_keeps : (image : Image) (number : ℕ) (trees : List (Option PinnedTree)) (n : ℕ) → pins_from image number trees ≡ [] → keep_page image trees n ≡ false
+none_keeps : (image : Image) (number : ℕ) (trees : List (Option TreeRoot)) (n : ℕ) → pins_from image number trees ≡ [] → keep_page image trees n ≡ false
 none_keeps image number [] n e = refl
 none_keeps image number (None ∷ trees) n e = none_keeps image (suc number) trees n e
 none_keeps image number (Some tree ∷ trees) n e = absurd (cc e)
 
-pub unreached_alone : (image : Image) (slot : Slot) (trees : List (Option PinnedTree)) → pins_from image 0 trees ≡ [] → unreached slot trees image ≡ unreached slot [] image
+pub unreached_alone : (image : Image) (slot : Slot) (trees : List (Option TreeRoot)) → pins_from image 0 trees ≡ [] → unreached slot trees image ≡ unreached slot [] image
 unreached_alone image slot trees e =
     same_count (λ n. nat_le 2 n && not (keep_page image trees n || is_among n (found_under slot image).pages)) (λ n. nat_le 2 n && not (is_among n (found_under slot image).pages)) slot.root.pages
     (λ n lt. ap (λ (b : Bool). nat_le 2 n && not (b || is_among n (found_under slot image).pages)) (none_keeps image 0 trees n e))

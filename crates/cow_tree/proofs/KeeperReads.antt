@@ -20,12 +20,12 @@ use Rattle.cow_tree.specs.Opening.{fault_of, bounds_under}
 use Rattle.cow_tree.specs.Needs.{MayNeed, NeedsPages}
 use Rattle.cow_tree.specs.PinnedTrees.{pins_from}
 use Rattle.cow_tree.specs.TreeState.{found_under, tree_holding}
-use Rattle.cow_tree.specs.declared.pinned_tree.PinnedTree.{PinnedTree}
+use Rattle.cow_tree.specs.declared.tree_root.TreeRoot.{TreeRoot}
 use Rattle.cow_tree.proofs.PinnedTrees.{same_numbers}
 use Rattle.cow_tree.specs.declared.page_fault.PageFault.{PageFault}
 use Rattle.cow_tree.specs.declared.page_fault.PageFault.TheVariants.{Device, Damaged}
 
-module _ (old new : State) (slot : Slot) (ledger : LedgerState) (top : ℕ) (usable : Bool) (trees : List (Option PinnedTree)) (only : OnlyReads old new) where
+module _ (old new : State) (slot : Slot) (ledger : LedgerState) (top : ℕ) (usable : Bool) (trees : List (Option TreeRoot)) (only : OnlyReads old new) where
   pub has_read : old.failed_reads ≤ new.failed_reads → HasRead (tree_holding old slot ledger top usable trees) (tree_holding new slot ledger top usable trees)
   has_read rises = record {
     same = record {

@@ -30,6 +30,7 @@ pub mod Planned
 pub mod CommitsWritten
 pub mod TreeCommits
 pub mod PinsCommitted
+pub mod PinsMade
 pub mod AllRetired
 pub mod PairsRead
 pub mod FirstImages

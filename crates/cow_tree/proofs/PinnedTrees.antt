@@ -1,5 +1,5 @@
 -- Trees that pins keep, and what is told of the pins.
-use Rattle.std.proofs.Common.{◌≡◌, ◌<◌, ◌≤◌, ◌+◌, inl, inr, ℕ, zero, suc, Bool, true, false, List, [], ◌∷◌, length, map, Option, Some, None, get_or, set, replicate, cond, is_some, refl, sym, ap, subst, ◌∙◌, arith, IsTrue, eq-eqb, ne_eqb}
+use Rattle.std.proofs.Common.{◌≡◌, ◌<◌, ◌≤◌, ◌+◌, inl, inr, ℕ, zero, suc, Bool, true, false, List, [], ◌∷◌, length, map, Option, Some, None, get_or, set, replicate, cond, is_some, refl, sym, ap, subst, ◌∙◌, arith, eq-eqb, ne_eqb}
 use Rattle.std.specs.Prelude.{◌||◌, ◌&&◌, ◌==◌, nat_le, nat_lt, option_map, IfSome}
 use Rattle.std.specs.List.{list_any, list_all}
 use Rattle.std.specs.Map.{lookup}
@@ -13,39 +13,39 @@ use Rattle.page_store.specs.Reading.{where_true}
 use Rattle.page_store.specs.Sectors.{Image, page_of}
 use Rattle.page_store.specs.Pages.{Pair}
 use Rattle.page_store.specs.Same.{Agree}
-use Rattle.page_store.specs.Content.{Found, Bounds, nothing_found, walk, tree_of, is_among}
+use Rattle.page_store.specs.Content.{Found, Bounds, walk, tree_of, is_among}
 use Rattle.page_store.proofs.Fields.{test_passed}
 use Rattle.page_store.proofs.ReachedPages.{walk-local}
 use Rattle.cow_tree.specs.Drafts.{OnlyMarks}
-use Rattle.cow_tree.specs.PinnedTrees.{or_nothing, bounds_at, tree_at, found_at, seal_of, pins_from, keep_page, IsInside, ArePinned, IsKeptTree, AreKept, HeldPagesStay, PinnedStay}
-use Rattle.cow_tree.specs.declared.pinned_tree.PinnedTree.{PinnedTree}
+use Rattle.cow_tree.specs.PinnedTrees.{or_nothing, bounds_at, tree_at, found_at, seal_of, pins_from, IsKeptTree, AreKept, HeldPagesStay, PinnedStay}
+use Rattle.cow_tree.specs.declared.tree_root.TreeRoot.{TreeRoot}
 use Rattle.cow_tree.proofs.Finding.{tree_inside}
 use Rattle.cow_tree.proofs.Reaching.{among_within}
 
-abbrev Pin : Type 0
+abbrev pub Pin : Type 0
 Pin = ℕ × List Pair
 
 -- ---- the pins that are out, by their numbers
 
-pub same_numbers : (a b : Image) (n : ℕ) (trees : List (Option PinnedTree)) → map (λ (pin : Pin). pin.0) (pins_from a n trees) ≡ map (λ (pin : Pin). pin.0) (pins_from b n trees)
+pub same_numbers : (a b : Image) (n : ℕ) (trees : List (Option TreeRoot)) → map (λ (pin : Pin). pin.0) (pins_from a n trees) ≡ map (λ (pin : Pin). pin.0) (pins_from b n trees)
 same_numbers a b n [] = refl
 same_numbers a b n (None ∷ trees) = same_numbers a b (suc n) trees
 same_numbers a b n (Some tree ∷ trees) = ap (λ (l : List ℕ). n ∷ l) (same_numbers a b (suc n) trees)
 
-pub same_pins : (a b : Image) (n : ℕ) (trees : List (Option PinnedTree)) → ((number : ℕ) (tree : PinnedTree) → get_or trees number None ≡ Some tree → found_at tree a ≡ found_at tree b) → pins_from a n trees ≡ pins_from b n trees
+pub same_pins : (a b : Image) (n : ℕ) (trees : List (Option TreeRoot)) → ((number : ℕ) (tree : TreeRoot) → get_or trees number None ≡ Some tree → found_at tree a ≡ found_at tree b) → pins_from a n trees ≡ pins_from b n trees
 same_pins a b n [] same = refl
 same_pins a b n (None ∷ trees) same = same_pins a b (suc n) trees (λ number tree is. same (suc number) tree is)
 same_pins a b n (Some tree ∷ trees) same =
     ap (λ (found : Found). (n, found.pairs) ∷ pins_from a (suc n) trees) (same zero tree refl) ∙ ap (λ (l : List Pin). (n, (found_at tree b).pairs) ∷ l) (same_pins a b (suc n) trees (λ number t is. same (suc number) t is))
 
-not_below : (a : Image) (n m : ℕ) (trees : List (Option PinnedTree)) → m < n → is_among m (map (λ (pin : Pin). pin.0) (pins_from a n trees)) ≡ false
+not_below : (a : Image) (n m : ℕ) (trees : List (Option TreeRoot)) → m < n → is_among m (map (λ (pin : Pin). pin.0) (pins_from a n trees)) ≡ false
 not_below a n m [] lt = refl
 not_below a n m (None ∷ trees) lt = not_below a (suc n) m trees (omega (arith, lt))
 not_below a n m (Some tree ∷ trees) lt =
     ap (λ (b : Bool). b || is_among m (map (λ (pin : Pin). pin.0) (pins_from a (suc n) trees))) (ne_eqb m n (λ e. absurd (omega (arith, e, lt)))) ∙ not_below a (suc n) m trees (omega (arith, lt))
 
 -- the pin of a number is out exactly where a tree stands there
-pub out_at : (a : Image) (n k m : ℕ) (trees : List (Option PinnedTree)) → m ≡ n + k → is_among m (map (λ (pin : Pin). pin.0) (pins_from a n trees)) ≡ is_some (get_or trees k None)
+pub out_at : (a : Image) (n k m : ℕ) (trees : List (Option TreeRoot)) → m ≡ n + k → is_among m (map (λ (pin : Pin). pin.0) (pins_from a n trees)) ≡ is_some (get_or trees k None)
 out_at a n zero m [] e = refl
 out_at a n (suc k) m [] e = refl
 out_at a n zero m (None ∷ trees) e = not_below a (suc n) m trees (omega (arith, e))
@@ -54,14 +54,14 @@ out_at a n (suc k) m (None ∷ trees) e = out_at a (suc n) k m trees (omega (ari
 out_at a n (suc k) m (Some tree ∷ trees) e =
     ap (λ (b : Bool). b || is_among m (map (λ (pin : Pin). pin.0) (pins_from a (suc n) trees))) (ne_eqb m n (λ s. absurd (omega (arith, e, s)))) ∙ out_at a (suc n) k m trees (omega (arith, e))
 
-none_below : (a : Image) (n m : ℕ) (trees : List (Option PinnedTree)) → m < n → lookup (λ j. j == m) (pins_from a n trees) ≡ None
+none_below : (a : Image) (n m : ℕ) (trees : List (Option TreeRoot)) → m < n → lookup (λ j. j == m) (pins_from a n trees) ≡ None
 none_below a n m [] lt = refl
 none_below a n m (None ∷ trees) lt = none_below a (suc n) m trees (omega (arith, lt))
 none_below a n m (Some tree ∷ trees) lt =
     ap (λ (b : Bool). cond b (Some (found_at tree a).pairs) (lookup (λ j. j == m) (pins_from a (suc n) trees))) (ne_eqb n m (λ e. absurd (omega (arith, e, lt)))) ∙ none_below a (suc n) m trees (omega (arith, lt))
 
 -- what a pin keeps is what its tree has
-pub pairs_of_pin : (a : Image) (n k m : ℕ) (trees : List (Option PinnedTree)) → m ≡ n + k → lookup (λ j. j == m) (pins_from a n trees) ≡ option_map (λ tree. (found_at tree a).pairs) (get_or trees k None)
+pub pairs_of_pin : (a : Image) (n k m : ℕ) (trees : List (Option TreeRoot)) → m ≡ n + k → lookup (λ j. j == m) (pins_from a n trees) ≡ option_map (λ tree. (found_at tree a).pairs) (get_or trees k None)
 pairs_of_pin a n zero m [] e = refl
 pairs_of_pin a n (suc k) m [] e = refl
 pairs_of_pin a n zero m (None ∷ trees) e = none_below a (suc n) m trees (omega (arith, e))
@@ -72,14 +72,14 @@ pairs_of_pin a n (suc k) m (Some tree ∷ trees) e =
 
 -- ---- how many are out
 
-pub one_more : (a : Image) (n k : ℕ) (trees : List (Option PinnedTree)) (tree : PinnedTree) → k < length trees → get_or trees k None ≡ None → length (pins_from a n (set trees k (Some tree))) ≡ length (pins_from a n trees) + 1
+pub one_more : (a : Image) (n k : ℕ) (trees : List (Option TreeRoot)) (tree : TreeRoot) → k < length trees → get_or trees k None ≡ None → length (pins_from a n (set trees k (Some tree))) ≡ length (pins_from a n trees) + 1
 one_more a n k [] tree lt e = absurd (omega (arith, lt))
 one_more a n zero (None ∷ trees) tree lt e = omega arith
 one_more a n zero (Some t ∷ trees) tree lt e = absurd (cc e)
 one_more a n (suc k) (None ∷ trees) tree lt e = one_more a (suc n) k trees tree (omega (arith, lt)) e
 one_more a n (suc k) (Some t ∷ trees) tree lt e = let rest = one_more a (suc n) k trees tree (omega (arith, lt)) e in omega (arith, rest)
 
-pub one_less : (a : Image) (n k : ℕ) (trees : List (Option PinnedTree)) (tree : PinnedTree) → get_or trees k None ≡ Some tree → length (pins_from a n (set trees k None)) + 1 ≡ length (pins_from a n trees)
+pub one_less : (a : Image) (n k : ℕ) (trees : List (Option TreeRoot)) (tree : TreeRoot) → get_or trees k None ≡ Some tree → length (pins_from a n (set trees k None)) + 1 ≡ length (pins_from a n trees)
 one_less a n k [] tree e = absurd (none_there k e)
   where
     none_there : (k : ℕ) → get_or [] k None ≡ Some tree → ⊥
@@ -90,25 +90,25 @@ one_less a n zero (Some t ∷ trees) tree e = omega arith
 one_less a n (suc k) (None ∷ trees) tree e = one_less a (suc n) k trees tree e
 one_less a n (suc k) (Some t ∷ trees) tree e = let rest = one_less a (suc n) k trees tree e in omega (arith, rest)
 
-pub at_most : (a : Image) (n : ℕ) (trees : List (Option PinnedTree)) → length (pins_from a n trees) ≤ length trees
+pub at_most : (a : Image) (n : ℕ) (trees : List (Option TreeRoot)) → length (pins_from a n trees) ≤ length trees
 at_most a n [] = omega arith
 at_most a n (None ∷ trees) = let rest = at_most a (suc n) trees in omega (arith, rest)
 at_most a n (Some t ∷ trees) = let rest = at_most a (suc n) trees in omega (arith, rest)
 
-pub room_left : (a : Image) (n k : ℕ) (trees : List (Option PinnedTree)) → k < length trees → get_or trees k None ≡ None → length (pins_from a n trees) < length trees
+pub room_left : (a : Image) (n k : ℕ) (trees : List (Option TreeRoot)) → k < length trees → get_or trees k None ≡ None → length (pins_from a n trees) < length trees
 room_left a n k [] lt e = absurd (omega (arith, lt))
 room_left a n zero (None ∷ trees) lt e = let rest = at_most a (suc n) trees in omega (arith, rest)
 room_left a n zero (Some t ∷ trees) lt e = absurd (cc e)
 room_left a n (suc k) (None ∷ trees) lt e = let rest = room_left a (suc n) k trees (omega (arith, lt)) e in omega (arith, rest)
 room_left a n (suc k) (Some t ∷ trees) lt e = let rest = room_left a (suc n) k trees (omega (arith, lt)) e in omega (arith, rest)
 
-pub all_out : (a : Image) (n : ℕ) (trees : List (Option PinnedTree)) → list_all is_pin (map seal_of trees) ≡ true → length (pins_from a n trees) ≡ length trees
+pub all_out : (a : Image) (n : ℕ) (trees : List (Option TreeRoot)) → list_all is_pin (map seal_of trees) ≡ true → length (pins_from a n trees) ≡ length trees
 all_out a n [] all = refl
 all_out a n (None ∷ trees) all = absurd (cc all)
 all_out a n (Some t ∷ trees) all = let rest = all_out a (suc n) trees all in omega (arith, rest)
 
 -- no tree is kept where no pin is out
-pub no_tree : (count k : ℕ) (tree : PinnedTree) → get_or (replicate count None) k None ≡ Some tree → ⊥
+pub no_tree : (count k : ℕ) (tree : TreeRoot) → get_or (replicate count None) k None ≡ Some tree → ⊥
 no_tree zero zero tree e = cc e
 no_tree zero (suc k) tree e = cc e
 no_tree (suc n) zero tree e = cc e
@@ -116,13 +116,13 @@ no_tree (suc n) (suc k) tree e = no_tree n k tree e
 
 -- ---- the generations of the ledger's pins
 
-pub seal_at : (trees : List (Option PinnedTree)) (k : ℕ) → get_or (map seal_of trees) k None ≡ seal_of (get_or trees k None)
+pub seal_at : (trees : List (Option TreeRoot)) (k : ℕ) → get_or (map seal_of trees) k None ≡ seal_of (get_or trees k None)
 seal_at [] zero = refl
 seal_at [] (suc k) = refl
 seal_at (tree ∷ trees) zero = refl
 seal_at (tree ∷ trees) (suc k) = seal_at trees k
 
-pub seals_set : (trees : List (Option PinnedTree)) (k : ℕ) (tree : Option PinnedTree) → map seal_of (set trees k tree) ≡ set (map seal_of trees) k (seal_of tree)
+pub seals_set : (trees : List (Option TreeRoot)) (k : ℕ) (tree : Option TreeRoot) → map seal_of (set trees k tree) ≡ set (map seal_of trees) k (seal_of tree)
 seals_set [] k tree = refl
 seals_set (t ∷ trees) zero tree = refl
 seals_set (t ∷ trees) (suc k) tree = ap (λ (l : List (Option ℕ)). seal_of t ∷ l) (seals_set trees k tree)
@@ -145,7 +145,7 @@ some_passes f (Some g ∷ pins) (suc k) kept is h = later (f g) (list_any f (pin
     later false b h = h
 
 -- a page that a pinned generation has is held
-pub page_is_held : (s : LedgerState) (trees : List (Option PinnedTree)) (k : ℕ) (tree : PinnedTree) → s.pins ≡ map seal_of trees → get_or trees k None ≡ Some tree → (n : ℕ) → has_page s tree.seal n ≡ true → is_held s n ≡ true
+pub page_is_held : (s : LedgerState) (trees : List (Option TreeRoot)) (k : ℕ) (tree : TreeRoot) → s.pins ≡ map seal_of trees → get_or trees k None ≡ Some tree → (n : ℕ) → has_page s tree.seal n ≡ true → is_held s n ≡ true
 page_is_held s trees k tree seals is n has =
     later (has_page s s.generation n) (have_page s (pinned s.pins) n)
     (some_passes (λ g. has_page s g n) s.pins k tree.seal (ap (λ (l : List (Option ℕ)). get_or l k None) seals ∙ seal_at trees k ∙ ap seal_of is) has)
@@ -163,7 +163,7 @@ tree-local a b bounds (suc level) page found e stay =
     let t = test_passed test (walk a bounds level page [] None) found e in
     ap (λ (c : Bool). where_true c (walk b bounds level page [] None)) t.0 ∙ walk-local a b bounds level page [] None found t.1 stay
 
-module _ (a b : Image) (s : LedgerState) (trees : List (Option PinnedTree)) (seals : s.pins ≡ map seal_of trees) (stay : HeldPagesStay s (page_of a) (page_of b)) (kept : AreKept a s trees) (k : ℕ) (tree : PinnedTree) (is : get_or trees k None ≡ Some tree) where
+module _ (a b : Image) (s : LedgerState) (trees : List (Option TreeRoot)) (seals : s.pins ≡ map seal_of trees) (stay : HeldPagesStay s (page_of a) (page_of b)) (kept : AreKept a s trees) (k : ℕ) (tree : TreeRoot) (is : get_or trees k None ≡ Some tree) where
   abbrev there : IsKeptTree a s tree
   there = kept k tree is
 
@@ -188,14 +188,14 @@ module _ (a b : Image) (s : LedgerState) (trees : List (Option PinnedTree)) (sea
 
 -- ---- a ledger in which the pinned generations have their pages
 
-pub kept_by_ledger : (a : Image) (old new : LedgerState) (trees : List (Option PinnedTree)) → ((k : ℕ) (tree : PinnedTree) → get_or trees k None ≡ Some tree → (n : ℕ) → has_page new tree.seal n ≡ has_page old tree.seal n) → AreKept a old trees → AreKept a new trees
+pub kept_by_ledger : (a : Image) (old new : LedgerState) (trees : List (Option TreeRoot)) → ((k : ℕ) (tree : TreeRoot) → get_or trees k None ≡ Some tree → (n : ℕ) → has_page new tree.seal n ≡ has_page old tree.seal n) → AreKept a old trees → AreKept a new trees
 kept_by_ledger a old new trees same kept k tree is = record { found_is = (kept k tree is).found_is; has = λ n. same k tree is n ∙ (kept k tree is).has n }
 
 no_page : (s : LedgerState) (seal n : ℕ) → length s.lives ≤ n → has_page s seal n ≡ false
 no_page s seal n le = ap (λ (l : Life). lives_at seal l) (get_or_past s.lives n Never le)
 
 -- a commit keeps the pages of each pinned generation
-pub pinned_pages : (old mid new : LedgerState) (trees : List (Option PinnedTree)) → old.pins ≡ map seal_of trees → OnlyMarks old mid → PinnedStay mid new → length new.lives ≡ length mid.lives → (k : ℕ) (tree : PinnedTree) → get_or trees k None ≡ Some tree → (n : ℕ) → has_page new tree.seal n ≡ has_page old tree.seal n
+pub pinned_pages : (old mid new : LedgerState) (trees : List (Option TreeRoot)) → old.pins ≡ map seal_of trees → OnlyMarks old mid → PinnedStay mid new → length new.lives ≡ length mid.lives → (k : ℕ) (tree : TreeRoot) → get_or trees k None ≡ Some tree → (n : ℕ) → has_page new tree.seal n ≡ has_page old tree.seal n
 pinned_pages old mid new trees seals marks stay size k tree is n =
     let pin : get_or mid.pins k None ≡ Some tree.seal = ap (λ (l : List (Option ℕ)). get_or l k None) (marks.pins ∙ seals) ∙ seal_at trees k ∙ ap seal_of is in
     let same : has_page mid tree.seal n ≡ has_page old tree.seal n = ap (λ (l : List Life). lives_at tree.seal (get_or l n Never)) marks.lives in

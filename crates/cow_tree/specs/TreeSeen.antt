@@ -6,7 +6,7 @@ use Rattle.page_store.specs.Pages.{Pair}
 use Rattle.page_store.specs.StoreState.{StoreState}
 use Rattle.page_store.specs.declared.slot.Slot.{Slot}
 use Rattle.cow_tree.specs.TreeState.{tree_holding}
-use Rattle.cow_tree.specs.declared.pinned_tree.PinnedTree.{PinnedTree}
+use Rattle.cow_tree.specs.declared.tree_root.TreeRoot.{TreeRoot}
 use Rattle.cow_tree.specs.declared.tree_keeper.TreeKeeper.{TreeKeeper}
 
 abbrev pub device_of : {D : Type 0} {dict : _} → TreeKeeper D dict → D
@@ -32,7 +32,7 @@ abbrev pub held : {D : Type 0} {dict : _} → (D → State) → TreeKeeper D dic
 held state k = tree_holding (state k.device) k.slot k.ledger k.top k.usable k.pinned
 
 -- the trees that pins keep, by the pins' numbers
-abbrev pub pinned_by : {D : Type 0} {dict : _} → TreeKeeper D dict → List (Option PinnedTree)
+abbrev pub pinned_by : {D : Type 0} {dict : _} → TreeKeeper D dict → List (Option TreeRoot)
 pinned_by k = k.pinned
 
 -- the pairs of the leaf that the last `next` that read one has kept, if there is any

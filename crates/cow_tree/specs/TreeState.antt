@@ -12,7 +12,7 @@ use Rattle.page_store.specs.StoreState.{StoreState}
 use Rattle.page_store.specs.declared.slot.Slot.{Slot}
 use Rattle.cow_tree.specs.Opening.{IsRooted, AreWhole}
 use Rattle.cow_tree.specs.PinnedTrees.{or_nothing, pins_from, keep_page}
-use Rattle.cow_tree.specs.declared.pinned_tree.PinnedTree.{PinnedTree}
+use Rattle.cow_tree.specs.declared.tree_root.TreeRoot.{TreeRoot}
 
 -- The ledger is of the slot's image and generation, and no commit runs.
 pub record IsAtRest (slot : Slot) (ledger : LedgerState) : Type 0 where
@@ -46,7 +46,7 @@ abbrev pub found_under : Slot → Image → Found
 found_under slot image = or_nothing (tree_found slot (page_of image))
 
 -- how many pages of a slot's image neither one of these trees reaches nor the one under the slot, the root slots left out
-abbrev pub unreached : Slot → List (Option PinnedTree) → Image → ℕ
+abbrev pub unreached : Slot → List (Option TreeRoot) → Image → ℕ
 unreached slot trees image = count_below (λ n. nat_le 2 n && not (keep_page image trees n || is_among n (found_under slot image).pages)) slot.root.pages
 
 -- The tree under the slot stands in the image, and the ledger has exactly its pages, each of them whole.
@@ -63,7 +63,7 @@ pub record IsSettled (disk : Disk) (slot : Slot) (top : ℕ) : Type 0 where
   pub seals : greatest_seal disk.view 16 ≤ top
 
 -- a keeper as it is seen through its trait
-abbrev pub tree_holding : State → Slot → LedgerState → ℕ → Bool → List (Option PinnedTree) → StoreState
+abbrev pub tree_holding : State → Slot → LedgerState → ℕ → Bool → List (Option TreeRoot) → StoreState
 tree_holding state slot ledger top usable trees = record {
   pairs = (found_under slot state.disk.view).pairs;
   banner = slot.root.banner;

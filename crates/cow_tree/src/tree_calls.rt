@@ -17,6 +17,7 @@ use crate::TreeKeeper;
 use crate::commits::write_plan;
 use crate::lookups::{find_next, find_value};
 use crate::plans::plan_commit;
+use crate::tree_root::TreeRoot;
 use page_store::{Banner, Edit, Figures, Keeper, KeeperFault};
 use sector_device::Device;
 
@@ -61,7 +62,7 @@ impl<D: Device> Keeper for TreeKeeper<D> {
         if !self.usable {
             return Err(KeeperFault::Failed);
         }
-        match find_value(&mut self.device, &self.slot, key, buffer) {
+        match find_value(&mut self.device, TreeRoot::under(&self.slot), key, buffer) {
             Ok(found) => Ok(found),
             Err(fault) => Err(KeeperFault::from(fault)),
         }

@@ -7,7 +7,7 @@ ghost use Rattle.cow_tree.specs.PinnedTrees.{ArePinned, AreKept};
 ghost use Rattle.cow_tree.specs.TreeState.{IsFitted, IsThere, IsSettled, found_under};
 
 use crate::kept_leaf::KeptLeaf;
-use crate::pinned_tree::PinnedTree;
+use crate::tree_root::TreeRoot;
 use page_alloc::Ledger;
 use page_store::Slot;
 use sector_device::Device;
@@ -27,7 +27,7 @@ pub struct TreeKeeper<D: Device> {
     pub(crate) top: u64,
     pub(crate) usable: bool,
     pub(crate) kept: KeptLeaf,
-    pub(crate) pinned: [Option<PinnedTree>; 32],
+    pub(crate) pinned: [Option<TreeRoot>; 32],
     ghost fitted: { IsFitted (D.state device).size slot ledger },
     ghost sealed: { slot.seal ≤ top },
     ghost pins: { ArePinned slot.root.pages ledger pinned },

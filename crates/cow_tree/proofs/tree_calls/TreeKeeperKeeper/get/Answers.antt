@@ -3,13 +3,14 @@ use Rattle.page_store.specs.StoreState.{IsReadFault}
 use Rattle.page_store.specs.declared.fault.KeeperFault.{KeeperFault}
 use Rattle.cow_tree.specs.TreeState.{found_under, tree_holding}
 use Rattle.cow_tree.proofs.KeeperReads.{needs_again, has_read, read_fault, counts_rise}
+use Rattle.cow_tree.proofs.RootWalks.{current_there}
 use Rattle.cow_tree.proofs.tree_calls.TreeKeeperKeeper.get.Goals as goal
 
 pub returns-in-Ok-clause-value : goal.returns-in-Ok-clause-value
 returns-in-Ok-clause-value g c = λ keeps.
     let d = g.D.Device in
     let k = c.args.self.now in
-    c.in-Ok.ensures.value keeps (found_under k.slot (d.state k.device).disk.view) (k.there keeps).found_is
+    c.in-Ok.ensures.value keeps (found_under k.slot (d.state k.device).disk.view) (current_there k.slot (d.state k.device).disk.view k.ledger _ c.under.ensures (k.there keeps))
 
 pub returns-in-Err-clause-kept : goal.returns-in-Err-clause-kept
 returns-in-Err-clause-kept g c =
@@ -25,7 +26,7 @@ returns-in-Err-clause-fault g c =
     let reads = c.in-Err.ensures.reads in
     subst (λ (e : KeeperFault). IsReadFault (tree_holding (d.state k.device) k.slot k.ledger k.top k.usable k.pinned) (tree_holding (d.state c.find_value.new.device) k.slot k.ledger k.top k.usable k.pinned) e) (sym c.from.ensures)
     (read_fault (d.state k.device) (d.state c.find_value.new.device) k.slot k.ledger k.top k.usable k.pinned reads.device.only (Option ℕ) c.in-Err.fault _ reads.reads
-    (λ keeps. c.in-Err.ensures.value keeps (found_under k.slot (d.state k.device).disk.view) (k.there keeps).found_is))
+    (λ keeps. c.in-Err.ensures.value keeps (found_under k.slot (d.state k.device).disk.view) (current_there k.slot (d.state k.device).disk.view k.ledger _ c.under.ensures (k.there keeps))))
 
 pub returns-in-Ok-clause-need : goal.returns-in-Ok-clause-need
 returns-in-Ok-clause-need g c =
