@@ -13,6 +13,7 @@ use Rattle.page_store.specs.Commit.{numbers, Commit, IsReady, IsBetween, IsDone,
 use Rattle.page_store.proofs.UntouchedPages.{page_of-same}
 use Rattle.page_store.specs.declared.banner.Banner.{Banner}
 use Rattle.page_store.specs.declared.slot.Slot.{Slot}
+use Rattle.cow_tree.specs.PinnedTrees.{HeldPagesStay}
 use Rattle.cow_tree.specs.TreeState.{found_under}
 use Rattle.cow_tree.specs.Opening.{bounds_under}
 use Rattle.cow_tree.specs.Plans.{tree_commit}
@@ -76,6 +77,24 @@ module _ (view : Image) (crash_states : CrashStates Image) (slot : Slot) (ledger
       none : {a b : Bool} → a ≡ false → b ≡ false → (a || b) ≡ false
       none {a = true} f g = absurd (cc f)
       none {a = false} f g = g
+
+  -- no page is written that a generation in use has
+  pub held_pages_stay : (c : Image) → IsBetween the_commit plan.pages.items view c → HeldPagesStay ledger (page_of view) (page_of c)
+  held_pages_stay c b n low held =
+      page_of-same view c n (λ k ge lt.
+      let part = k - 8 * n in
+      let is : 8 * n + part ≡ k = omega (arith, ge) in
+      sym (subst (λ (m : ℕ). sector c m ≡ sector view m) is (b.kept.each n part unwritten (omega (arith, ge, lt)))))
+    where
+      none : {a b : Bool} → a ≡ false → b ≡ false → (a || b) ≡ false
+      none {a = true} f g = absurd (cc f)
+      none {a = false} f g = g
+
+      unwritten : is_among n (plan.slot.number ∷ numbers plan.pages.items) ≡ false
+      unwritten =
+          let number = w.planned.plan_is.number in
+          let other : (n == plan.slot.number) ≡ false = ne_eqb n plan.slot.number (λ e. absurd (omega (arith, e, low, number))) in
+          none other (elim (cases_Bool (is_among n (numbers plan.pages.items))) [ inl t ↦ let no = w.planned.next.unheld n t in absurd (cc (no, held)) | inr f ↦ f ])
 
   pub old_pages_stay : (c : Image) → IsBetween the_commit plan.pages.items view c → Agree (found_under slot view).pages (page_of view) (page_of c)
   old_pages_stay c b n among =

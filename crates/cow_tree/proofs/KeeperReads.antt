@@ -1,5 +1,5 @@
 -- What a keeper of a tree is after its device was read.
-use Rattle.std.proofs.Common.{◌∙◌, List, length, ◌≡◌, ℕ, ◌≤◌, Bool, true, false, Err, Some, refl, sym, ap, subst, arith, IsTrue}
+use Rattle.std.proofs.Common.{◌∙◌, List, length, ◌≡◌, ℕ, ◌≤◌, Bool, true, false, Option, Err, Some, refl, sym, ap, subst, arith, IsTrue}
 use Rattle.common_types.specs.Counts.{counted_rises}
 use Rattle.sector_device.specs.Device.{State}
 use Rattle.sector_device.specs.Disk.{Disk}
@@ -18,12 +18,15 @@ use Rattle.cow_tree.specs.Walks.{CountsPages}
 use Rattle.cow_tree.specs.Ways.{IsAnswer}
 use Rattle.cow_tree.specs.Opening.{fault_of, bounds_under}
 use Rattle.cow_tree.specs.Needs.{MayNeed, NeedsPages}
+use Rattle.cow_tree.specs.PinnedTrees.{pins_from}
 use Rattle.cow_tree.specs.TreeState.{found_under, tree_holding}
+use Rattle.cow_tree.specs.declared.tree_root.TreeRoot.{TreeRoot}
+use Rattle.cow_tree.proofs.PinnedTrees.{same_numbers}
 use Rattle.cow_tree.specs.declared.page_fault.PageFault.{PageFault}
 use Rattle.cow_tree.specs.declared.page_fault.PageFault.TheVariants.{Device, Damaged}
 
-module _ (old new : State) (slot : Slot) (ledger : LedgerState) (top : ℕ) (usable : Bool) (only : OnlyReads old new) where
-  pub has_read : old.failed_reads ≤ new.failed_reads → HasRead (tree_holding old slot ledger top usable) (tree_holding new slot ledger top usable)
+module _ (old new : State) (slot : Slot) (ledger : LedgerState) (top : ℕ) (usable : Bool) (trees : List (Option TreeRoot)) (only : OnlyReads old new) where
+  pub has_read : old.failed_reads ≤ new.failed_reads → HasRead (tree_holding old slot ledger top usable trees) (tree_holding new slot ledger top usable trees)
   has_read rises = record {
     same = record {
       pairs = λ keeps. ap (λ (d : Disk). (found_under slot d.view).pairs) (only.disk keeps);
@@ -33,7 +36,8 @@ module _ (old new : State) (slot : Slot) (ledger : LedgerState) (top : ℕ) (usa
       top = refl;
       free = λ keeps. refl;
       height = refl;
-      pins = λ keeps. refl;
+      out = same_numbers new.disk.view old.disk.view 0 trees;
+      pins = λ keeps. ap (λ (d : Disk). pins_from d.view 0 trees) (only.disk keeps);
     };
     honest = only.same.honest;
     reads = rises;
@@ -41,7 +45,7 @@ module _ (old new : State) (slot : Slot) (ledger : LedgerState) (top : ℕ) (usa
   }
 
   pub read_fault : (T : Type 0) (e : PageFault) (P : T → Type 0) → CountsPages {T = T} (Err e) old.failed_reads new.failed_reads → (IsTrue old.honest → IsAnswer {T = T} (Err e) P)
-      → IsReadFault (tree_holding old slot ledger top usable) (tree_holding new slot ledger top usable) (fault_of e)
+      → IsReadFault (tree_holding old slot ledger top usable trees) (tree_holding new slot ledger top usable trees) (fault_of e)
   read_fault T Device P counts told = counts
   read_fault T (Damaged page) P counts told = lies old.honest told
     where

@@ -3,6 +3,7 @@ pub mod ReadsInTurn
 pub mod Reaching
 pub mod Walking
 pub mod Finding
+pub mod PinnedTrees
 pub mod FreePages
 pub mod Openings
 pub mod FilledWalks
@@ -29,6 +30,8 @@ pub mod PlansMade
 pub mod Planned
 pub mod CommitsWritten
 pub mod TreeCommits
+pub mod PinsCommitted
+pub mod PinsMade
 pub mod AllRetired
 pub mod PairsRead
 pub mod FirstImages

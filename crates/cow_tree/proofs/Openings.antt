@@ -11,7 +11,8 @@ use Rattle.page_store.specs.declared.slot.Slot.{Slot}
 use Rattle.page_store.proofs.Fields.{bind_some, bind_again}
 use Rattle.cow_tree.specs.Walks.{CountsPages}
 use Rattle.cow_tree.specs.Opening.{fault_of, IsReached, Finds, AreWhole, Holds, MayName, IsOpenFault}
-use Rattle.cow_tree.specs.TreeState.{or_nothing, found_under}
+use Rattle.cow_tree.specs.PinnedTrees.{or_nothing}
+use Rattle.cow_tree.specs.TreeState.{found_under}
 use Rattle.cow_tree.specs.declared.page_fault.PageFault.{PageFault}
 use Rattle.cow_tree.specs.declared.page_fault.PageFault.TheVariants.{Device, Damaged}
 use Rattle.std.specs.Prelude.{Err}

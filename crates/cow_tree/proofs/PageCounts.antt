@@ -77,7 +77,7 @@ count_left pages (n ∷ ns) two within distinct =
     omega (arith, less, rest)
 
 -- each page of the image is reached, or left, or is a root slot
-pub all_pages : (slot : Slot) (image : Image) → 2 ≤ slot.root.pages → tree_found slot (page_of image) ≡ Some (found_under slot image) → unreached slot image + length (found_under slot image).pages + 2 ≡ slot.root.pages
+pub all_pages : (slot : Slot) (image : Image) → 2 ≤ slot.root.pages → tree_found slot (page_of image) ≡ Some (found_under slot image) → unreached slot [] image + length (found_under slot image).pages + 2 ≡ slot.root.pages
 all_pages slot image two is =
     count_left slot.root.pages (found_under slot image).pages two (tree_inside (page_of image) (bounds_under slot) slot.root.height slot.root.tree (found_under slot image) (found_tree slot (page_of image) (found_under slot image) is))
     (distinct_found slot (page_of image) (found_under slot image) is)

@@ -8,7 +8,7 @@ use Rattle.page_alloc.specs.Lives.{lives_at}
 use Rattle.page_store.specs.declared.fault.KeeperFault.{KeeperFault}
 use Rattle.page_store.specs.declared.fault.KeeperFault.TheVariants as faults
 use Rattle.page_store.specs.Counting.{reads_after}
-use Rattle.page_alloc.specs.LedgerState.{LedgerState, has_page, has_page_next, is_alive, is_free, is_retired, mark_of, free_count}
+use Rattle.page_alloc.specs.LedgerState.{LedgerState, has_page, has_page_next, is_alive, is_free, is_held, is_retired, mark_of, free_count}
 use Rattle.page_store.specs.Sectors.{Image, page_of}
 use Rattle.page_store.specs.Pages.{Pair}
 use Rattle.page_store.specs.Content.{Found, content_under, found_as, tree_found, nothing_found, is_among}
@@ -35,11 +35,12 @@ use Rattle.cow_tree.specs.TreeState.{found_under}
 use Rattle.page_store.specs.declared.edit.Edit.{Edit}
 use Rattle.cow_tree.specs.Needs.{NeedsPages, drafted}
 use Rattle.cow_tree.specs.Drafts.{old_under, bytes_in, one_if, most_nodes, OnlyMarks, Tells, IsDraft}
-use Rattle.cow_tree.specs.Taken.{Takes}
+use Rattle.cow_tree.specs.Taken.{Takes, taking_all}
 use Rattle.cow_tree.specs.Plans.{levels_under, IsHeld, IsPlan, IsPlannedAt, IsRootWritten, IsRootInside, IsRoomFault, IsPlanFault}
 use Rattle.cow_tree.proofs.Reaching.{count_most}
 use Rattle.cow_tree.proofs.PageCounts.{numbers_length}
-use Rattle.cow_tree.proofs.Taken.{free_inside, free_unheld, taken_was_free, taken_once, next_are, taking_marks, alive_still}
+use Rattle.cow_tree.proofs.Taken.{free_inside, free_unheld, taken_was_free, taken_once, next_are, taking_marks, alive_still, free_not_held}
+use Rattle.cow_tree.proofs.PinnedTrees.{held_again}
 use Rattle.std.proofs.lemmas.List.{take_all}
 
 among_by : (n : ℕ) (ns : List ℕ) (b : Bool) → (b ≡ true → 1 ≤ times n ns) → (b ≡ false → times n ns ≡ 0) → b ≡ is_among n ns
@@ -126,6 +127,11 @@ module _ (view : Image) (slot : Slot) (top edits : ℕ) (pairs : List Pair) (led
       let free = given_free n some in
       (free.0, sym (h.held n) ∙ free.2)
 
+  unheld_now : numbers pages ≡ given → (n : ℕ) → IsTrue (is_among n (numbers pages)) → is_held now n ≡ false
+  unheld_now are n among =
+      let some : 1 ≤ times n given = subst (λ (l : List ℕ). 1 ≤ times n l) are (among_some n (numbers pages) among) in
+      ap (λ (s : LedgerState). is_held s n) t.taken ∙ held_again ledger (taking_all ledger given) (taking_marks ledger given) n ∙ free_not_held ledger n (taken_was_free ledger given t.free n some)
+
   plan_of : (found : Found) → numbers pages ≡ given → content_under new bytes ≡ Some found → IsPlan view slot top pages new found
   plan_of found are under = record { free = free_of_old are; number = number; seal = seal; version = version; under = under }
 
@@ -152,6 +158,7 @@ module _ (view : Image) (slot : Slot) (top edits : ℕ) (pairs : List Pair) (led
           size = size_now;
           next = next_found nothing_found (λ m. let a = dead m in let b = ap (times m) no_given in omega (arith, a, b));
           whole = λ n among. absurd (cc among);
+          unheld = unheld_now are;
         };
         pairs_are = sym empty;
         reaches = λ m. let a = dead m in let b = ap (times m) (are ∙ no_given) in let e = ap one_if (alive_now m) in omega (arith, a, b, e);
@@ -230,7 +237,7 @@ module _ (view : Image) (slot : Slot) (top edits : ℕ) (pairs : List Pair) (led
     planned_some = record {
       found = holds.found;
       plan_is = plan_of holds.found used.1 holds.content;
-      next = record { size = size_now; next = next_found holds.found found_reaches; whole = whole_now };
+      next = record { size = size_now; next = next_found holds.found found_reaches; whole = whole_now; unheld = unheld_now used.1 };
       pairs_are = holds.pairs ∙ root_pairs_are;
       reaches = λ m. let f = found_reaches m in let u = ap (times m) used.1 in let e = ap one_if (alive_now m) in omega (arith, f, u, e);
     }

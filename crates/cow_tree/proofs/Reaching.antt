@@ -1,5 +1,5 @@
 -- Pages that were reached, as a ledger has them.
-use Rattle.std.proofs.Common.{◌≡◌, ◌≢◌, inl, inr, ℕ, zero, suc, ◌<◌, ◌≤◌, ◌+◌, Bool, true, false, List, [], ◌∷◌, ◌++◌, length, refl, sym, ap, subst, ◌∙◌, IsTrue, arith, eq-eqb, ne_eqb, get_or-set_same, get_or-set_other, cond, replicate}
+use Rattle.std.proofs.Common.{◌≡◌, ◌≢◌, inl, inr, ℕ, zero, suc, ◌<◌, ◌≤◌, ◌+◌, Bool, true, false, List, [], ◌∷◌, ◌++◌, length, refl, sym, ap, subst, ◌∙◌, IsTrue, arith, eq-eqb, ne_eqb, get_or-set_same, get_or-set_other, cond, replicate, None}
 use Rattle.std.specs.Prelude.{◌&&◌, ◌||◌, ◌==◌, not, nat_le, nat_lt}
 use Rattle.std.specs.List.{list_any}
 use Rattle.std.proofs.lemmas.Bool.{cases_eq, cases_lt, cases_Bool, le-leb, lt-ltb, ltb-true}
@@ -7,7 +7,7 @@ use Rattle.std.proofs.lemmas.List.{length-set, length-replicate, get_or-replicat
 use Rattle.page_alloc.specs.declared.life.Life.{Life}
 use Rattle.page_alloc.specs.declared.life.Life.TheVariants.{Never, Since}
 use Rattle.page_alloc.specs.Lives.{lives_at}
-use Rattle.page_alloc.specs.LedgerState.{LedgerState, Mark, Untouched, pinned, mark_of, life_of, has_page, is_taken, is_retired, is_held, is_free, is_alive, free_count, count_below, generations_in_use}
+use Rattle.page_alloc.specs.LedgerState.{LedgerState, Mark, Untouched, mark_of, life_of, has_page, is_taken, is_retired, is_held, is_free, is_alive, free_count, count_below, generations_in_use}
 use Rattle.page_alloc.specs.Calls.{fresh, holding, unmarked}
 use Rattle.page_alloc.proofs.Counting.{count_more}
 use Rattle.page_store.specs.Content.{is_among, are_distinct}
@@ -287,6 +287,10 @@ no_marks : (pages : ℕ) → unmarked (replicate pages Untouched) ≡ replicate 
 no_marks zero = refl
 no_marks (suc n) = ap (λ (ms : List Mark). Untouched ∷ ms) (no_marks n)
 
+-- no pin of a new ledger is out
+pub no_pins : (slot : Slot) (first new : LedgerState) → first ≡ fresh slot.root.pages slot.seal → OnlyHolds first new → new.pins ≡ replicate 32 None
+no_pins slot first new is only = only.pins ∙ ap (λ (s : LedgerState). s.pins) is
+
 -- what was held of a new ledger is at rest
 pub at_rest : (slot : Slot) (first new : LedgerState) → first ≡ fresh slot.root.pages slot.seal → OnlyHolds first new → IsAtRest slot new
 at_rest slot first new is only = record {
@@ -294,7 +298,6 @@ at_rest slot first new is only = record {
   generation = only.generation ∙ ap (λ (s : LedgerState). s.generation) is;
   marked = ap (λ (ms : List Mark). length ms) marks ∙ length-replicate slot.root.pages Untouched;
   unmarked = ap unmarked marks ∙ no_marks slot.root.pages ∙ sym marks;
-  unpinned = ap pinned (only.pins ∙ ap (λ (s : LedgerState). s.pins) is);
 }
   where
     marks : new.marks ≡ replicate slot.root.pages Untouched

@@ -1,4 +1,4 @@
--- The tree under a slot, from its root on.
+-- A tree, from its root on.
 use Rattle.std.proofs.Common.{◌≡◌, ℕ, zero, suc, ◌-◌, ◌<◌, List, [], Option, Some, None, sym, ap, subst, ◌∙◌, arith}
 use Rattle.std.specs.Prelude.{◌&&◌, ◌==◌, nat_le, nat_lt}
 use Rattle.page_store.specs.Pages.{Pair}
@@ -7,6 +7,11 @@ use Rattle.page_store.specs.Content.{Found, Bounds, nothing_found, walk, tree_of
 use Rattle.page_store.specs.declared.slot.Slot.{Slot}
 use Rattle.page_store.proofs.Fields.{bind_some, test_passed}
 use Rattle.cow_tree.specs.Opening.{bounds_under}
+use Rattle.page_alloc.specs.LedgerState.{LedgerState}
+use Rattle.page_store.specs.Sectors.{Image, page_of}
+use Rattle.cow_tree.specs.PinnedTrees.{bounds_at, tree_at, tree_under}
+use Rattle.cow_tree.specs.TreeState.{IsThere, found_under}
+use Rattle.cow_tree.specs.declared.tree_root.TreeRoot.{TreeRoot}
 
 abbrev some : Found → Option Found
 some x = Some x
@@ -37,11 +42,24 @@ root_walk slot a found some e = from_root a (bounds_under slot) slot.root.height
 pub nothing_there : (slot : Slot) (a : ℕ → List ℕ) (found : Found) → slot.root.height ≡ 0 → tree_found slot a ≡ Some found → found ≡ nothing_found
 nothing_there slot a found none e = no_root a (bounds_under slot) slot.root.tree found (subst (λ (n : ℕ). tree_of a (bounds_under slot) n slot.root.tree ≡ Some found) none (found_tree slot a found e))
 
-pub no_pairs : (slot : Slot) (a : ℕ → List ℕ) (found : Found) → slot.root.height ≡ 0 → tree_found slot a ≡ Some found → found.pairs ≡ []
-no_pairs slot a found none e = ap (λ (x : Found). x.pairs) (nothing_there slot a found none e)
+-- ---- the tree at a root
 
-pub no_value : (slot : Slot) (a : ℕ → List ℕ) (found : Found) (key : List ℕ) → slot.root.height ≡ 0 → tree_found slot a ≡ Some found → None ≡ value_at found.pairs key
-no_value slot a found key none e = ap (λ (l : List Pair). value_at l key) (sym (no_pairs slot a found none e))
+pub walk_at : (tree : TreeRoot) (a : ℕ → List ℕ) (found : Found) → 0 < tree.height → tree_at tree a ≡ Some found → walk a (bounds_at tree) (tree.height - 1) tree.tree [] None ≡ Some found
+walk_at tree a found some e = from_root a (bounds_at tree) tree.height tree.tree found some e
 
-pub no_pair_after : (slot : Slot) (a : ℕ → List ℕ) (found : Found) (key : List ℕ) → slot.root.height ≡ 0 → tree_found slot a ≡ Some found → None ≡ pair_after found.pairs key
-no_pair_after slot a found key none e = ap (λ (l : List Pair). pair_after l key) (sym (no_pairs slot a found none e))
+no_pairs : (tree : TreeRoot) (a : ℕ → List ℕ) (found : Found) → tree.height ≡ 0 → tree_at tree a ≡ Some found → found.pairs ≡ []
+no_pairs tree a found none e = ap (λ (x : Found). x.pairs) (no_root a (bounds_at tree) tree.tree found (subst (λ (n : ℕ). tree_of a (bounds_at tree) n tree.tree ≡ Some found) none e))
+
+pub no_value : (tree : TreeRoot) (a : ℕ → List ℕ) (found : Found) (key : List ℕ) → tree.height ≡ 0 → tree_at tree a ≡ Some found → None ≡ value_at found.pairs key
+no_value tree a found key none e = ap (λ (l : List Pair). value_at l key) (sym (no_pairs tree a found none e))
+
+pub no_pair_after : (tree : TreeRoot) (a : ℕ → List ℕ) (found : Found) (key : List ℕ) → tree.height ≡ 0 → tree_at tree a ≡ Some found → None ≡ pair_after found.pairs key
+no_pair_after tree a found key none e = ap (λ (l : List Pair). pair_after l key) (sym (no_pairs tree a found none e))
+
+-- the tree under a slot stands where the slot says
+pub current_there : (slot : Slot) (image : Image) (ledger : LedgerState) (tree : TreeRoot) → tree ≡ tree_under slot → IsThere image slot ledger → tree_at tree (page_of image) ≡ Some (found_under slot image)
+current_there slot image ledger tree is there = ap (λ (t : TreeRoot). tree_at t (page_of image)) is ∙ found_tree slot (page_of image) (found_under slot image) there.found_is
+
+-- the tree under a slot, where the slot's tree stands
+pub found_there : (slot : Slot) (a : ℕ → List ℕ) (found : Found) (tree : TreeRoot) → tree ≡ tree_under slot → tree_found slot a ≡ Some found → tree_at tree a ≡ Some found
+found_there slot a found tree is e = ap (λ (t : TreeRoot). tree_at t a) is ∙ found_tree slot a found e

@@ -36,6 +36,10 @@ free_is s m h =
 pub free_inside : (s : LedgerState) (m : ℕ) → is_free s m ≡ true → (2 ≤ m) × (m < length s.lives)
 free_inside s m h = let f = free_is s m h in (f.low, f.within)
 
+-- no generation in use has a free page
+pub free_not_held : (s : LedgerState) (m : ℕ) → is_free s m ≡ true → is_held s m ≡ false
+free_not_held s m h = (free_is s m h).unheld
+
 -- the current generation doesn't have a free page
 pub free_unheld : (s : LedgerState) (m : ℕ) → is_free s m ≡ true → has_page s s.generation m ≡ false
 free_unheld s m h = neither (has_page s s.generation m) (have_page s (pinned s.pins) m) (free_is s m h).unheld

@@ -5,7 +5,7 @@ use Rattle.std.proofs.lemmas.Bool.{eqb-true}
 use Rattle.common_types.specs.Counts.{counted_rises}
 use Rattle.common_types.specs.CrashStates.{CrashStates}
 use Rattle.sector_device.specs.Disk.{Disk}
-use Rattle.page_alloc.specs.LedgerState.{pinned, LedgerState, Mark, Untouched, has_page, is_retired}
+use Rattle.page_alloc.specs.LedgerState.{LedgerState, Mark, Untouched, has_page, is_retired}
 use Rattle.page_alloc.specs.Calls.{advanced, unmarked, lives_from}
 use Rattle.page_alloc.specs.declared.life.Life.{Life}
 use Rattle.page_store.specs.Sectors.{Image, page_of}
@@ -22,7 +22,8 @@ use Rattle.page_store.specs.declared.slot.Slot.{Slot}
 use Rattle.page_store.specs.declared.fault.KeeperFault.{KeeperFault}
 use Rattle.page_store.specs.declared.fault.KeeperFault.TheVariants as faults
 use Rattle.page_store.proofs.ReachedPages.{content_under-local}
-use Rattle.cow_tree.specs.TreeState.{IsFitted, IsThere, IsSettled, found_under, or_nothing}
+use Rattle.cow_tree.specs.PinnedTrees.{or_nothing}
+use Rattle.cow_tree.specs.TreeState.{IsFitted, IsThere, IsSettled, found_under}
 use Rattle.cow_tree.specs.Drafts.{Tells, OnlyMarks}
 use Rattle.cow_tree.specs.Plans.{IsHeld, Starts, IsMade, IsPlan, HasNext, IsPlanned, IsPlanFault}
 use Rattle.cow_tree.specs.Compacting.{IsFillFault}
@@ -132,7 +133,7 @@ reads_rise faults.Deep before now is = omega (arith, is)
 
 -- ---- a commit that is done
 
-lives_length : (g : ℕ) (lives : List Life) (marks : List Mark) → length (lives_from g lives marks) ≡ length lives
+pub lives_length : (g : ℕ) (lives : List Life) (marks : List Mark) → length (lives_from g lives marks) ≡ length lives
 lives_length g [] [] = refl
 lives_length g [] (mark ∷ marks) = refl
 lives_length g (life ∷ lives) [] = refl
@@ -159,7 +160,6 @@ fitted_now sectors now slot ledger mid seal banner plan fit marks made version p
     pages = lives_length plan.slot.seal mid.lives mid.marks ∙ ap length marks.lives ∙ fit.rest.pages ∙ sym made.size;
     generation = refl;
     unmarked = unmarked_again mid.marks;
-    unpinned = ap pinned marks.pins ∙ fit.rest.unpinned;
     marked = unmarked_length mid.marks ∙ marks.size ∙ fit.rest.marked ∙ sym made.size;
   };
 }

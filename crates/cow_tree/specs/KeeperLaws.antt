@@ -1,5 +1,5 @@
 -- What holds of each keeper of a tree.
-use Rattle.std.specs.Prelude.{◌≡◌, ◌≤◌, ◌<◌, ℕ, zero, suc, Option, Some, IsTrue}
+use Rattle.std.specs.Prelude.{◌≡◌, ◌≤◌, ◌<◌, ℕ, zero, suc, List, [], ◌∷◌, length, Option, None, Some, IsTrue}
 use Rattle.std.proofs.Common.{ap, ◌∙◌, arith}
 use Rattle.sector_device.specs.Disk.{Disk, IsImage}
 use Rattle.page_alloc.specs.LedgerState.{LedgerState}
@@ -12,6 +12,8 @@ use Rattle.page_store.specs.declared.slot.Root.{Root}
 use Rattle.page_store.specs.declared.slot.Slot.{Slot}
 use Rattle.page_store.proofs.Fields.{bind_again}
 use Rattle.cow_tree.specs.Opening.{IsRooted}
+use Rattle.cow_tree.specs.PinnedTrees.{pins_from, ArePinned}
+use Rattle.cow_tree.specs.declared.tree_root.TreeRoot.{TreeRoot}
 use Rattle.cow_tree.specs.TreeState.{IsThere, IsSettled, found_under}
 use Rattle.cow_tree.specs.Committed.{is_tree_version, TreeHas}
 
@@ -31,6 +33,15 @@ content_now : (image : Image) (slot : Slot) (found : Found) → current image �
 unfolding content content_under
 content_now image slot found now version is =
     bind_again (current image) _ slot _ now (ap (λ (f : Option Found). f >>= λ x. Some (slot, x)) (ap (λ (v : ℕ). found_as v slot (page_of image)) version ∙ is))
+
+at_most : (image : Image) (number : ℕ) (trees : List (Option TreeRoot)) → length (pins_from image number trees) ≤ length trees
+at_most image number [] = omega arith
+at_most image number (None ∷ trees) = let rest = at_most image (suc number) trees in omega (arith, rest)
+at_most image number (Some tree ∷ trees) = let rest = at_most image (suc number) trees in omega (arith, rest)
+
+-- there are no more than 32 pins
+pub few_out : (image : Image) (pages : ℕ) (ledger : LedgerState) (trees : List (Option TreeRoot)) → ArePinned pages ledger trees → length (pins_from image 0 trees) ≤ 32
+few_out image pages ledger trees pins = let most = at_most image 0 trees in let count = pins.count in omega (arith, most, count)
 
 -- each crash state of a usable keeper has its pairs and its banner
 pub crash_states_have_the_tree : (disk : Disk) (slot : Slot) (ledger : LedgerState) (top : ℕ) → slot.root.banner.version ≡ 1 → IsThere disk.view slot ledger → IsSettled disk slot top → (c : Image) → IsImage disk c → TreeHas c (found_under slot disk.view).pairs slot.root.banner

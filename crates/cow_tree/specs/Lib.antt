@@ -2,6 +2,7 @@ pub mod Reached
 pub mod Walks
 pub mod Opening
 pub mod Needs
+pub mod PinnedTrees
 pub mod TreeState
 pub mod TreeSeen
 pub mod KeptLeaves

@@ -1,6 +1,6 @@
 -- What a commit of a tree is to write, by the ledger that its pages were taken from.
-use Rattle.std.specs.Prelude.{◌≡◌, ◌≤◌, ◌<◌, ◌+◌, ◌-◌, ◌*◌, ℕ, true, List, [], length, All, Option, None, Some, IsTrue}
-use Rattle.page_alloc.specs.LedgerState.{LedgerState, has_page, has_page_next, is_alive}
+use Rattle.std.specs.Prelude.{◌≡◌, ◌≤◌, ◌<◌, ◌+◌, ◌-◌, ◌*◌, ℕ, true, List, [], length, All, Option, None, Some, IsTrue, false}
+use Rattle.page_alloc.specs.LedgerState.{LedgerState, has_page, has_page_next, is_alive, is_held}
 use Rattle.page_store.specs.Sectors.{Image, page_of}
 use Rattle.page_store.specs.Roots.{greatest_seal}
 use Rattle.page_store.specs.Pages.{Pair}
@@ -41,11 +41,12 @@ pub record IsPlan (view : Image) (slot : Slot) (top : ℕ) (pages : List NewPage
   pub version : new.root.banner.version ≡ 1
   pub under : content_under new (patched pages (page_of view)) ≡ Some found
 
--- The next generation has exactly the pages of the new tree, all of them whole: those that are alive, and those that were taken.
+-- The next generation has exactly the pages of the new tree, all of them whole: those that are alive, and those that were taken. No generation in use has a page that is written.
 pub record HasNext (view : Image) (ledger : LedgerState) (pages : List NewPage) (new : Slot) (found : Found) : Type 0 where
   pub size : length ledger.lives ≡ new.root.pages
   pub next : (n : ℕ) → has_page_next ledger n ≡ is_among n found.pages
   pub whole : (n : ℕ) → IsTrue (is_among n found.pages) → length (patched pages (page_of view) n) ≡ 4096
+  pub unheld : (n : ℕ) → IsTrue (is_among n (numbers pages)) → is_held ledger n ≡ false
 
 -- The tree under a slot before a commit: it has these pairs, as many as the slot says, and the ledger has exactly its pages.
 pub record Starts (slot : Slot) (view : Image) (pairs : List Pair) (ledger : LedgerState) : Type 0 where

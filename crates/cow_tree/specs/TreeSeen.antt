@@ -1,11 +1,12 @@
 -- A keeper of a tree as its callers see it.
-use Rattle.std.specs.Prelude.{ℕ, Bool, List}
+use Rattle.std.specs.Prelude.{ℕ, Bool, List, Option}
 use Rattle.sector_device.specs.Device.{State}
 use Rattle.page_alloc.specs.LedgerState.{LedgerState}
 use Rattle.page_store.specs.Pages.{Pair}
 use Rattle.page_store.specs.StoreState.{StoreState}
 use Rattle.page_store.specs.declared.slot.Slot.{Slot}
 use Rattle.cow_tree.specs.TreeState.{tree_holding}
+use Rattle.cow_tree.specs.declared.tree_root.TreeRoot.{TreeRoot}
 use Rattle.cow_tree.specs.declared.tree_keeper.TreeKeeper.{TreeKeeper}
 
 abbrev pub device_of : {D : Type 0} {dict : _} → TreeKeeper D dict → D
@@ -28,7 +29,11 @@ is_open k = k.usable
 
 -- what its trait tells
 abbrev pub held : {D : Type 0} {dict : _} → (D → State) → TreeKeeper D dict → StoreState
-held state k = tree_holding (state k.device) k.slot k.ledger k.top k.usable
+held state k = tree_holding (state k.device) k.slot k.ledger k.top k.usable k.pinned
+
+-- the trees that pins keep, by the pins' numbers
+abbrev pub pinned_by : {D : Type 0} {dict : _} → TreeKeeper D dict → List (Option TreeRoot)
+pinned_by k = k.pinned
 
 -- the pairs of the leaf that the last `next` that read one has kept, if there is any
 abbrev pub kept_by : {D : Type 0} {dict : _} → TreeKeeper D dict → List Pair

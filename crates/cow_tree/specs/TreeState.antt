@@ -1,24 +1,25 @@
 -- What a keeper of a tree is, and what its callers see of it.
-use Rattle.std.specs.Prelude.{◌≡◌, ◌≤◌, ◌<◌, ◌*◌, ◌&&◌, not, nat_le, ℕ, Bool, true, List, [], length, Option, Some, None}
+use Rattle.std.specs.Prelude.{◌≡◌, ◌≤◌, ◌<◌, ◌*◌, ◌&&◌, ◌||◌, not, nat_le, ℕ, Bool, true, List, length, Option, Some}
 use Rattle.sector_device.specs.Device.{State}
 use Rattle.sector_device.specs.Disk.{Disk, IsImage}
-use Rattle.page_alloc.specs.LedgerState.{LedgerState, is_alive, free_count, count_below, pinned}
+use Rattle.page_alloc.specs.LedgerState.{LedgerState, is_alive, free_count, count_below}
 use Rattle.page_alloc.specs.Calls.{unmarked as without_marks}
 use Rattle.page_store.specs.Sectors.{Image, page_of}
 use Rattle.page_store.specs.Roots.{current, greatest_seal}
 use Rattle.page_store.specs.Batch.{is_map}
-use Rattle.page_store.specs.Content.{Found, nothing_found, tree_found, is_among}
+use Rattle.page_store.specs.Content.{Found, tree_found, is_among}
 use Rattle.page_store.specs.StoreState.{StoreState}
 use Rattle.page_store.specs.declared.slot.Slot.{Slot}
 use Rattle.cow_tree.specs.Opening.{IsRooted, AreWhole}
+use Rattle.cow_tree.specs.PinnedTrees.{or_nothing, pins_from, keep_page}
+use Rattle.cow_tree.specs.declared.tree_root.TreeRoot.{TreeRoot}
 
--- The ledger is of the slot's image and generation, no commit runs, and no pin is out.
+-- The ledger is of the slot's image and generation, and no commit runs.
 pub record IsAtRest (slot : Slot) (ledger : LedgerState) : Type 0 where
   pub pages : length ledger.lives ≡ slot.root.pages
   pub generation : ledger.generation ≡ slot.seal
   pub marked : length ledger.marks ≡ slot.root.pages
   pub unmarked : without_marks ledger.marks ≡ ledger.marks
-  pub unpinned : pinned ledger.pins ≡ []
 
 -- a slot of an image of a tree
 pub record IsFittedSlot (slot : Slot) : Type 0 where
@@ -40,17 +41,13 @@ pub record IsFitted (sectors : ℕ) (slot : Slot) (ledger : LedgerState) : Type 
   pub rooted : IsRooted slot.root
   pub rest : IsAtRest slot ledger
 
-abbrev pub or_nothing : Option Found → Found
-or_nothing None = nothing_found
-or_nothing (Some found) = found
-
 -- the pages and the pairs of the tree under a slot of an image
 abbrev pub found_under : Slot → Image → Found
 found_under slot image = or_nothing (tree_found slot (page_of image))
 
--- how many pages of a slot's image the tree under it doesn't reach, the root slots left out
-abbrev pub unreached : Slot → Image → ℕ
-unreached slot image = count_below (λ n. nat_le 2 n && not (is_among n (found_under slot image).pages)) slot.root.pages
+-- how many pages of a slot's image neither one of these trees reaches nor the one under the slot, the root slots left out
+abbrev pub unreached : Slot → List (Option TreeRoot) → Image → ℕ
+unreached slot trees image = count_below (λ n. nat_le 2 n && not (keep_page image trees n || is_among n (found_under slot image).pages)) slot.root.pages
 
 -- The tree under the slot stands in the image, and the ledger has exactly its pages, each of them whole.
 pub record IsThere (image : Image) (slot : Slot) (ledger : LedgerState) : Type 0 where
@@ -66,8 +63,8 @@ pub record IsSettled (disk : Disk) (slot : Slot) (top : ℕ) : Type 0 where
   pub seals : greatest_seal disk.view 16 ≤ top
 
 -- a keeper as it is seen through its trait
-abbrev pub tree_holding : State → Slot → LedgerState → ℕ → Bool → StoreState
-tree_holding state slot ledger top usable = record {
+abbrev pub tree_holding : State → Slot → LedgerState → ℕ → Bool → List (Option TreeRoot) → StoreState
+tree_holding state slot ledger top usable trees = record {
   pairs = (found_under slot state.disk.view).pairs;
   banner = slot.root.banner;
   honest = state.honest;
@@ -78,5 +75,5 @@ tree_holding state slot ledger top usable = record {
   top = top;
   free = free_count ledger;
   height = slot.root.height;
-  pins = [];
+  pins = pins_from state.disk.view 0 trees;
 }

@@ -7,6 +7,7 @@ ghost use Rattle.page_store.specs.Sectors.{page_of};
 ghost use Rattle.page_store.specs.Same.{Agree};
 ghost use Rattle.page_store.specs.Steps.{crash_states_of};
 ghost use Rattle.page_store.specs.Switch.{IsSlotPage};
+ghost use Rattle.cow_tree.specs.PinnedTrees.{HeldPagesStay, PinnedStay};
 ghost use Rattle.cow_tree.specs.TreeState.{found_under};
 ghost use Rattle.cow_tree.specs.Committed.{MayBeWritten, IsCommitted, IsTreeBetween};
 
@@ -31,9 +32,12 @@ pub(crate) fn write_plan<D: Device>(
         OnOk result (IsCommitted (D.state device.new).disk.view (crash_states_of D.moment D.possible_since device.new) plan.now ledger.new w.planned.found) }
     ensures kept { IsTrue (D.state device.old).honest → MayBeWritten (D.state device.old).disk.view (crash_states_of D.moment D.possible_since device.old) slot.now ledger.old plan.now →
         OnErr result (Agree (found_under slot.now (D.state device.old).disk.view).pages (page_of (D.state device.old).disk.view) (page_of (D.state device.new).disk.view)) }
+    ensures held { IsTrue (D.state device.old).honest → MayBeWritten (D.state device.old).disk.view (crash_states_of D.moment D.possible_since device.old) slot.now ledger.old plan.now →
+        HeldPagesStay ledger.old (page_of (D.state device.old).disk.view) (page_of (D.state device.new).disk.view) }
     ensures at_crash { IsTrue (D.state device.old).honest → (w : MayBeWritten (D.state device.old).disk.view (crash_states_of D.moment D.possible_since device.old) slot.now ledger.old plan.now) →
         AddsOnly (crash_states_of D.moment D.possible_since device.old) (crash_states_of D.moment D.possible_since device.new) (IsTreeBetween (D.state device.old).disk.view slot.now w.top w.pairs plan.now.slot.root.banner) }
     ensures advanced { OnOk result (ledger.new ≡ advanced plan.now.slot.seal ledger.old) }
+    ensures pinned { OnOk result (PinnedStay ledger.old ledger.new) }
     ensures abandoned { OnErr result (ledger.new ≡ abandoned ledger.old) }
     ensures outcome { WriteOutcome result (D.state device.old) (D.state device.new) }
 {

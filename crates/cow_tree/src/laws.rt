@@ -1,12 +1,12 @@
 // Laws of trees of pages.
-ghost use Rattle.std.specs.Prelude.{◌≡◌, ◌+◌, ℕ, List, Some, IsTrue, length};
+ghost use Rattle.std.specs.Prelude.{◌≡◌, ◌+◌, ℕ, List, Some, IsTrue, length, []};
 ghost use Rattle.std.specs.Option.{is_some};
 ghost use Rattle.page_store.specs.Pages.{Pair};
 ghost use Rattle.page_store.specs.Batch.{is_map, pair_after};
 ghost use Rattle.page_store.specs.Content.{Found, Bounds, tree_found};
 ghost use Rattle.page_store.specs.declared.slot.Slot.{Slot};
 ghost use Rattle.cow_tree.specs.TreeState.{unreached, found_under};
-ghost use Rattle.cow_tree.specs.TreeSeen.{held, device_of, slot_of};
+ghost use Rattle.cow_tree.specs.TreeSeen.{held, device_of, slot_of, pinned_by};
 ghost use Rattle.cow_tree.specs.KeptLeaves.{IsRun, IsLeaf, has_next};
 
 use crate::TreeKeeper;
@@ -17,14 +17,16 @@ pub fn pairs_of_a_tree_are_a_map()
     ensures { (slot : Slot) (bytes : ℕ → List ℕ) (found : Found) → tree_found slot bytes ≡ Some found → IsTrue (is_map found.pairs) }
 {}
 
-/// Where the device is honest, exactly those pages are free that the tree doesn't reach, the root slots left out.
+/// Where the device is honest, exactly those pages are free that neither the tree reaches nor one that a pin keeps, the root slots left out.
 pub fn every_other_page_is_free<D: Device>(keeper: &TreeKeeper<D>)
-    ensures { IsTrue (D.state (device_of keeper.now)).honest → (held D.state keeper.now).free ≡ unreached (slot_of keeper.now) (D.state (device_of keeper.now)).disk.view }
+    ensures free { IsTrue (D.state (device_of keeper.now)).honest → (held D.state keeper.now).free ≡ unreached (slot_of keeper.now) (pinned_by keeper.now) (D.state (device_of keeper.now)).disk.view }
+    // Where no pin is out, those that the tree doesn't reach.
+    ensures unpinned { IsTrue (D.state (device_of keeper.now)).honest → (held D.state keeper.now).pins ≡ [] → (held D.state keeper.now).free ≡ unreached (slot_of keeper.now) [] (D.state (device_of keeper.now)).disk.view }
 {}
 
-/// Where the device is honest, each page of the image is a root slot, or free, or a page of the tree.
+/// Where the device is honest and no pin is out, each page of the image is a root slot, or free, or a page of the tree.
 pub fn each_page_is_free_or_reached<D: Device>(keeper: &TreeKeeper<D>)
-    ensures { IsTrue (D.state (device_of keeper.now)).honest → (held D.state keeper.now).free + length (found_under (slot_of keeper.now) (D.state (device_of keeper.now)).disk.view).pages + 2 ≡ (slot_of keeper.now).root.pages }
+    ensures { IsTrue (D.state (device_of keeper.now)).honest → (held D.state keeper.now).pins ≡ [] → (held D.state keeper.now).free + length (found_under (slot_of keeper.now) (D.state (device_of keeper.now)).disk.view).pages + 2 ≡ (slot_of keeper.now).root.pages }
 {}
 
 /// A run of pairs whose first isn't above a key, and which has one above it, tells the pair after the key.

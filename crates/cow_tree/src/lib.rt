@@ -15,11 +15,14 @@ mod opening_walk;
 mod page_bounds;
 mod page_fault;
 mod page_reads;
+mod pin_calls;
+mod pinned_reads;
 mod plans;
 mod taking;
 mod tree_calls;
 mod tree_figures;
 mod tree_keeper;
+mod tree_root;
 
 pub use formatting::{a_first_leaf, format};
 pub use laws::{

@@ -10,68 +10,67 @@ ghost use Rattle.cow_tree.specs.Walks.{ReadsPages};
 ghost use Rattle.cow_tree.specs.Ways.{IsAnswer};
 ghost use Rattle.cow_tree.specs.KeptLeaves.{IsKept, has_next};
 ghost use Rattle.cow_tree.specs.Opening.{IsRooted, bounds_under};
+ghost use Rattle.cow_tree.specs.PinnedTrees.{IsRootedAt, bounds_at, tree_at};
 
 use crate::kept_leaf::KeptLeaf;
-use crate::page_bounds::bounds_of;
 use crate::page_fault::PageFault;
 use crate::page_reads::{get_under, leaf_after};
+use crate::tree_root::TreeRoot;
 use page_store::Slot;
 use sector_device::Device;
 
-/// Puts the value at a key of a slot's tree into the buffer.
+/// Puts the value at a key of a tree into the buffer.
 pub(crate) fn find_value<D: Device>(
     device: &mut D,
-    slot: &Slot,
+    tree: TreeRoot,
     key: &[u8],
     buffer: &mut [u8; 1024],
 ) -> Result<Option<usize>, PageFault>
-    requires fits { 8 * slot.now.root.pages ≤ (D.state device.old).size }
-    requires rooted { IsRooted slot.now.root }
+    requires fits { 8 * tree.pages ≤ (D.state device.old).size }
+    requires rooted { IsRootedAt tree }
     ensures within { IfOk result (λ found. IfSome found (λ n. n ≤ 1024)) }
-    ensures value { IsTrue (D.state device.old).honest → (found : Found) → tree_found slot.now (page_of (D.state device.old).disk.view) ≡ Some found →
+    ensures value { IsTrue (D.state device.old).honest → (found : Found) → tree_at tree (page_of (D.state device.old).disk.view) ≡ Some found →
         IsAnswer result (λ size. option_map (λ n. take n buffer.new) size ≡ value_at found.pairs key.now) }
     ensures buffer { IsFilled (λ n. n) result buffer.old buffer.new }
     ensures reads { ReadsPages D.state (crash_states_of D.moment D.possible_since) device.old device.new result }
 {
-    let root = &slot.root;
-    if root.height == 0 {
+    if tree.height == 0 {
         return Ok(None);
     }
     get_under(
         device,
-        bounds_of(slot),
-        root.height - 1,
-        root.tree,
+        tree.bounds(),
+        tree.height - 1,
+        tree.tree,
         key,
         buffer,
     )
 }
 
-/// Keeps the leaf of a slot's tree that has the pair after a key, or another where there is none.
-fn read_next_leaf<D: Device>(
+/// Keeps the leaf of a tree that has the pair after a key, or another where there is none.
+pub(crate) fn read_next_leaf<D: Device>(
     device: &mut D,
-    slot: &Slot,
+    tree: TreeRoot,
     after: &[u8],
     kept: &mut KeptLeaf,
 ) -> Result<(), PageFault>
-    requires fits { 8 * slot.now.root.pages ≤ (D.state device.old).size }
-    requires rooted { IsRooted slot.now.root }
-    ensures pair { IsTrue (D.state device.old).honest → (found : Found) → tree_found slot.now (page_of (D.state device.old).disk.view) ≡ Some found →
+    requires fits { 8 * tree.pages ≤ (D.state device.old).size }
+    requires rooted { IsRootedAt tree }
+    ensures pair { IsTrue (D.state device.old).honest → (found : Found) → tree_at tree (page_of (D.state device.old).disk.view) ≡ Some found →
         IsAnswer result (λ done. pair_after kept.new after.now ≡ pair_after found.pairs after.now) }
-    ensures kept { IsTrue (D.state device.old).honest → (found : Found) → tree_found slot.now (page_of (D.state device.old).disk.view) ≡ Some found →
-        IsKept (page_of (D.state device.old).disk.view) (bounds_under slot.now) found kept.new }
+    ensures kept { IsTrue (D.state device.old).honest → (found : Found) → tree_at tree (page_of (D.state device.old).disk.view) ≡ Some found →
+        IsKept (page_of (D.state device.old).disk.view) (bounds_at tree) found kept.new }
     ensures reads { ReadsPages D.state (crash_states_of D.moment D.possible_since) device.old device.new result }
 {
-    let root = &slot.root;
-    if root.height == 0 {
+    if tree.height == 0 {
         kept.clear();
         return Ok(());
     }
     match leaf_after(
         device,
-        bounds_of(slot),
-        root.height - 1,
-        root.tree,
+        tree.bounds(),
+        tree.height - 1,
+        tree.tree,
         after,
         kept,
     ) {
@@ -102,7 +101,7 @@ fn keep_next_leaf<D: Device>(
     if kept.has_next(after) {
         return Ok(());
     }
-    read_next_leaf(device, slot, after, kept)
+    read_next_leaf(device, TreeRoot::under(slot), after, kept)
 }
 
 /// Puts the pair of a slot's tree after a key into the buffers, from the leaf that is kept, or else from the one that is to be kept next.

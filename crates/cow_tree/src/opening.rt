@@ -1,5 +1,5 @@
 // Opening an image of a tree.
-ghost use Rattle.std.specs.Prelude.{◌≡◌, ◌≤◌, ◌<◌, ◌*◌, ℕ, true, Some, None, IsTrue, IfOk, OnOk, IfErr, length};
+ghost use Rattle.std.specs.Prelude.{◌≡◌, ◌≤◌, ◌<◌, ◌*◌, ℕ, true, [], Some, None, IsTrue, IfOk, OnOk, IfErr, length, replicate};
 ghost use Rattle.common_types.specs.CrashStates.{AddsNone};
 ghost use Rattle.sector_device.specs.Device.{State, NothingCounted};
 ghost use Rattle.page_alloc.specs.Calls.{fresh};
@@ -123,6 +123,7 @@ fn walk_slot<D: Device>(device: &mut D, ledger: &mut Ledger, slot: &Slot) -> Res
     ensures rooted { OnOk result (IsRooted slot.now.root) }
     ensures whole { IsTrue (D.state device.old).honest → OnOk result (AreWhole (D.state device.old).disk.view ledger.new) }
     ensures rest { IsAtRest slot.now ledger.new }
+    ensures unpinned { ledger.new.pins ≡ replicate 32 None }
     ensures named { IfErr result (MayName slot.now) }
     ensures reads { ReadsPages D.state (crash_states_of D.moment D.possible_since) device.old device.new result }
 {
@@ -149,6 +150,7 @@ fn new_ledger(alloc: Global, slot: &Slot) -> Result<Ledger, KeeperFault>
 fn open_parts<D: Device>(alloc: Global, device: &mut D) -> Result<(Slot, Ledger, u64), KeeperFault>
     ensures opened { IfOk result (λ parts. IsOpened (D.state device.old) (D.state device.new) (crash_states_of D.moment D.possible_since device.new) parts.0 parts.1 parts.2) }
     ensures fitted { IfOk result (λ parts. IsFitted (D.state device.old).size parts.0 parts.1) }
+    ensures unpinned { IfOk result (λ parts. parts.1.pins ≡ replicate 32 None) }
     ensures sealed { IfOk result (λ parts. parts.0.seal ≤ parts.2) }
     ensures large { IfOk result (λ parts. 128 ≤ (D.state device.old).size) }
     ensures fault { IfErr result (IsOpenFault (D.state device.old) (D.state device.new)) }
@@ -176,6 +178,7 @@ impl<D: Device> TreeKeeper<D> {
         ensures holds { IsTrue (D.state device).honest → IfOk result (λ k. Holds (D.state device).disk.view (slot_of k) (ledger_of k)) }
         ensures top { IsTrue (D.state device).honest → IfOk result (λ k. top_of k ≡ greatest_seal (D.state device).disk.view 16) }
         ensures usable { IfOk result (λ k. is_open k ≡ true) }
+        ensures unpinned { IfOk result (λ k. (held D.state k).pins ≡ []) }
         ensures honest { IfOk result (λ k. (D.state (device_of k)).honest ≡ (D.state device).honest) }
         ensures large { IfOk result (λ k. 128 ≤ (D.state device).size) }
         ensures counts { IfOk result (λ k. NothingCounted (D.state device) (D.state (device_of k))) }
@@ -197,6 +200,7 @@ impl<D: Device> TreeKeeper<D> {
                 top,
                 usable: true,
                 kept: KeptLeaf::none(),
+                pinned: [None; 32],
             }),
             Err(fault) => Err((fault, device)),
         }
@@ -214,6 +218,7 @@ impl<D: Device> TreeKeeper<D> {
             top: _,
             usable: _,
             kept: _,
+            pinned: _,
         } = self;
         device
     }

@@ -4,7 +4,7 @@ ghost use Rattle.common_types.specs.CrashStates.{AddsOnly, AddsNone, may_crash_t
 ghost use Rattle.page_store.specs.Sectors.{Image};
 ghost use Rattle.page_store.specs.Batch.{is_batch, updated, pair_after};
 ghost use Rattle.page_store.specs.Counting.{CountsReads, CountsWrites};
-ghost use Rattle.page_store.specs.StoreState.{HasRead, HasTried, NeedsTheSame, IsFilled, IsReadFault, IsCommitFault, last_generation};
+ghost use Rattle.page_store.specs.StoreState.{HasRead, HasTried, NeedsTheSame, IsFilled, IsReadFault, IsCommitFault, numbers_out, last_generation};
 ghost use Rattle.page_store.specs.declared.fault.KeeperFault.TheVariants.{Failed, Spent};
 ghost use Rattle.page_store.specs.Steps.{crash_states_of};
 ghost use Rattle.cow_tree.specs.Needs.{MayNeed};
@@ -17,6 +17,7 @@ use crate::TreeKeeper;
 use crate::commits::write_plan;
 use crate::lookups::{find_next, find_value};
 use crate::plans::plan_commit;
+use crate::tree_root::TreeRoot;
 use page_store::{Banner, Edit, Figures, Keeper, KeeperFault};
 use sector_device::Device;
 
@@ -61,7 +62,7 @@ impl<D: Device> Keeper for TreeKeeper<D> {
         if !self.usable {
             return Err(KeeperFault::Failed);
         }
-        match find_value(&mut self.device, &self.slot, key, buffer) {
+        match find_value(&mut self.device, TreeRoot::under(&self.slot), key, buffer) {
             Ok(found) => Ok(found),
             Err(fault) => Err(KeeperFault::from(fault)),
         }
@@ -113,6 +114,7 @@ impl<D: Device> Keeper for TreeKeeper<D> {
         ensures banner { OnOk result ((held D.state self.new).banner ≡ banner) }
         ensures still_usable { OnOk result ((held D.state self.new).usable ≡ true) }
         ensures rises { OnOk result ((held D.state self.new).top ≡ (held D.state self.old).top + 1) }
+        ensures out { OnOk result (numbers_out (held D.state self.new) ≡ numbers_out (held D.state self.old)) }
         ensures pins { IsTrue (held D.state self.old).honest → OnOk result ((held D.state self.new).pins ≡ (held D.state self.old).pins) }
         ensures generation { OnOk result ((held D.state self.new).generation ≡ (held D.state self.old).top + 1) }
         ensures fits { IsTrue (held D.state self.old).honest → OnOk result ((n : ℕ) × MayNeed (slot_of self.old) (D.state (device_of self.old)) batch.now n × (n ≤ (held D.state self.old).free)) }

@@ -3,9 +3,11 @@ ghost use Rattle.std.specs.Prelude.{◌≤◌, IsTrue};
 ghost use Rattle.page_store.specs.Sectors.{page_of};
 ghost use Rattle.cow_tree.specs.KeptLeaves.{IsKept};
 ghost use Rattle.cow_tree.specs.Opening.{bounds_under};
+ghost use Rattle.cow_tree.specs.PinnedTrees.{ArePinned, AreKept};
 ghost use Rattle.cow_tree.specs.TreeState.{IsFitted, IsThere, IsSettled, found_under};
 
 use crate::kept_leaf::KeptLeaf;
+use crate::tree_root::TreeRoot;
 use page_alloc::Ledger;
 use page_store::Slot;
 use sector_device::Device;
@@ -15,6 +17,7 @@ use std::alloc::Global;
 ///
 /// The pairs stand in the pages alone, so that looking one up reads the pages on the way to it. A commit writes the pages on the ways of its keys to free places, and then a
 /// root over them; the other pages stay where they are. The leaf that `next` found its last pair in is kept, so that a walk reads nothing within it.
+/// A page that a pinned tree has is not free, so that the tree stays.
 #[derive(Drop)]
 pub struct TreeKeeper<D: Device> {
     pub(crate) alloc: Global,
@@ -24,9 +27,12 @@ pub struct TreeKeeper<D: Device> {
     pub(crate) top: u64,
     pub(crate) usable: bool,
     pub(crate) kept: KeptLeaf,
+    pub(crate) pinned: [Option<TreeRoot>; 32],
     ghost fitted: { IsFitted (D.state device).size slot ledger },
     ghost sealed: { slot.seal ≤ top },
+    ghost pins: { ArePinned slot.root.pages ledger pinned },
     ghost there: { IsTrue (D.state device).honest → IsThere (D.state device).disk.view slot ledger },
+    ghost pins_there: { IsTrue (D.state device).honest → AreKept (D.state device).disk.view ledger pinned },
     ghost settled: { IsTrue (D.state device).honest → IsTrue usable → IsSettled (D.state device).disk slot top },
     ghost leaf: { IsTrue (D.state device).honest → IsKept (page_of (D.state device).disk.view) (bounds_under slot) (found_under slot (D.state device).disk.view) kept },
 }

@@ -1,5 +1,5 @@
 -- Why a device isn't opened.
-use Rattle.std.proofs.Common.{◌≡◌, ◌≤◌, ◌<◌, true, length, inl, refl, sym, ap, ◌∙◌, arith}
+use Rattle.std.proofs.Common.{◌≡◌, ◌≤◌, ◌<◌, ℕ, true, [], ◌∷◌, length, map, inl, refl, sym, ap, ◌∙◌, arith}
 use Rattle.std.specs.Prelude.{IsTrue, List}
 use Rattle.std.proofs.lemmas.Bool.{true≢false, eqb-true}
 use Rattle.host_types.specs.Site.{Site}
@@ -7,7 +7,7 @@ use Rattle.common_types.specs.Counts.{counted}
 use Rattle.sector_device.specs.Device.{State, NothingCounted}
 use Rattle.page_store.specs.Sectors.{Image}
 use Rattle.page_store.specs.Pages.{Pair}
-use Rattle.page_store.specs.StoreState.{StoreState}
+use Rattle.page_store.specs.StoreState.{StoreState, numbers_out}
 use Rattle.page_store.specs.Content.{HasContent}
 use Rattle.page_store.specs.Counting.{CountsRefusal}
 use Rattle.page_store.specs.declared.banner.Banner.{Banner}
@@ -23,6 +23,14 @@ use Rattle.host_on_disk.specs.ImageSites.{ImageRepresents}
 use Rattle.host_on_disk.specs.OpenFaults.{IsOpeningFault, of_keeper, of_site}
 use Rattle.host_on_disk.specs.declared.open_fault.OpenFault.TheVariants.{Keeper, Memory}
 use Rattle.host_on_disk.proofs.Images.{shown, no_content, no_slot, other_version, too_small, slot_there}
+
+-- where no pin was out, and the same are, none is
+pub none_out : (h k : StoreState) → numbers_out k ≡ numbers_out h → h.pins ≡ [] → k.pins ≡ []
+none_out h k same none = no_numbers k.pins (same ∙ ap (λ (pins : List (ℕ × List Pair)). map (λ (pin : ℕ × List Pair). pin.0) pins) none)
+  where
+    no_numbers : (pins : List (ℕ × List Pair)) → map (λ (pin : ℕ × List Pair). pin.0) pins ≡ [] → pins ≡ []
+    no_numbers [] e = refl
+    no_numbers (pin ∷ pins) e = absurd (cc e)
 
 -- a refusal of the key-value store
 pub keeper_refused : (old new : State) → (IsTrue old.honest → length old.disk.view ≡ old.size) → (fault : KeeperFault) → IsOpenFault old new fault → CountsRefusal fault old new → IsOpeningFault old new (of_keeper fault)

@@ -1,11 +1,11 @@
 // Opening a device as a site.
-ghost use Rattle.std.specs.Prelude.{◌≡◌, ◌<◌, ◌≤◌, true, IfOk, IfErr, IsErrAnd, IsTrue};
+ghost use Rattle.std.specs.Prelude.{◌≡◌, ◌<◌, ◌≤◌, true, [], IfOk, IfErr, IsErrAnd, IsTrue};
 ghost use Rattle.host_types.specs.Site.{Site};
 ghost use Rattle.host_types.specs.CrashStates.{AddsNone};
 ghost use Rattle.sector_device.specs.Device.{NothingCounted};
 ghost use Rattle.page_store.specs.Steps.{crash_states_of};
 ghost use Rattle.page_store.specs.declared.fault.KeeperFault.TheVariants.{Small};
-ghost use Rattle.cow_tree.specs.TreeSeen.{device_of, is_open};
+ghost use Rattle.cow_tree.specs.TreeSeen.{device_of, held, is_open};
 ghost use Rattle.site_store.specs.Seen.{keeper_of, seen_site};
 ghost use Rattle.host_on_disk.specs.ImageSites.{ImageRepresents};
 ghost use Rattle.host_on_disk.specs.OpenFaults.{IsOpeningFault, HandsBack};
@@ -27,6 +27,7 @@ pub fn open_site<D: Device>(
     ensures site { IsTrue (D.state device).honest → IfOk result (λ d. ImageRepresents (D.state device).disk.view (seen_site d)) }
     ensures alone { IsTrue (D.state device).honest → (s : Site) → ImageRepresents (D.state device).disk.view s → IfOk result (λ d. s ≡ seen_site d) }
     ensures usable { IfOk result (λ d. is_open (keeper_of d) ≡ true) }
+    ensures unpinned { IfOk result (λ d. (held D.state (keeper_of d)).pins ≡ []) }
     ensures large { IfOk result (λ d. 128 ≤ (D.state device).size) }
     ensures counts { IfOk result (λ d. NothingCounted (D.state device) (D.state (device_of (keeper_of d)))) }
     ensures small { (D.state device).size < 128 → IsErrAnd result (λ e. (e.0 ≡ Keeper Small) × (e.1 ≡ device)) }

@@ -1,6 +1,6 @@
 -- What a compaction of a key-value store leaves: the same pairs, written anew.
 use Rattle.std.specs.Prelude.{◌≡◌, ◌+◌, ℕ, true, IsTrue}
-use Rattle.page_store.specs.StoreState.{StoreState, IsCommitFault}
+use Rattle.page_store.specs.StoreState.{StoreState, IsCommitFault, numbers_out}
 use Rattle.page_store.specs.declared.fault.KeeperFault.{KeeperFault}
 use Rattle.page_store.specs.declared.fault.KeeperFault.TheVariants as faults
 
@@ -11,6 +11,7 @@ pub record IsCompacted (old new : StoreState) : Type 0 where
   pub usable : new.usable ≡ true
   pub generation : new.generation ≡ old.top + 1
   pub top : new.top ≡ old.top + 1
+  pub out : numbers_out new ≡ numbers_out old
   pub pins : IsTrue old.honest → new.pins ≡ old.pins
 
 -- When a fault may come of a compaction, and what stands then: as of a commit, but there are never too many levels.

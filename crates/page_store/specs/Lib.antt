@@ -17,6 +17,7 @@ pub mod PairsInOrder
 pub mod Counting
 pub mod StoreState
 pub mod Compaction
+pub mod Pins
 pub mod ReadFaults
 pub mod FlatState
 pub mod FlatPlan

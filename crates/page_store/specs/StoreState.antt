@@ -1,5 +1,5 @@
 -- What a key-value store holds, and what its calls have in common.
-use Rattle.std.specs.Prelude.{◌≡◌, ◌⊎◌, ◌<◌, ◌≤◌, ◌+◌, ◌-◌, ◌^◌, ◌/◌, ℕ, Bool, false, List, length, drop, Option, Some, None, Result, Ok, Err, IsTrue}
+use Rattle.std.specs.Prelude.{◌≡◌, ◌⊎◌, ◌<◌, ◌≤◌, ◌+◌, ◌-◌, ◌^◌, ◌/◌, ℕ, Bool, false, List, length, drop, map, Option, Some, None, Result, Ok, Err, IsTrue}
 use Rattle.common_types.specs.Counts.{counted}
 use Rattle.page_store.specs.Pages.{Pair}
 use Rattle.page_store.specs.declared.banner.Banner.{Banner}
@@ -21,6 +21,10 @@ pub record StoreState : Type 0 where
   pub free : ℕ
   pub height : ℕ
   pub pins : List (ℕ × List Pair)
+
+-- the numbers of the pins that are out
+abbrev pub numbers_out : StoreState → List ℕ
+numbers_out h = map (λ pin. pin.0) h.pins
 
 -- no generation is above
 abbrev pub last_generation : ℕ
@@ -49,6 +53,7 @@ pub record HasStayed (old new : StoreState) : Type 0 where
   pub top : new.top ≡ old.top
   pub free : IsTrue old.honest → new.free ≡ old.free
   pub height : new.height ≡ old.height
+  pub out : numbers_out new ≡ numbers_out old
   pub pins : IsTrue old.honest → new.pins ≡ old.pins
 
 -- What a call that only reads leaves: reads may have failed.
@@ -89,6 +94,7 @@ pub record HasFailed (old new : StoreState) : Type 0 where
   pub shut : new.usable ≡ false
   pub generation : new.generation ≡ old.generation
   pub height : new.height ≡ old.height
+  pub out : numbers_out new ≡ numbers_out old
   pub pins : IsTrue old.honest → new.pins ≡ old.pins
   pub cause : IsTrue old.usable → new.failed_writes ≡ counted old.failed_writes
   pub top : (new.top ≡ old.top) ⊎ (new.top ≡ old.top + 1)

@@ -6,7 +6,7 @@ ghost use Rattle.common_types.specs.Counts.{Counts};
 ghost use Rattle.page_store.specs.Commit.{IsBetween};
 ghost use Rattle.page_store.specs.FlatPlan.{IsPlan};
 ghost use Rattle.page_store.specs.Counting.{CountsReads, CountsWrites};
-ghost use Rattle.page_store.specs.StoreState.{HasTried, IsCommitFault, last_generation};
+ghost use Rattle.page_store.specs.StoreState.{HasTried, IsCommitFault, numbers_out, last_generation};
 ghost use Rattle.page_store.specs.FlatSeen.{held, device_of, slot_of, pairs_of, top_of, is_open};
 ghost use Rattle.page_store.specs.declared.fault.KeeperFault.TheVariants.{Failed, Spent};
 ghost use Rattle.page_store.specs.Content.{is_opened, ImageHas};
@@ -131,6 +131,7 @@ impl<D: Device> Keeper for FlatKeeper<D> {
         ensures banner { OnOk result ((held D.state self.new).banner ≡ banner) }
         ensures still_usable { OnOk result ((held D.state self.new).usable ≡ true) }
         ensures rises { OnOk result ((held D.state self.new).top ≡ (held D.state self.old).top + 1) }
+        ensures out { OnOk result (numbers_out (held D.state self.new) ≡ numbers_out (held D.state self.old)) }
         ensures pins { IsTrue (held D.state self.old).honest → OnOk result ((held D.state self.new).pins ≡ (held D.state self.old).pins) }
         ensures generation { OnOk result ((held D.state self.new).generation ≡ (held D.state self.old).top + 1) }
         ensures fits { IsTrue (held D.state self.old).honest → OnOk result ((n : ℕ) × NeedsPages (pairs_of self.old) batch.now n × (n ≤ (held D.state self.old).free)) }

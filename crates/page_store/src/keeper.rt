@@ -4,7 +4,7 @@ ghost use Rattle.common_types.specs.CrashStates.{CrashStates, AddsOnly, AddsNone
 ghost use Rattle.page_store.specs.Pages.{Pair};
 ghost use Rattle.page_store.specs.Batch.{value_at, pair_after, updated, is_batch, is_map};
 ghost use Rattle.page_store.specs.Counting.{CountsReads, CountsWrites};
-ghost use Rattle.page_store.specs.StoreState.{StoreState, IsFigures, HasRead, HasTried, NeedsTheSame, IsFilled, IsReadFault, IsCommitFault, last_generation, most_levels};
+ghost use Rattle.page_store.specs.StoreState.{StoreState, IsFigures, HasRead, HasTried, NeedsTheSame, IsFilled, IsReadFault, IsCommitFault, numbers_out, last_generation, most_levels};
 ghost use Rattle.page_store.specs.declared.banner.Banner.{Banner as BannerValue};
 ghost use Rattle.page_store.specs.declared.edit.Edit.{Edit as EditValue};
 ghost use Rattle.page_store.specs.declared.fault.KeeperFault.TheVariants.{Failed, Spent};
@@ -88,6 +88,7 @@ pub trait Keeper {
         ensures banner { OnOk result ((store_state self.new).banner ≡ banner) }
         ensures still_usable { OnOk result ((store_state self.new).usable ≡ true) }
         ensures rises { OnOk result ((store_state self.new).top ≡ (store_state self.old).top + 1) }
+        ensures out { OnOk result (numbers_out (store_state self.new) ≡ numbers_out (store_state self.old)) }
         ensures pins { IsTrue (store_state self.old).honest → OnOk result ((store_state self.new).pins ≡ (store_state self.old).pins) }
         ensures generation { OnOk result ((store_state self.new).generation ≡ (store_state self.old).top + 1) }
         ensures fits { IsTrue (store_state self.old).honest → OnOk result ((n : ℕ) × may_need self.old batch.now n × (n ≤ (store_state self.old).free)) }

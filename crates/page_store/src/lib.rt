@@ -19,6 +19,8 @@ mod keeper;
 mod laws;
 mod pages;
 mod pair;
+mod pin_fault;
+mod pin_keeper;
 mod reading;
 mod roots;
 mod slot;
@@ -40,6 +42,8 @@ pub use laws::{
 };
 pub use pages::{read_page, read_sector, switch_root, sync_all, write_page, write_sector};
 pub use pair::Pair;
+pub use pin_fault::PinFault;
+pub use pin_keeper::PinKeeper;
 pub use reading::{PageHead, are_zero, child_at, head_at, pair_at};
 pub use roots::{Roots, open_roots};
 pub use slot::{Root, Slot};

@@ -5,7 +5,7 @@ use Rattle.page_store.specs.Sectors.{page_of}
 use Rattle.page_store.specs.Content.{tree_of}
 use Rattle.cow_tree.specs.Walks.{IsWalked, Tells}
 use Rattle.cow_tree.specs.Opening.{bounds_under}
-use Rattle.cow_tree.proofs.Reaching.{at_rest, all_whole}
+use Rattle.cow_tree.proofs.Reaching.{at_rest, no_pins, all_whole}
 use Rattle.cow_tree.proofs.Finding.{is_reached, keys_differ, finds_fault}
 use Rattle.cow_tree.proofs.opening.walk_slot.Goals as goal
 
@@ -44,3 +44,12 @@ returns-then-count-slot-clause-rest g c = at_rest c.args.slot.now c.args.ledger.
 
 pub returns-in_err-count-clause-rest : goal.returns-in_err-count-clause-rest
 returns-in_err-count-clause-rest g c = at_rest c.args.slot.now c.args.ledger.now c.count_tree.new.ledger c.requires.fresh c.count_tree.ensures.ledger
+
+pub returns-clause-unpinned : goal.returns-clause-unpinned
+returns-clause-unpinned g c = no_pins c.args.slot.now c.args.ledger.now c.count_tree.new.ledger c.requires.fresh c.count_tree.ensures.ledger
+
+pub returns-then-count-slot-clause-unpinned : goal.returns-then-count-slot-clause-unpinned
+returns-then-count-slot-clause-unpinned g c = no_pins c.args.slot.now c.args.ledger.now c.count_tree.new.ledger c.requires.fresh c.count_tree.ensures.ledger
+
+pub returns-in_err-count-clause-unpinned : goal.returns-in_err-count-clause-unpinned
+returns-in_err-count-clause-unpinned g c = no_pins c.args.slot.now c.args.ledger.now c.count_tree.new.ledger c.requires.fresh c.count_tree.ensures.ledger

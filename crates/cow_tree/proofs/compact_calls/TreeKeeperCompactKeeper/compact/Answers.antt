@@ -10,11 +10,14 @@ use Rattle.tree_nodes.specs.Growth.{owned_under}
 use Rattle.tree_loading.specs.Filled.{filled}
 use Rattle.page_store.specs.Steps.{crash_states_of}
 use Rattle.page_store.specs.StoreState.{HasStayed}
+use Rattle.cow_tree.specs.PinnedTrees.{ArePinned, AreKept, PinnedStay}
 use Rattle.cow_tree.specs.TreeState.{IsFitted, IsThere, found_under, tree_holding}
 use Rattle.cow_tree.specs.Compacting.{MayNeedFilled}
 use Rattle.cow_tree.specs.Committed.{TreeHas, IsTreeBetween}
 use Rattle.cow_tree.specs.KeeperLaws.{crash_states_have_the_tree}
 use Rattle.cow_tree.proofs.KeeperReads.{has_read}
+use Rattle.cow_tree.proofs.PinnedTrees.{same_numbers}
+use Rattle.cow_tree.proofs.PinsCommitted.{pins_done, pins_stay, kept_still, kept_done}
 use Rattle.cow_tree.proofs.Taken.{abandoned_again}
 use Rattle.cow_tree.proofs.CommitsWritten.{adds_weaker, old_or_new}
 use Rattle.cow_tree.proofs.TreeCommits.{is_held, may_be_written, between_again, compact_fault, either, reads_rise, fitted_now, still_under, still_there}
@@ -43,8 +46,8 @@ returns-in-Err-clause-fault g c =
     let pairs = (found_under k.slot old.disk.view).pairs in
     let held_by = λ (keeps : IsTrue old.honest). is_held old.size k.slot old.disk k.ledger k.top k.fitted (k.there keeps) (k.settled keeps up) k.sealed in
     let rise = reads_rise c.in-Err.fault old.failed_reads mid.failed_reads c.in-Err.ensures.reads.reads in
-    let stayed = subst (λ (l : LedgerState). HasStayed (tree_holding old k.slot k.ledger k.top k.usable) (tree_holding mid k.slot l k.top k.usable)) (sym c.in-Err.ensures.refused) (has_read old mid k.slot k.ledger k.top k.usable only rise).same in
-    compact_fault (tree_holding old k.slot k.ledger k.top k.usable) (tree_holding mid k.slot c.plan_compaction.new.ledger k.top k.usable) (MayNeedFilled k.slot old) _ _ c.in-Err.fault stayed c.in-Err.ensures.reads.reads
+    let stayed = subst (λ (l : LedgerState). HasStayed (tree_holding old k.slot k.ledger k.top k.usable k.pinned) (tree_holding mid k.slot l k.top k.usable k.pinned)) (sym c.in-Err.ensures.refused) (has_read old mid k.slot k.ledger k.top k.usable k.pinned only rise).same in
+    compact_fault (tree_holding old k.slot k.ledger k.top k.usable k.pinned) (tree_holding mid k.slot c.plan_compaction.new.ledger k.top k.usable k.pinned) (MayNeedFilled k.slot old) _ _ c.in-Err.fault stayed c.in-Err.ensures.reads.reads
     (λ keeps. c.in-Err.ensures.planned keeps k.top (held_by keeps) (k.there keeps) refl) c.in-Err.ensures.fault (λ n f keeps again. f keeps (k.there keeps))
 
 pub returns-in-Err-clause-tried : goal.returns-in-Err-clause-tried
@@ -124,6 +127,13 @@ invariant_of-self-in-Ok-write_plan g c =
       fitted = subst (λ (l : LedgerState). IsFitted new.size c.in-Ok.plan.slot l) (sym c.in-Ok-write_plan.ensures.advanced)
           (fitted_now old.size new.size k.slot k.ledger c.plan_compaction.new.ledger _ k.slot.root.banner c.in-Ok.plan k.fitted c.plan_compaction.ensures.marks c.in-Ok.ensures.made version k.fitted.port (wrote.same.size ∙ only.same.size));
       sealed = omega (arith, seal);
+      pins = subst (λ (l : LedgerState). ArePinned c.in-Ok.plan.slot.root.pages l k.pinned) (sym c.in-Ok-write_plan.ensures.advanced)
+          (pins_done k.slot.root.pages c.in-Ok.plan.slot.root.pages c.in-Ok.plan.slot.seal k.ledger c.plan_compaction.new.ledger k.pinned c.plan_compaction.ensures.marks c.in-Ok.ensures.made.size k.pins);
+      pins_there = λ keeps2.
+          let keeps = back keeps2 in
+          subst (λ (l : LedgerState). AreKept new.disk.view l k.pinned) (sym c.in-Ok-write_plan.ensures.advanced)
+          (kept_done old.disk.view mid.disk.view new.disk.view k.slot.root.pages k.ledger c.plan_compaction.new.ledger k.pinned k.pins c.plan_compaction.ensures.marks (same keeps) (c.write_plan.ensures.held (keeps1 keeps) (ready keeps)) (k.pins_there keeps) c.in-Ok.plan.slot.seal
+          (subst (λ (l : LedgerState). PinnedStay c.plan_compaction.new.ledger l) c.in-Ok-write_plan.ensures.advanced c.in-Ok-write_plan.ensures.pinned));
       leaf = λ keeps2. ∣ inl c.clear.ensures ∣₁;
       there = λ keeps2. (done (back keeps2)).there;
       settled = λ keeps2 usable. record {
@@ -159,7 +169,8 @@ returns-in-Ok-write_plan-clause-done g c =
       usable = refl;
       generation = c.in-Ok.ensures.made.seal_is;
       top = refl;
-      pins = λ keeps. refl;
+      out = same_numbers (state c.write_plan.new.device).disk.view old.disk.view 0 k.pinned;
+      pins = λ keeps. pins_stay old.disk.view mid.disk.view (state c.write_plan.new.device).disk.view k.slot.root.pages k.ledger c.plan_compaction.new.ledger k.pinned k.pins c.plan_compaction.ensures.marks (same keeps) (c.write_plan.ensures.held (keeps1 keeps) (ready keeps)) (k.pins_there keeps);
     }
 
 pub returns-in-Ok-write_plan-clause-filled : goal.returns-in-Ok-write_plan-clause-filled
@@ -242,6 +253,11 @@ invariant_of-self-in-Err-write_plan g c =
     record {
       fitted = subst (λ (l : LedgerState). IsFitted new.size k.slot l) (sym as_before) (subst (λ (n : ℕ). IsFitted n k.slot k.ledger) (sym (wrote.same.size ∙ only.same.size)) k.fitted);
       sealed = let s = k.sealed in omega (arith, s);
+      pins = subst (λ (l : LedgerState). ArePinned k.slot.root.pages l k.pinned) (sym as_before) k.pins;
+      pins_there = λ keeps2.
+          let keeps = back keeps2 in
+          subst (λ (l : LedgerState). AreKept new.disk.view l k.pinned) (sym as_before)
+          (kept_still old.disk.view mid.disk.view new.disk.view k.slot.root.pages k.ledger c.plan_compaction.new.ledger k.pinned k.pins c.plan_compaction.ensures.marks (same keeps) (c.write_plan.ensures.held (keeps1 keeps) (ready keeps)) (k.pins_there keeps));
       leaf = λ keeps2. ∣ inl c.clear.ensures ∣₁;
       there = λ keeps2.
           let keeps = back keeps2 in
@@ -280,7 +296,8 @@ returns-clause-fault g c =
       shut = refl;
       generation = refl;
       height = refl;
-      pins = λ keeps. refl;
+      out = same_numbers (state c.write_plan.new.device).disk.view old.disk.view 0 k.pinned;
+      pins = λ keeps. pins_stay old.disk.view mid.disk.view (state c.write_plan.new.device).disk.view k.slot.root.pages k.ledger c.plan_compaction.new.ledger k.pinned k.pins c.plan_compaction.ensures.marks (same keeps) (c.write_plan.ensures.held (keeps1 keeps) (ready keeps)) (k.pins_there keeps);
       cause = λ usable. c.in-Err-write_plan.ensures.outcome.writes ∙ ap counted only.writes;
       top = inr refl;
     }

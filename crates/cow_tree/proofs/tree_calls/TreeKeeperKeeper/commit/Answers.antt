@@ -8,12 +8,15 @@ use Rattle.page_store.specs.Content.{Found}
 use Rattle.page_store.specs.Batch.{updated}
 use Rattle.page_store.specs.Steps.{crash_states_of}
 use Rattle.page_store.specs.StoreState.{HasStayed}
+use Rattle.cow_tree.specs.PinnedTrees.{ArePinned, AreKept, PinnedStay}
 use Rattle.cow_tree.specs.TreeState.{IsFitted, IsThere, found_under, tree_holding}
 use Rattle.cow_tree.specs.Drafts.{MayBeTooDeep}
 use Rattle.cow_tree.specs.Needs.{MayNeed}
 use Rattle.cow_tree.specs.Committed.{TreeHas, IsTreeBetween}
 use Rattle.cow_tree.specs.KeeperLaws.{crash_states_have_the_tree}
 use Rattle.cow_tree.proofs.KeeperReads.{has_read}
+use Rattle.cow_tree.proofs.PinnedTrees.{same_numbers}
+use Rattle.cow_tree.proofs.PinsCommitted.{pins_done, pins_stay, kept_still, kept_done}
 use Rattle.cow_tree.proofs.Taken.{abandoned_again}
 use Rattle.cow_tree.proofs.CommitsWritten.{adds_weaker, old_or_new}
 use Rattle.cow_tree.proofs.TreeCommits.{version_is, starts, is_held, may_be_written, between_again, commit_fault, reads_rise, fitted_now, still_under, still_there}
@@ -44,8 +47,8 @@ returns-in-Err-clause-fault g c =
     let held_by = λ (keeps : IsTrue old.honest). is_held old.size k.slot old.disk k.ledger k.top k.fitted (k.there keeps) (k.settled keeps up) k.sealed in
     let first = λ (keeps : IsTrue old.honest). starts old.size k.slot old.disk.view k.ledger k.fitted (k.there keeps) in
     let rise = reads_rise c.in-Err.fault old.failed_reads mid.failed_reads c.in-Err.ensures.reads.reads in
-    let stayed = subst (λ (l : LedgerState). HasStayed (tree_holding old k.slot k.ledger k.top k.usable) (tree_holding mid k.slot l k.top k.usable)) (sym c.in-Err.ensures.refused) (has_read old mid k.slot k.ledger k.top k.usable only rise).same in
-    commit_fault (tree_holding old k.slot k.ledger k.top k.usable) (tree_holding mid k.slot c.plan_commit.new.ledger k.top k.usable) (length batch) (MayNeed k.slot old batch) k.slot (MayBeTooDeep k.slot (length batch)) _ _ c.in-Err.fault stayed c.in-Err.ensures.reads.reads
+    let stayed = subst (λ (l : LedgerState). HasStayed (tree_holding old k.slot k.ledger k.top k.usable k.pinned) (tree_holding mid k.slot l k.top k.usable k.pinned)) (sym c.in-Err.ensures.refused) (has_read old mid k.slot k.ledger k.top k.usable k.pinned only rise).same in
+    commit_fault (tree_holding old k.slot k.ledger k.top k.usable k.pinned) (tree_holding mid k.slot c.plan_commit.new.ledger k.top k.usable k.pinned) (length batch) (MayNeed k.slot old batch) k.slot (MayBeTooDeep k.slot (length batch)) _ _ c.in-Err.fault stayed c.in-Err.ensures.reads.reads
     (λ keeps. c.in-Err.ensures.planned keeps k.top pairs (held_by keeps) (first keeps) refl version) (λ deep. ((let v = k.fitted.version in omega (arith, v)), deep)) c.in-Err.ensures.fault (λ n f keeps again. f keeps pairs (first keeps))
 
 pub returns-in-Err-clause-tried : goal.returns-in-Err-clause-tried
@@ -130,6 +133,13 @@ invariant_of-self-in-Ok-write_plan g c =
       fitted = subst (λ (l : LedgerState). IsFitted new.size c.in-Ok.plan.slot l) (sym c.in-Ok-write_plan.ensures.advanced)
           (fitted_now old.size new.size k.slot k.ledger c.plan_commit.new.ledger _ c.args.banner c.in-Ok.plan k.fitted c.plan_commit.ensures.marks c.in-Ok.ensures.made version c.requires.port (wrote.same.size ∙ only.same.size));
       sealed = omega (arith, seal);
+      pins = subst (λ (l : LedgerState). ArePinned c.in-Ok.plan.slot.root.pages l k.pinned) (sym c.in-Ok-write_plan.ensures.advanced)
+          (pins_done k.slot.root.pages c.in-Ok.plan.slot.root.pages c.in-Ok.plan.slot.seal k.ledger c.plan_commit.new.ledger k.pinned c.plan_commit.ensures.marks c.in-Ok.ensures.made.size k.pins);
+      pins_there = λ keeps2.
+          let keeps = back keeps2 in
+          subst (λ (l : LedgerState). AreKept new.disk.view l k.pinned) (sym c.in-Ok-write_plan.ensures.advanced)
+          (kept_done old.disk.view mid.disk.view new.disk.view k.slot.root.pages k.ledger c.plan_commit.new.ledger k.pinned k.pins c.plan_commit.ensures.marks (same keeps) (c.write_plan.ensures.held (keeps1 keeps) (ready keeps)) (k.pins_there keeps) c.in-Ok.plan.slot.seal
+          (subst (λ (l : LedgerState). PinnedStay c.plan_commit.new.ledger l) c.in-Ok-write_plan.ensures.advanced c.in-Ok-write_plan.ensures.pinned));
       leaf = λ keeps2. ∣ inl c.clear.ensures ∣₁;
       there = λ keeps2. (done (back keeps2)).there;
       settled = λ keeps2 usable. record {
@@ -162,6 +172,35 @@ returns-in-Ok-write_plan-clause-done g c = λ keeps.
     (c.in-Ok.ensures.planned keeps k.top pairs (held_by keeps) (first keeps) refl version).0 k.fitted.version (same keeps) (sure keeps) in
     let keeps1 = λ (keeps : IsTrue old.honest). let h : IsTrue mid.honest = subst IsTrue (sym only.same.honest) keeps in h in
     ap (λ (x : Found). x.pairs) (c.in-Ok-write_plan.ensures.done (keeps1 keeps) (ready keeps)).found_is ∙ (ready keeps).planned.pairs_are
+
+pub returns-in-Ok-write_plan-clause-pins : goal.returns-in-Ok-write_plan-clause-pins
+returns-in-Ok-write_plan-clause-pins g c = λ keeps.
+    let d = g.met.D.Device in
+    let k = c.args.self.now in
+    let state = g.D.Device.state in
+    let old = state k.device in
+    let mid = state c.plan_commit.new.device in
+    let only = c.plan_commit.ensures.reads.device.only in
+    let states = crash_states_of g.D.Device.moment g.D.Device.possible_since in
+    let up = c.if-not-self.false in
+    let version = version_is c.args.banner.version c.requires.version in
+    let pairs = (found_under k.slot old.disk.view).pairs in
+    let batch = c.args.batch.now in
+    let held_by = λ (keeps : IsTrue old.honest). is_held old.size k.slot old.disk k.ledger k.top k.fitted (k.there keeps) (k.settled keeps up) k.sealed in
+    let first = λ (keeps : IsTrue old.honest). starts old.size k.slot old.disk.view k.ledger k.fitted (k.there keeps) in
+    let same = λ (keeps : IsTrue old.honest). let e : mid.disk.view ≡ old.disk.view = ap (λ (x : Disk). x.view) (only.disk keeps) in e in
+    let sure = λ (keeps : IsTrue old.honest) (i : Image) (left : may_crash_to (states c.plan_commit.new.device) i).
+    let e : i ≡ mid.disk.view = (k.settled keeps up).images i (d.crash_states_are_images k.device i keeps ((c.plan_commit.ensures.reads.device.no_new_crash_state keeps).now i left)) ∙ sym (same keeps) in e in
+    let ready = λ (keeps : IsTrue old.honest).
+    may_be_written old.disk.view mid.disk.view (states c.plan_commit.new.device) k.slot k.ledger c.plan_commit.new.ledger k.top c.in-Ok.plan (updated pairs batch) (held_by keeps) c.plan_commit.ensures.marks
+    (c.in-Ok.ensures.planned keeps k.top pairs (held_by keeps) (first keeps) refl version).0 k.fitted.version (same keeps) (sure keeps) in
+    let keeps1 = λ (keeps : IsTrue old.honest). let h : IsTrue mid.honest = subst IsTrue (sym only.same.honest) keeps in h in
+    pins_stay old.disk.view mid.disk.view (state c.write_plan.new.device).disk.view k.slot.root.pages k.ledger c.plan_commit.new.ledger k.pinned k.pins c.plan_commit.ensures.marks (same keeps) (c.write_plan.ensures.held (keeps1 keeps) (ready keeps)) (k.pins_there keeps)
+
+pub returns-in-Ok-write_plan-clause-out : goal.returns-in-Ok-write_plan-clause-out
+returns-in-Ok-write_plan-clause-out g c =
+    let state = g.D.Device.state in
+    same_numbers (state c.write_plan.new.device).disk.view (state c.args.self.now.device).disk.view 0 c.args.self.now.pinned
 
 pub returns-in-Ok-write_plan-clause-at_crash : goal.returns-in-Ok-write_plan-clause-at_crash
 returns-in-Ok-write_plan-clause-at_crash g c = λ keeps usable.
@@ -219,6 +258,11 @@ invariant_of-self-in-Err-write_plan g c =
     record {
       fitted = subst (λ (l : LedgerState). IsFitted new.size k.slot l) (sym as_before) (subst (λ (n : ℕ). IsFitted n k.slot k.ledger) (sym (wrote.same.size ∙ only.same.size)) k.fitted);
       sealed = let s = k.sealed in omega (arith, s);
+      pins = subst (λ (l : LedgerState). ArePinned k.slot.root.pages l k.pinned) (sym as_before) k.pins;
+      pins_there = λ keeps2.
+          let keeps = back keeps2 in
+          subst (λ (l : LedgerState). AreKept new.disk.view l k.pinned) (sym as_before)
+          (kept_still old.disk.view mid.disk.view new.disk.view k.slot.root.pages k.ledger c.plan_commit.new.ledger k.pinned k.pins c.plan_commit.ensures.marks (same keeps) (c.write_plan.ensures.held (keeps1 keeps) (ready keeps)) (k.pins_there keeps));
       leaf = λ keeps2. ∣ inl c.clear.ensures ∣₁;
       there = λ keeps2.
           let keeps = back keeps2 in
@@ -259,7 +303,8 @@ returns-clause-fault g c =
       shut = refl;
       generation = refl;
       height = refl;
-      pins = λ keeps. refl;
+      out = same_numbers (state c.write_plan.new.device).disk.view old.disk.view 0 k.pinned;
+      pins = λ keeps. pins_stay old.disk.view mid.disk.view (state c.write_plan.new.device).disk.view k.slot.root.pages k.ledger c.plan_commit.new.ledger k.pinned k.pins c.plan_commit.ensures.marks (same keeps) (c.write_plan.ensures.held (keeps1 keeps) (ready keeps)) (k.pins_there keeps);
       cause = λ usable. c.in-Err-write_plan.ensures.outcome.writes ∙ ap counted only.writes;
       top = inr refl;
     }

@@ -1,4 +1,4 @@
-use Rattle.std.proofs.Common.{ℕ, Option, sym, subst}
+use Rattle.std.proofs.Common.{arith, ℕ, Option, sym, subst}
 use Rattle.page_store.specs.StoreState.{IsReadFault}
 use Rattle.page_store.specs.declared.fault.KeeperFault.{KeeperFault}
 use Rattle.cow_tree.specs.TreeState.{found_under, tree_holding}
@@ -16,15 +16,15 @@ returns-in-Err-clause-kept g c =
     let d = g.D.Device in
     let k = c.args.self.now in
     let reads = c.in-Err.ensures.reads in
-    has_read (d.state k.device) (d.state c.find_next.new.device) k.slot k.ledger k.top k.usable reads.device.only (counts_rise (Option (ℕ × ℕ)) c.in-Err.fault (d.state k.device).failed_reads (d.state c.find_next.new.device).failed_reads reads.reads)
+    has_read (d.state k.device) (d.state c.find_next.new.device) k.slot k.ledger k.top k.usable k.pinned reads.device.only (counts_rise (Option (ℕ × ℕ)) c.in-Err.fault (d.state k.device).failed_reads (d.state c.find_next.new.device).failed_reads reads.reads)
 
 pub returns-in-Err-clause-fault : goal.returns-in-Err-clause-fault
 returns-in-Err-clause-fault g c =
     let d = g.D.Device in
     let k = c.args.self.now in
     let reads = c.in-Err.ensures.reads in
-    subst (λ (e : KeeperFault). IsReadFault (tree_holding (d.state k.device) k.slot k.ledger k.top k.usable) (tree_holding (d.state c.find_next.new.device) k.slot k.ledger k.top k.usable) e) (sym c.from.ensures)
-    (read_fault (d.state k.device) (d.state c.find_next.new.device) k.slot k.ledger k.top k.usable reads.device.only (Option (ℕ × ℕ)) c.in-Err.fault _ reads.reads
+    subst (λ (e : KeeperFault). IsReadFault (tree_holding (d.state k.device) k.slot k.ledger k.top k.usable k.pinned) (tree_holding (d.state c.find_next.new.device) k.slot k.ledger k.top k.usable k.pinned) e) (sym c.from.ensures)
+    (read_fault (d.state k.device) (d.state c.find_next.new.device) k.slot k.ledger k.top k.usable k.pinned reads.device.only (Option (ℕ × ℕ)) c.in-Err.fault _ reads.reads
     (λ keeps. c.in-Err.ensures.pair keeps (found_under k.slot (d.state k.device).disk.view) (k.there keeps).found_is (k.leaf keeps)))
 
 pub returns-in-Ok-clause-need : goal.returns-in-Ok-clause-need
@@ -38,3 +38,10 @@ returns-in-Err-clause-need g c =
     let d = g.D.Device in
     let k = c.args.self.now in
     needs_again (d.state k.device) (d.state c.find_next.new.device) k.slot c.in-Err.ensures.reads.device.only
+
+pub returns-in-Ok-clause-kept : goal.returns-in-Ok-clause-kept
+returns-in-Ok-clause-kept g c =
+    let d = g.D.Device in
+    let k = c.args.self.now in
+    let reads = c.in-Ok.ensures.reads in
+    has_read (d.state k.device) (d.state c.find_next.new.device) k.slot k.ledger k.top k.usable k.pinned reads.device.only (let e = reads.reads in omega (arith, e))

@@ -1,9 +1,10 @@
-use Rattle.std.proofs.Common.{◌≡◌, ℕ, IsTrue, inl, sym, subst, ap, ◌∙◌, arith}
+use Rattle.std.proofs.Common.{◌≡◌, ℕ, IsTrue, inl, refl, sym, subst, ap, ◌∙◌, arith}
 use Rattle.page_store.specs.Content.{Found, is_among}
 use Rattle.page_store.specs.Roots.{greatest_seal}
 use Rattle.page_store.specs.Sectors.{Image, page_of}
 use Rattle.cow_tree.specs.Opening.{AreWhole}
 use Rattle.cow_tree.specs.TreeState.{IsFitted, found_under}
+use Rattle.cow_tree.proofs.PinnedTrees.{no_tree}
 use Rattle.cow_tree.proofs.TreesAreMaps.{found_map}
 use Rattle.cow_tree.proofs.Openings.{tree_is, settled_content, under_now, has_content}
 use Rattle.cow_tree.proofs.tree_keeper.TreeKeeper.open.Goals as goal
@@ -27,6 +28,12 @@ invariant_of-result g c =
             whole = subst (λ (i : Image). AreWhole i c.in-Ok.ledger) (sym (opened.view keeps)) holds.whole;
           };
       sealed = c.in-Ok.ensures.sealed;
+      pins = record {
+        count = refl;
+        seals = c.in-Ok.ensures.unpinned;
+        inside = λ number tree is. absurd (no_tree 32 number tree is);
+      };
+      pins_there = λ keeps1 number tree is. absurd (no_tree 32 number tree is);
       leaf = λ keeps1. ∣ inl c.none.ensures ∣₁;
       settled = λ keeps1 up.
           let keeps : IsTrue (g.D.Device.state c.args.device).honest = subst IsTrue c.open_parts.ensures.device.same.honest keeps1 in

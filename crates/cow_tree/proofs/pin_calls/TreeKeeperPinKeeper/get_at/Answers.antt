@@ -1,0 +1,66 @@
+use Rattle.std.proofs.Common.{arith, ℕ, List, Option, sym, subst, IfSome}
+use Rattle.std.specs.Prelude.{option_map, take, ◌≡◌}
+use Rattle.page_store.specs.Batch.{value_at}
+use Rattle.page_store.specs.Pages.{Pair}
+use Rattle.page_store.specs.StoreState.{IsReadFault}
+use Rattle.page_store.specs.declared.fault.KeeperFault.{KeeperFault}
+use Rattle.cow_tree.specs.PinnedTrees.{found_at}
+use Rattle.cow_tree.specs.TreeState.{tree_holding}
+use Rattle.cow_tree.proofs.KeeperReads.{needs_again, has_read, read_fault, counts_rise}
+use Rattle.cow_tree.proofs.PinsMade.{pairs_there}
+use Rattle.cow_tree.proofs.pin_calls.TreeKeeperPinKeeper.get_at.Goals as goal
+
+pub find_value-requires-clause-fits : goal.find_value-requires-clause-fits
+find_value-requires-clause-fits g c =
+    let k = c.args.self.now in
+    let size = (k.pins.inside c.args.pin.now c.tree_of-tree.result c.tree_of-tree.ensures).size in
+    let fits = k.fitted.fits in
+    omega (arith, size, fits)
+
+pub find_value-requires-clause-rooted : goal.find_value-requires-clause-rooted
+find_value-requires-clause-rooted g c = (c.args.self.now.pins.inside c.args.pin.now c.tree_of-tree.result c.tree_of-tree.ensures).rooted
+
+pub returns-in-Ok-clause-value : goal.returns-in-Ok-clause-value
+returns-in-Ok-clause-value g c = λ keeps.
+    let k = c.args.self.now in
+    let view = (g.D.Device.state k.device).disk.view in
+    let tree = c.tree_of-tree.result in
+    subst (λ (o : Option (List Pair)). IfSome o (λ pairs. option_map (λ n. take n c.find_value.new.buffer) c.in-Ok.found ≡ value_at pairs c.args.key.now)) (sym (pairs_there view k.pinned c.args.pin.now tree c.tree_of-tree.ensures))
+    (c.in-Ok.ensures.value keeps (found_at tree view) (k.pins_there keeps c.args.pin.now tree c.tree_of-tree.ensures).found_is)
+
+pub returns-in-Ok-clause-kept : goal.returns-in-Ok-clause-kept
+returns-in-Ok-clause-kept g c =
+    let d = g.D.Device in
+    let k = c.args.self.now in
+    let reads = c.in-Ok.ensures.reads in
+    has_read (d.state k.device) (d.state c.find_value.new.device) k.slot k.ledger k.top k.usable k.pinned reads.device.only (let e = reads.reads in omega (arith, e))
+
+pub returns-in-Err-clause-kept : goal.returns-in-Err-clause-kept
+returns-in-Err-clause-kept g c =
+    let d = g.D.Device in
+    let k = c.args.self.now in
+    let reads = c.in-Err.ensures.reads in
+    has_read (d.state k.device) (d.state c.find_value.new.device) k.slot k.ledger k.top k.usable k.pinned reads.device.only (counts_rise (Option ℕ) c.in-Err.fault (d.state k.device).failed_reads (d.state c.find_value.new.device).failed_reads reads.reads)
+
+pub returns-in-Err-clause-fault : goal.returns-in-Err-clause-fault
+returns-in-Err-clause-fault g c =
+    let d = g.D.Device in
+    let k = c.args.self.now in
+    let view = (d.state k.device).disk.view in
+    let tree = c.tree_of-tree.result in
+    let reads = c.in-Err.ensures.reads in
+    subst (λ (e : KeeperFault). IsReadFault (tree_holding (d.state k.device) k.slot k.ledger k.top k.usable k.pinned) (tree_holding (d.state c.find_value.new.device) k.slot k.ledger k.top k.usable k.pinned) e) (sym c.from.ensures)
+    (read_fault (d.state k.device) (d.state c.find_value.new.device) k.slot k.ledger k.top k.usable k.pinned reads.device.only (Option ℕ) c.in-Err.fault _ reads.reads
+    (λ keeps. c.in-Err.ensures.value keeps (found_at tree view) (k.pins_there keeps c.args.pin.now tree c.tree_of-tree.ensures).found_is))
+
+pub returns-in-Ok-clause-need : goal.returns-in-Ok-clause-need
+returns-in-Ok-clause-need g c =
+    let d = g.D.Device in
+    let k = c.args.self.now in
+    needs_again (d.state k.device) (d.state c.find_value.new.device) k.slot c.in-Ok.ensures.reads.device.only
+
+pub returns-in-Err-clause-need : goal.returns-in-Err-clause-need
+returns-in-Err-clause-need g c =
+    let d = g.D.Device in
+    let k = c.args.self.now in
+    needs_again (d.state k.device) (d.state c.find_value.new.device) k.slot c.in-Err.ensures.reads.device.only

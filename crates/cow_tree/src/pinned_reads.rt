@@ -1,0 +1,38 @@
+// Walking over a tree that a pin keeps.
+ghost use Rattle.std.specs.Prelude.{◌≡◌, ◌≤◌, ◌*◌, Some, IsTrue, IfOk, IfSome, option_map, take};
+ghost use Rattle.page_store.specs.Sectors.{page_of};
+ghost use Rattle.page_store.specs.Steps.{crash_states_of};
+ghost use Rattle.page_store.specs.Content.{Found};
+ghost use Rattle.page_store.specs.Batch.{pair_after};
+ghost use Rattle.page_store.specs.StoreState.{IsFilled};
+ghost use Rattle.cow_tree.specs.Walks.{ReadsPages};
+ghost use Rattle.cow_tree.specs.Ways.{IsAnswer};
+ghost use Rattle.cow_tree.specs.PinnedTrees.{IsRootedAt, tree_at};
+
+use crate::kept_leaf::KeptLeaf;
+use crate::lookups::read_next_leaf;
+use crate::page_fault::PageFault;
+use crate::tree_root::TreeRoot;
+use sector_device::Device;
+
+/// Puts the pair of a tree after a key into the buffers. It reads the pages from the root on each time.
+pub(crate) fn read_next<D: Device>(
+    device: &mut D,
+    tree: TreeRoot,
+    after: &[u8],
+    key: &mut [u8; 300],
+    value: &mut [u8; 1024],
+) -> Result<Option<(usize, usize)>, PageFault>
+    requires fits { 8 * tree.pages ≤ (D.state device.old).size }
+    requires rooted { IsRootedAt tree }
+    ensures within { IfOk result (λ found. IfSome found (λ n. (n.0 ≤ 300) × (n.1 ≤ 1024))) }
+    ensures pair { IsTrue (D.state device.old).honest → (found : Found) → tree_at tree (page_of (D.state device.old).disk.view) ≡ Some found →
+        IsAnswer result (λ sizes. option_map (λ n. (take n.0 key.new, take n.1 value.new)) sizes ≡ pair_after found.pairs after.now) }
+    ensures key { IsFilled (λ n. n.0) result key.old key.new }
+    ensures value { IsFilled (λ n. n.1) result value.old value.new }
+    ensures reads { ReadsPages D.state (crash_states_of D.moment D.possible_since) device.old device.new result }
+{
+    let mut leaf = KeptLeaf::none();
+    read_next_leaf(device, tree, after, &mut leaf)?;
+    Ok(leaf.copy_after(after, key, value))
+}
