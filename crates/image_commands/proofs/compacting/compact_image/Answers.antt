@@ -5,11 +5,12 @@ use Rattle.page_store.specs.Steps.{crash_states_of}
 use Rattle.cow_tree.specs.TreeSeen.{held, device_of, slot_of, is_open}
 use Rattle.cow_tree.specs.Compacting.{IsFilled}
 use Rattle.cow_tree.specs.KeeperLaws.{crash_states_have_the_tree}
-use Rattle.cow_tree.proofs.FreePages.{free_is}
+use Rattle.cow_tree.proofs.FreePages.{free_is, unreached_alone}
 use Rattle.site_store.specs.Represented.{RepresentedBy, site_kept}
 use Rattle.site_store.specs.Seen.{seen_site}
 use Rattle.host_on_disk.specs.ImageSites.{ImageRepresents}
 use Rattle.host_on_disk.proofs.Images.{kept_stands}
+use Rattle.host_on_disk.proofs.Openings.{none_out}
 use Rattle.image_commands.specs.Compacted.{free_line, KeepsSite, IsWrittenAnew}
 use Rattle.image_commands.proofs.compacting.compact_image.Goals as goal
 
@@ -62,12 +63,13 @@ returns-in-Ok-free_line-clause-anew g c = λ honest.
     let usable : k.usable ≡ true = ap (λ x. is_open x) same ∙ c.in-Ok-compacted.ensures.done.usable in
     let disk = (state k.device).disk in
     let settled = k.settled now usable in
+    let none = ap (λ x. (held state x).pins) same ∙ none_out (held state site.keeper) (held state written.keeper) c.in-Ok-compacted.ensures.done.out opened.unpinned in
     subst (λ d. IsWrittenAnew (state d).disk.view (string_bytes c.in-Ok-free_line.line)) (sym c.into_device-device.ensures)
     (record {
       slot = k.slot;
       current_is = settled.current_is;
       filled = subst (λ x. IsFilled (slot_of x) (state (device_of x)).disk.view) (sym same) (c.in-Ok-compacted.ensures.filled still);
-      line_is = c.in-Ok-free_line.ensures ∙ ap free_line (c.figures-free.ensures.free now ∙ free_is disk.view k.slot k.ledger k.fitted.rest (k.there now));
+      line_is = c.in-Ok-free_line.ensures ∙ ap free_line (c.figures-free.ensures.free now ∙ free_is disk.view k.slot k.ledger k.pinned k.fitted.rest k.pins.seals (k.pins_there now) (k.there now) ∙ unreached_alone disk.view k.slot k.pinned none);
     })
 
 pub returns-in-Err-free_line-clause-kept_on_fault : goal.returns-in-Err-free_line-clause-kept_on_fault
