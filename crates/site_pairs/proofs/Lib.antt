@@ -1,6 +1,5 @@
 pub mod ItemPairs
 pub mod ShortWords
-pub mod ShortSites
 pub mod Orders
 pub mod FirstPage
 pub mod EditValues

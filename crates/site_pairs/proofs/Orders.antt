@@ -3,7 +3,7 @@ use Rattle.std.proofs.Common.{◌≡◌, ℕ, List, [], ◌∷◌, ◌++◌, ref
 use Rattle.std.specs.BTreeMap.{insert_entry}
 use Rattle.host_types.specs.Site.{byte_cmp}
 use Rattle.site_records.specs.Layout.{Pairs, in_order}
-use Rattle.site_pairs.specs.WholeLayout.{onto}
+use Rattle.site_pairs.specs.PairsInOrder.{onto}
 
 pub onto_last : (ps : Pairs) (key value : List ℕ) (all : Pairs) → onto (ps ++ (key, value) ∷ []) all ≡ onto ps (insert_entry byte_cmp all key value)
 onto_last [] key value all = refl

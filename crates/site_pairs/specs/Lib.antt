@@ -4,4 +4,4 @@ pub mod KeyLaws
 pub mod Laws
 pub mod EditExamples
 pub mod ShortReplacements
-pub mod WholeLayout
+pub mod PairsInOrder

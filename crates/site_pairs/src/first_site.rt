@@ -7,8 +7,8 @@ ghost use Rattle.page_store.specs.Encoding.{pages_needed};
 ghost use Rattle.site_records.specs.Layout.{layout};
 
 use crate::item_pairs::put_item;
+use crate::pairs_in_order::{entries_in, in_order};
 use crate::piece::Piece;
-use crate::whole_layout::{entries_in, in_order};
 use host_types::{Item, Selector, Stamp, Title};
 use page_store::Pair;
 use site_records::Key;

@@ -5,11 +5,11 @@ mod edits;
 mod first_site;
 mod item_pairs;
 mod laws;
+mod pairs_in_order;
 mod piece;
-mod whole_layout;
 
 pub use edits::batch_of;
 pub use first_site::first_pairs;
+pub use item_pairs::put_item;
 pub use laws::{changed_words_are_written, changes_have_keys, worked_examples};
 pub use piece::Piece;
-pub use whole_layout::{entries_in, layout_of};

@@ -9,7 +9,6 @@ pub mod Chunking
 pub mod Planned
 pub mod StoreAsSite
 pub mod NamedItems
-pub mod PairsInOrder
 pub mod SitesRead
 pub mod RisingKeys
 pub mod ItemWalks
@@ -21,3 +20,6 @@ pub mod AskedWords
 pub mod Searches
 pub mod ItemCounts
 pub mod SitesCompacted
+pub mod ShortSites
+pub mod PairsFound
+pub mod LayoutsCounted

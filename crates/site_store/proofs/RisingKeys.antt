@@ -30,7 +30,7 @@ rest_of es k = filter (λ e. is_below k e.0) es
 
 -- ---- the order
 
-less : (a b : List ℕ) → is_below a b ≡ true → byte_cmp a b ≡ Less
+pub less : (a b : List ℕ) → is_below a b ≡ true → byte_cmp a b ≡ Less
 less a b h = by (byte_cmp a b) h
   where
     by : (o : Ordering) → is_lt o ≡ true → o ≡ Less
@@ -174,7 +174,7 @@ all_left {X} (e ∷ es) k below =
     let parts = and_parts (is_below k e.0) (below_all byte_cmp k es) below in
     ap (λ (b : Bool). cond b (e ∷ rest_of es k) (rest_of es k)) parts.0 ∙ ap (λ (l : List (List ℕ × X)). e ∷ l) (all_left es k parts.1)
 
-below_later_all : {X : Type 0} → (es : List (List ℕ × X)) (k j : List ℕ) → is_below k j ≡ true → below_all byte_cmp j es ≡ true → below_all byte_cmp k es ≡ true
+pub below_later_all : {X : Type 0} → (es : List (List ℕ × X)) (k j : List ℕ) → is_below k j ≡ true → below_all byte_cmp j es ≡ true → below_all byte_cmp k es ≡ true
 below_later_all [] k j h below = refl
 below_later_all (e ∷ es) k j h below =
     let parts = and_parts (is_below j e.0) (below_all byte_cmp j es) below in

@@ -1,11 +1,14 @@
 -- Reading a whole site from its pairs.
-use Rattle.std.specs.Prelude.{◌≡◌, ℕ, ◌-◌, ◌==◌, true, false, length, take, slice_get, List, [], ◌∷◌, Option, Some, None, IsTrue, if◌then◌else◌}
+use Rattle.std.specs.Prelude.{◌≡◌, ℕ, ◌==◌, true, false, length, flat_map, List, [], ◌∷◌, Option, Some, None, IsTrue, if◌then◌else◌}
+use Rattle.std.specs.List.{AllByRecursion}
 use Rattle.common_types.specs.Counts.{counted}
 use Rattle.host_types.specs.Site.{Site, IsSite, item_at, with_item}
 use Rattle.host_types.specs.declared.item.Item.{Item}
 use Rattle.page_store.specs.Pages.{Pair}
+use Rattle.page_store.specs.Batch.{value_at}
 pub use Rattle.page_store.specs.PairsInOrder.{key_or_none, last_key, AreFirst}
-use Rattle.site_records.specs.Layout.{layout}
+use Rattle.site_records.specs.Layout.{layout, item_pairs}
+use Rattle.site_records.specs.Limits.{is_short}
 use Rattle.page_store.specs.StoreState.{StoreState}
 use Rattle.page_store.specs.declared.banner.Banner.{Banner}
 use Rattle.page_store.specs.declared.fault.KeeperFault.TheVariants as kinds
@@ -52,6 +55,22 @@ IsOpenFault old new (Keeper (kinds.Full need free)) = ⊥
 IsOpenFault old new (Keeper kinds.Memory) = ⊥
 IsOpenFault old new BadRecord = (old.usable ≡ true) × NoneFailed old new × (IsTrue old.honest → (s : Site) → RepresentedBy old s → ⊥)
 IsOpenFault old new Memory = (old.usable ≡ true) × NoneFailed old new
+
+-- no item is too long
+abbrev pub AreShort : List (List ℕ × Item) → Type 0
+AreShort es = AllByRecursion (λ e. IsTrue (is_short e.1)) es
+
+-- the pairs of some items, one item after the other
+abbrev pub pairs_in : List (List ℕ × Item) → List Pair
+pairs_in es = flat_map (λ e. item_pairs e.0 e.1) es
+
+-- each of some pairs stands among all
+abbrev pub StandAmong : List Pair → List Pair → Type 0
+StandAmong all some = AllByRecursion (λ p. value_at all p.0 ≡ Some p.1) some
+
+-- Each pair of some items stands among all, and there are so many of them.
+abbrev pub AreCounted : List Pair → ℕ → List (List ℕ × Item) → Type 0
+AreCounted all n es = StandAmong all (pairs_in es) × (n ≡ length (pairs_in es))
 
 -- These pairs are the layout of a site that keeps all rules.
 abbrev pub IsLayoutOf : List Pair → Site → Type 0

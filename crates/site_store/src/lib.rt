@@ -20,6 +20,7 @@ mod site_calls;
 mod site_walk;
 mod to_site_fault;
 mod walking;
+mod whole_layout;
 mod word_walk;
 mod writing;
 

@@ -1,24 +1,22 @@
-// Opening a site: all of it is read, and its layout compared with what is kept.
-ghost use Rattle.std.specs.Prelude.{◌≡◌, ◌<◌, true, false, IfOk, IfErr, OnOk, IsErrAnd, IsTrue, Decides, map};
+// Opening a site: all of it is read, and what is kept must be its layout.
+ghost use Rattle.std.specs.Prelude.{◌≡◌, ◌<◌, true, false, IfOk, IfErr, OnOk, IsErrAnd, IsTrue};
 ghost use Rattle.host_types.specs.Site.{Site};
 ghost use Rattle.page_store.specs.Batch.{pair_after};
 ghost use Rattle.page_store.specs.declared.fault.KeeperFault.TheVariants.{Failed};
-ghost use Rattle.site_records.specs.Layout.{layout};
 ghost use Rattle.site_store.specs.Represented.{RepresentedBy};
 ghost use Rattle.site_store.specs.StoreReads.{ReadsOnly, NoneFailed, IsSiteReadFault, IsReadOrMemory};
 ghost use Rattle.site_store.specs.Reads.{AlwaysReads, ReadsKnown};
-ghost use Rattle.site_store.specs.Opening.{IsOpenFault, last_key, site_under, with_named, with_all_named, HasAddress, IsLayoutOf};
+ghost use Rattle.site_store.specs.Opening.{IsOpenFault, last_key, site_under, with_named, with_all_named, HasAddress};
 ghost use Rattle.site_store.specs.Seen.{keeper_of, seen_site};
 ghost use Rattle.site_store.specs.declared.fault.SiteOpenFault.TheVariants.{Keeper as StoreFault};
 
 use crate::items::item_in;
+use crate::whole_layout::has_layout;
 use crate::{DiskSite, SiteOpenFault};
 use host_types::Selector;
 use mem_site::MemSite;
 use page_store::{Keeper, Pair};
-use site_pairs::{Piece, entries_in, layout_of};
-use site_records::Key;
-use std::alloc::{AllocError, Global};
+use std::alloc::Global;
 
 /// The pair behind these, the first ones of the keeper.
 fn pair_behind<K: Keeper>(
@@ -109,41 +107,6 @@ fn site_of<K: Keeper>(
         }
     }
     Ok(site)
-}
-
-/// Whether a pair has this key and this value.
-fn is_same(pair: &Pair, key: &Key, value: &Piece) -> bool
-    ensures { Decides result (pair.now ≡ (key.now, value.now)) }
-{
-    pair.key() == key.as_bytes() && pair.value() == value.as_slice()
-}
-
-/// Whether these pairs are those.
-fn are_same(pairs: &[Pair], entries: &[(&Key, &Piece)]) -> bool
-    ensures { Decides result (pairs.now ≡ map (λ e. (e.0.now, e.1.now)) entries.now) }
-{
-    if pairs.len() != entries.len() {
-        return false;
-    }
-    for place in 0..pairs.len() {
-        let entry = &entries[place];
-        if !is_same(&pairs[place], entry.0, entry.1) {
-            return false;
-        }
-    }
-    true
-}
-
-/// Whether these pairs are the layout of this site, and it keeps all rules.
-fn has_layout(alloc: Global, site: &MemSite, pairs: &[Pair]) -> Result<bool, AllocError>
-    ensures { IfOk result (λ yes. Decides yes (IsLayoutOf pairs.now site.now)) }
-{
-    if !site.is_valid(alloc)? {
-        return Ok(false);
-    }
-    let layout = layout_of(alloc, site)?;
-    let entries = entries_in(alloc, &layout)?;
-    Ok(are_same(pairs, &entries))
 }
 
 /// Reads all that is kept; it ends well where that is the layout of a valid site.

@@ -4,7 +4,7 @@ use Rattle.page_store.specs.Pages.{Pair}
 use Rattle.site_store.specs.ReadLaws.{none_later}
 use Rattle.site_store.specs.Opening.{last_key}
 use Rattle.site_store.proofs.AfterReads.{done, fails, read_on}
-use Rattle.site_store.proofs.PairsInOrder.{first_more, first_all}
+use Rattle.page_store.proofs.PairsInOrder.{first_more, first_all}
 use Rattle.site_store.proofs.opening.pairs_of.Goals as goal
 
 pub returns-in-Ok-None : goal.returns-in-Ok-None

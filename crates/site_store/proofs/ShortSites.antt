@@ -1,5 +1,5 @@
--- No item of a site is too long.
-use Rattle.std.proofs.Common.{◌≡◌, ℕ, true, false, cond, ◌&&◌, not, List, [], ◌∷◌, Some, refl, ap, sym, ◌∙◌}
+-- No item of a site is too long, and no part of one.
+use Rattle.std.proofs.Common.{◌≡◌, ℕ, true, false, cond, ◌&&◌, not, List, [], ◌∷◌, Some, refl, ap, sym, subst, ◌∙◌}
 use Rattle.std.specs.Prelude.{length, nat_lt}
 use Rattle.std.specs.List.{AllByRecursion}
 use Rattle.std.specs.Map.{lookup}
@@ -15,8 +15,11 @@ use Rattle.host_types.specs.Site.{Site, byte_cmp, item_at, IsSite, MayStand}
 use Rattle.host_types.specs.declared.item.Item.{Item}
 use Rattle.site_records.specs.Limits.{is_short}
 use Rattle.site_records.specs.LayoutLaws.{at_itself, not_at}
-use Rattle.site_pairs.specs.WholeLayout.{AreShort}
+use Rattle.site_store.specs.Opening.{AreShort}
+use Rattle.site_records.specs.Records.{parts_of}
 use Rattle.site_records.proofs.Sizes.{short_anywhere}
+use Rattle.site_records.proofs.ChunkLaws.{AreSmall, HasSmallParts}
+use Rattle.site_records.proofs.LayoutTells.{found_small}
 
 abbrev StandsIn : List (List ℕ × Item) → List ℕ × Item → Type 0
 StandsIn es e = lookup (is_at (byte_cmp e.0)) es ≡ Some e.1
@@ -55,3 +58,14 @@ each_short s (e ∷ es) all each = (short_item e.0 e.1 (each e.0 e.1 all.0).vali
 
 pub valid_short : (s : Site) → IsSite s → AreShort s.items
 valid_short s site = each_short s s.items (all_stand s.items site.sorted) site.each
+
+-- the parts of each item are small
+abbrev pub AllSmall : List (List ℕ × Item) → Type 0
+AllSmall es = AllByRecursion (λ e. AreSmall (parts_of e.1.body)) es
+
+each_small : (s : Site) (es : List (List ℕ × Item)) → AllByRecursion (StandsIn s.items) es → ((selector : List ℕ) → HasSmallParts (item_at s selector)) → AllSmall es
+each_small s [] all each = tt
+each_small s (e ∷ es) all each = (subst HasSmallParts all.0 (each e.0), each_small s es all.1 each)
+
+pub valid_small : (s : Site) → IsSite s → AllSmall s.items
+valid_small s site = each_small s s.items (all_stand s.items site.sorted) (found_small s site)

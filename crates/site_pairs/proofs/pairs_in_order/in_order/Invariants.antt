@@ -1,7 +1,7 @@
 use Rattle.std.proofs.Common.{◌≡◌, length}
 use Rattle.site_records.specs.Layout.{in_order}
-use Rattle.site_pairs.specs.WholeLayout.{onto}
-use Rattle.site_pairs.proofs.whole_layout.in_order.Given as goal
+use Rattle.site_pairs.specs.PairsInOrder.{onto}
+use Rattle.site_pairs.proofs.pairs_in_order.in_order.Given as goal
 
 -- with the pairs that are left, all are there
 abbrev pub invariant-loop-key : goal.invariant-loop-key
