@@ -1,5 +1,5 @@
 -- What `compact` does to an image, and what it prints, without the LF.
-use Rattle.std.specs.Prelude.{◌≡◌, ◌⊎◌, ◌≤◌, ◌<◌, ℕ, List, ◌++◌, Some, codes, decimal, IsTrue}
+use Rattle.std.specs.Prelude.{◌≡◌, ◌⊎◌, ◌≤◌, ◌<◌, ℕ, List, [], ◌++◌, Some, codes, decimal, IsTrue}
 use Rattle.common_types.specs.Counts.{counted}
 use Rattle.common_types.specs.CrashStates.{CrashStates, AddsOnly, AddsNone}
 use Rattle.host_types.specs.Site.{Site}
@@ -32,7 +32,7 @@ pub record KeepsSite {D : Type 0} (state : D → State) (crash_states : D → Cr
 pub record TellsFree (image : Image) (line : List ℕ) : Type 0 where
   pub slot : Slot
   pub current_is : current image ≡ Some slot
-  pub line_is : line ≡ free_line (unreached slot image)
+  pub line_is : line ≡ free_line (unreached slot [] image)
 
 -- The image was opened, but not written anew: a read failed, no further generation is there, the pages don't suffice, or a write or a sync failed; or memory was lacking, which may be for what is printed.
 abbrev pub IsNotWritten : State → State → ImageFault → Type 0

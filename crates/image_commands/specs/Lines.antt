@@ -1,5 +1,5 @@
 -- What `format` and `check` print, without the LF.
-use Rattle.std.specs.Prelude.{◌≡◌, ℕ, List, ◌++◌, Some, codes, decimal, length}
+use Rattle.std.specs.Prelude.{◌≡◌, ℕ, List, [], ◌++◌, Some, codes, decimal, length}
 use Rattle.common_types.specs.CrashStates.{CrashStates, AddsNone}
 use Rattle.host_types.specs.Site.{Site}
 use Rattle.sector_device.specs.Device.{State}
@@ -29,4 +29,4 @@ pub record IsChecked {D : Type 0} (state : D → State) (crash_states : D → Cr
   pub shows : ImageRepresents (state opened).disk.view site
   pub slot : Slot
   pub current_is : current (state opened).disk.view ≡ Some slot
-  pub line_is : line ≡ checked_line site (unreached slot (state opened).disk.view) slot.seal
+  pub line_is : line ≡ checked_line site (unreached slot [] (state opened).disk.view) slot.seal

@@ -1,7 +1,7 @@
 use Rattle.std.proofs.Common.{◌∙◌, sym, subst, ap, IsTrue}
 use Rattle.cow_tree.specs.TreeSeen.{held}
 use Rattle.cow_tree.specs.KeeperLaws.{crash_states_have_the_tree}
-use Rattle.cow_tree.proofs.FreePages.{free_is}
+use Rattle.cow_tree.proofs.FreePages.{free_is, unreached_alone}
 use Rattle.site_store.specs.Represented.{site_kept}
 use Rattle.site_store.specs.Seen.{seen_site}
 use Rattle.host_on_disk.proofs.Images.{kept_stands}
@@ -26,5 +26,5 @@ returns-in-Ok-checked-clause-checked g c = λ honest.
       shows = kept_stands disk.view (held g.D.Device.state keeper).pairs keeper.slot.root.banner (seen_site site) has.0 keeper.fitted.version (site_kept (held g.D.Device.state keeper) site.kept still);
       slot = keeper.slot;
       current_is = settled.current_is;
-      line_is = c.in-Ok-checked.ensures.line.gives still ∙ ap (λ n. checked_line (seen_site site) n keeper.slot.seal) (free_is disk.view keeper.slot keeper.ledger keeper.fitted.rest there);
+      line_is = c.in-Ok-checked.ensures.line.gives still ∙ ap (λ n. checked_line (seen_site site) n keeper.slot.seal) (free_is disk.view keeper.slot keeper.ledger keeper.pinned keeper.fitted.rest keeper.pins.seals (keeper.pins_there still) there ∙ unreached_alone disk.view keeper.slot keeper.pinned opened.unpinned);
     }
