@@ -118,17 +118,16 @@ some_same v w e = cc e
 some_none : (v : List ℕ) → Some v ≡ None → ⊥
 some_none v e = cc e
 
-pub found_value : (key : List ℕ) (ps : List Pair) (r : Result ℕ ℕ) (n : ℕ) (p : Pair) (value v w : List ℕ) (b : Bool) → r ≡ Ok n → IsFound key ps r
-    → p ≡ slice_index_or ps n p → v ≡ p.1 → w ≡ value → b ≡ bytes_eq v w → Decides b (value_at ps key ≡ Some value)
-found_value key ps r n p value v w b is found here stands given same =
-    let at : (d : Pair) → value_at ps key ≡ Some (slice_index_or ps n d).1 = subst (λ (x : Result ℕ ℕ). IsFound key ps x) is found in
-    let value_is : value_at ps key ≡ Some v = at p ∙ ap (λ (q : Pair). Some q.1) (sym here) ∙ ap (λ (x : List ℕ). Some x) (sym stands) in
-    let decides = bytes_eq-Decides v w in (
-      λ t. value_is ∙ ap (λ (x : List ℕ). Some x) (decides.0 (sym same ∙ t) ∙ given),
-      λ e. same ∙ decides.1 (some_same v value (sym value_is ∙ e) ∙ sym given),
+pub found_value : (key : List ℕ) (ps : List Pair) (r : Result ℕ ℕ) (n : ℕ) (p : Pair) (value : List ℕ) (b : Bool) → r ≡ Ok n → IsFound key ps r → p ≡ slice_index_or ps n p → b ≡ bytes_eq p.1 value → Decides b (value_at ps key ≡ Some value)
+found_value key ps r n p value b is found here same =
+    let at : (d : Pair) → value_at ps key ≡ Some (slice_index_or ps n d).1 = subst (IsFound key ps) is found in
+    let value_is : value_at ps key ≡ Some p.1 = at p ∙ ap (λ (q : Pair). Some q.1) (sym here) in
+    let decides = bytes_eq-Decides p.1 value in (
+      λ t. value_is ∙ ap (λ (x : List ℕ). Some x) (decides.0 (sym same ∙ t)),
+      λ e. same ∙ decides.1 (some_same p.1 value (sym value_is ∙ e)),
     )
 
 pub no_value : (key : List ℕ) (ps : List Pair) (r : Result ℕ ℕ) (n : ℕ) (value : List ℕ) → r ≡ Err n → IsFound key ps r → Decides false (value_at ps key ≡ Some value)
 no_value key ps r n value is found =
-    let none : value_at ps key ≡ None = subst (λ (x : Result ℕ ℕ). IsFound key ps x) is found in
+    let none : value_at ps key ≡ None = subst (IsFound key ps) is found in
     (λ t. absurd (let e : false ≡ true = t in cc e), λ e. absurd (some_none value (sym e ∙ none)))
