@@ -212,6 +212,14 @@ pub fn survives(
     Ok(Some(answered == events.len()))
 }
 
+/// Whether the image on a disk was written anew, and the disk.
+fn compacted(alloc: Global, fuse: FuseDisk<MemDisk>) -> (bool, MemDisk) {
+    match compact_image(alloc, fuse) {
+        Ok((_line, fuse)) => (true, fuse.into_inner()),
+        Err((_fault, fuse)) => (false, fuse.into_inner()),
+    }
+}
+
 /// The image of a site is written anew on a disk that crashes after so many calls: whether that was done. Each image that the crash leaves, by the sets of the writes since the last sync, is the same site, and
 /// can be used.
 pub fn compacts(
@@ -221,11 +229,7 @@ pub fn compacts(
     used: &[Event],
 ) -> Result<bool, Trouble> {
     let fuse = FuseDisk::new(disk_of(alloc, image)?, calls);
-    let (is_done, fuse) = match compact_image(alloc, fuse) {
-        Ok((_, fuse)) => (true, fuse),
-        Err((_, fuse)) => (false, fuse),
-    };
-    let disk = fuse.into_inner();
+    let (is_done, disk) = compacted(alloc, fuse);
     let before = kept_after(alloc, image, &[], 0)?;
     for picks in &sets_of(alloc, unsynced(&disk), calls)? {
         let left = MemDisk::of(alloc, disk.after_stop(alloc, picks)?)?;
