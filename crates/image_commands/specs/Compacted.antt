@@ -1,5 +1,5 @@
 -- What `compact` does to an image, and what it prints, without the LF.
-use Rattle.std.specs.Prelude.{◌≡◌, ◌⊎◌, ◌≤◌, ◌<◌, ℕ, List, [], ◌++◌, Some, codes, decimal, IsTrue}
+use Rattle.std.specs.Prelude.{◌≡◌, ◌⊎◌, ◌≤◌, ◌<◌, ⊤, ℕ, List, [], ◌++◌, Some, codes, decimal, IsTrue}
 use Rattle.common_types.specs.Counts.{counted}
 use Rattle.common_types.specs.CrashStates.{CrashStates, AddsOnly, AddsNone}
 use Rattle.host_types.specs.Site.{Site}
@@ -52,6 +52,15 @@ IsNotWritten old new (Store (store.Full need free)) = NothingCounted old new × 
 IsNotWritten old new (Store store.Failed) = (new.failed_writes ≡ counted old.failed_writes) × (new.failed_reads ≡ old.failed_reads)
 IsNotWritten old new (Store other) = ⊥
 IsNotWritten old new Memory = NothingCounted old new
+
+-- Only such a fault may come where something was written: of a write or a sync, or want of memory, which may be for what is printed.
+abbrev pub MayHaveWritten : ImageFault → Type 0
+MayHaveWritten (Refused refused) = ⊥
+MayHaveWritten NoFile = ⊥
+MayHaveWritten BadRecord = ⊥
+MayHaveWritten (Store store.Failed) = ⊤
+MayHaveWritten (Store other) = ⊥
+MayHaveWritten Memory = ⊤
 
 -- When a fault may come of writing an image anew.
 abbrev pub IsCompactingFault : State → State → ImageFault → Type 0
