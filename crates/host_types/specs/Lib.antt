@@ -10,5 +10,6 @@ pub mod Card
 pub mod Words
 pub use Rattle.common_types.specs.CrashStates
 pub mod SiteState
+pub mod Pins
 pub mod Lines
 pub mod SiteExamples

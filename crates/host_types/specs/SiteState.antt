@@ -1,13 +1,13 @@
 -- What a keeper of a site is, but for what a crash may leave of it, and what its calls have in common.
-use Rattle.std.specs.Prelude.{◌≡◌, ◌<◌, ◌≤◌, ℕ, Bool, true, false, List, drop, Result, Err, IsOk, IsTrue}
+use Rattle.std.specs.Prelude.{◌≡◌, ◌<◌, ◌≤◌, ℕ, Bool, true, false, List, drop, map, Result, Err, IsOk, IsTrue}
 pub use Rattle.common_types.specs.Counts.{Rose}
-use Rattle.host_types.specs.Site.{Site}
+use Rattle.host_types.specs.Site.{Site, Items}
 use Rattle.host_types.specs.declared.change.Change.{Change}
 use Rattle.common_types.specs.declared.refused.Refused.{Refused}
 use Rattle.host_types.specs.declared.site_fault.SiteFault.{SiteFault}
 use Rattle.host_types.specs.declared.site_fault.SiteFault.TheVariants as faults
 
--- `honest`: what the site is kept on keeps its written meaning. `usable`: no write or sync has failed. `free`: how much a change may take. The counts are of failed reads, and of failed writes and syncs.
+-- `honest`: what the site is kept on keeps its written meaning. `usable`: no write or sync has failed. `free`: how much a change may take. The counts are of failed reads, and of failed writes and syncs. `pins`: the number of each pin that is out, and the items that are kept under it; a pin that has a copy isn't among them.
 pub record SiteState : Type 0 where
   pub site : Site
   pub honest : Bool
@@ -15,6 +15,16 @@ pub record SiteState : Type 0 where
   pub free : ℕ
   pub failed_reads : ℕ
   pub failed_writes : ℕ
+  pub pins : List (ℕ × Items)
+
+-- the numbers of the pins that are out
+abbrev pub numbers_out : SiteState → List ℕ
+numbers_out h = map (λ pin. pin.0) h.pins
+
+-- All pins stay.
+pub record KeepsPins (old new : SiteState) : Type 0 where
+  pub out : numbers_out new ≡ numbers_out old
+  pub pins : IsTrue old.honest → new.pins ≡ old.pins
 
 -- What a call that only reads leaves: the site and the flags stay, and reads may have failed.
 pub record HasRead (old new : SiteState) : Type 0 where
@@ -24,6 +34,7 @@ pub record HasRead (old new : SiteState) : Type 0 where
   pub free : IsTrue old.honest → new.free ≡ old.free
   pub reads : old.failed_reads ≤ new.failed_reads
   pub writes : new.failed_writes ≡ old.failed_writes
+  pub pins : KeepsPins old new
 
 -- When a fault may come of a call that only reads, where it may lack memory or not.
 abbrev pub IsReadFault : Bool → SiteState → SiteState → SiteFault → Type 0
@@ -71,3 +82,4 @@ pub record HasTried (old new : SiteState) : Type 0 where
   pub honest : new.honest ≡ old.honest
   pub reads : old.failed_reads ≤ new.failed_reads
   pub writes : old.failed_writes ≤ new.failed_writes
+  pub pins : KeepsPins old new

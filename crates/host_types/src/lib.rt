@@ -9,6 +9,7 @@ mod laws;
 mod limits;
 mod line_list;
 mod menu;
+mod pin_fault;
 mod site_fault;
 mod site_keeper;
 mod typed;
@@ -25,6 +26,7 @@ pub use laws::{changes_keep_sites_valid, what_stands_has_limits, worked_examples
 pub use limits::MOST_VIEW_BYTES;
 pub use line_list::{LineList, lines_of, without_cr};
 pub use menu::{Entry, EntryList, LinkKind};
+pub use pin_fault::SitePinFault;
 pub use site_fault::SiteFault;
 pub use site_keeper::{Address, SiteKeeper};
 pub use typed::{valid_admin, valid_host, valid_selector};

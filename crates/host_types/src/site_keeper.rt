@@ -5,12 +5,14 @@ ghost use Rattle.host_types.specs.Change.{apply};
 ghost use Rattle.host_types.specs.Card.{card_at, viewed_at, chunk_of};
 ghost use Rattle.common_types.specs.CrashStates.{CrashStates, AddsOnly, AddsNone, may_crash_to};
 ghost use Rattle.host_types.specs.SiteState.{SiteState, HasRead, LacksTheSame, IsUnchangedBehind, HasTried, HasNotChanged, IsReadFault, IsChangeFault};
+ghost use Rattle.host_types.specs.Pins.{Pinned, is_out, pinned_items, viewed_among, IsPinned, IsPinFault, IsUnpinned};
 ghost use Rattle.host_types.specs.Address.{address};
 ghost use Rattle.host_types.specs.declared.change.Change.{Change as ChangeValue};
 ghost use Rattle.host_types.specs.declared.site_fault.SiteFault.{SiteFault as SiteFaultValue};
 ghost use Rattle.host_types.specs.declared.site_fault.SiteFault.TheVariants.{Failed};
+ghost use Rattle.host_types.specs.declared.pin_fault.SitePinFault.TheVariants.{Failed as PinFailed};
 
-use crate::{Admin, Card, Change, Host, Selector, SiteFault, Stamp};
+use crate::{Admin, Card, Change, Host, Selector, SiteFault, SitePinFault, Stamp};
 use std::marker::Model;
 
 /// Under which name clients find a site, and who keeps it.
@@ -51,6 +53,12 @@ pub trait SiteKeeper {
     /// The crash states.
     ghost crash_states: { Self → CrashStates CrashState };
 
+    /// A pin of the site as it stood: readers of it go on with that, whatever changes are made. It should be no `Drop`, so that it is spent by `unpin_site` alone.
+    type Pin;
+
+    /// The copy of the items that it has, or the number under which they are kept.
+    ghost pinned: { Self.Pin → Pinned };
+
     /// Host, port and administrator. It takes no memory.
     fn front(&self) -> Address<'_>
         ensures { IsTrue (site_state self.now).honest → result ≡ address (site_state self.now).site };
@@ -78,6 +86,41 @@ pub trait SiteKeeper {
     ) -> Result<usize, SiteFault>
         ensures within { IfOk result (λ n. n ≤ length buffer.new) }
         ensures chunk { IsTrue (site_state self.old).honest → IfOk result (λ n. take n buffer.new ≡ chunk_of (viewed_at (site_state self.old).site selector.now view) k) }
+        ensures behind { IfOk result (λ n. IsUnchangedBehind n buffer.old buffer.new) }
+        ensures untouched { IfErr result (λ e. buffer.new ≡ buffer.old) }
+        ensures kept { HasRead (site_state self.old) (site_state self.new) }
+        ensures fault { IfErr result (IsReadFault false (site_state self.old) (site_state self.new)) }
+        ensures closed { (site_state self.old).usable ≡ false → IsErrOf result Failed }
+        ensures lacking { LacksTheSame (lacks self.old) (lacks self.new) }
+        ensures at_crash { IsTrue (site_state self.old).honest → AddsNone (crash_states self.old) (crash_states self.new) };
+
+    /// Pins the site as it stands.
+    fn pin_site(&mut self) -> Result<Self::Pin, SitePinFault>
+        ensures pinned { IfOk result (λ pin. IsPinned (site_state self.old) (site_state self.new) (pinned pin)) }
+        ensures fault { IfErr result (IsPinFault (site_state self.old) (site_state self.new)) }
+        ensures closed { (site_state self.old).usable ≡ false → IsErrOf result PinFailed }
+        ensures lacking { LacksTheSame (lacks self.old) (lacks self.new) }
+        ensures at_crash { IsTrue (site_state self.old).honest → AddsNone (crash_states self.old) (crash_states self.new) };
+
+    /// Spends a pin, also once a write or a sync has failed. It takes no memory.
+    fn unpin_site(&mut self, pin: Self::Pin)
+        requires out { IsTrue (is_out (site_state self.old) (pinned pin)) }
+        ensures unpinned { IsUnpinned (site_state self.old) (site_state self.new) (pinned pin) }
+        ensures lacking { LacksTheSame (lacks self.old) (lacks self.new) }
+        ensures at_crash { IsTrue (site_state self.old).honest → AddsNone (crash_states self.old) (crash_states self.new) };
+
+    /// As `chunk`, of the items that the pin keeps.
+    fn chunk_at(
+        &mut self,
+        pin: &Self::Pin,
+        selector: &Selector,
+        view: usize,
+        k: usize,
+        buffer: &mut [u8; 1000],
+    ) -> Result<usize, SiteFault>
+        requires out { IsTrue (is_out (site_state self.old) (pinned pin.now)) }
+        ensures within { IfOk result (λ n. n ≤ length buffer.new) }
+        ensures chunk { IsTrue (site_state self.old).honest → IfOk result (λ n. take n buffer.new ≡ chunk_of (viewed_among (pinned_items (site_state self.old) (pinned pin.now)) selector.now view) k) }
         ensures behind { IfOk result (λ n. IsUnchangedBehind n buffer.old buffer.new) }
         ensures untouched { IfErr result (λ e. buffer.new ≡ buffer.old) }
         ensures kept { HasRead (site_state self.old) (site_state self.new) }
