@@ -1,12 +1,16 @@
 // A site in memory as a keeper: it is always honest, and nothing of it can fail but for lack of memory.
-ghost use Rattle.std.specs.Prelude.{ℕ, true};
+ghost use Rattle.std.specs.Prelude.{ℕ, true, []};
+ghost use Rattle.host_types.specs.Pins.{Copied};
 ghost use Rattle.common_types.specs.CrashStates.{nothing, no_crash_state};
 
-use crate::MemSite;
-use host_types::{Address, Card, Change, Selector, SiteFault, SiteKeeper, Stamp, chunk_of};
+use crate::mem_site::viewed_among;
+use crate::{MemPin, MemSite};
+use host_types::{
+    Address, Card, Change, Selector, SiteFault, SiteKeeper, SitePinFault, Stamp, chunk_of,
+};
 
 impl SiteKeeper for MemSite {
-    ghost site_state = { λ m. record { site = m; honest = true; usable = true; free = 0; failed_reads = 0; failed_writes = 0 } };
+    ghost site_state = { λ m. record { site = m; honest = true; usable = true; free = 0; failed_reads = 0; failed_writes = 0; pins = [] } };
 
     ghost lacks = { λ m change now fault. ⊥ };
 
@@ -17,6 +21,10 @@ impl SiteKeeper for MemSite {
     ghost crash_states = { λ m. nothing };
 
     ghost crash_states_represent = { λ m c honest usable left. no_crash_state left };
+
+    type Pin = MemPin;
+
+    ghost pinned = { λ p. Copied p.items.entries };
 
     fn front(&self) -> Address<'_> {
         self.shown()
@@ -38,6 +46,29 @@ impl SiteKeeper for MemSite {
         buffer: &mut [u8; 1000],
     ) -> Result<usize, SiteFault> {
         let chunk = chunk_of(self.viewed(selector, view), k);
+        buffer[..chunk.len()].copy_from_slice(chunk);
+        Ok(chunk.len())
+    }
+
+    fn pin_site(&mut self) -> Result<MemPin, SitePinFault> {
+        Ok(MemPin {
+            items: self.copied()?,
+        })
+    }
+
+    fn unpin_site(&mut self, pin: MemPin) {
+        let MemPin { items: _ } = pin;
+    }
+
+    fn chunk_at(
+        &mut self,
+        pin: &MemPin,
+        selector: &Selector,
+        view: usize,
+        k: usize,
+        buffer: &mut [u8; 1000],
+    ) -> Result<usize, SiteFault> {
+        let chunk = chunk_of(viewed_among(&pin.items, selector, view), k);
         buffer[..chunk.len()].copy_from_slice(chunk);
         Ok(chunk.len())
     }

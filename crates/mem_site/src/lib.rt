@@ -5,6 +5,8 @@ mod changing;
 mod keeper;
 mod lookup;
 mod mem_site;
+mod pin;
 mod valid_site;
 
 pub use mem_site::MemSite;
+pub use pin::MemPin;

@@ -3,6 +3,7 @@ ghost use Rattle.std.specs.Prelude.{◌≡◌, ◌<◌, [], None, IfOk, OnOk, If
 ghost use Rattle.host_types.specs.Site.{item_at, with_item, without_item, board_at, fresh_site, IsSite};
 ghost use Rattle.host_types.specs.Card.{has_short_views, card_at, viewed_at};
 ghost use Rattle.host_types.specs.Address.{address};
+ghost use Rattle.host_types.specs.Pins.{viewed_among};
 ghost use Rattle.change_plan.specs.LookUps.{HasNoLongNames};
 ghost use Rattle.change_plan.specs.Plans.{with_host, with_admin};
 ghost use Rattle.mem_site.specs.ShortEntries.{HasShortViews};
@@ -11,6 +12,20 @@ use host_types::{Address, Admin, Card, Host, Item, Selector, SiteFault, Stamp, T
 use std::alloc::{AllocError, Global};
 use std::collections::BTreeMap;
 use std::marker::Model;
+
+/// The bytes of a view of what stands at a selector among these items.
+pub(crate) fn viewed_among<'a>(
+    items: &'a BTreeMap<Selector, Item>,
+    selector: &Selector,
+    view: usize,
+) -> &'a [u8]
+    ensures { result.now ≡ viewed_among items.now.entries selector.now view }
+{
+    match items.get(selector) {
+        Some(item) => item.body.viewed(view),
+        None => &[],
+    }
+}
 
 /// A site in memory. A refused change, or one for which there is not enough memory, changes nothing of it.
 #[derive(Drop)]
@@ -108,10 +123,14 @@ impl MemSite {
     pub(crate) fn viewed(&self, selector: &Selector, view: usize) -> &[u8]
         ensures { result.now ≡ viewed_at self.now selector.now view }
     {
-        match self.item_at(selector) {
-            Some(item) => item.body.viewed(view),
-            None => &[],
-        }
+        viewed_among(&self.items, selector, view)
+    }
+
+    /// A copy of all items.
+    pub(crate) fn copied(&self) -> Result<BTreeMap<Selector, Item>, AllocError>
+        ensures { IfOk result (λ items. items.entries ≡ self.now.items) }
+    {
+        self.items.clone()
     }
 
     /// Where the site takes its memory.
