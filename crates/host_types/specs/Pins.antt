@@ -50,7 +50,7 @@ pub record HasNumbered (old new : SiteState) (number : ℕ) : Type 0 where
   pub out : (n : ℕ) → is_among n (numbers_out new) ≡ (n == number || is_among n (numbers_out old))
   pub count : length new.pins ≡ length old.pins + 1
   pub keeps : IsTrue old.honest → items_under_number new number ≡ Some old.site.items
-  pub others : IsTrue old.honest → (n : ℕ) → (n ≡ number → ⊥) → items_under_number new n ≡ items_under_number old n
+  pub others : (n : ℕ) → (n ≡ number → ⊥) → items_under_number new n ≡ items_under_number old n
   pub same : new ≡ record old { pins = new.pins }
 
 -- A pin was made. It keeps the items that stand, and nothing else has changed.
@@ -68,7 +68,7 @@ IsPinFault old new faults.Memory = (old.usable ≡ true) × (new ≡ old)
 pub record HasGivenBack (old new : SiteState) (number : ℕ) : Type 0 where
   pub out : (n : ℕ) → is_among n (numbers_out new) ≡ (not (n == number) && is_among n (numbers_out old))
   pub count : length new.pins + 1 ≡ length old.pins
-  pub others : IsTrue old.honest → (n : ℕ) → (n ≡ number → ⊥) → items_under_number new n ≡ items_under_number old n
+  pub others : (n : ℕ) → (n ≡ number → ⊥) → items_under_number new n ≡ items_under_number old n
   pub free : old.free ≤ new.free
   pub same : new ≡ record old { pins = new.pins; free = new.free }
 

@@ -21,11 +21,6 @@ pub record SiteState : Type 0 where
 abbrev pub numbers_out : SiteState → List ℕ
 numbers_out h = map (λ pin. pin.0) h.pins
 
--- All pins stay.
-pub record KeepsPins (old new : SiteState) : Type 0 where
-  pub out : numbers_out new ≡ numbers_out old
-  pub pins : IsTrue old.honest → new.pins ≡ old.pins
-
 -- What a call that only reads leaves: the site and the flags stay, and reads may have failed.
 pub record HasRead (old new : SiteState) : Type 0 where
   pub site : IsTrue old.honest → new.site ≡ old.site
@@ -34,7 +29,7 @@ pub record HasRead (old new : SiteState) : Type 0 where
   pub free : IsTrue old.honest → new.free ≡ old.free
   pub reads : old.failed_reads ≤ new.failed_reads
   pub writes : new.failed_writes ≡ old.failed_writes
-  pub pins : KeepsPins old new
+  pub pins : new.pins ≡ old.pins
 
 -- When a fault may come of a call that only reads, where it may lack memory or not.
 abbrev pub IsReadFault : Bool → SiteState → SiteState → SiteFault → Type 0
@@ -82,4 +77,4 @@ pub record HasTried (old new : SiteState) : Type 0 where
   pub honest : new.honest ≡ old.honest
   pub reads : old.failed_reads ≤ new.failed_reads
   pub writes : old.failed_writes ≤ new.failed_writes
-  pub pins : KeepsPins old new
+  pub pins : new.pins ≡ old.pins
