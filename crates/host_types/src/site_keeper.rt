@@ -107,7 +107,8 @@ pub trait SiteKeeper {
         requires out { IsTrue (is_out (site_state self.old) (pinned pin)) }
         ensures unpinned { IsUnpinned (site_state self.old) (site_state self.new) (pinned pin) }
         ensures lacking { LacksTheSame (lacks self.old) (lacks self.new) }
-        ensures at_crash { IsTrue (site_state self.old).honest → AddsNone (crash_states self.old) (crash_states self.new) };
+        ensures at_crash { IsTrue (site_state self.old).honest → AddsNone (crash_states self.old) (crash_states self.new) }
+        ensures moment { (crash_states self.new).moment ≡ (crash_states self.old).moment };
 
     /// As `chunk`, of the items that the pin keeps.
     fn chunk_at(

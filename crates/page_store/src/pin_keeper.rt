@@ -29,7 +29,8 @@ pub trait PinKeeper: Keeper {
         requires out { IsTrue (is_out (Self.store_state self.old) (number pin)) }
         ensures unpinned { IsUnpinned (Self.store_state self.old) (Self.store_state self.new) (number pin) }
         ensures need { NeedsTheSame (Self.may_need self.old) (Self.may_need self.new) }
-        ensures at_crash { IsTrue (Self.store_state self.old).honest → AddsNone (Self.crash_states self.old) (Self.crash_states self.new) };
+        ensures at_crash { IsTrue (Self.store_state self.old).honest → AddsNone (Self.crash_states self.old) (Self.crash_states self.new) }
+        ensures moment { (Self.crash_states self.new).moment ≡ (Self.crash_states self.old).moment };
 
     /// As `get`, of the pairs that the pin keeps.
     fn get_at(
