@@ -20,7 +20,7 @@ same_address a b f kept honest is = is (still_honest a b kept honest) ∙ ap add
 
 -- nothing was read
 pub nothing_read : (k : SiteState) → HasRead k k
-nothing_read k = record { site = λ honest. refl; honest = refl; usable = refl; free = λ honest. refl; reads = omega arith; writes = refl }
+nothing_read k = record { site = λ honest. refl; honest = refl; usable = refl; free = λ honest. refl; reads = omega arith; writes = refl; pins = refl }
 
 pub nothing_left : {L : Type 0} (s : CrashStates L) → AddsNone s s
 nothing_left s = no_new_crash_state s
@@ -43,6 +43,7 @@ reads_on a b c first second = record {
   free = λ honest. second.free (still_honest a b first honest) ∙ first.free honest;
   reads = omega (arith, first.reads, second.reads);
   writes = second.writes ∙ first.writes;
+  pins = second.pins ∙ first.pins;
 }
 
 pub none_added_on : {L : Type 0} (a b : SiteState) (p q r : CrashStates L) → HasRead a b → (IsTrue a.honest → AddsNone p q) → (IsTrue b.honest → AddsNone q r) → IsTrue a.honest → AddsNone p r

@@ -17,6 +17,7 @@ use Rattle.word_index.specs.Search.{search_of}
 use Rattle.request_reader.specs.Request.{Request}
 use Rattle.site_replies.specs.Lengths.{HasLengths}
 use Rattle.site_replies.specs.Reply.{menu_reply, locals, card_reply, found_reply, reply}
+use Rattle.site_replies.specs.Replies.{answer_of, IsSized}
 use Rattle.site_replies.specs.declared.answered.Answered.{Answered}
 use Rattle.site_replies.proofs.AfterReads.{still_honest}
 
@@ -46,19 +47,30 @@ has_lengths s selector card is = lengths_in (item_at s selector) s selector card
 
 -- the reply by the card that was read is the reply of the site before the read
 pub found : {E : Type 0} (a b : SiteState) (selector : List ℕ) (r : Request) (now : ℕ) (card : Card) (result : Result Answered E) → HasRead a b → IsTrue a.honest → selector ≡ r.selector → Some card ≡ card_at a.site selector
-    → (IsTrue b.honest → selector ≡ r.selector → HasLengths card.body (viewed_at b.site selector) → IfOk result (λ answered. answered ≡ card_reply b.site r now card card.body r.plus))
-    → IfOk result (λ answered. answered ≡ found_reply a.site r now (card_at a.site selector))
+    → (IsTrue b.honest → selector ≡ r.selector → HasLengths card.body (viewed_at b.site selector) → IfOk result (λ answered. answer_of b.site answered ≡ card_reply b.site r now card card.body r.plus))
+    → IfOk result (λ answered. answer_of a.site answered ≡ found_reply a.site r now (card_at a.site selector))
 found a b selector r now card (Err e) kept honest same is given = tt
 found a b selector r now card (Ok answered) kept honest same is given =
     let after : b.site ≡ a.site = kept.site honest in
     let lengths : HasLengths card.body (viewed_at b.site selector) = rw after (has_lengths a.site selector card is) in
-    given (still_honest a b kept honest) same lengths
+    ap (λ (s : Site). answer_of s answered) (sym after)
+    ∙ given (still_honest a b kept honest) same lengths
     ∙ ap (λ (s : Site). card_reply s r now card card.body r.plus) after
     ∙ ap (found_reply a.site r now) is
 
+-- a view that is named by the card that was read has its size before the read
+pub sized : {E : Type 0} (a b : SiteState) (selector : List ℕ) (card : Card) (result : Result Answered E) → HasRead a b → IsTrue a.honest → Some card ≡ card_at a.site selector
+    → (IsTrue b.honest → HasLengths card.body (viewed_at b.site selector) → IfOk result (λ answered. IsSized b.site answered.reply))
+    → IfOk result (λ answered. IsSized a.site answered.reply)
+sized a b selector card (Err e) kept honest is given = tt
+sized a b selector card (Ok answered) kept honest is given =
+    let after : b.site ≡ a.site = kept.site honest in
+    let lengths : HasLengths card.body (viewed_at b.site selector) = rw after (has_lengths a.site selector card is) in
+    subst (λ (s : Site). IsSized s answered.reply) after (given (still_honest a b kept honest) lengths)
+
 -- the reply to what is no link
 pub found_up : {E : Type 0} (s : Site) (r : Request) (now : ℕ) (selector : List ℕ) (result : Result Answered E) → is_url_name r.selector ≡ false → selector ≡ r.selector
-    → IfOk result (λ answered. answered ≡ found_reply s r now (card_at s selector)) → IfOk result (λ answered. answered ≡ reply s r now)
+    → IfOk result (λ answered. answer_of s answered ≡ found_reply s r now (card_at s selector)) → IfOk result (λ answered. answer_of s answered ≡ reply s r now)
 unfolding reply
 found_up s r now selector (Err e) here same given = tt
 found_up s r now selector (Ok answered) here same given = rw here (given ∙ ap (λ (at : List ℕ). found_reply s r now (card_at s at)) same)

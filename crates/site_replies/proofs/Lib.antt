@@ -1,6 +1,5 @@
 pub mod AfterReads
 pub mod Cards
-pub mod Chunks
 pub mod Picks
 pub mod PostNames
 pub mod Posted

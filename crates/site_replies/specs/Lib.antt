@@ -1,4 +1,5 @@
 pub mod Reads
 pub mod Reply
+pub mod Replies
 pub mod Lengths
 pub mod PostReply

@@ -15,6 +15,7 @@ use Rattle.host_types.specs.declared.card.Card.{Card}
 use Rattle.host_types.specs.declared.card.CardView.{CardView}
 use Rattle.host_types.specs.declared.card.CardBody.{CardBody}
 use Rattle.host_types.specs.declared.card.CardBody.TheVariants as cards
+use Rattle.host_types.specs.declared.change.Change.{Change}
 use Rattle.host_types.specs.declared.change.Change.TheVariants.{Post}
 use Rattle.common_types.specs.declared.refused.Refused.{Refused}
 use Rattle.common_types.specs.declared.refused.Refused.TheVariants as refusals
@@ -34,7 +35,11 @@ use Rattle.word_index.specs.Search.{search_of}
 use Rattle.request_reader.specs.Request.{Request, RequestedView, Plus, Fetch, Attributes, EntryAttributes}
 use Rattle.request_reader.specs.declared.cause.Cause.{Cause}
 use Rattle.request_reader.specs.declared.cause.Cause.TheVariants.{TooLong, NotUnderstood}
-use Rattle.site_replies.specs.declared.answered.Answered.{Answered}
+
+-- A reply with all of its bytes, and the post that it stores.
+pub record WholeAnswer : Type 0 where
+  pub bytes : List ℕ
+  pub post : Option Change
 
 -- ---- forms of replies
 
@@ -124,6 +129,12 @@ is_sent_as_text kinds.Html = false
 abbrev pub sent : Bool → Kind → List ℕ → List ℕ
 sent is_plus kind bytes = if is_sent_as_text kind then as_text is_plus (text bytes) else as_bytes is_plus bytes
 
+-- what is sent before a view of so many bytes
+abbrev pub view_head : Bool → Bool → ℕ → List ℕ
+view_head false is_text size = []
+view_head true true size = text_head
+view_head true false size = length_head size
+
 abbrev pub is_language : Option (List ℕ) → CardView → Bool
 is_language None view = true
 is_language (Some language) view = bytes_eq view.language language
@@ -156,7 +167,7 @@ moved_reply s is_plus target (Some card) = place_reply s is_plus target card
 
 -- ---- posts
 
-abbrev pub without_post : List ℕ → Answered
+abbrev pub without_post : List ℕ → WholeAnswer
 without_post bytes = record { bytes = bytes; post = None }
 
 abbrev pub refusal_text : Refused → ErrorText
@@ -179,17 +190,17 @@ number_of None = 0
 number_of (Some card) = number_in card.body
 
 -- A post that is stored is answered by the menu of its one line.
-abbrev pub stored_reply : Site → ℕ → List ℕ → List ℕ → List ℕ → Answered
+abbrev pub stored_reply : Site → ℕ → List ℕ → List ℕ → List ℕ → WholeAnswer
 stored_reply s now board title body = record {
   bytes = text_head ++ menu (item_line (address s) (post_selector board (number_of (card_at s board))) (card_of (text_item title now body)) ∷ []);
   post = Some (Post board title body);
 }
 
-abbrev pub posted_reply : Site → ℕ → List ℕ → List ℕ → List ℕ → Result Site Refused → Answered
+abbrev pub posted_reply : Site → ℕ → List ℕ → List ℕ → List ℕ → Result Site Refused → WholeAnswer
 posted_reply s now board title body (Ok after) = stored_reply s now board title body
 posted_reply s now board title body (Err refused) = without_post (error_reply_of true (refusal_text refused))
 
-abbrev pub post_reply : Site → ℕ → List ℕ → List ℕ → List ℕ → Answered
+abbrev pub post_reply : Site → ℕ → List ℕ → List ℕ → List ℕ → WholeAnswer
 post_reply s now board title body = posted_reply s now board title body (apply s (Post board title body) now)
 
 abbrev pub fault_text : AskFault → ErrorText
@@ -198,11 +209,11 @@ fault_text asks.WrongWord = errors.WrongWord
 -- no reading of lines gives it
 fault_text asks.Memory = errors.AnswersDoNotFit
 
-abbrev pub answers_reply : Site → ℕ → List ℕ → List Question → Result (List Answer) AskFault → Answered
+abbrev pub answers_reply : Site → ℕ → List ℕ → List Question → Result (List Answer) AskFault → WholeAnswer
 answers_reply s now board questions (Ok answers) = post_reply s now board (post_title questions answers) (post_text questions answers)
 answers_reply s now board questions (Err fault) = without_post (error_reply_of true (fault_text fault))
 
-abbrev pub form_reply : Site → Bool → ℕ → List ℕ → List Question → Option (List (List ℕ)) → Answered
+abbrev pub form_reply : Site → Bool → ℕ → List ℕ → List Question → Option (List (List ℕ)) → WholeAnswer
 form_reply s is_plus now board questions None = without_post (error_reply_of is_plus errors.FormNeedsAnswers)
 form_reply s is_plus now board questions (Some lines) = answers_reply s now board questions (read_by questions lines)
 
@@ -213,7 +224,7 @@ words_asked None = []
 words_asked (Some words) = words
 
 -- By what stands at the selector, and what is asked of it. A moved item is reported before attributes are scanned.
-abbrev pub card_reply : Site → Request → ℕ → Card → CardBody → Option Plus → Answered
+abbrev pub card_reply : Site → Request → ℕ → Card → CardBody → Option Plus → WholeAnswer
 card_reply s r now card (cards.Moved target) plus = without_post (moved_reply s (is_some plus) target (card_at s target))
 card_reply s r now card body (Some (Attributes names)) = without_post (attributes (address s) names r.selector card)
 card_reply s r now card body (Some (EntryAttributes names)) = without_post (entries_reply s names r.selector body)
@@ -224,12 +235,12 @@ card_reply s r now card (cards.Board cap next) plus = without_post (menu_reply s
 card_reply s r now card (cards.Search scope) plus = without_post (menu_reply s (is_some plus) (locals (search_of s scope (words_asked r.search))))
 
 -- nothing may stand there
-abbrev pub found_reply : Site → Request → ℕ → Option Card → Answered
+abbrev pub found_reply : Site → Request → ℕ → Option Card → WholeAnswer
 found_reply s r now None = without_post (error_reply_of (is_some r.plus) errors.ItemNotFound)
 found_reply s r now (Some card) = card_reply s r now card card.body r.plus
 
 -- links out of gopherspace are known by their names, before any look-up
-unfoldable pub reply : Site → Request → ℕ → Answered
+unfoldable pub reply : Site → Request → ℕ → WholeAnswer
 reply s r now =
     if is_url_name r.selector then without_post (url_reply r.plus (drop 4 r.selector))
     else found_reply s r now (card_at s r.selector)

@@ -1,22 +1,18 @@
 // Documents as they are sent.
-ghost use Rattle.std.specs.Prelude.{◌≡◌, ◌+◌, ◌*◌, true, length, take, IfOk, IfErr, IsTrue};
+ghost use Rattle.std.specs.Prelude.{◌≡◌, IfOk};
 ghost use Rattle.std.specs.List.{position};
 ghost use Rattle.std.specs.Option.{option_map};
-ghost use Rattle.host_types.specs.Card.{viewed_at};
-ghost use Rattle.host_types.specs.SiteState.{HasRead, LacksTheSame, IsReadFault};
-ghost use Rattle.host_types.specs.CrashStates.{AddsNone};
 ghost use Rattle.request_reader.specs.Seen.{plus_of, requested_of};
-ghost use Rattle.site_replies.specs.Reads.{Reads};
 ghost use Rattle.site_replies.specs.Reply as spec;
 
-use host_types::{Bytes, CHUNK, CardView, Kind, Selector, SiteFault, SiteKeeper};
+use host_types::{Bytes, CardView, Kind};
 use plus_blocks::head;
 use request_reader::{Plus, RequestedView};
 use std::alloc::{AllocError, Global};
 use text_writer::text;
 
 /// Whether such a document is sent as lines and a period.
-fn is_sent_as_text(kind: Kind) -> bool
+pub fn is_sent_as_text(kind: Kind) -> bool
     ensures { result ≡ spec.is_sent_as_text kind }
 {
     matches!(kind, Kind::Text | Kind::BinHex | Kind::Uuencoded)
@@ -90,38 +86,4 @@ pub fn requested_by(plus: Option<Plus<'_>>) -> Option<RequestedView<'_>>
         Some(Plus::Fetch(requested)) => requested,
         _ => None,
     }
-}
-
-/// Adds chunk k of a view to the bytes before it.
-fn add_chunk<S: SiteKeeper>(
-    site: &mut S,
-    selector: &Selector,
-    view: usize,
-    k: usize,
-    bytes: &mut Vec<u8>,
-) -> Result<(), SiteFault>
-    ensures more { Reads S.site_state S.lacks S.crash_states site.old site.new result (λ s _. bytes.old.items ≡ take (1000 * k) (viewed_at s selector.now view) → bytes.new.items ≡ take (1000 * k + 1000) (viewed_at s selector.now view)) }
-{
-    let mut buffer = [0; CHUNK];
-    let count = site.chunk(selector, view, k, &mut buffer)?;
-    bytes.extend_from_slice(&buffer[..count])?;
-    Ok(())
-}
-
-/// The bytes of a view, which has so many.
-#[tactic(auto, using(crate::proofs::AfterReads::lacking_on))]
-pub fn view_bytes<S: SiteKeeper>(
-    alloc: Global,
-    site: &mut S,
-    selector: &Selector,
-    view: usize,
-    size: u32,
-) -> Result<Vec<u8>, SiteFault>
-    ensures bytes { Reads S.site_state S.lacks S.crash_states site.old site.new result (λ s v. length (viewed_at s selector.now view) ≡ size → v.items ≡ viewed_at s selector.now view) }
-{
-    let mut bytes = Vec::new(alloc);
-    for k in 0..(size as usize).div_ceil(CHUNK) {
-        add_chunk(site, selector, view, k, &mut bytes)?;
-    }
-    Ok(bytes)
 }

@@ -1,4 +1,4 @@
-//! Replies to requests, made whole from a site as it stands.
+//! Replies to requests, from a site as it stands: the bytes, or the view that is sent.
 #![tactic(auto)]
 
 mod answered;
@@ -10,5 +10,5 @@ mod posts;
 mod requests;
 mod views;
 
-pub use answered::Answered;
+pub use answered::{Answered, Reply, ViewReply};
 pub use requests::{bad_reply, reply};

@@ -7,11 +7,12 @@ ghost use Rattle.host_types.specs.Site.{text_item};
 ghost use Rattle.host_types.specs.declared.site_fault.SiteFault.TheVariants.{Memory as OutOfMemory};
 ghost use Rattle.site_replies.specs.Reads.{Reads};
 ghost use Rattle.site_replies.specs.PostReply.{stored_as, reply_by_card};
+ghost use Rattle.site_replies.specs.Replies.{whole};
 ghost use Rattle.std.specs.Option.{option_map};
 ghost use Rattle.request_reader.specs.Seen.{lines_in};
 ghost use Rattle.site_replies.specs.Reply as spec;
 
-use crate::answered::{Answered, without_post};
+use crate::answered::{Answered, Reply, without_post};
 use crate::documents::as_text;
 use ask_forms::{AskFault, Post, post_of, read_answers};
 use host_types::{
@@ -53,7 +54,7 @@ fn stored_as(
     now: Stamp,
 ) -> Result<Option<Answered>, AllocError>
     requires { length post.text ≤ 65536 }
-    ensures { IfOk result (λ o. IfSome o (λ answered. answered ≡ stored_as address.now now board.now number post.title post.text)) }
+    ensures { IfOk result (λ o. IfSome o (λ answered. answered ≡ whole (stored_as address.now now board.now number post.title post.text))) }
 {
     let Some(selector) = Selector::of_post(alloc, board, number)? else {
         return Ok(None);
@@ -69,7 +70,7 @@ fn stored_as(
         text,
     };
     Ok(Some(Answered {
-        bytes,
+        reply: Reply::Whole(bytes),
         post: Some(change),
     }))
 }
@@ -84,7 +85,7 @@ fn reply_by_card(
     now: Stamp,
 ) -> Result<Answered, SiteFault>
     requires { length post.text ≤ 65536 }
-    ensures reply { IfOk result (λ answered. answered ≡ reply_by_card address.now now board.now post.title post.text card) }
+    ensures reply { IfOk result (λ answered. answered ≡ whole (reply_by_card address.now now board.now post.title post.text card)) }
     ensures fault { IfErr result (λ e. e ≡ OutOfMemory) }
 {
     let Some(
@@ -114,7 +115,7 @@ pub fn post_reply<S: SearchKeeper>(
     post: Post,
     now: Stamp,
 ) -> Result<Answered, SiteFault>
-    ensures reply { Reads S.site_state S.lacks S.crash_states site.old site.new result (λ s answered. answered ≡ spec.post_reply s now board.now post.title post.text) }
+    ensures reply { Reads S.site_state S.lacks S.crash_states site.old site.new result (λ s answered. answered ≡ whole (spec.post_reply s now board.now post.title post.text)) }
 {
     if post.text.len() > MOST_POST_BYTES {
         return Ok(without_post(error_reply_of(alloc, true, ErrorText::AnswersDoNotFit)?));
@@ -133,7 +134,7 @@ pub fn form_reply<S: SearchKeeper>(
     given: Option<Data<'_>>,
     now: Stamp,
 ) -> Result<Answered, SiteFault>
-    ensures reply { Reads S.site_state S.lacks S.crash_states site.old site.new result (λ s answered. answered ≡ spec.form_reply s is_plus now board.now questions.now (option_map lines_in given.entry)) }
+    ensures reply { Reads S.site_state S.lacks S.crash_states site.old site.new result (λ s answered. answered ≡ whole (spec.form_reply s is_plus now board.now questions.now (option_map lines_in given.entry))) }
 {
     let Some(data) = given else {
         return Ok(without_post(error_reply_of(alloc, is_plus, ErrorText::FormNeedsAnswers)?));

@@ -1,4 +1,4 @@
-// Replies to requests, made whole from the site as it stands.
+// Replies to requests, from the site as it stands.
 ghost use Rattle.std.specs.Prelude.{◌≡◌, true, Some, IfOk, IfErr, IsTrue};
 ghost use Rattle.std.specs.Option.{option_map};
 ghost use Rattle.host_types.specs.Card.{viewed_at};
@@ -8,6 +8,7 @@ ghost use Rattle.request_reader.specs.Seen.{request_of, plus_of};
 ghost use Rattle.url_page.specs.Page.{redirect};
 ghost use Rattle.host_types.specs.declared.site_fault.SiteFault.TheVariants.{Memory as OutOfMemory};
 ghost use Rattle.site_replies.specs.Lengths.{HasLengths};
+ghost use Rattle.site_replies.specs.Replies.{answer_of, IsSized, PostsNoView};
 ghost use Rattle.site_replies.specs.Reply as spec;
 
 use crate::answered::{Answered, without_post};
@@ -70,7 +71,9 @@ fn card_reply<S: SearchKeeper>(
     card: &Card,
 ) -> Result<Answered, SiteFault>
     ensures reply { IsTrue (S.site_state site.old).honest → selector.now ≡ (request_of request.entry).selector → HasLengths card.now.body (viewed_at (S.site_state site.old).site selector.now) →
-        IfOk result (λ answered. answered ≡ spec.card_reply (S.site_state site.old).site (request_of request.entry) now card.now card.now.body (request_of request.entry).plus) }
+        IfOk result (λ answered. answer_of (S.site_state site.old).site answered ≡ spec.card_reply (S.site_state site.old).site (request_of request.entry) now card.now card.now.body (request_of request.entry).plus) }
+    ensures sized { IsTrue (S.site_state site.old).honest → HasLengths card.now.body (viewed_at (S.site_state site.old).site selector.now) → IfOk result (λ answered. IsSized (S.site_state site.old).site answered.reply) }
+    ensures drawn { IfOk result (λ answered. PostsNoView answered.reply answered.post) }
     ensures kept { HasRead (S.site_state site.old) (S.site_state site.new) }
     ensures lacking { LacksTheSame (S.lacks site.old) (S.lacks site.new) }
     ensures no_new_crash_state { IsTrue (S.site_state site.old).honest → AddsNone (S.crash_states site.old) (S.crash_states site.new) }
@@ -92,7 +95,8 @@ fn card_reply<S: SearchKeeper>(
             return form_reply(alloc, site, is_plus, board, questions, request.data, now);
         }
         (CardBody::Views(kind, views), plus) => {
-            view_reply(alloc, site, selector, *kind, views.as_slice(), plus)?
+            let reply = view_reply(alloc, selector, *kind, views.as_slice(), plus)?;
+            return Ok(Answered { reply, post: None });
         }
         (CardBody::Menu(entries), _) => menu_reply(alloc, site, is_plus, entries.as_slice())?,
         (CardBody::Board { cap, next }, _) => {
@@ -113,7 +117,9 @@ pub fn reply<S: SearchKeeper>(
     request: Request<'_>,
     now: Stamp,
 ) -> Result<Answered, SiteFault>
-    ensures reply { IsTrue (S.site_state site.old).honest → IfOk result (λ answered. answered ≡ spec.reply (S.site_state site.old).site (request_of request.entry) now) }
+    ensures reply { IsTrue (S.site_state site.old).honest → IfOk result (λ answered. answer_of (S.site_state site.old).site answered ≡ spec.reply (S.site_state site.old).site (request_of request.entry) now) }
+    ensures sized { IsTrue (S.site_state site.old).honest → IfOk result (λ answered. IsSized (S.site_state site.old).site answered.reply) }
+    ensures drawn { IfOk result (λ answered. PostsNoView answered.reply answered.post) }
     ensures kept { HasRead (S.site_state site.old) (S.site_state site.new) }
     ensures lacking { LacksTheSame (S.lacks site.old) (S.lacks site.new) }
     ensures no_new_crash_state { IsTrue (S.site_state site.old).honest → AddsNone (S.crash_states site.old) (S.crash_states site.new) }

@@ -2,19 +2,23 @@
 ghost use Rattle.std.specs.Prelude.{◌≡◌, true, length, IfOk, IfErr, IsTrue, is_some};
 ghost use Rattle.std.specs.List.{position};
 ghost use Rattle.std.specs.Option.{option_map};
+ghost use Rattle.host_types.specs.Site.{Site};
 ghost use Rattle.host_types.specs.Card.{card_at, viewed_at};
 ghost use Rattle.host_types.specs.SiteState.{HasRead, LacksTheSame, IsReadFault};
 ghost use Rattle.host_types.specs.CrashStates.{AddsNone};
 ghost use Rattle.request_reader.specs.Seen.{plus_of};
 ghost use Rattle.site_replies.specs.Reads.{Reads};
 ghost use Rattle.site_replies.specs.Lengths.{AreLengths};
+ghost use Rattle.site_replies.specs.Replies.{reply_bytes, IsSized};
 ghost use Rattle.site_replies.specs.Reply as spec;
 
-use crate::documents::{requested_by, requested_place, sent, view_bytes};
+use crate::answered::{Reply, ViewReply};
+use crate::documents::{is_sent_as_text, requested_by, requested_place, sent};
 use crate::posts::error_reply_of;
 use host_types::{Bytes, CardBody, CardView, Kind, Selector, SiteFault};
+use plus_blocks::head;
 use request_reader::Plus;
-use std::alloc::Global;
+use std::alloc::{AllocError, Global};
 use text_writer::{ErrorText, error_reply, item_line};
 use word_index::SearchKeeper;
 
@@ -38,37 +42,65 @@ pub fn moved_reply<S: SearchKeeper>(
     Ok(error_reply(alloc, is_plus, ErrorText::ItemHasMoved, line.as_slice())?)
 }
 
-/// The view at a place, which has so many bytes.
-fn view_at<S: SearchKeeper>(
+/// The head of a view that has so many bytes, where Gopher+ asked for it.
+fn view_head(
     alloc: Global,
-    site: &mut S,
+    is_plus: bool,
+    is_text: bool,
+    size: u32,
+) -> Result<Bytes, AllocError>
+    ensures { IfOk result (λ head. head ≡ spec.view_head is_plus is_text size) }
+{
+    if !is_plus {
+        return Ok(Bytes::from(Vec::new(alloc)));
+    }
+    if is_text {
+        return head(alloc, None);
+    }
+    head(alloc, Some(size as usize))
+}
+
+/// The view at a place, which has so many bytes.
+fn view_at(
+    alloc: Global,
     is_plus: bool,
     selector: &Selector,
     kind: Kind,
-    place: usize,
+    view: usize,
     size: u32,
-) -> Result<Bytes, SiteFault>
-    ensures reply { Reads S.site_state S.lacks S.crash_states site.old site.new result (λ s reply. length (viewed_at s selector.now place) ≡ size → reply ≡ spec.sent is_plus kind (viewed_at s selector.now place)) }
+) -> Result<Reply, AllocError>
+    ensures reply { IfOk result (λ reply. (s : Site) → length (viewed_at s selector.now view) ≡ size → reply_bytes s reply ≡ spec.sent is_plus kind (viewed_at s selector.now view)) }
+    ensures sized { IfOk result (λ reply. (s : Site) → length (viewed_at s selector.now view) ≡ size → IsSized s reply) }
 {
-    let bytes = view_bytes(alloc, site, selector, place, size)?;
-    Ok(sent(alloc, is_plus, kind, bytes)?)
+    if size == 0 {
+        return Ok(Reply::Whole(sent(alloc, is_plus, kind, Vec::new(alloc))?));
+    }
+    let is_text = is_sent_as_text(kind);
+    Ok(Reply::View(ViewReply {
+        head: view_head(alloc, is_plus, is_text, size)?,
+        selector: selector.clone()?,
+        view,
+        size,
+        is_text,
+    }))
 }
 
-/// The view that is asked for, of a document with these.
-pub fn view_reply<S: SearchKeeper>(
+/// The view that is asked for, of a document with these: by each site where they are as long as is said.
+pub fn view_reply(
     alloc: Global,
-    site: &mut S,
     selector: &Selector,
     kind: Kind,
     views: &[CardView],
     plus: Option<Plus<'_>>,
-) -> Result<Bytes, SiteFault>
-    ensures reply { Reads S.site_state S.lacks S.crash_states site.old site.new result (λ s reply. AreLengths views.now (viewed_at s selector.now) → reply ≡ spec.view_reply s (is_some (option_map plus_of plus.entry)) selector.now kind (position (spec.is_requested (spec.requested_of (option_map plus_of plus.entry))) views.now)) }
+) -> Result<Reply, AllocError>
+    ensures reply { IfOk result (λ reply. (s : Site) → AreLengths views.now (viewed_at s selector.now) → reply_bytes s reply ≡ spec.view_reply s (is_some (option_map plus_of plus.entry)) selector.now kind (position (spec.is_requested (spec.requested_of (option_map plus_of plus.entry))) views.now)) }
+    ensures sized { IfOk result (λ reply. (s : Site) → AreLengths views.now (viewed_at s selector.now) → IsSized s reply) }
 {
     let is_plus = plus.is_some();
     let Some(place) = requested_place(requested_by(plus), views) else {
-        return Ok(error_reply_of(alloc, is_plus, ErrorText::ViewNotFound)?);
+        let error = error_reply_of(alloc, is_plus, ErrorText::ViewNotFound)?;
+        return Ok(Reply::Whole(error));
     };
     let size = views[place].length;
-    view_at(alloc, site, is_plus, selector, kind, place, size)
+    view_at(alloc, is_plus, selector, kind, place, size)
 }
