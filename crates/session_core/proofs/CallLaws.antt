@@ -102,15 +102,15 @@ module _ {S L : Type 0} (site_state : S → SiteState) (lacks : S → Change →
 
     -- ---- of hubs
 
-    pub hub_run : {bound : _} (old new : Hub S bound) (es : List Event) (os : List Outcome) → HubCalls site_state lacks crash_states stands old es os new → HubRun site_state lacks crash_states stands old es os new
+    pub hub_run : {bound : _} {ghosts : _} (old new : Hub S bound ghosts) (es : List Event) (os : List Outcome) → HubCalls site_state lacks crash_states stands old es os new → HubRun site_state lacks crash_states stands old es os new
     hub_run old new es os calls = record {
       calls = calls;
       at_crash = λ honest usable. calls_have_crash_states (world_of site_state old) (world_of site_state new) (keeper_of old) (keeper_of new) es os honest usable refl calls;
     }
 
-    pub hub_rests : {bound : _} (hub : Hub S bound) → HubRun site_state lacks crash_states stands hub [] [] hub
+    pub hub_rests : {bound : _} {ghosts : _} (hub : Hub S bound ghosts) → HubRun site_state lacks crash_states stands hub [] [] hub
     hub_rests hub = hub_run hub hub [] [] (refl, refl)
 
-    pub hub_goes_on : {bound : _} (old mid new : Hub S bound) (es fs : List Event) (os ps : List Outcome) → HubRun site_state lacks crash_states stands old es os mid → HubRun site_state lacks crash_states stands mid fs ps new → HubRun site_state lacks crash_states stands old (es ++ fs) (os ++ ps) new
+    pub hub_goes_on : {bound : _} {ghosts : _} (old mid new : Hub S bound ghosts) (es fs : List Event) (os ps : List Outcome) → HubRun site_state lacks crash_states stands old es os mid → HubRun site_state lacks crash_states stands mid fs ps new → HubRun site_state lacks crash_states stands old (es ++ fs) (os ++ ps) new
     hub_goes_on old mid new es fs os ps first second =
         hub_run old new (es ++ fs) (os ++ ps) (calls_join (world_of site_state old) (world_of site_state mid) (world_of site_state new) (keeper_of old) (keeper_of mid) (keeper_of new) es fs os ps first.calls second.calls)

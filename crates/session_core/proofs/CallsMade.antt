@@ -1,22 +1,27 @@
 -- What the clauses of one call of a hub make of it.
-use Rattle.std.proofs.Common.{◌≡◌, ◌⊎◌, ℕ, Bool, true, false, not, refl, sym, subst, ap, ◌∙◌, inl, inr, if◌then◌else◌}
+use Rattle.std.proofs.Common.{◌≡◌, ◌⊎◌, ℕ, Bool, true, false, not, refl, sym, subst, ap, ◌∙◌, inl, inr, if◌then◌else◌, List, length, arith}
 use Rattle.std.specs.Prelude.{Option, Result, Ok, Err, IfErr, OnErr, OnOk, IsTrue}
 use Rattle.std.proofs.lemmas.Bool.{not-true, not-false}
 use Rattle.host_types.specs.Site.{Site}
 use Rattle.host_types.specs.SiteState.{SiteState}
-use Rattle.host_types.specs.CrashStates.{CrashStates, AddsOnly, may_crash_to, no_new_crash_state}
+use Rattle.host_types.specs.CrashStates.{CrashStates, AddsOnly, AddsNone, may_crash_to, no_new_crash_state}
 use Rattle.host_types.specs.declared.change.Change.{Change}
 use Rattle.host_types.specs.declared.site_fault.SiteFault.{SiteFault}
 use Rattle.session_core.specs.World.{World, Phase}
 use Rattle.session_core.specs.Step.{Next, then_is, answer, failed_answer, step}
-use Rattle.session_core.specs.Run.{Step, StepBy, IsAnswer, IsFaulty, may_work, has_change}
+use Rattle.session_core.specs.Run.{Step, StepBy, IsAnswer, IsFaulty, may_work, may_read, has_change}
 use Rattle.session_core.specs.RunCrashStates.{RepresentsBy}
-use Rattle.session_core.specs.Calls.{IfFault, IsCause, IsSteady, IsAcknowledged, Call}
-use Rattle.session_core.specs.Understood.{IsHearFault}
-use Rattle.session_core.specs.Outcomes.{heard_outcome, bytes_outcome}
+use Rattle.session_core.specs.Calls.{IfFault, IsCause, StaysClosed, IsSteady, IsAcknowledged, Call}
+use Rattle.session_core.specs.Understood.{IsHearFault, IsDrawFault}
+use Rattle.session_core.specs.Causes.{IsDrawCause}
+use Rattle.session_core.specs.HeldPins.{MayGiveBack}
+use Rattle.session_core.specs.Outcomes.{heard_outcome, bytes_outcome, drawn_outcome, draw_outcome}
 use Rattle.session_core.specs.declared.answer.InputStatus.{InputStatus}
 use Rattle.session_core.specs.declared.answer.InputStatus.TheVariants as heard
+use Rattle.session_core.specs.declared.answer.Drawn.{Drawn}
+use Rattle.session_core.specs.declared.answer.Drawn.TheVariants as drawn
 use Rattle.session_core.specs.declared.event.Event.{Event}
+use Rattle.session_core.specs.declared.event.Event.TheVariants.{Join, Bytes, End, Draw, Leave, Admin}
 use Rattle.session_core.specs.declared.event.Outcome.{Outcome}
 use Rattle.session_core.specs.declared.event.Outcome.TheVariants.{Fault}
 use Rattle.session_core.specs.declared.event.Outcome.TheVariants as outcomes
@@ -24,7 +29,7 @@ use Rattle.session_core.specs.declared.fault.HubFault.{HubFault}
 use Rattle.session_core.specs.declared.fault.HubFault.TheVariants as hub
 use Rattle.session_core.proofs.FaultsKeep.{by_keeps}
 use Rattle.session_core.proofs.StepOutcomes.{answer_so}
-use Rattle.session_core.proofs.Steps.{no_fault}
+use Rattle.session_core.proofs.Steps.{no_fault, answered_by}
 use Rattle.session_core.proofs.Hearings.{weaker}
 
 exact_by : (b : Bool) (w v : World) (e : Event) (o : Outcome) → (IsFaulty w e o v → ⊥) → StepBy b w e o v → IsAnswer w e o v
@@ -33,8 +38,8 @@ exact_by false w v e o none (inl is) = is
 exact_by false w v e o none (inr is) = absurd (none is)
 
 -- the answer is the protocol's
-pub exact : (w v : World) (e : Event) (o : Outcome) → may_work w e ≡ false → has_change w e ≡ false → Step w e o v → IsAnswer w e o v
-exact w v e o works change is = exact_by w.failed w v e o (no_fault w v e o works change) is
+pub exact : (w v : World) (e : Event) (o : Outcome) → may_work w e ≡ false → may_read w e ≡ false → has_change w e ≡ false → Step w e o v → IsAnswer w e o v
+exact w v e o works reads change is = exact_by w.failed w v e o (no_fault w v e o works reads change) is
 
 -- ---- what holds on any device
 
@@ -46,10 +51,18 @@ runs_by false w e is = absurd (answer_so w e (sym is))
 both : (a b : Bool) → a ≡ false → b ≡ true → a ≡ b → ⊥
 both a b off on same = let no : false ≡ true = sym off ∙ same ∙ on in cc no
 
+stays_closed : {S : Type 0} (site_state : S → SiteState) (k : S) (e : Event) → StaysClosed site_state k e k
+stays_closed site_state k Join = refl
+stays_closed site_state k (Bytes id piece now) = refl
+stays_closed site_state k (End id now) = refl
+stays_closed site_state k (Draw id room) = refl
+stays_closed site_state k (Leave id) = record { same = refl; free = omega arith }
+stays_closed site_state k (Admin change now) = refl
+
 -- an answer of the protocol, by a keeper that stays
-pub steady : {S : Type 0} (w : World) (k : S) (e : Event) (o : Outcome) (v : World) → IsAnswer w e o v → v.failed ≡ w.failed → IsSteady w k e o v k
-steady w k e o v is flag = record {
-  closed = λ shut. (is, refl);
+pub steady : {S : Type 0} (site_state : S → SiteState) (w : World) (k : S) (e : Event) (o : Outcome) (v : World) → IsAnswer w e o v → v.failed ≡ w.failed → IsSteady site_state w k e o v k
+steady site_state w k e o v is flag = record {
+  closed = λ shut. (is, stays_closed site_state k e);
   shuts = λ off on. absurd (both w.failed v.failed off on (sym flag));
   failed = λ fails. flag ∙ runs_by w.failed w e (sym is.0 ∙ fails);
   next = λ fault fails. ap (λ (x : World). x.next) (is.1 ∙ by_keeps w.failed w e fault (sym fails ∙ is.0));
@@ -57,8 +70,8 @@ steady w k e o v is flag = record {
 }
 
 -- a fault in which the hub stays as it is, and isn't failed
-pub steady_fault : {S : Type 0} (w : World) (k : S) (e : Event) (fault : HubFault) → w.failed ≡ false → (fault ≡ hub.Failed → ⊥) → IsSteady w k e (Fault fault) w k
-steady_fault w k e fault off other = record {
+pub steady_fault : {S : Type 0} (site_state : S → SiteState) (w : World) (k : S) (e : Event) (fault : HubFault) → w.failed ≡ false → (fault ≡ hub.Failed → ⊥) → IsSteady site_state w k e (Fault fault) w k
+steady_fault site_state w k e fault off other = record {
   closed = λ shut. absurd (both w.failed w.failed off shut refl);
   shuts = λ no on. absurd (both w.failed w.failed no on refl);
   failed = λ fails. absurd (other (cc fails));
@@ -98,7 +111,7 @@ unasked site_state lacks crash_states stands w k e o v crash_states_represent an
   honest = refl;
   site = site;
   flag = flag;
-  steady = steady w k e o v answers (flag ∙ sym was);
+  steady = steady site_state w k e o v answers (flag ∙ sym was);
   acknowledged = λ honest. acknowledged_of site_state crash_states stands o v k crash_states_represent honest site flag;
   leaves = λ honest. stays_none_added (crash_states k) (λ c. RepresentsBy stands w e o v c);
 }
@@ -133,7 +146,7 @@ never_fault heard.Finished fault is = cc is
 
 pub heard_steady : {S : Type 0} (site_state : S → SiteState) (w : World) (k : S) (e : Event) (v : World) (l : S) (lacking : Option Change → ℕ → SiteFault → Type 0) (phase : Phase) (post : Option Change) (now : ℕ) (result : Result InputStatus HubFault) →
     w.failed ≡ false → (site_state k).usable ≡ true → v.failed ≡ not (site_state l).usable → v.next ≡ w.next → OnErr result (v.sessions ≡ w.sessions) → OnOk result ((site_state l).usable ≡ true) → IfErr result (IsHearFault lacking phase post now (site_state k) (site_state l))
-    → IsSteady w k e (bytes_outcome result) v l
+    → IsSteady site_state w k e (bytes_outcome result) v l
 heard_steady site_state w k e v l lacking phase post now (Ok h) off usable flag next seats unchanged is = record {
   closed = λ shut. absurd (both w.failed w.failed off shut refl);
   shuts = λ no shut. (let end : true ≡ false = sym unchanged ∙ not-true (site_state l).usable (sym flag ∙ shut) in absurd (cc end));
@@ -159,3 +172,105 @@ shut_answer w e shut is =
 pub heard_acknowledged : {L : Type 0} (usable : Bool) (P : L → Type 0) (result : Result InputStatus HubFault) → OnOk result (usable ≡ true) → (usable ≡ true → (c : L) → P c) → OnOk result ((c : L) → P c)
 heard_acknowledged usable P (Ok h) unchanged crash_states_represent = crash_states_represent unchanged
 heard_acknowledged usable P (Err fault) unchanged crash_states_represent = tt
+
+-- ---- calls that only read, or give a pin back
+
+adds_none : {L : Type 0} (p q : CrashStates L) (P : L → Type 0) → AddsNone p q → AddsOnly p q (λ c. may_crash_to p c ⊎ P c)
+adds_none p q P only = weaker p q (may_crash_to p) (λ c. may_crash_to p c ⊎ P c) only (λ c left. inl left)
+
+-- a session that leaves
+pub left_call : {S L : Type 0} (site_state : S → SiteState) (lacks : S → Change → ℕ → SiteFault → Type 0) (crash_states : S → CrashStates L) (stands : L → Site → Type 0) (w : World) (k : S) (id : ℕ) (v : World) (l : S) →
+    ((c : L) → IsTrue (site_state l).honest → (site_state l).usable ≡ true → may_crash_to (crash_states l) c → stands c (site_state l).site)
+    → IsAnswer w (Leave id) outcomes.Gone v → MayGiveBack (site_state k) (site_state l) → (IsTrue (site_state k).honest → AddsNone (crash_states k) (crash_states l))
+    → v.site ≡ (site_state l).site → v.failed ≡ not (site_state l).usable → w.failed ≡ not (site_state k).usable → Call site_state lacks crash_states stands w k (Leave id) outcomes.Gone v l
+left_call site_state lacks crash_states stands w k id v l crash_states_represent answers gives only site flag was =
+    let honest_is : (site_state l).honest ≡ (site_state k).honest = ap (λ (h : SiteState). h.honest) gives.same in
+    let usable_is : (site_state l).usable ≡ (site_state k).usable = ap (λ (h : SiteState). h.usable) gives.same in
+    let flags : v.failed ≡ w.failed = flag ∙ ap not usable_is ∙ sym was in
+    record {
+      step = λ honest. answered_by w.failed w (Leave id) outcomes.Gone v answers;
+      cause = (answers.0, gives);
+      honest = honest_is;
+      site = site;
+      flag = flag;
+      steady = record {
+        closed = λ shut. (answers, gives);
+        shuts = λ off on. absurd (both w.failed v.failed off on (sym flags));
+        failed = λ fails. absurd (cc fails);
+        next = λ fault fails. absurd (cc fails);
+        sessions = λ fault fails. absurd (cc fails);
+      };
+      acknowledged = λ honest. acknowledged_of site_state crash_states stands outcomes.Gone v l crash_states_represent (subst IsTrue (sym honest_is) honest) site flag;
+      leaves = λ honest. adds_none (crash_states k) (crash_states l) (λ c. RepresentsBy stands w (Leave id) outcomes.Gone v c) (only honest);
+    }
+
+-- a draw gives what it gives for its reason
+draw_cause : (a b : SiteState) (phase : Phase) (fault : HubFault) → a.usable ≡ true → IsDrawFault a b phase fault → IsDrawCause a b fault
+draw_cause a b phase hub.NotReady usable is = usable
+draw_cause a b phase hub.Broken usable is = (usable, λ honest. (is honest).1)
+draw_cause a b phase hub.Unknown usable is = absurd is
+draw_cause a b phase hub.Crowded usable is = absurd is
+draw_cause a b phase hub.Spent usable is = absurd is
+draw_cause a b phase hub.Deep usable is = absurd is
+draw_cause a b phase (hub.Refused r) usable is = absurd is
+draw_cause a b phase (hub.Full need free) usable is = absurd is
+draw_cause a b phase hub.Failed usable is = absurd is
+draw_cause a b phase hub.Memory usable is = absurd is
+
+pub drawn_cause : (a b : SiteState) (phase : Phase) (result : Result Drawn HubFault) (out : List ℕ) → a.usable ≡ true → IfErr result (IsDrawFault a b phase) → IfFault (draw_outcome result out) (IsDrawCause a b)
+drawn_cause a b phase (Ok (drawn.Bytes n)) out usable is = tt
+drawn_cause a b phase (Ok drawn.Finished) out usable is = tt
+drawn_cause a b phase (Err fault) out usable is = draw_cause a b phase fault usable is
+
+never_drawn_fault : (d : Drawn) (out : List ℕ) (fault : HubFault) → drawn_outcome d out ≡ Fault fault → ⊥
+never_drawn_fault (drawn.Bytes n) out fault is = cc is
+never_drawn_fault drawn.Finished out fault is = cc is
+
+pub drawn_steady : {S : Type 0} (site_state : S → SiteState) (w : World) (k : S) (id room : ℕ) (v : World) (l : S) (phase : Phase) (result : Result Drawn HubFault) (out : List ℕ) →
+    w.failed ≡ false → v.failed ≡ w.failed → v.next ≡ w.next → OnErr result (v.sessions ≡ w.sessions) → IfErr result (IsDrawFault (site_state k) (site_state l) phase)
+    → IsSteady site_state w k (Draw id room) (draw_outcome result out) v l
+drawn_steady site_state w k id room v l phase (Ok d) out off flags next seats is = record {
+  closed = λ shut. absurd (both w.failed w.failed off shut refl);
+  shuts = λ no on. absurd (both w.failed v.failed no on (sym flags));
+  failed = λ fails. absurd (never_drawn_fault d out hub.Failed fails);
+  next = λ fault fails. next;
+  sessions = λ fault fails. absurd (never_drawn_fault d out fault fails);
+}
+drawn_steady site_state w k id room v l phase (Err fault) out off flags next seats is = record {
+  closed = λ shut. absurd (both w.failed w.failed off shut refl);
+  shuts = λ no on. absurd (both w.failed v.failed no on (sym flags));
+  failed = λ fails. (let same : fault ≡ hub.Failed = cc fails in let no : IsDrawFault (site_state k) (site_state l) phase hub.Failed = subst (IsDrawFault (site_state k) (site_state l) phase) same is in absurd no);
+  next = λ any fails. next;
+  sessions = λ any fails. seats;
+}
+
+-- a session that draws
+pub drawn_call : {S L : Type 0} (site_state : S → SiteState) (lacks : S → Change → ℕ → SiteFault → Type 0) (crash_states : S → CrashStates L) (stands : L → Site → Type 0) (w : World) (k : S) (id room : ℕ) (v : World) (l : S) (phase : Phase) (result : Result Drawn HubFault) (out : List ℕ) →
+    ((c : L) → IsTrue (site_state l).honest → (site_state l).usable ≡ true → may_crash_to (crash_states l) c → stands c (site_state l).site)
+    → (IsTrue (site_state k).honest → Step w (Draw id room) (draw_outcome result out) v) → (site_state k).usable ≡ true → (site_state l).honest ≡ (site_state k).honest → (site_state l).usable ≡ (site_state k).usable
+    → v.next ≡ w.next → OnErr result (v.sessions ≡ w.sessions) → IfErr result (IsDrawFault (site_state k) (site_state l) phase) → (IsTrue (site_state k).honest → AddsNone (crash_states k) (crash_states l))
+    → v.site ≡ (site_state l).site → v.failed ≡ not (site_state l).usable → w.failed ≡ not (site_state k).usable → Call site_state lacks crash_states stands w k (Draw id room) (draw_outcome result out) v l
+drawn_call site_state lacks crash_states stands w k id room v l phase result out crash_states_represent step usable honest_is usable_is next seats is only site flag was = record {
+  step = step;
+  cause = drawn_cause (site_state k) (site_state l) phase result out usable is;
+  honest = honest_is;
+  site = site;
+  flag = flag;
+  steady = drawn_steady site_state w k id room v l phase result out (was ∙ ap not usable) (flag ∙ ap not usable_is ∙ sym was) next seats is;
+  acknowledged = λ honest. acknowledged_of site_state crash_states stands (draw_outcome result out) v l crash_states_represent (subst IsTrue (sym honest_is) honest) site flag;
+  leaves = λ honest. adds_none (crash_states k) (crash_states l) (λ c. RepresentsBy stands w (Draw id room) (draw_outcome result out) v c) (only honest);
+}
+
+-- a hub that has failed, or has no such session, draws nothing
+pub undrawn : {S L : Type 0} (site_state : S → SiteState) (lacks : S → Change → ℕ → SiteFault → Type 0) (crash_states : S → CrashStates L) (stands : L → Site → Type 0) (w : World) (k : S) (id room : ℕ) (fault : HubFault) →
+    IsAnswer w (Draw id room) (Fault fault) w → IsDrawCause (site_state k) (site_state k) fault → w.site ≡ (site_state k).site → w.failed ≡ not (site_state k).usable → Call site_state lacks crash_states stands w k (Draw id room) (Fault fault) w k
+undrawn site_state lacks crash_states stands w k id room fault answers cause site flag = record {
+  step = λ honest. answered_by w.failed w (Draw id room) (Fault fault) w answers;
+  cause = cause;
+  honest = refl;
+  site = site;
+  flag = flag;
+  steady = steady site_state w k (Draw id room) (Fault fault) w answers refl;
+  acknowledged = λ honest. tt;
+  leaves = λ honest. stays_none_added (crash_states k) (λ c. RepresentsBy stands w (Draw id room) (Fault fault) w c);
+}

@@ -1,5 +1,8 @@
 pub mod StoredPosts
+pub mod PinsMoved
 pub mod SeatPlaces
+pub mod SeatsMoved
+pub mod SeatsHeld
 pub mod Steps
 pub mod FaultsKeep
 pub mod DrawsContinue

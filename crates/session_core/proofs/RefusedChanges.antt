@@ -70,7 +70,7 @@ module _ {S L : Type 0} (site_state : S → SiteState) (lacks : S → Change →
       let post = valid_one change (apply a.site change now) in
       let off = ap not usable in
       record {
-        step = λ honest. faulty_by w.failed w e (Fault fault) v off (post_fault a b (IsLacking (lacks k)) next sessions sessions now e post fault (only_changes (lacks k) now) honest usable refl refl refl post_cause);
+        step = λ honest. faulty_by w.failed w e (Fault fault) v off (post_fault a b (IsLacking (lacks k)) next sessions sessions now e post fault (only_changes (lacks k) now) honest usable refl refl refl refl post_cause);
         cause = cause;
         honest = same;
         site = refl;

@@ -9,10 +9,11 @@ use Rattle.session_core.specs.World.{World}
 use Rattle.session_core.specs.Step.{step}
 use Rattle.session_core.specs.Run.{Step, IsAnswer, change_in}
 use Rattle.session_core.specs.RunCrashStates.{RepresentsBy, RepresentsFrom, HasCrashStates}
-use Rattle.session_core.specs.Causes.{IsLacking, IsHeardCause, IsAdminCause}
+use Rattle.session_core.specs.Causes.{IsLacking, IsHeardCause, IsDrawCause, IsAdminCause}
+use Rattle.session_core.specs.HeldPins.{MayGiveBack}
 use Rattle.session_core.specs.Hub.{keeper_of, world_of}
 use Rattle.session_core.specs.declared.event.Event.{Event}
-use Rattle.session_core.specs.declared.event.Event.TheVariants.{Bytes, End, Admin}
+use Rattle.session_core.specs.declared.event.Event.TheVariants.{Join, Bytes, End, Draw, Leave, Admin}
 use Rattle.session_core.specs.declared.event.Outcome.{Outcome}
 use Rattle.session_core.specs.declared.event.Outcome.TheVariants.{Fault}
 use Rattle.session_core.specs.declared.fault.HubFault.{HubFault}
@@ -24,16 +25,23 @@ abbrev pub IfFault : Outcome → (HubFault → Type 0) → Type 0
 IfFault (Fault fault) P = P fault
 IfFault outcome P = Unit {0}
 
--- Why an event was answered so, by what its keeper was and is: an event that asks no keeper leaves it, and is answered as the protocol says, with no other fault.
+-- Why an event was answered so, by what its keeper was and is: a session that joins or leaves is answered as the protocol says, with no other fault; one that leaves may give a pin back.
 abbrev pub IsCause : {S : Type 0} → (S → SiteState) → (S → Change → ℕ → SiteFault → Type 0) → World → S → Event → Outcome → S → Type 0
 IsCause site_state lacks w k (Bytes id piece now) o l = IfFault o (IsHeardCause (IsLacking (lacks k)) (change_in w (Bytes id piece now)) now (site_state k) (site_state l))
 IsCause site_state lacks w k (End id now) o l = IfFault o (IsHeardCause (IsLacking (lacks k)) (change_in w (End id now)) now (site_state k) (site_state l))
 IsCause site_state lacks w k (Admin change now) o l = IfFault o (IsAdminCause (IsLacking (lacks k)) (change_in w (Admin change now)) now (site_state k) (site_state l))
-IsCause site_state lacks w k e o l = (o ≡ (step w e).outcome) × (l ≡ k)
+IsCause site_state lacks w k (Draw id room) o l = IfFault o (IsDrawCause (site_state k) (site_state l))
+IsCause site_state lacks w k (Leave id) o l = (o ≡ (step w (Leave id)).outcome) × MayGiveBack (site_state k) (site_state l)
+IsCause site_state lacks w k Join o l = (o ≡ (step w Join).outcome) × (l ≡ k)
 
--- What is known of an answer on any device, one that is not honest too: a hub that has failed stays as it is; `Failed` marks it, and nothing else does; and a fault moves no session.
-pub record IsSteady {S : Type 0} (w : World) (k : S) (e : Event) (o : Outcome) (v : World) (l : S) : Type 0 where
-  pub closed : w.failed ≡ true → IsAnswer w e o v × (l ≡ k)
+-- what an event leaves of a keeper that has failed
+abbrev pub StaysClosed : {S : Type 0} → (S → SiteState) → S → Event → S → Type 0
+StaysClosed site_state k (Leave id) l = MayGiveBack (site_state k) (site_state l)
+StaysClosed site_state k e l = l ≡ k
+
+-- What is known of an answer on any device, one that is not honest too: a hub that has failed stays as it is, but for sessions that leave; `Failed` marks it, and nothing else does; and a fault moves no session.
+pub record IsSteady {S : Type 0} (site_state : S → SiteState) (w : World) (k : S) (e : Event) (o : Outcome) (v : World) (l : S) : Type 0 where
+  pub closed : w.failed ≡ true → IsAnswer w e o v × StaysClosed site_state k e l
   pub shuts : w.failed ≡ false → v.failed ≡ true → o ≡ Fault Failed
   pub failed : o ≡ Fault Failed → v.failed ≡ true
   pub next : (fault : HubFault) → o ≡ Fault fault → v.next ≡ w.next
@@ -51,7 +59,7 @@ pub record Call {S L : Type 0} (site_state : S → SiteState) (lacks : S → Cha
   pub honest : (site_state l).honest ≡ (site_state k).honest
   pub site : v.site ≡ (site_state l).site
   pub flag : v.failed ≡ not (site_state l).usable
-  pub steady : IsSteady w k e o v l
+  pub steady : IsSteady site_state w k e o v l
   pub acknowledged : IsTrue (site_state k).honest → IsAcknowledged crash_states stands o v l
   pub leaves : IsTrue (site_state k).honest → AddsOnly (crash_states k) (crash_states l) (λ c. may_crash_to (crash_states k) c ⊎ RepresentsBy stands w e o v c)
 
@@ -63,14 +71,14 @@ Calls site_state lacks crash_states stands w k [] (o ∷ outcomes) v l = ⊥
 Calls site_state lacks crash_states stands w k (e ∷ events) [] v l = ⊥
 
 -- the same of a hub: its world, and the keeper that it has
-abbrev pub HubCall : {S L : Type 0} {bound : _} → (S → SiteState) → (S → Change → ℕ → SiteFault → Type 0) → (S → CrashStates L) → (L → Site → Type 0) → Hub S bound → Event → Outcome → Hub S bound → Type 0
+abbrev pub HubCall : {S L : Type 0} {bound : _} {ghosts : _} → (S → SiteState) → (S → Change → ℕ → SiteFault → Type 0) → (S → CrashStates L) → (L → Site → Type 0) → Hub S bound ghosts → Event → Outcome → Hub S bound ghosts → Type 0
 HubCall site_state lacks crash_states stands old e o new = Call site_state lacks crash_states stands (world_of site_state old) (keeper_of old) e o (world_of site_state new) (keeper_of new)
 
-abbrev pub HubCalls : {S L : Type 0} {bound : _} → (S → SiteState) → (S → Change → ℕ → SiteFault → Type 0) → (S → CrashStates L) → (L → Site → Type 0) → Hub S bound → List Event → List Outcome → Hub S bound → Type 0
+abbrev pub HubCalls : {S L : Type 0} {bound : _} {ghosts : _} → (S → SiteState) → (S → Change → ℕ → SiteFault → Type 0) → (S → CrashStates L) → (L → Site → Type 0) → Hub S bound ghosts → List Event → List Outcome → Hub S bound ghosts → Type 0
 HubCalls site_state lacks crash_states stands old events outcomes new = Calls site_state lacks crash_states stands (world_of site_state old) (keeper_of old) events outcomes (world_of site_state new) (keeper_of new)
 
 -- A run of a hub: its calls one after another, and what a crash at any moment of it leaves.
-pub record HubRun {S L : Type 0} {bound : _} (site_state : S → SiteState) (lacks : S → Change → ℕ → SiteFault → Type 0) (crash_states : S → CrashStates L) (stands : L → Site → Type 0) (old : Hub S bound) (events : List Event) (outcomes : List Outcome) (new : Hub S bound) : Type 0 where
+pub record HubRun {S L : Type 0} {bound : _} {ghosts : _} (site_state : S → SiteState) (lacks : S → Change → ℕ → SiteFault → Type 0) (crash_states : S → CrashStates L) (stands : L → Site → Type 0) (old : Hub S bound ghosts) (events : List Event) (outcomes : List Outcome) (new : Hub S bound ghosts) : Type 0 where
   pub calls : HubCalls site_state lacks crash_states stands old events outcomes new
   pub at_crash : IsTrue (site_state (keeper_of old)).honest → (site_state (keeper_of old)).usable ≡ true → HasCrashStates stands (world_of site_state old) (world_of site_state new) (crash_states (keeper_of old)) (crash_states (keeper_of new)) events outcomes
 

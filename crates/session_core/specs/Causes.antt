@@ -32,6 +32,14 @@ IsAdminCause lacking change now old new (hub.Refused refused) = old.usable ≡ t
 IsAdminCause lacking change now old new hub.Unknown = ⊥
 IsAdminCause lacking change now old new fault = IsHeardCause lacking change now old new fault
 
+-- A draw reads at most: `Broken` only where the count of failed reads rose, and `Failed` only where a write or a sync had failed before.
+abbrev pub IsDrawCause : SiteState → SiteState → HubFault → Type 0
+IsDrawCause old new hub.Unknown = old.usable ≡ true
+IsDrawCause old new hub.NotReady = old.usable ≡ true
+IsDrawCause old new hub.Broken = (old.usable ≡ true) × (IsTrue old.honest → Rose old.failed_reads new.failed_reads)
+IsDrawCause old new hub.Failed = old.usable ≡ false
+IsDrawCause old new fault = ⊥
+
 -- After a fault the world is as before; only a first `Failed` marks it.
 abbrev pub IsAsBefore : HubFault → World → World → Type 0
 IsAsBefore hub.Failed old new = Unit {0}

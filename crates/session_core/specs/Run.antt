@@ -4,10 +4,10 @@ use Rattle.host_types.specs.Site.{Site}
 use Rattle.host_types.specs.Change.{apply}
 use Rattle.host_types.specs.declared.change.Change.{Change}
 use Rattle.common_types.specs.declared.refused.Refused.{Refused}
-use Rattle.session_core.specs.World.{World, Phase, Heard, phase_of}
+use Rattle.session_core.specs.World.{World, Phase, Heard, Reply, phase_of}
 use Rattle.session_core.specs.Step.{StepResult, listens, ends, with_change, step}
 use Rattle.session_core.specs.declared.event.Event.{Event}
-use Rattle.session_core.specs.declared.event.Event.TheVariants.{Bytes, End, Admin}
+use Rattle.session_core.specs.declared.event.Event.TheVariants.{Bytes, End, Draw, Admin}
 use Rattle.session_core.specs.declared.event.Outcome.{Outcome}
 use Rattle.session_core.specs.declared.event.Outcome.TheVariants.{Fault}
 use Rattle.session_core.specs.declared.fault.HubFault.{HubFault}
@@ -17,12 +17,21 @@ abbrev pub is_hearing : Option Phase → Bool
 is_hearing (Some (Heard stream)) = true
 is_hearing phase = false
 
--- The event may lack memory, and may read what is stored: while a session hears, or where the administrator changes the site.
+abbrev pub has_bytes_left : Option Phase → Bool
+has_bytes_left (Some (Reply (b ∷ rest))) = true
+has_bytes_left phase = false
+
+-- The event may lack memory: while a session hears, or where the administrator changes the site.
 abbrev pub may_work : World → Event → Bool
 may_work w (Bytes id piece now) = is_hearing (phase_of w id)
 may_work w (End id now) = is_hearing (phase_of w id)
 may_work w (Admin change now) = true
 may_work w e = false
+
+-- The event may read what is stored: so does one that may lack memory, and a draw of what is left of a reply.
+abbrev pub may_read : World → Event → Bool
+may_read w (Draw id room) = has_bytes_left (phase_of w id)
+may_read w e = may_work w e
 
 -- the change, where it is valid
 abbrev pub valid_one : Change → Result Site Refused → Option Change
@@ -54,7 +63,7 @@ site_after w e = w.site
 -- The fault may come in place of the answer.
 abbrev pub may_come : World → Event → HubFault → Bool
 may_come w e Memory = may_work w e
-may_come w e Broken = may_work w e
+may_come w e Broken = may_read w e
 may_come w e (Full need free) = has_change w e
 may_come w e Spent = has_change w e
 may_come w e Deep = has_change w e

@@ -1,17 +1,83 @@
 -- What the sessions that a hub keeps are to the world.
-use Rattle.std.specs.Prelude.{ℕ, List, drop, map}
+use Rattle.std.specs.Prelude.{◌≡◌, ℕ, List, [], ◌∷◌, ◌++◌, drop, map, Option, None, Some, IsTrue, IfSome, length, take, refl}
+use Rattle.std.specs.Coded.{Π_prop}
+use Rattle.std.proofs.Props.{props}
+use Rattle.host_types.specs.Card.{chunk_of}
+use Rattle.view_draws.specs.Source.{IsViewOf, HasChunk}
+use Rattle.view_draws.specs.declared.source.ViewSource.{ViewSource}
+use Rattle.host_types.specs.SiteState.{SiteState}
+use Rattle.host_types.specs.Pins.{Pinned}
+use Rattle.view_draws.specs.ViewDraw.{rest_of, body_at, IsOf}
 use Rattle.session_core.specs.World as world
+use Rattle.session_core.specs.HeldPins.{listed}
 use Rattle.session_core.specs.declared.session.Session.{Session}
 use Rattle.session_core.specs.declared.session.Phase.{Phase}
 use Rattle.session_core.specs.declared.session.Phase.TheVariants as phases
 
-abbrev pub phase_of : Phase → world.Phase
-phase_of (phases.Hearing h) = world.Heard h.reader.input.bytes
-phase_of (phases.Replying r) = world.Reply (drop r.drawn r.bytes)
-phase_of phases.Early = world.Early
+-- Where a session is, by what its pin is and by the state of the site: of a view that is drawn so much is left.
+abbrev pub phase_of : {P : Type 0} → (P → Pinned) → SiteState → Phase P → world.Phase
+phase_of pinned h (phases.Hearing s) = world.Heard s.reader.input.bytes
+phase_of pinned h (phases.Replying r) = world.Reply (drop r.drawn r.bytes)
+phase_of pinned h (phases.Drawing d) = world.Reply (rest_of d.view (body_at h (pinned d.pin) d.view))
+phase_of pinned h phases.Drawn = world.Reply []
+phase_of pinned h phases.Early = world.Early
 
-abbrev pub session_of : Session → ℕ × world.Phase
-session_of s = (s.id, phase_of s.phase)
+abbrev pub session_of : {P : Type 0} → (P → Pinned) → SiteState → Session P → ℕ × world.Phase
+session_of pinned h s = (s.id, phase_of pinned h s.phase)
 
-abbrev pub sessions_of : List Session → List (ℕ × world.Phase)
-sessions_of sessions = map session_of sessions
+abbrev pub sessions_of : {P : Type 0} → (P → Pinned) → SiteState → List (Session P) → List (ℕ × world.Phase)
+sessions_of pinned h sessions = map (session_of pinned h) sessions
+
+-- the pin that a session holds
+abbrev pub pin_of : {P : Type 0} → (P → Pinned) → Phase P → Option Pinned
+pin_of pinned (phases.Hearing s) = None
+pin_of pinned (phases.Replying r) = None
+pin_of pinned (phases.Drawing d) = Some (pinned d.pin)
+pin_of pinned phases.Drawn = None
+pin_of pinned phases.Early = None
+
+-- the pins of all sessions
+abbrev pub pins_of : {P : Type 0} → (P → Pinned) → List (Session P) → List Pinned
+pins_of pinned [] = []
+pins_of pinned (s ∷ sessions) = listed (pin_of pinned s.phase) ++ pins_of pinned sessions
+
+-- What a session draws is the view that its pin keeps, and some of it is left.
+abbrev pub IsSound : {P : Type 0} → (P → Pinned) → SiteState → Phase P → Type 0
+IsSound pinned h (phases.Hearing s) = Unit {0}
+IsSound pinned h (phases.Replying r) = Unit {0}
+IsSound pinned h (phases.Drawing d) = IsOf (body_at h (pinned d.pin) d.view) d.view × (rest_of d.view (body_at h (pinned d.pin) d.view) ≡ [] → ⊥)
+IsSound pinned h phases.Drawn = Unit {0}
+IsSound pinned h phases.Early = Unit {0}
+
+abbrev pub AreSound : {P : Type 0} → (P → Pinned) → SiteState → List (Session P) → Type 0
+AreSound pinned h [] = Unit {0}
+AreSound pinned h (s ∷ sessions) = IsSound pinned h s.phase × AreSound pinned h sessions
+
+-- ---- it is known or not
+
+chunk_prop : (body : List ℕ) (buffer : List ℕ) (place : Option ℕ) → IsProp (IfSome place (λ k. take (length (chunk_of body k)) buffer ≡ chunk_of body k))
+chunk_prop body buffer None x y = refl
+chunk_prop body buffer (Some k) x y = let same : IsProp (take (length (chunk_of body k)) buffer ≡ chunk_of body k) = hlevel props in same x y
+
+IsViewOf-prop : (body : List ℕ) (source : ViewSource) → IsProp (IsViewOf body source)
+IsViewOf-prop body source x y = λ i. record { size = size_prop x.size y.size i; chunk = chunk_prop body source.buffer source.place x.chunk y.chunk i }
+  where
+    size_prop : IsProp (length body ≡ source.size)
+    size_prop = hlevel props
+
+IsSound-prop : {P : Type 0} (pinned : P → Pinned) (h : SiteState) (phase : Phase P) → IsProp (IsSound pinned h phase)
+IsSound-prop pinned h (phases.Hearing s) x y = refl
+IsSound-prop pinned h (phases.Replying r) x y = refl
+IsSound-prop pinned h (phases.Drawing d) x y = let view = IsViewOf-prop (body_at h (pinned d.pin) d.view) d.view.source in λ i. (view x.0 y.0 i, λ none. absurd_prop (x.1 none) (y.1 none) i)
+  where
+    absurd_prop : IsProp ⊥
+    absurd_prop = hlevel props
+IsSound-prop pinned h phases.Drawn x y = refl
+IsSound-prop pinned h phases.Early x y = refl
+
+AreSound_prop : {P : Type 0} (pinned : P → Pinned) (h : SiteState) (sessions : List (Session P)) → IsProp (AreSound pinned h sessions)
+AreSound_prop pinned h [] x y = refl
+AreSound_prop pinned h (s ∷ sessions) x y = λ i. (IsSound-prop pinned h s.phase x.0 y.0 i, AreSound_prop pinned h sessions x.1 y.1 i)
+
+pub AreSound-prop : {P : Type 0} (pinned : P → Pinned) (h : SiteState) (sessions : List (Session P)) → IsProp (IsTrue h.honest → AreSound pinned h sessions)
+AreSound-prop pinned h sessions = Π_prop (λ honest. AreSound_prop pinned h sessions)

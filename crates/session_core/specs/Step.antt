@@ -5,8 +5,7 @@ use Rattle.host_types.specs.Change.{apply}
 use Rattle.host_types.specs.declared.change.Change.{Change}
 use Rattle.common_types.specs.declared.refused.Refused.{Refused}
 use Rattle.request_reader.specs.Verdict.{Verdict, Open, Early as EndedEarly, Whole, Bad, verdict}
-use Rattle.site_replies.specs.Reply.{reply, bad_reply}
-use Rattle.site_replies.specs.declared.answered.Answered.{Answered}
+use Rattle.site_replies.specs.Reply.{WholeAnswer, reply, bad_reply}
 use Rattle.session_core.specs.World.{World, Phase, Heard, Reply, Early, phase_of, with_phase, with_site, without_session}
 use Rattle.session_core.specs.declared.event.Event.{Event}
 use Rattle.session_core.specs.declared.event.Event.TheVariants.{Join, Bytes, End, Draw, Leave, Admin}
@@ -25,7 +24,7 @@ pub record StepResult : Type 0 where
 abbrev pub says : Outcome → Phase → StepResult
 says outcome phase = record { outcome = outcome; phase = phase; post = None }
 
-abbrev pub replies : Answered → StepResult
+abbrev pub replies : WholeAnswer → StepResult
 replies answered = record { outcome = Ready; phase = Reply answered.bytes; post = answered.post }
 
 -- by what its input so far says

@@ -1,29 +1,38 @@
-// What moves one session.
-ghost use Rattle.std.specs.Prelude.{◌≡◌, ◌⊎◌, true, [], length, OnErr, OnOk, IfOk, IfErr, IsTrue, option_map};
-ghost use Rattle.host_types.specs.SiteState.{HasRead, LacksTheSame, IsUnchangedBehind, HasTried, IsReadFault};
+// What moves one session that hears a request.
+ghost use Rattle.std.specs.Prelude.{◌≡◌, ◌⊎◌, ◌<◌, true, [], None, length, OnErr, OnOk, IfOk, IfErr, IfSome, IsTrue, option_map};
+ghost use Rattle.host_types.specs.Pins.{Pinned, most_pins};
+ghost use Rattle.host_types.specs.SiteState.{SiteState, HasRead, LacksTheSame, IsReadFault};
 ghost use Rattle.host_types.specs.CrashStates.{AddsNone, AddsOnly};
 ghost use Rattle.session_core.specs.World as world;
-ghost use Rattle.session_core.specs.Step.{listens, ends, draws, with_change};
+ghost use Rattle.session_core.specs.Step.{listens, ends, with_change};
 ghost use Rattle.session_core.specs.Run.{is_hearing};
 ghost use Rattle.session_core.specs.Causes.{IsLacking};
-ghost use Rattle.session_core.specs.Understood.{reply_by, answered, post_of, IsPostFault, IsHearFault};
+ghost use Rattle.session_core.specs.HeldPins.{MovesPins};
+ghost use Rattle.session_core.specs.Understood.{reply_by, answered, post_of, IsPostFault, IsHearFault, HasWorked, HasRoomFor};
 ghost use Rattle.site_replies.specs.PostReply.{IsRight};
-ghost use Rattle.session_core.specs.Outcomes.{heard_outcome, draw_outcome, drawn_length};
-ghost use Rattle.session_core.specs.Sessions.{phase_of};
+ghost use Rattle.site_replies.specs.Replies.{answer_of, IsSized, PostsNoView, reply_bytes};
+ghost use Rattle.session_core.specs.Outcomes.{heard_outcome};
+ghost use Rattle.session_core.specs.Sessions.{phase_of, pin_of, IsSound};
 ghost use Rattle.session_core.specs.declared.fault.HubFault.TheVariants.{Memory as OutOfMemory};
+ghost use Rattle.site_replies.specs.declared.answered.Reply.TheVariants as replies;
 ghost use Rattle.request_reader.specs.Seen.{seen};
 
-use crate::session::{Hearing, Phase, Replying};
-use crate::{Drawn, HubFault, InputStatus};
-use host_types::{Change, SiteFault, Stamp};
+use crate::pins::give_back;
+use crate::session::{Drawing, Hearing, Phase, Replying};
+use crate::{HubFault, InputStatus};
+use host_types::{Change, SiteFault, SitePinFault, Stamp};
 use request_reader::{Answer, Reader};
-use site_replies::{Answered, bad_reply, reply};
+use site_replies::{Answered, Reply, ViewReply, bad_reply, reply};
 use std::alloc::Global;
+use std::mem;
+use view_draws::ViewDraw;
 use word_index::SearchKeeper;
 
 /// A session that has heard nothing.
-pub fn new_phase(alloc: Global) -> Phase
-    ensures { phase_of result ≡ world.Heard [] }
+pub fn new_phase<P>(alloc: Global) -> Phase<P>
+    ensures phase { (pinned : P → Pinned) (h : SiteState) → phase_of pinned h result ≡ world.Heard [] }
+    ensures no_pin { (pinned : P → Pinned) → pin_of pinned result ≡ None }
+    ensures sound { (pinned : P → Pinned) (h : SiteState) → IsSound pinned h result }
 {
     Phase::Hearing(Hearing {
         reader: Reader::new(alloc),
@@ -37,7 +46,9 @@ fn reply_to<S: SearchKeeper>(
     answer: Answer<'_>,
     now: Stamp,
 ) -> Result<Option<Answered>, SiteFault>
-    ensures reply { IsTrue (S.site_state site.old).honest → IfOk result (λ made. made ≡ reply_by (S.site_state site.old).site now (seen answer.entry)) }
+    ensures reply { IsTrue (S.site_state site.old).honest → IfOk result (λ made. option_map (answer_of (S.site_state site.old).site) made ≡ reply_by (S.site_state site.old).site now (seen answer.entry)) }
+    ensures sized { IsTrue (S.site_state site.old).honest → IfOk result (λ made. IfSome made (λ a. IsSized (S.site_state site.old).site a.reply)) }
+    ensures posts { IfOk result (λ made. IfSome made (λ a. PostsNoView a.reply a.post)) }
     ensures kept { HasRead (S.site_state site.old) (S.site_state site.new) }
     ensures lacking { LacksTheSame (S.lacks site.old) (S.lacks site.new) }
     ensures no_new_crash_state { IsTrue (S.site_state site.old).honest → AddsNone (S.crash_states site.old) (S.crash_states site.new) }
@@ -47,7 +58,10 @@ fn reply_to<S: SearchKeeper>(
         Answer::Whole(request) => Ok(Some(reply(alloc, site, request, now)?)),
         Answer::Bad(cause) => {
             let bytes = bad_reply(alloc, cause)?;
-            Ok(Some(Answered { bytes, post: None }))
+            Ok(Some(Answered {
+                reply: Reply::Whole(bytes),
+                post: None,
+            }))
         }
         Answer::More | Answer::Early => Ok(None),
     }
@@ -60,7 +74,8 @@ fn store<S: SearchKeeper>(site: &mut S, post: Option<Change>, now: Stamp) -> Res
     ensures done { IsTrue (S.site_state site.old).honest → OnOk result ((S.site_state site.new).site ≡ with_change (S.site_state site.old).site now post) }
     ensures still_usable { OnOk result ((S.site_state site.new).usable ≡ true) }
     ensures fault { IfErr result (IsPostFault (IsLacking (S.lacks site.old)) post now (S.site_state site.old) (S.site_state site.new)) }
-    ensures tried { HasTried (S.site_state site.old) (S.site_state site.new) }
+    ensures worked { HasWorked (S.site_state site.old) (S.site_state site.new) }
+    ensures pins { (S.site_state site.new).pins ≡ (S.site_state site.old).pins }
     ensures unchanged { IsTrue (S.site_state site.old).honest → IfErr result (λ e. (S.site_state site.new).usable ≡ true → AddsNone (S.crash_states site.old) (S.crash_states site.new)) }
     ensures at_crash { IsTrue (S.site_state site.old).honest → AddsOnly (S.crash_states site.old) (S.crash_states site.new)
         (λ c. S.represents c (S.site_state site.old).site ⊎ S.represents c (with_change (S.site_state site.old).site now post)) }
@@ -76,32 +91,77 @@ fn store<S: SearchKeeper>(site: &mut S, post: Option<Change>, now: Stamp) -> Res
     }
 }
 
+/// Pins the site for a view that is sent, of which the reply has this many bytes.
+fn pin_view<S: SearchKeeper>(site: &mut S, reply: ViewReply) -> Result<Phase<S::Pin>, HubFault>
+    requires usable { (S.site_state site.old).usable ≡ true }
+    requires room { length (S.site_state site.old).pins < most_pins }
+    requires sized { IsTrue (S.site_state site.old).honest → IsSized (S.site_state site.old).site (replies.View reply) }
+    ensures phase { IsTrue (S.site_state site.old).honest → IfOk result (λ p. phase_of S.pinned (S.site_state site.new) p ≡ world.Reply (reply_bytes (S.site_state site.old).site (replies.View reply))) }
+    ensures sound { IsTrue (S.site_state site.old).honest → IfOk result (IsSound S.pinned (S.site_state site.new)) }
+    ensures pins { IfOk result (λ p. MovesPins (S.site_state site.old) (S.site_state site.new) None (pin_of S.pinned p)) }
+    ensures site { (S.site_state site.new).site ≡ (S.site_state site.old).site }
+    ensures usable { (S.site_state site.new).usable ≡ true }
+    ensures worked { HasWorked (S.site_state site.old) (S.site_state site.new) }
+    ensures fault { IfErr result (λ e. (e ≡ OutOfMemory) × ((S.site_state site.new) ≡ (S.site_state site.old))) }
+    ensures at_crash { IsTrue (S.site_state site.old).honest → AddsNone (S.crash_states site.old) (S.crash_states site.new) }
+{
+    let ViewReply {
+        head,
+        selector,
+        view,
+        size,
+        is_text,
+    } = reply;
+    match site.pin_site() {
+        Ok(pin) => Ok(Phase::Drawing(Drawing {
+            pin,
+            view: ViewDraw::new(head, selector, view, size, is_text),
+        })),
+        Err(SitePinFault::Memory) => Err(HubFault::Memory),
+        Err(SitePinFault::Failed) | Err(SitePinFault::Crowded) => unreachable!(),
+    }
+}
+
 /// The session has its reply, once the post is made, or has none.
 fn settle<S: SearchKeeper>(
     site: &mut S,
     made: Option<Answered>,
     now: Stamp,
-) -> Result<(InputStatus, Phase), HubFault>
+) -> Result<(InputStatus, Phase<S::Pin>), HubFault>
     requires usable { (S.site_state site.old).usable ≡ true }
-    requires right { IsTrue (S.site_state site.old).honest → IsRight (S.site_state site.old).site now (post_of made) }
-    ensures heard { IfOk result (λ r. heard_outcome r.0 ≡ (answered made).outcome) }
-    ensures phase { IfOk result (λ r. phase_of r.1 ≡ (answered made).phase) }
-    ensures done { IsTrue (S.site_state site.old).honest → OnOk result ((S.site_state site.new).site ≡ with_change (S.site_state site.old).site now (post_of made)) }
+    requires room { length (S.site_state site.old).pins < most_pins }
+    requires right { IsTrue (S.site_state site.old).honest → IsRight (S.site_state site.old).site now (post_of (option_map (answer_of (S.site_state site.old).site) made)) }
+    requires sized { IsTrue (S.site_state site.old).honest → IfSome made (λ a. IsSized (S.site_state site.old).site a.reply) }
+    requires posts { IfSome made (λ a. PostsNoView a.reply a.post) }
+    ensures heard { IfOk result (λ r. heard_outcome r.0 ≡ (answered (option_map (answer_of (S.site_state site.old).site) made)).outcome) }
+    ensures phase { IsTrue (S.site_state site.old).honest → IfOk result (λ r. phase_of S.pinned (S.site_state site.new) r.1 ≡ (answered (option_map (answer_of (S.site_state site.old).site) made)).phase) }
+    ensures sound { IsTrue (S.site_state site.old).honest → IfOk result (λ r. IsSound S.pinned (S.site_state site.new) r.1) }
+    ensures pins { IfOk result (λ r. MovesPins (S.site_state site.old) (S.site_state site.new) None (pin_of S.pinned r.1)) }
+    ensures pins_after_fault { OnErr result ((S.site_state site.new).pins ≡ (S.site_state site.old).pins) }
+    ensures done { IsTrue (S.site_state site.old).honest → OnOk result ((S.site_state site.new).site ≡ with_change (S.site_state site.old).site now (post_of (option_map (answer_of (S.site_state site.old).site) made))) }
     ensures still_usable { OnOk result ((S.site_state site.new).usable ≡ true) }
-    ensures fault { IfErr result (IsPostFault (IsLacking (S.lacks site.old)) (post_of made) now (S.site_state site.old) (S.site_state site.new)) }
-    ensures tried { HasTried (S.site_state site.old) (S.site_state site.new) }
+    ensures fault { IfErr result (IsPostFault (IsLacking (S.lacks site.old)) (post_of (option_map (answer_of (S.site_state site.old).site) made)) now (S.site_state site.old) (S.site_state site.new)) }
+    ensures worked { HasWorked (S.site_state site.old) (S.site_state site.new) }
     ensures unchanged { IsTrue (S.site_state site.old).honest → IfErr result (λ e. (S.site_state site.new).usable ≡ true → AddsNone (S.crash_states site.old) (S.crash_states site.new)) }
     ensures at_crash { IsTrue (S.site_state site.old).honest → AddsOnly (S.crash_states site.old) (S.crash_states site.new)
-        (λ c. S.represents c (S.site_state site.old).site ⊎ S.represents c (with_change (S.site_state site.old).site now (post_of made))) }
+        (λ c. S.represents c (S.site_state site.old).site ⊎ S.represents c (with_change (S.site_state site.old).site now (post_of (option_map (answer_of (S.site_state site.old).site) made)))) }
 {
-    let Some(Answered { bytes, post }) = made else {
+    let Some(Answered { reply, post }) = made else {
         return Ok((InputStatus::Finished, Phase::Early));
     };
-    store(site, post, now)?;
-    Ok((
-        InputStatus::Ready,
-        Phase::Replying(Replying { bytes, drawn: 0 }),
-    ))
+    match reply {
+        Reply::Whole(bytes) => {
+            store(site, post, now)?;
+            Ok((
+                InputStatus::Ready,
+                Phase::Replying(Replying { bytes, drawn: 0 }),
+            ))
+        }
+        Reply::View(view) => {
+            let phase = pin_view(site, view)?;
+            Ok((InputStatus::Ready, phase))
+        }
+    }
 }
 
 /// Answers what has been heard to its end, and makes the post that it comes to.
@@ -110,14 +170,18 @@ fn conclude<S: SearchKeeper>(
     site: &mut S,
     answer: Answer<'_>,
     now: Stamp,
-) -> Result<(InputStatus, Phase), HubFault>
+) -> Result<(InputStatus, Phase<S::Pin>), HubFault>
     requires usable { (S.site_state site.old).usable ≡ true }
+    requires room { length (S.site_state site.old).pins < most_pins }
     ensures heard { IsTrue (S.site_state site.old).honest → IfOk result (λ r. heard_outcome r.0 ≡ (answered (reply_by (S.site_state site.old).site now (seen answer.entry))).outcome) }
-    ensures phase { IsTrue (S.site_state site.old).honest → IfOk result (λ r. phase_of r.1 ≡ (answered (reply_by (S.site_state site.old).site now (seen answer.entry))).phase) }
+    ensures phase { IsTrue (S.site_state site.old).honest → IfOk result (λ r. phase_of S.pinned (S.site_state site.new) r.1 ≡ (answered (reply_by (S.site_state site.old).site now (seen answer.entry))).phase) }
+    ensures sound { IsTrue (S.site_state site.old).honest → IfOk result (λ r. IsSound S.pinned (S.site_state site.new) r.1) }
+    ensures pins { IfOk result (λ r. MovesPins (S.site_state site.old) (S.site_state site.new) None (pin_of S.pinned r.1)) }
+    ensures pins_after_fault { OnErr result ((S.site_state site.new).pins ≡ (S.site_state site.old).pins) }
     ensures done { IsTrue (S.site_state site.old).honest → OnOk result ((S.site_state site.new).site ≡ with_change (S.site_state site.old).site now (answered (reply_by (S.site_state site.old).site now (seen answer.entry))).post) }
     ensures still_usable { OnOk result ((S.site_state site.new).usable ≡ true) }
     ensures fault { IfErr result (IsPostFault (IsLacking (S.lacks site.old)) (answered (reply_by (S.site_state site.old).site now (seen answer.entry))).post now (S.site_state site.old) (S.site_state site.new)) }
-    ensures tried { HasTried (S.site_state site.old) (S.site_state site.new) }
+    ensures worked { HasWorked (S.site_state site.old) (S.site_state site.new) }
     ensures unchanged { IsTrue (S.site_state site.old).honest → IfErr result (λ e. (S.site_state site.new).usable ≡ true → AddsNone (S.crash_states site.old) (S.crash_states site.new)) }
     ensures at_crash { IsTrue (S.site_state site.old).honest → AddsOnly (S.crash_states site.old) (S.crash_states site.new)
         (λ c. S.represents c (S.site_state site.old).site ⊎ S.represents c (with_change (S.site_state site.old).site now (answered (reply_by (S.site_state site.old).site now (seen answer.entry))).post)) }
@@ -128,29 +192,42 @@ fn conclude<S: SearchKeeper>(
     }
 }
 
+/// Puts a session that has heard its request into its next phase.
+fn answer_with<S: SearchKeeper>(site: &mut S, phase: &mut Phase<S::Pin>, next: Phase<S::Pin>)
+    requires { pin_of S.pinned phase.old ≡ None }
+    ensures phase { phase.new ≡ next }
+    ensures site { site.new ≡ site.old }
+{
+    let heard = mem::replace(phase, next);
+    give_back(site, heard);
+}
+
 /// A piece comes. An `Err` leaves the phase as it was.
 pub fn hear<S: SearchKeeper>(
     alloc: Global,
     site: &mut S,
-    phase: &mut Phase,
+    phase: &mut Phase<S::Pin>,
     piece: &[u8],
     now: Stamp,
 ) -> Result<InputStatus, HubFault>
     requires usable { (S.site_state site.old).usable ≡ true }
-    ensures gives { IsTrue (S.site_state site.old).honest → IfOk result (λ h. heard_outcome h ≡ (listens (S.site_state site.old).site now piece.now (phase_of phase.old)).outcome) }
-    ensures phase { IsTrue (S.site_state site.old).honest → OnOk result (phase_of phase.new ≡ (listens (S.site_state site.old).site now piece.now (phase_of phase.old)).phase) }
-    ensures err { OnErr result (phase_of phase.new ≡ phase_of phase.old) }
-    ensures done { IsTrue (S.site_state site.old).honest → OnOk result ((S.site_state site.new).site ≡ with_change (S.site_state site.old).site now (listens (S.site_state site.old).site now piece.now (phase_of phase.old)).post) }
+    requires room { HasRoomFor (S.site_state site.old) (phase_of S.pinned (S.site_state site.old) phase.old) }
+    ensures gives { IsTrue (S.site_state site.old).honest → IfOk result (λ h. heard_outcome h ≡ (listens (S.site_state site.old).site now piece.now (phase_of S.pinned (S.site_state site.old) phase.old)).outcome) }
+    ensures phase { IsTrue (S.site_state site.old).honest → OnOk result (phase_of S.pinned (S.site_state site.new) phase.new ≡ (listens (S.site_state site.old).site now piece.now (phase_of S.pinned (S.site_state site.old) phase.old)).phase) }
+    ensures err { OnErr result (phase_of S.pinned (S.site_state site.new) phase.new ≡ phase_of S.pinned (S.site_state site.old) phase.old) }
+    ensures sound { IsTrue (S.site_state site.old).honest → IsSound S.pinned (S.site_state site.old) phase.old → IsSound S.pinned (S.site_state site.new) phase.new }
+    ensures pins { MovesPins (S.site_state site.old) (S.site_state site.new) (pin_of S.pinned phase.old) (pin_of S.pinned phase.new) }
+    ensures done { IsTrue (S.site_state site.old).honest → OnOk result ((S.site_state site.new).site ≡ with_change (S.site_state site.old).site now (listens (S.site_state site.old).site now piece.now (phase_of S.pinned (S.site_state site.old) phase.old)).post) }
     ensures still_usable { OnOk result ((S.site_state site.new).usable ≡ true) }
-    ensures fault { IfErr result (IsHearFault (IsLacking (S.lacks site.old)) (phase_of phase.old) (listens (S.site_state site.old).site now piece.now (phase_of phase.old)).post now (S.site_state site.old) (S.site_state site.new)) }
-    ensures tried { HasTried (S.site_state site.old) (S.site_state site.new) }
+    ensures fault { IfErr result (IsHearFault (IsLacking (S.lacks site.old)) (phase_of S.pinned (S.site_state site.old) phase.old) (listens (S.site_state site.old).site now piece.now (phase_of S.pinned (S.site_state site.old) phase.old)).post now (S.site_state site.old) (S.site_state site.new)) }
+    ensures worked { HasWorked (S.site_state site.old) (S.site_state site.new) }
     ensures unchanged { IsTrue (S.site_state site.old).honest → IfErr result (λ e. (S.site_state site.new).usable ≡ true → AddsNone (S.crash_states site.old) (S.crash_states site.new)) }
     ensures at_crash { IsTrue (S.site_state site.old).honest → AddsOnly (S.crash_states site.old) (S.crash_states site.new)
-        (λ c. S.represents c (S.site_state site.old).site ⊎ S.represents c (with_change (S.site_state site.old).site now (listens (S.site_state site.old).site now piece.now (phase_of phase.old)).post)) }
+        (λ c. S.represents c (S.site_state site.old).site ⊎ S.represents c (with_change (S.site_state site.old).site now (listens (S.site_state site.old).site now piece.now (phase_of S.pinned (S.site_state site.old) phase.old)).post)) }
 {
     let hearing = match phase {
         Phase::Hearing(hearing) => hearing,
-        Phase::Replying(_) => return Ok(InputStatus::Ready),
+        Phase::Replying(_) | Phase::Drawing(_) | Phase::Drawn => return Ok(InputStatus::Ready),
         Phase::Early => return Ok(InputStatus::Finished),
     };
     let Ok(answer) = hearing.reader.feed(piece) else {
@@ -161,8 +238,8 @@ pub fn hear<S: SearchKeeper>(
     }
     let concluded = conclude(alloc, site, answer, now);
     hearing.reader.undo();
-    let (heard, moved) = concluded?;
-    *phase = moved;
+    let (heard, next) = concluded?;
+    answer_with(site, phase, next);
     Ok(heard)
 }
 
@@ -170,24 +247,27 @@ pub fn hear<S: SearchKeeper>(
 pub fn hear_end<S: SearchKeeper>(
     alloc: Global,
     site: &mut S,
-    phase: &mut Phase,
+    phase: &mut Phase<S::Pin>,
     now: Stamp,
 ) -> Result<InputStatus, HubFault>
     requires usable { (S.site_state site.old).usable ≡ true }
-    ensures gives { IsTrue (S.site_state site.old).honest → IfOk result (λ h. heard_outcome h ≡ (ends (S.site_state site.old).site now (phase_of phase.old)).outcome) }
-    ensures phase { IsTrue (S.site_state site.old).honest → OnOk result (phase_of phase.new ≡ (ends (S.site_state site.old).site now (phase_of phase.old)).phase) }
-    ensures err { OnErr result (phase_of phase.new ≡ phase_of phase.old) }
-    ensures done { IsTrue (S.site_state site.old).honest → OnOk result ((S.site_state site.new).site ≡ with_change (S.site_state site.old).site now (ends (S.site_state site.old).site now (phase_of phase.old)).post) }
+    requires room { HasRoomFor (S.site_state site.old) (phase_of S.pinned (S.site_state site.old) phase.old) }
+    ensures gives { IsTrue (S.site_state site.old).honest → IfOk result (λ h. heard_outcome h ≡ (ends (S.site_state site.old).site now (phase_of S.pinned (S.site_state site.old) phase.old)).outcome) }
+    ensures phase { IsTrue (S.site_state site.old).honest → OnOk result (phase_of S.pinned (S.site_state site.new) phase.new ≡ (ends (S.site_state site.old).site now (phase_of S.pinned (S.site_state site.old) phase.old)).phase) }
+    ensures err { OnErr result (phase_of S.pinned (S.site_state site.new) phase.new ≡ phase_of S.pinned (S.site_state site.old) phase.old) }
+    ensures sound { IsTrue (S.site_state site.old).honest → IsSound S.pinned (S.site_state site.old) phase.old → IsSound S.pinned (S.site_state site.new) phase.new }
+    ensures pins { MovesPins (S.site_state site.old) (S.site_state site.new) (pin_of S.pinned phase.old) (pin_of S.pinned phase.new) }
+    ensures done { IsTrue (S.site_state site.old).honest → OnOk result ((S.site_state site.new).site ≡ with_change (S.site_state site.old).site now (ends (S.site_state site.old).site now (phase_of S.pinned (S.site_state site.old) phase.old)).post) }
     ensures still_usable { OnOk result ((S.site_state site.new).usable ≡ true) }
-    ensures fault { IfErr result (IsHearFault (IsLacking (S.lacks site.old)) (phase_of phase.old) (ends (S.site_state site.old).site now (phase_of phase.old)).post now (S.site_state site.old) (S.site_state site.new)) }
-    ensures tried { HasTried (S.site_state site.old) (S.site_state site.new) }
+    ensures fault { IfErr result (IsHearFault (IsLacking (S.lacks site.old)) (phase_of S.pinned (S.site_state site.old) phase.old) (ends (S.site_state site.old).site now (phase_of S.pinned (S.site_state site.old) phase.old)).post now (S.site_state site.old) (S.site_state site.new)) }
+    ensures worked { HasWorked (S.site_state site.old) (S.site_state site.new) }
     ensures unchanged { IsTrue (S.site_state site.old).honest → IfErr result (λ e. (S.site_state site.new).usable ≡ true → AddsNone (S.crash_states site.old) (S.crash_states site.new)) }
     ensures at_crash { IsTrue (S.site_state site.old).honest → AddsOnly (S.crash_states site.old) (S.crash_states site.new)
-        (λ c. S.represents c (S.site_state site.old).site ⊎ S.represents c (with_change (S.site_state site.old).site now (ends (S.site_state site.old).site now (phase_of phase.old)).post)) }
+        (λ c. S.represents c (S.site_state site.old).site ⊎ S.represents c (with_change (S.site_state site.old).site now (ends (S.site_state site.old).site now (phase_of S.pinned (S.site_state site.old) phase.old)).post)) }
 {
     let hearing = match phase {
         Phase::Hearing(hearing) => hearing,
-        Phase::Replying(_) => return Ok(InputStatus::Ready),
+        Phase::Replying(_) | Phase::Drawing(_) | Phase::Drawn => return Ok(InputStatus::Ready),
         Phase::Early => return Ok(InputStatus::Finished),
     };
     let answer = hearing.reader.finish();
@@ -197,29 +277,7 @@ pub fn hear_end<S: SearchKeeper>(
     }
     let concluded = conclude(alloc, site, answer, now);
     hearing.reader.undo();
-    let (heard, moved) = concluded?;
-    *phase = moved;
+    let (heard, next) = concluded?;
+    answer_with(site, phase, next);
     Ok(heard)
-}
-
-/// The next bytes of a reply, as many as there are and fit.
-pub fn draw(phase: &mut Phase, out: &mut [u8]) -> Result<Drawn, HubFault>
-    ensures gives { draw_outcome result out.new ≡ (draws (length out.old) (phase_of phase.old)).outcome }
-    ensures phase { phase_of phase.new ≡ (draws (length out.old) (phase_of phase.old)).phase }
-    ensures behind { IfOk result (λ drawn. IsUnchangedBehind (drawn_length drawn) out.old out.new) }
-    ensures untouched { IfErr result (λ e. out.new ≡ out.old) }
-{
-    let replying = match phase {
-        Phase::Replying(replying) => replying,
-        Phase::Hearing(_) => return Err(HubFault::NotReady),
-        Phase::Early => return Ok(Drawn::Finished),
-    };
-    let rest = &replying.bytes.as_slice()[replying.drawn..];
-    if rest.is_empty() {
-        return Ok(Drawn::Finished);
-    }
-    let count = rest.len().min(out.len());
-    out[..count].copy_from_slice(&rest[..count]);
-    replying.drawn += count;
-    Ok(Drawn::Bytes(count))
 }

@@ -5,6 +5,7 @@ ghost use Rattle.request_reader.specs.ReceivedInput.{verdict_by};
 
 use host_types::Bytes;
 use request_reader::Reader;
+use view_draws::ViewDraw;
 
 /// A request that isn't whole yet.
 #[derive(Drop)]
@@ -22,18 +23,25 @@ pub struct Replying {
     ghost within: { drawn ≤ length bytes },
 }
 
-/// Where a session is.
-#[derive(Drop)]
-pub enum Phase {
+/// A view of a document as it stood, of which some is drawn. Its pin is given back once all is drawn.
+pub struct Drawing<P> {
+    pub pin: P,
+    pub view: ViewDraw,
+}
+
+/// Where a session is. One that holds a pin can't be dropped.
+pub enum Phase<P> {
     Hearing(Hearing),
     Replying(Replying),
+    Drawing(Drawing<P>),
+    /// A view of which all is drawn.
+    Drawn,
     /// The input ended before a whole request.
     Early,
 }
 
 /// A session and its number.
-#[derive(Drop)]
-pub struct Session {
+pub struct Session<P> {
     pub id: u64,
-    pub phase: Phase,
+    pub phase: Phase<P>,
 }

@@ -1,0 +1,72 @@
+// What moves one session that draws its reply.
+ghost use Rattle.std.specs.Prelude.{◌≡◌, true, length, drop, OnErr, OnOk, IfOk, IfErr, IfSome, IsTrue};
+ghost use Rattle.host_types.specs.Pins.{is_out};
+ghost use Rattle.host_types.specs.SiteState.{IsUnchangedBehind};
+ghost use Rattle.host_types.specs.CrashStates.{AddsNone};
+ghost use Rattle.session_core.specs.World as world;
+ghost use Rattle.session_core.specs.Step.{draws};
+ghost use Rattle.session_core.specs.HeldPins.{MovesPins};
+ghost use Rattle.session_core.specs.Understood.{IsDrawFault, KeepsSite, HasBegun};
+ghost use Rattle.session_core.specs.Outcomes.{drawn_outcome, drawn_length};
+ghost use Rattle.session_core.specs.Sessions.{phase_of, pin_of, IsSound};
+ghost use Rattle.session_core.specs.declared.fault.HubFault.TheVariants.{NotReady};
+
+use crate::pins::give_back;
+use crate::session::{Phase, Replying};
+use crate::{Drawn, HubFault};
+use host_types::SiteKeeper;
+use std::mem;
+
+/// The next bytes of a reply that is in memory, as many as there are and fit.
+fn draw_bytes(replying: &mut Replying, out: &mut [u8]) -> Drawn
+    ensures gives { drawn_outcome result out.new ≡ (draws (length out.old) (world.Reply (drop replying.old.drawn replying.old.bytes))).outcome }
+    ensures phase { world.Reply (drop replying.new.drawn replying.new.bytes) ≡ (draws (length out.old) (world.Reply (drop replying.old.drawn replying.old.bytes))).phase }
+    ensures behind { IsUnchangedBehind (drawn_length result) out.old out.new }
+{
+    let rest = &replying.bytes.as_slice()[replying.drawn..];
+    if rest.is_empty() {
+        return Drawn::Finished;
+    }
+    let count = rest.len().min(out.len());
+    out[..count].copy_from_slice(&rest[..count]);
+    replying.drawn += count;
+    Drawn::Bytes(count)
+}
+
+/// The next bytes of a reply, as many as there are and fit. The pin of a view is given back with its last byte.
+pub fn draw<S: SiteKeeper>(
+    site: &mut S,
+    phase: &mut Phase<S::Pin>,
+    out: &mut [u8],
+) -> Result<Drawn, HubFault>
+    requires usable { (S.site_state site.old).usable ≡ true }
+    requires out { IfSome (pin_of S.pinned phase.old) (λ pin. IsTrue (is_out (S.site_state site.old) pin)) }
+    requires sound { IsTrue (S.site_state site.old).honest → IsSound S.pinned (S.site_state site.old) phase.old }
+    ensures gives { IsTrue (S.site_state site.old).honest → IfOk result (λ drawn. drawn_outcome drawn out.new ≡ (draws (length out.old) (phase_of S.pinned (S.site_state site.old) phase.old)).outcome) }
+    ensures phase { IsTrue (S.site_state site.old).honest → OnOk result (phase_of S.pinned (S.site_state site.new) phase.new ≡ (draws (length out.old) (phase_of S.pinned (S.site_state site.old) phase.old)).phase) }
+    ensures err { OnErr result (phase_of S.pinned (S.site_state site.new) phase.new ≡ phase_of S.pinned (S.site_state site.old) phase.old) }
+    ensures still_sound { IsTrue (S.site_state site.old).honest → IsSound S.pinned (S.site_state site.new) phase.new }
+    ensures pins { MovesPins (S.site_state site.old) (S.site_state site.new) (pin_of S.pinned phase.old) (pin_of S.pinned phase.new) }
+    ensures kept { KeepsSite (S.site_state site.old) (S.site_state site.new) }
+    ensures fault { IfErr result (IsDrawFault (S.site_state site.old) (S.site_state site.new) (phase_of S.pinned (S.site_state site.old) phase.old)) }
+    ensures at_crash { IsTrue (S.site_state site.old).honest → AddsNone (S.crash_states site.old) (S.crash_states site.new) }
+    ensures behind { IfOk result (λ drawn. IsUnchangedBehind (drawn_length drawn) out.old out.new) }
+    ensures begun { OnErr result (HasBegun (S.site_state site.old).honest (phase_of S.pinned (S.site_state site.old) phase.old) out.old out.new) }
+    ensures untouched { IfErr result (λ e. e ≡ NotReady → out.new ≡ out.old) }
+{
+    let drawing = match phase {
+        Phase::Hearing(_) => return Err(HubFault::NotReady),
+        Phase::Replying(replying) => return Ok(draw_bytes(replying, out)),
+        Phase::Drawing(drawing) => drawing,
+        Phase::Drawn | Phase::Early => return Ok(Drawn::Finished),
+    };
+    let count = match drawing.view.draw(site, &drawing.pin, out) {
+        Ok(count) => count,
+        Err(fault) => return Err(HubFault::of_site(fault)),
+    };
+    if drawing.view.is_finished() {
+        let drawn = mem::replace(phase, Phase::Drawn);
+        give_back(site, drawn);
+    }
+    Ok(Drawn::Bytes(count))
+}

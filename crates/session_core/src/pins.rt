@@ -1,0 +1,27 @@
+// Pins that sessions hold.
+ghost use Rattle.std.specs.Prelude.{◌≡◌, ◌<◌, None, OnErr, IfOk, IfErr, IfSome, IsTrue, length};
+ghost use Rattle.host_types.specs.SiteState.{SiteState, LacksTheSame};
+ghost use Rattle.host_types.specs.CrashStates.{AddsNone};
+ghost use Rattle.host_types.specs.Pins.{is_out, most_pins};
+ghost use Rattle.session_core.specs.HeldPins.{MovesPins, MayGiveBack};
+ghost use Rattle.session_core.specs.Sessions.{pin_of};
+
+use crate::session::{Drawing, Phase};
+use host_types::SiteKeeper;
+
+/// Gives back the pin of a phase, where it holds one.
+pub fn give_back<S: SiteKeeper>(site: &mut S, phase: Phase<S::Pin>)
+    requires out { IfSome (pin_of S.pinned phase) (λ pin. IsTrue (is_out (S.site_state site.old) pin)) }
+    ensures pins { MovesPins (S.site_state site.old) (S.site_state site.new) (pin_of S.pinned phase) None }
+    ensures only { MayGiveBack (S.site_state site.old) (S.site_state site.new) }
+    ensures none { pin_of S.pinned phase ≡ None → site.new ≡ site.old }
+    ensures at_crash { IsTrue (S.site_state site.old).honest → AddsNone (S.crash_states site.old) (S.crash_states site.new) }
+    ensures moment { (S.crash_states site.new).moment ≡ (S.crash_states site.old).moment }
+{
+    match phase {
+        Phase::Hearing(_) => {}
+        Phase::Replying(_) => {}
+        Phase::Drawing(Drawing { pin, view: _ }) => site.unpin_site(pin),
+        Phase::Drawn | Phase::Early => {}
+    }
+}
