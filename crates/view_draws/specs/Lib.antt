@@ -1,5 +1,0 @@
-pub mod Reading
-pub mod Progress
-pub mod Source
-pub mod Drawing
-pub mod ViewDraw
