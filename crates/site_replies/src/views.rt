@@ -43,12 +43,7 @@ pub fn moved_reply<S: SearchKeeper>(
 }
 
 /// The head of a view that has so many bytes, where Gopher+ asked for it.
-fn view_head(
-    alloc: Global,
-    is_plus: bool,
-    is_text: bool,
-    size: u32,
-) -> Result<Bytes, AllocError>
+fn view_head(alloc: Global, is_plus: bool, is_text: bool, size: u32) -> Result<Bytes, AllocError>
     ensures { IfOk result (λ head. head ≡ view_head is_plus is_text size) }
 {
     if !is_plus {
