@@ -5,17 +5,19 @@ use Rattle.host_types.specs.Names.{is_url_name}
 use Rattle.host_types.specs.Site.{Site, item_at}
 use Rattle.host_types.specs.Card.{card_view, card_body, card_of, card_at, bytes_of, viewed, viewed_in, viewed_at}
 use Rattle.host_types.specs.SiteState.{SiteState, HasRead}
+use Rattle.host_types.specs.declared.view.Kind.{Kind}
 use Rattle.host_types.specs.declared.view.View.{View}
 use Rattle.host_types.specs.declared.item.Item.{Item}
 use Rattle.host_types.specs.declared.item.Body.{Body}
 use Rattle.host_types.specs.declared.item.Body.TheVariants as bodies
 use Rattle.host_types.specs.declared.card.Card.{Card}
 use Rattle.host_types.specs.declared.card.CardBody.{CardBody}
+use Rattle.host_types.specs.declared.card.CardBody.TheVariants as cards
 use Rattle.host_types.specs.declared.card.CardView.{CardView}
 use Rattle.host_types.specs.declared.menu.Entry.{Entry}
 use Rattle.word_index.specs.Search.{search_of}
 use Rattle.request_reader.specs.Request.{Request}
-use Rattle.site_replies.specs.Lengths.{HasLengths}
+use Rattle.site_replies.specs.Lengths.{AreLengths, HasLengths}
 use Rattle.site_replies.specs.Reply.{menu_reply, locals, card_reply, found_reply, reply}
 use Rattle.site_replies.specs.Replies.{answer_of, IsSized}
 use Rattle.site_replies.specs.declared.answered.Answered.{Answered}
@@ -41,6 +43,10 @@ lengths_in (Some item) s selector card at is =
     let one : card ≡ card_of item = cc some in
     let same : card.body ≡ card_body item.body = ap (λ (c : Card). c.body) one in
     subst (λ (o : Option Item). HasLengths card.body (viewed_in o)) (sym at) (subst (λ (b : CardBody). HasLengths b (viewed item.body)) (sym same) (body_lengths item.body))
+
+-- what a card says of the views of a document
+pub view_lengths_in : (body : CardBody) (kind : Kind) (views : List CardView) (bytes : ℕ → List ℕ) → body ≡ cards.Views kind views → HasLengths body bytes → AreLengths views bytes
+view_lengths_in body kind views bytes is lengths = subst (λ (b : CardBody). HasLengths b bytes) is lengths
 
 pub has_lengths : (s : Site) (selector : List ℕ) (card : Card) → Some card ≡ card_at s selector → HasLengths card.body (viewed_at s selector)
 has_lengths s selector card is = lengths_in (item_at s selector) s selector card refl is

@@ -129,12 +129,6 @@ is_sent_as_text kinds.Html = false
 abbrev pub sent : Bool → Kind → List ℕ → List ℕ
 sent is_plus kind bytes = if is_sent_as_text kind then as_text is_plus (text bytes) else as_bytes is_plus bytes
 
--- what is sent before a view of so many bytes
-abbrev pub view_head : Bool → Bool → ℕ → List ℕ
-view_head false is_text size = []
-view_head true true size = text_head
-view_head true false size = length_head size
-
 abbrev pub is_language : Option (List ℕ) → CardView → Bool
 is_language None view = true
 is_language (Some language) view = bytes_eq view.language language

@@ -7,7 +7,7 @@ ghost use Rattle.host_types.specs.Site.{text_item};
 ghost use Rattle.host_types.specs.declared.site_fault.SiteFault.TheVariants.{Memory as OutOfMemory};
 ghost use Rattle.site_replies.specs.Reads.{Reads};
 ghost use Rattle.site_replies.specs.PostReply.{stored_as, reply_by_card};
-ghost use Rattle.site_replies.specs.Replies.{whole};
+ghost use Rattle.site_replies.specs.Replies.{whole, PostsNoView};
 ghost use Rattle.std.specs.Option.{option_map};
 ghost use Rattle.request_reader.specs.Seen.{lines_in};
 ghost use Rattle.site_replies.specs.Reply as spec;
@@ -116,6 +116,7 @@ pub fn post_reply<S: SearchKeeper>(
     now: Stamp,
 ) -> Result<Answered, SiteFault>
     ensures reply { Reads S.site_state S.lacks S.crash_states site.old site.new result (λ s answered. answered ≡ whole (spec.post_reply s now board.now post.title post.text)) }
+    ensures drawn { IfOk result (λ answered. PostsNoView answered.reply answered.post) }
 {
     if post.text.len() > MOST_POST_BYTES {
         return Ok(without_post(error_reply_of(alloc, true, ErrorText::AnswersDoNotFit)?));
@@ -135,6 +136,7 @@ pub fn form_reply<S: SearchKeeper>(
     now: Stamp,
 ) -> Result<Answered, SiteFault>
     ensures reply { Reads S.site_state S.lacks S.crash_states site.old site.new result (λ s answered. answered ≡ whole (spec.form_reply s is_plus now board.now questions.now (option_map lines_in given.entry))) }
+    ensures drawn { IfOk result (λ answered. PostsNoView answered.reply answered.post) }
 {
     let Some(data) = given else {
         return Ok(without_post(error_reply_of(alloc, is_plus, ErrorText::FormNeedsAnswers)?));

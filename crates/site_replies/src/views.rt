@@ -9,7 +9,7 @@ ghost use Rattle.host_types.specs.CrashStates.{AddsNone};
 ghost use Rattle.request_reader.specs.Seen.{plus_of};
 ghost use Rattle.site_replies.specs.Reads.{Reads};
 ghost use Rattle.site_replies.specs.Lengths.{AreLengths};
-ghost use Rattle.site_replies.specs.Replies.{reply_bytes, IsSized};
+ghost use Rattle.site_replies.specs.Replies.{view_head, reply_bytes, IsSized};
 ghost use Rattle.site_replies.specs.Reply as spec;
 
 use crate::answered::{Reply, ViewReply};
@@ -43,13 +43,8 @@ pub fn moved_reply<S: SearchKeeper>(
 }
 
 /// The head of a view that has so many bytes, where Gopher+ asked for it.
-fn view_head(
-    alloc: Global,
-    is_plus: bool,
-    is_text: bool,
-    size: u32,
-) -> Result<Bytes, AllocError>
-    ensures { IfOk result (λ head. head ≡ spec.view_head is_plus is_text size) }
+fn view_head(alloc: Global, is_plus: bool, is_text: bool, size: u32) -> Result<Bytes, AllocError>
+    ensures { IfOk result (λ head. head ≡ view_head is_plus is_text size) }
 {
     if !is_plus {
         return Ok(Bytes::from(Vec::new(alloc)));
