@@ -86,6 +86,23 @@ impl TextPipe {
         self.place.is_none() && self.ready.is_empty()
     }
 
+    /// An equal pipe.
+    pub fn copied(&self) -> Self
+        ensures { result ≡ self.now }
+    {
+        let mut ready = Ready::new();
+        if ready
+            .try_extend_from_slice(self.ready.as_slice())
+            .is_err()
+        {
+            unreachable!();
+        }
+        TextPipe {
+            ready,
+            place: self.place,
+        }
+    }
+
     /// Takes a byte of the body, once nothing is ready.
     fn take_byte(&mut self, byte: u8)
         requires { self.old.ready ≡ [] }
