@@ -59,8 +59,5 @@ pub fn draw_body<S: SiteKeeper>(
     while progress.taken < source.size && end < out.len() {
         end = draw_chunk(source, progress, site, pin, out, end)?;
     }
-    if progress.taken == source.size {
-        end = progress.finish(out, end);
-    }
-    Ok(end)
+    Ok(progress.finish(source.size, out, end))
 }

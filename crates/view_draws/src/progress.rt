@@ -1,7 +1,6 @@
 // How far a reply is drawn.
 ghost use Rattle.std.specs.Prelude.{◌≡◌, ◌<◌, ◌≤◌, ◌+◌, ◌^◌, ◌++◌, ◌⊎◌, ◌↔◌, ℕ, List, [], IsTrue, length, take, drop};
 ghost use Rattle.host_types.specs.SiteState.{IsUnchangedBehind};
-ghost use Rattle.text_writer.specs.Pipe.{will_give};
 
 use crate::steps::{finish_text, pass_bytes, pass_text};
 use text_writer::TextPipe;
@@ -18,7 +17,7 @@ pub struct Progress {
 }
 
 impl Progress {
-    ghost use Rattle.view_draws.specs.Progress.{sent_as, given_by, body_left, left_of};
+    ghost use Rattle.view_draws.specs.Progress.{sent_as, body_left, left_of};
 
     /// Before the first byte.
     pub fn new(is_text: bool) -> Self
@@ -97,16 +96,19 @@ impl Progress {
         }
     }
 
-    /// Gives what the end of the view gives, from the place `at` on, and says how far.
-    pub fn finish(&mut self, out: &mut [u8], at: usize) -> usize
+    /// Gives what the end of a view of so many bytes gives, from the place `at` on, once all of them are taken, and says how far.
+    pub fn finish(&mut self, size: usize, out: &mut [u8], at: usize) -> usize
         requires room { at ≤ length out.old }
         ensures onward { at ≤ result }
         ensures within { result ≤ length out.new }
-        ensures given { take result out.new ++ given_by self.new.pipe [] ≡ take at out.old ++ given_by self.old.pipe [] }
+        ensures given { (body : List ℕ) → length body ≡ size → take result out.new ++ body_left self.new body ≡ take at out.old ++ body_left self.old body }
         ensures same { (self.new.head_drawn ≡ self.old.head_drawn) × (self.new.taken ≡ self.old.taken) }
         ensures behind { IsUnchangedBehind result out.old out.new }
-        ensures progress { (given_by self.new.pipe [] ≡ []) ⊎ (result ≡ length out.new) }
+        ensures progress { (body : List ℕ) → length body ≡ size → size ≤ self.old.taken → (body_left self.new body ≡ []) ⊎ (result ≡ length out.new) }
     {
+        if self.taken < size {
+            return at;
+        }
         match &mut self.pipe {
             Some(pipe) => at + finish_text(pipe, out, at),
             None => at,

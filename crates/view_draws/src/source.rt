@@ -1,5 +1,5 @@
 // A view of a pinned site, by chunks.
-ghost use Rattle.std.specs.Prelude.{◌≡◌, ◌<◌, ◌≤◌, ◌+◌, ◌*◌, ◌++◌, ◌/◌, ℕ, List, Some, IsTrue, false, OnOk, IfErr, length, drop};
+ghost use Rattle.std.specs.Prelude.{◌≡◌, ◌<◌, ◌≤◌, ◌+◌, ◌*◌, ◌^◌, ◌++◌, ◌⊎◌, ◌/◌, ℕ, List, Some, IsTrue, false, OnOk, IfErr, length, take, drop};
 ghost use Rattle.host_types.specs.SiteState.{IsReadFault};
 ghost use Rattle.host_types.specs.Pins.{is_out};
 ghost use Rattle.host_types.specs.Card.{chunk_of};
@@ -25,9 +25,19 @@ fn chunk_length(size: usize, k: usize) -> usize
     requires { 1000 * k ≤ size }
     ensures length { (body : List ℕ) → length body ≡ size → length (chunk_of body k) ≡ result }
     ensures within { (result ≤ 1000) × (1000 * k + result ≤ size) }
-    ensures some { 1000 * k < size → 0 < result }
+    ensures full { (result ≡ 1000) ⊎ (1000 * k + result ≡ size) }
 {
     (size - CHUNK * k).min(CHUNK)
+}
+
+/// The bytes from one place to another.
+fn part(bytes: &[u8], start: usize, end: usize) -> &[u8]
+    requires order { start ≤ end }
+    requires within { end ≤ length bytes.now }
+    ensures bytes { result.now ≡ drop start (take end bytes.now) }
+    ensures length { start + length result.now ≡ end }
+{
+    &bytes[start..end]
 }
 
 impl ViewSource {
@@ -65,9 +75,10 @@ impl ViewSource {
         requires { at < self.now.size }
         ensures some { 0 < length result.now }
         ensures within { at + length result.now ≤ self.now.size }
+        ensures fits { at + length result.now < 2 ^ 64 }
         ensures bytes { (body : List ℕ) → length body ≡ self.now.size → HasChunk body self.now → self.now.place ≡ Some (at / 1000) → drop at body ≡ result.now ++ drop (at + length result.now) body }
     {
-        let k = at / CHUNK;
-        &self.buffer[at - CHUNK * k..chunk_length(self.size, k)]
+        let end = chunk_length(self.size, at / CHUNK);
+        part(&self.buffer, at % CHUNK, end)
     }
 }

@@ -1,9 +1,12 @@
-use Rattle.std.proofs.Common.{rules, ◌≡◌, ◌<◌, ◌≤◌, ◌+◌, ◌^◌, ◌++◌, ◌⊎◌, ◌↔◌, ℕ, List, [], IsTrue, length, take, drop, ◌-◌, ◌*◌, ◌/◌, ◌%◌, Bool, true, false, nat_eq, nat_lt, ◌∷◌, slice_index_or, slice_set, bit_and, bit_or, Fits, w8, w32, w64, Bor, MutBor}
-use Rattle.host_types.specs.SiteState.{IsUnchangedBehind}
-use Rattle.text_writer.specs.Pipe.{will_give}
-use Rattle.view_draws.specs.Progress.{sent_as, given_by, body_left, left_of}
+use Rattle.std.proofs.Common.{take, ap, sym, ◌∙◌, zero-add}
+use Rattle.view_draws.specs.Progress.{body_left}
+use Rattle.view_draws.proofs.Lefts.{given_of_head}
+use Rattle.view_draws.proofs.Parts.{rest_is}
 use Rattle.view_draws.proofs.progress.Progress.give_head.Goals as goal
 
--- src/progress.rt:60:5
 pub returns-clause-given : goal.returns-clause-given
-returns-clause-given c = ?
+returns-clause-given c body =
+    let drawn = c.args.self.now.head_drawn in
+    let m = c.pass_bytes-count.result in
+    given_of_head drawn m c.args.head.now (body_left c.args.self.now body) (take m c.pass_bytes-count.new.out)
+    (ap (λ n. take n c.pass_bytes-count.new.out) (sym (zero-add m)) ∙ c.pass_bytes-count.ensures.given ∙ ap (take m) (rest_is drawn c.args.head.now))
