@@ -50,3 +50,14 @@ viewed_same a b pin s t read same =
 -- What was given up to a place is the front of what was to be given.
 pub partly_given : (end : ℕ) (out left whole : List ℕ) → end ≤ length out → take end out ++ left ≡ whole → take end out ≡ take end whole
 partly_given end out left whole within is = front_given end (take end out) left whole (omega (arith, length-take end out, within)) is
+
+-- what the end of a view gives, once all before it was given
+pub passed_at_end : (source : ViewSource) (p q r : Progress) (first mid last : List ℕ) (at half end : ℕ) → HasPassed source p q first mid at half → half ≤ end → end ≤ length last → IsUnchangedBehind end mid last → r.head_drawn ≡ q.head_drawn → r.taken ≡ q.taken → HasPassed source p r first last at end
+passed_at_end source p q r first mid last at half end before onward within behind head taken = record {
+  onward = omega (arith, before.onward, onward);
+  within = within;
+  behind = behind ∙ unchanged_on half end mid first onward before.behind;
+  taken = omega (arith, before.taken, taken);
+  within_view = omega (arith, before.within_view, taken);
+  head = head ∙ before.head;
+}
