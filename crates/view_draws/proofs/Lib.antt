@@ -1,0 +1,5 @@
+pub mod Parts
+pub mod Chunks
+pub mod Lefts
+pub mod DrawingSteps
+pub mod LaterReads

@@ -1,0 +1,36 @@
+use Rattle.std.proofs.Common.{◌≡◌, ◌++◌, take, sym, subst, ◌∙◌}
+use Rattle.std.specs.Prelude.{IsTrue}
+use Rattle.view_draws.specs.Source.{viewed_by, IsViewOf}
+use Rattle.view_draws.specs.Progress.{body_left}
+use Rattle.view_draws.proofs.LaterReads.{still_honest, only_on}
+use Rattle.view_draws.proofs.DrawingSteps.{passed_on, passed_at_end, same_on, viewed_same}
+use Rattle.view_draws.proofs.drawing.draw_body.Goals as goal
+
+pub loop-progress-preserved : goal.loop-progress-preserved
+loop-progress-preserved g c =
+    let site_state = g.S.SiteKeeper.site_state in
+    let before = c.loop-progress.invariant in
+    let a = site_state c.args.site.now in
+    let b = site_state c.loop-progress.site in
+    let pin = g.S.SiteKeeper.pinned c.args.pin.now in
+    let body = viewed_by a pin c.args.source.now in
+    let now = viewed_by b pin c.loop-progress.source in
+    let new = c.draw_chunk.new in
+    let step = c.in_ok-end.ensures in
+    let same_body : now ≡ body = viewed_same a b pin c.args.source.now c.loop-progress.source before.only.kept before.same in
+    let of_now = λ (honest : IsTrue a.honest) (of : IsViewOf body c.args.source.now). subst (λ bytes. IsViewOf bytes c.loop-progress.source) (sym same_body) (before.of honest of) in
+    record {
+      passed = passed_on c.args.source.now c.loop-progress.source c.args.progress.now c.loop-progress.progress new.progress c.args.out.now c.loop-progress.out new.out c.args.at c.loop-progress.end c.in_ok-end.end before.same before.passed step.passed;
+      same = same_on c.args.source.now c.loop-progress.source new.source before.same step.same;
+      only = only_on site_state g.S.SiteKeeper.lacks g.S.SiteKeeper.crash_states c.args.site.now c.loop-progress.site new.site before.only step.only;
+      of = λ honest of. subst (λ bytes. IsViewOf bytes new.source) same_body (step.given (still_honest a b before.only.kept honest) (of_now honest of)).0;
+      given = λ honest of.
+        subst (λ bytes. take c.in_ok-end.end new.out ++ body_left new.progress bytes ≡ take c.loop-progress.end c.loop-progress.out ++ body_left c.loop-progress.progress bytes) same_body
+        (step.given (still_honest a b before.only.kept honest) (of_now honest of)).1
+        ∙ before.given honest of;
+    }
+
+pub returns-clause-passed : goal.returns-clause-passed
+returns-clause-passed g c =
+    let end = c.finish.ensures in
+    passed_at_end c.args.source.now c.args.progress.now c.loop-progress.progress c.finish.new.self c.args.out.now c.loop-progress.out c.finish.new.out c.args.at c.loop-progress.end c.finish.result c.loop-progress.invariant.passed end.onward end.within end.behind end.same.0 end.same.1

@@ -1,0 +1,5 @@
+pub mod Reading
+pub mod Progress
+pub mod Source
+pub mod Drawing
+pub mod ViewDraw
