@@ -13,4 +13,5 @@ pub mod Hearings
 pub mod Runs
 pub mod CallsMade
 pub mod CallLaws
+pub mod ClosedRuns
 pub mod RefusedChanges

@@ -2,7 +2,7 @@
 use Rattle.std.specs.Prelude.{◌≡◌, ◌⊎◌, ℕ, true, false, not, List, [], ◌∷◌, ◌++◌, length, IsTrue}
 use Rattle.host_types.specs.Site.{Site}
 use Rattle.host_types.specs.SiteState.{SiteState}
-use Rattle.host_types.specs.CrashStates.{CrashStates, AddsOnly, may_crash_to}
+use Rattle.host_types.specs.CrashStates.{CrashStates, AddsOnly, AddsNone, may_crash_to}
 use Rattle.host_types.specs.declared.change.Change.{Change}
 use Rattle.host_types.specs.declared.site_fault.SiteFault.{SiteFault}
 use Rattle.session_core.specs.World.{World}
@@ -81,6 +81,13 @@ HubCalls site_state lacks crash_states stands old events outcomes new = Calls si
 pub record HubRun {S L : Type 0} {bound : _} {ghosts : _} (site_state : S → SiteState) (lacks : S → Change → ℕ → SiteFault → Type 0) (crash_states : S → CrashStates L) (stands : L → Site → Type 0) (old : Hub S bound ghosts) (events : List Event) (outcomes : List Outcome) (new : Hub S bound ghosts) : Type 0 where
   pub calls : HubCalls site_state lacks crash_states stands old events outcomes new
   pub at_crash : IsTrue (site_state (keeper_of old)).honest → (site_state (keeper_of old)).usable ≡ true → HasCrashStates stands (world_of site_state old) (world_of site_state new) (crash_states (keeper_of old)) (crash_states (keeper_of new)) events outcomes
+
+-- A hub has ended: all pins of its keeper are given back, and nothing else has changed. Nothing was written, and no time has passed.
+pub record IsClosed {S L : Type 0} (site_state : S → SiteState) (crash_states : S → CrashStates L) (old new : S) : Type 0 where
+  pub unpinned : (site_state new).pins ≡ []
+  pub keeper : MayGiveBack (site_state old) (site_state new)
+  pub no_new_crash_state : IsTrue (site_state old).honest → AddsNone (crash_states old) (crash_states new)
+  pub moment : (crash_states new).moment ≡ (crash_states old).moment
 
 -- Two runs, one after the other, are a run.
 abbrev pub CallsJoin : {S L : Type 0} → (S → SiteState) → (S → Change → ℕ → SiteFault → Type 0) → (S → CrashStates L) → (L → Site → Type 0) → Type 0

@@ -2,6 +2,7 @@
 ghost use Rattle.std.specs.Prelude.{ℕ, List, [], Some, ◌≡◌, ◌≤◌, ◌<◌, ◌==◌, true, length, OnErr, OnOk, IfOk, IfErr, IfSome, IsTrue, vec_len, vec_capacity};
 ghost use Rattle.std.specs.List.{position};
 ghost use Rattle.session_core.specs.HeldPins.{HoldsAll, HoldsAll-prop, MayGiveBack};
+ghost use Rattle.session_core.specs.Calls.{IsClosed};
 ghost use Rattle.host_types.specs.CrashStates.{AddsNone};
 ghost use Rattle.session_core.specs.Sessions.{pins_of, AreSound, AreSound-prop};
 
@@ -45,10 +46,7 @@ fn place_in<P>(sessions: &[Session<P>], id: u64) -> Option<usize>
 /// Ends all sessions, and gives their pins back.
 fn end_all<S: SearchKeeper>(site: S, sessions: Vec<Session<S::Pin>>) -> S
     requires { HoldsAll (S.site_state site) (pins_of S.pinned sessions.items) }
-    ensures unpinned { (S.site_state result).pins ≡ [] }
-    ensures keeper { MayGiveBack (S.site_state site) (S.site_state result) }
-    ensures at_crash { IsTrue (S.site_state site).honest → AddsNone (S.crash_states site) (S.crash_states result) }
-    ensures moment { (S.crash_states result).moment ≡ (S.crash_states site).moment }
+    ensures { IsClosed S.site_state S.crash_states site result }
 {
     let mut site = site;
     let mut sessions = sessions;
@@ -256,10 +254,7 @@ impl<S: SearchKeeper> Hub<S> {
 
     /// Ends the hub with all its sessions, and hands its site back with no pin out. It takes no memory.
     pub fn close(self) -> S
-        ensures unpinned { (S.site_state result).pins ≡ [] }
-        ensures keeper { MayGiveBack (S.site_state (keeper_of self)) (S.site_state result) }
-        ensures at_crash { IsTrue (S.site_state (keeper_of self)).honest → AddsNone (S.crash_states (keeper_of self)) (S.crash_states result) }
-        ensures moment { (S.crash_states result).moment ≡ (S.crash_states (keeper_of self)).moment }
+        ensures { IsClosed S.site_state S.crash_states (keeper_of self) result }
     {
         let Hub {
             alloc: _,
