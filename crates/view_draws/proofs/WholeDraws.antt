@@ -1,5 +1,5 @@
 -- What was given of the head and then of the view.
-use Rattle.std.proofs.Common.{◌≡◌, ◌+◌, ◌-◌, ◌≤◌, ◌<◌, ◌++◌, ◌⊎◌, inl, inr, ℕ, Bool, List, [], ap, sym, ◌∙◌, subst, refl, take, drop, length, append-nil, arith}
+use Rattle.std.proofs.Common.{◌≡◌, ◌+◌, ◌-◌, ◌≤◌, ◌<◌, ◌++◌, ◌⊎◌, inl, inr, ℕ, Bool, List, [], ap, sym, ◌∙◌, subst, refl, take, drop, length, append-nil, length-append, length-drop, arith}
 use Rattle.std.specs.Prelude.{IsTrue, Result, Ok, Err, OnErr}
 use Rattle.std.proofs.lemmas.List.{take_all, drop_all, length-take, take-append-le}
 use Rattle.view_draws.specs.Progress.{body_left, left_of}
@@ -72,3 +72,8 @@ front_begun head body mid new p q half end half_in end_in size onward (inr full)
 pub after_fault : {A E : Type 0} {P : Type 0} (result : Result A E) → P → OnErr result P
 after_fault (Ok value) holds = tt
 after_fault (Err fault) holds = holds
+
+-- while bytes of the head are left, the reply isn't drawn
+pub head_left : (head : List ℕ) (p : Progress) (body : List ℕ) → p.head_drawn ≤ length head → left_of head p body ≡ [] → p.head_drawn ≡ length head
+head_left head p body within none =
+    omega (arith, within, ap length none, length-append (drop p.head_drawn head) (body_left p body), length-drop p.head_drawn head)

@@ -1,11 +1,13 @@
-use Rattle.std.proofs.Common.{rules, ◌≡◌, ◌≤◌, ◌↔◌, ◌++◌, ℕ, List, [], false, IsTrue, IfOk, OnErr, IfErr, length, ◌+◌, ◌-◌, ◌*◌, ◌<◌, ◌/◌, ◌%◌, Bool, true, nat_eq, nat_lt, ◌∷◌, slice_index_or, slice_set, bit_and, bit_or, Fits, w8, w32, w64, Bor, MutBor}
-use Rattle.host_types.specs.SiteState.{IsUnchangedBehind, IsReadFault}
-use Rattle.host_types.specs.Pins.{is_out}
-use Rattle.view_draws.specs.Reading.{ReadsOnly}
-use Rattle.view_draws.specs.Progress.{sent_as}
-use Rattle.view_draws.specs.ViewDraw.{rest_of, IsOf, body_at, IsSameReply, HasDrawn, HasBegun}
+use Rattle.std.proofs.Common.{◌≡◌, length, sym, ◌∙◌, arith}
+use Rattle.std.specs.Prelude.{IsTrue, ◌==◌}
+use Rattle.std.proofs.lemmas.Bool.Decides.{nat_tests}
+use Rattle.view_draws.specs.ViewDraw.{rest_of}
+use Rattle.view_draws.proofs.WholeDraws.{head_left}
 use Rattle.view_draws.proofs.view_draw.ViewDraw.is_finished.Goals as goal
 
--- src/view_draw.rt:49:5
 pub returns-else-self-len : goal.returns-else-self-len
-returns-else-self-len c = ?
+unfolding rest_of
+returns-else-self-len c body size =
+    let d = c.args.self.now in
+    ((λ all. absurd (c.if-self-len.false (grind (arith, nat_tests)))),
+      λ none. absurd (c.if-self-len.false (head_left d.head d.progress body d.within_head none ∙ sym c.len.ensures)))
