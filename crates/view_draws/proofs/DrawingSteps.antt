@@ -12,7 +12,7 @@ use Rattle.view_draws.proofs.LaterReads.{pinned_same}
 use Rattle.view_draws.proofs.Parts.{front_given}
 
 -- what stands behind a place stands behind each later one
-unchanged_on : (n m : ℕ) (xs ys : List ℕ) → n ≤ m → drop n xs ≡ drop n ys → drop m xs ≡ drop m ys
+pub unchanged_on : (n m : ℕ) (xs ys : List ℕ) → n ≤ m → drop n xs ≡ drop n ys → drop m xs ≡ drop m ys
 unchanged_on n m xs ys onward same =
     let split : m ≡ n + (m - n) = omega (arith, onward) in
     ap (λ k. drop k xs) split ∙ sym (drop-drop (m - n) n xs) ∙ ap (drop (m - n)) same ∙ drop-drop (m - n) n ys ∙ sym (ap (λ k. drop k ys) split)
