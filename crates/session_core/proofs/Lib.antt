@@ -3,6 +3,7 @@ pub mod PinsMoved
 pub mod SeatPlaces
 pub mod SeatsMoved
 pub mod SeatsHeld
+pub mod ViewsLeft
 pub mod Steps
 pub mod FaultsKeep
 pub mod DrawsContinue

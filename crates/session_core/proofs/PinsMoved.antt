@@ -6,7 +6,7 @@ use Rattle.std.proofs.lemmas.Bool.{cases_Bool, ne_eqb}
 use Rattle.host_types.specs.Site.{Items}
 use Rattle.host_types.specs.SiteState.{SiteState, numbers_out}
 use Rattle.host_types.specs.Pins.{Pinned, Copied, Numbered, is_among, is_out, items_or_none, items_under_number, pinned_items, IsPinned, IsUnpinned}
-use Rattle.session_core.specs.HeldPins.{one_if, times, count_numbered, HoldsAll, listed, AreApart, MovesPins}
+use Rattle.session_core.specs.HeldPins.{one_if, times, count_numbered, HoldsAll, listed, AreApart, MovesPins, MayGiveBack}
 
 -- ---- a keeper whose pins stay
 
@@ -119,3 +119,35 @@ others_are_apart h (Some (Numbered m)) others holds =
 pub each_on : (P Q : Pinned → Type 0) (pins : List Pinned) → ((pin : Pinned) → P pin → Q pin) → EachIs P pins → EachIs Q pins
 each_on P Q [] on all = tt
 each_on P Q (pin ∷ pins) on all = (on pin all.0, each_on P Q pins on all.1)
+
+-- ---- what a new pin keeps
+
+pub pinned_keeps : (a b : SiteState) (pin : Pinned) → IsPinned a b pin → IsTrue a.honest → pinned_items b pin ≡ a.site.items
+pinned_keeps a b (Copied items) is honest = is.0 honest
+pinned_keeps a b (Numbered n) is honest = ap items_or_none (is.keeps honest)
+
+-- a move behind reads that left all pins
+pub moves_after : (a m b : SiteState) (held now : Option Pinned) → m.pins ≡ a.pins → MovesPins m b held now → MovesPins a b held now
+moves_after a m b held now same moves = record {
+  stay = λ pin out apart. moves.stay pin (subst IsTrue (out_still pin) out) apart ∙ kept_still a m pin same;
+  all = λ others holds. moves.all others (holds_still a m (listed held ++ others) same holds);
+}
+  where
+    out_still : (pin : Pinned) → is_out a pin ≡ is_out m pin
+    out_still (Copied items) = refl
+    out_still (Numbered n) = ap (λ (p : List (ℕ × Items)). is_among n (numbers_out (record a { pins = p }))) (sym same)
+
+-- a pin given back, and another
+pub gives_again : (a m b : SiteState) → MayGiveBack a m → MayGiveBack m b → MayGiveBack a b
+gives_again a m b first second = record {
+  same = second.same ∙ ap (λ (h : SiteState). let v : SiteState = record h { pins = b.pins; free = b.free } in v) first.same;
+  free = omega (arith, first.free, second.free);
+}
+
+pub no_length : {A : Type 0} (xs : List A) → length xs ≡ 0 → xs ≡ []
+no_length [] is = refl
+no_length (x ∷ xs) is = absurd (omega (arith, is))
+
+-- no pin is held, and so none is out
+pub none_out : (h : SiteState) → HoldsAll h [] → h.pins ≡ []
+none_out h holds = no_length h.pins (sym holds.count)

@@ -46,8 +46,11 @@ module _ {P : Type 0} (pinned : P → Pinned) where
   out_of h None others holds = tt
   out_of h (Some pin) others holds = held_is_out h pin others holds
 
+  pub out_at : (h : SiteState) (items : List (Session P)) (at : ℕ) (x : Session P) → at < length items → x ≡ get_or items at x → HoldsAll h (pins_of pinned items) → IfSome (pin_of pinned x.phase) (λ p. IsTrue (is_out h p))
+  out_at h items at x within read holds = out_of h (pin_of pinned x.phase) (pins_of pinned (remove items at)) (own_pin_is_held pinned h items at x within read holds)
+
   pub own_is_out : (h : SiteState) (items : List (Session P)) (id at : ℕ) (x : Session P) → position (λ s. s.id == id) items ≡ Some at → x ≡ get_or items at x → HoldsAll h (pins_of pinned items) → IfSome (pin_of pinned x.phase) (λ p. IsTrue (is_out h p))
-  own_is_out h items id at x found read holds = out_of h (pin_of pinned x.phase) (pins_of pinned (remove items at)) (own_pin_is_held pinned h items at x (seat_below pinned items id at found) read holds)
+  own_is_out h items id at x found read holds = out_at h items at x (seat_below pinned items id at found) read holds
 
   -- ---- how many pins are out
 

@@ -12,7 +12,7 @@ use Rattle.session_core.specs.Sessions.{phase_of, session_of, sessions_of, pin_o
 use Rattle.session_core.specs.declared.session.Session.{Session}
 use Rattle.session_core.specs.declared.session.Phase.{Phase}
 use Rattle.session_core.specs.declared.session.Phase.TheVariants as phases
-use Rattle.session_core.proofs.PinsMoved.{EachIs, each_on, others_are_apart}
+use Rattle.session_core.proofs.PinsMoved.{EachIs, each, each_on, others_are_apart, kept_still, none_moves}
 use Rattle.session_core.proofs.SeatPlaces.{seat, seat_below}
 
 -- ---- pins in another order
@@ -154,3 +154,14 @@ module _ {P : Type 0} (pinned : P → Pinned) where
   -- the pin of a session is out
   pub own_pin_is_held : (a : SiteState) (items : List (Session P)) (at : ℕ) (x : Session P) → at < length items → x ≡ get_or items at x → HoldsAll a (pins_of pinned items) → HoldsAll a (listed (pin_of pinned x.phase) ++ pins_of pinned (remove items at))
   own_pin_is_held a items at x within read holds = holds_same a _ _ (parted items at x within read) holds
+
+  -- No session moves, and all pins stay.
+  pub record Stayed (a b : SiteState) (items : List (Session P)) : Type 0 where
+    pub seen : sessions_of pinned b items ≡ sessions_of pinned a items
+    pub held : HoldsAll b (pins_of pinned items)
+    pub sound : AreSound pinned a items → AreSound pinned b items
+
+  pub sessions_stay : (a b : SiteState) (items : List (Session P)) → b.pins ≡ a.pins → HoldsAll a (pins_of pinned items) → Stayed a b items
+  sessions_stay a b items same holds =
+      let all = all_seen a b items (each (Same a b) (pins_of pinned items) (λ copy. refl) (λ n some. kept_still a b (Numbered n) same)) in
+      record { seen = all.0; held = (none_moves a b None same).all (pins_of pinned items) holds; sound = all.1 }

@@ -1,5 +1,5 @@
 -- Calls of a hub as steps of its world.
-use Rattle.std.proofs.Common.{◌≡◌, ℕ, ◌+◌, ◌-◌, ◌^◌, ◌<◌, ◌≤◌, Bool, true, false, not, List, [], ◌∷◌, ◌++◌, length, get_or, set, remove, refl, ap, sym, ◌∙◌, arith, inl, inr}
+use Rattle.std.proofs.Common.{◌≡◌, ℕ, ◌+◌, ◌-◌, ◌^◌, ◌<◌, ◌≤◌, Bool, true, false, not, List, [], ◌∷◌, ◌++◌, length, get_or, set, remove, refl, ap, sym, ◌∙◌, arith, inl, inr, subst}
 use Rattle.std.specs.Prelude.{◌==◌, Option, Some, None, is_some, Result, Ok, Err, IfOk, IfErr, OnOk, OnErr, IsOk, IsTrue, if◌then◌else◌}
 use Rattle.std.specs.List.{position}
 use Rattle.std.proofs.lemmas.Bool.{cases_Bool, le-leb, lt-leb, ne_eqb, eq-eqb}
@@ -14,7 +14,7 @@ use Rattle.session_core.specs.World.{World, phase_in}
 use Rattle.session_core.specs.Step.{StepResult, says, Next, then_is, at_session, at_hearing, with_change, draws, joined, left, answer, failed_answer, step}
 use Rattle.session_core.specs.Run.{Step, StepBy, IsAnswer, IsFaulty, is_hearing, may_work, has_change, change_in, post_in, may_read, has_bytes_left}
 use Rattle.session_core.specs.Causes.{IsLacking}
-use Rattle.session_core.specs.Understood.{IsPostFault, IsHearFault, IsDrawFault}
+use Rattle.session_core.specs.Understood.{IsPostFault, IsHearFault, IsDrawFault, HasBegun}
 use Rattle.session_core.specs.Outcomes.{heard_outcome, bytes_outcome, drawn_outcome, draw_outcome}
 use Rattle.session_core.specs.declared.event.Event.{Event}
 use Rattle.session_core.specs.declared.event.Event.TheVariants.{Join, Draw, Leave}
@@ -283,3 +283,13 @@ draw_breaks a b rest (Err (hub.Refused r)) honest is = absurd is
 draw_breaks a b rest (Err (hub.Full need free)) honest is = absurd is
 draw_breaks a b rest (Err hub.Failed) honest is = absurd is
 draw_breaks a b rest (Err hub.Memory) honest is = absurd is
+
+-- a session is in one phase
+pub same_phase : (o : Option world.Phase) (p q : world.Phase) → o ≡ Some p → o ≡ Some q → p ≡ q
+same_phase o p q is also = let same : Some p ≡ Some q = sym is ∙ also in cc same
+
+-- what was begun of a reply, by where the session is
+pub begun_at : {T : Type 0} (honest : Bool) (o : Option world.Phase) (p : world.Phase) (old new : List ℕ) (result : Result T HubFault) → o ≡ Some p → OnErr result (HasBegun honest p old new)
+    → OnErr result ((rest : List ℕ) → o ≡ Some (world.Reply rest) → HasBegun honest (world.Reply rest) old new)
+begun_at honest o p old new (Ok _) there is = tt
+begun_at honest o p old new (Err fault) there is = λ rest has. subst (λ (q : world.Phase). HasBegun honest q old new) (same_phase o p (world.Reply rest) there has) is

@@ -11,7 +11,10 @@ use Rattle.session_core.specs.World.{Phase, Reply, Early}
 use Rattle.session_core.specs.Step.{StepResult, says, replies}
 use Rattle.session_core.specs.Run.{is_hearing, has_bytes_left}
 use Rattle.host_types.specs.Pins.{most_pins}
-use Rattle.session_core.specs.declared.event.Outcome.TheVariants.{Finished}
+use Rattle.session_core.specs.declared.event.Outcome.{Outcome}
+use Rattle.session_core.specs.declared.event.Outcome.TheVariants.{More, Finished}
+use Rattle.session_core.specs.declared.answer.InputStatus.{InputStatus}
+use Rattle.session_core.specs.Outcomes.{heard_outcome}
 use Rattle.session_core.specs.declared.fault.HubFault.{HubFault}
 use Rattle.session_core.specs.declared.fault.HubFault.TheVariants as hub
 
@@ -63,6 +66,11 @@ pub record HasWorked (old new : SiteState) : Type 0 where
   pub reads : old.failed_reads ≤ new.failed_reads
   pub writes : old.failed_writes ≤ new.failed_writes
 
+-- what a session answers that has a next phase, or goes on with its request
+abbrev pub next_outcome : {P : Type 0} → Option (InputStatus × P) → Outcome
+next_outcome None = More
+next_outcome (Some next) = heard_outcome next.0
+
 -- One that hears something may pin the site.
 abbrev pub HasRoomFor : SiteState → Phase → Type 0
 HasRoomFor h phase = is_hearing (Some phase) ≡ true → length h.pins < most_pins
@@ -81,6 +89,11 @@ abbrev pub IsDrawFault : SiteState → SiteState → Phase → HubFault → Type
 IsDrawFault old new phase hub.NotReady = is_hearing (Some phase) ≡ true
 IsDrawFault old new phase hub.Broken = IsTrue old.honest → (has_bytes_left (Some phase) ≡ true) × Rose old.failed_reads new.failed_reads
 IsDrawFault old new phase fault = ⊥
+
+-- One thing where a reply is drawn to its end, and another where some of it is left.
+abbrev pub WhereFinished : Bool → Type 0 → Type 0 → Type 0
+WhereFinished true ended left = ended
+WhereFinished false ended left = left
 
 -- After a fault of a draw the front of its buffer may have the next bytes; behind them it stays.
 pub record HasBegun (honest : Bool) (phase : Phase) (old new : List ℕ) : Type 0 where

@@ -1,18 +1,20 @@
 // What moves one session that draws its reply.
-ghost use Rattle.std.specs.Prelude.{◌≡◌, true, length, drop, OnErr, OnOk, IfOk, IfErr, IfSome, IsTrue};
+ghost use Rattle.std.specs.Prelude.{◌≡◌, true, [], length, take, drop, OnErr, OnOk, IfOk, IfErr, IfSome, IsTrue};
 ghost use Rattle.host_types.specs.Pins.{is_out};
-ghost use Rattle.host_types.specs.SiteState.{IsUnchangedBehind};
+ghost use Rattle.host_types.specs.SiteState.{HasRead, IsUnchangedBehind};
 ghost use Rattle.host_types.specs.CrashStates.{AddsNone};
 ghost use Rattle.session_core.specs.World as world;
 ghost use Rattle.session_core.specs.Step.{draws};
 ghost use Rattle.session_core.specs.HeldPins.{MovesPins};
-ghost use Rattle.session_core.specs.Understood.{IsDrawFault, KeepsSite, HasBegun};
+ghost use Rattle.session_core.specs.Understood.{IsDrawFault, KeepsSite, HasBegun, WhereFinished};
 ghost use Rattle.session_core.specs.Outcomes.{drawn_outcome, drawn_length};
 ghost use Rattle.session_core.specs.Sessions.{phase_of, pin_of, IsSound};
+ghost use Rattle.session_core.specs.declared.event.Outcome.TheVariants as outcomes;
+ghost use Rattle.session_core.specs.declared.session.Phase.TheVariants as phases;
 ghost use Rattle.session_core.specs.declared.fault.HubFault.TheVariants.{NotReady};
 
 use crate::pins::give_back;
-use crate::session::{Phase, Replying};
+use crate::session::{Drawing, Phase, Replying};
 use crate::{Drawn, HubFault};
 use host_types::SiteKeeper;
 use std::mem;
@@ -31,6 +33,33 @@ fn draw_bytes(replying: &mut Replying, out: &mut [u8]) -> Drawn
     out[..count].copy_from_slice(&rest[..count]);
     replying.drawn += count;
     Drawn::Bytes(count)
+}
+
+/// The next bytes of a view, as many as there are and fit, and whether none are left then.
+fn draw_view<S: SiteKeeper>(
+    site: &mut S,
+    drawing: &mut Drawing<S::Pin>,
+    out: &mut [u8],
+) -> Result<(usize, bool), HubFault>
+    requires usable { (S.site_state site.old).usable ≡ true }
+    requires out { IsTrue (is_out (S.site_state site.old) (S.pinned drawing.old.pin)) }
+    requires sound { IsTrue (S.site_state site.old).honest → IsSound S.pinned (S.site_state site.old) (phases.Drawing drawing.old) }
+    ensures gives { IsTrue (S.site_state site.old).honest → IfOk result (λ r. outcomes.Drawn (take r.0 out.new) ≡ (draws (length out.old) (phase_of S.pinned (S.site_state site.old) (phases.Drawing drawing.old))).outcome) }
+    ensures phase { IsTrue (S.site_state site.old).honest → OnOk result (phase_of S.pinned (S.site_state site.new) (phases.Drawing drawing.new) ≡ (draws (length out.old) (phase_of S.pinned (S.site_state site.old) (phases.Drawing drawing.old))).phase) }
+    ensures err { OnErr result (phase_of S.pinned (S.site_state site.new) (phases.Drawing drawing.new) ≡ phase_of S.pinned (S.site_state site.old) (phases.Drawing drawing.old)) }
+    ensures finished { IsTrue (S.site_state site.old).honest → IfOk result (λ r. WhereFinished r.1 (phase_of S.pinned (S.site_state site.new) (phases.Drawing drawing.new) ≡ world.Reply []) (IsSound S.pinned (S.site_state site.new) (phases.Drawing drawing.new))) }
+    ensures still_sound { IsTrue (S.site_state site.old).honest → OnErr result (IsSound S.pinned (S.site_state site.new) (phases.Drawing drawing.new)) }
+    ensures pin { drawing.new.pin ≡ drawing.old.pin }
+    ensures read { HasRead (S.site_state site.old) (S.site_state site.new) }
+    ensures fault { IfErr result (IsDrawFault (S.site_state site.old) (S.site_state site.new) (phase_of S.pinned (S.site_state site.old) (phases.Drawing drawing.old))) }
+    ensures at_crash { IsTrue (S.site_state site.old).honest → AddsNone (S.crash_states site.old) (S.crash_states site.new) }
+    ensures behind { IfOk result (λ r. IsUnchangedBehind r.0 out.old out.new) }
+    ensures begun { OnErr result (HasBegun (S.site_state site.old).honest (phase_of S.pinned (S.site_state site.old) (phases.Drawing drawing.old)) out.old out.new) }
+{
+    match drawing.view.draw(site, &drawing.pin, out) {
+        Ok(count) => Ok((count, drawing.view.is_finished())),
+        Err(fault) => Err(HubFault::of_site(fault)),
+    }
 }
 
 /// The next bytes of a reply, as many as there are and fit. The pin of a view is given back with its last byte.
@@ -54,17 +83,13 @@ pub fn draw<S: SiteKeeper>(
     ensures begun { OnErr result (HasBegun (S.site_state site.old).honest (phase_of S.pinned (S.site_state site.old) phase.old) out.old out.new) }
     ensures untouched { IfErr result (λ e. e ≡ NotReady → out.new ≡ out.old) }
 {
-    let drawing = match phase {
+    let (count, is_finished) = match phase {
         Phase::Hearing(_) => return Err(HubFault::NotReady),
         Phase::Replying(replying) => return Ok(draw_bytes(replying, out)),
-        Phase::Drawing(drawing) => drawing,
+        Phase::Drawing(drawing) => draw_view(site, drawing, out)?,
         Phase::Drawn | Phase::Early => return Ok(Drawn::Finished),
     };
-    let count = match drawing.view.draw(site, &drawing.pin, out) {
-        Ok(count) => count,
-        Err(fault) => return Err(HubFault::of_site(fault)),
-    };
-    if drawing.view.is_finished() {
+    if is_finished {
         let drawn = mem::replace(phase, Phase::Drawn);
         give_back(site, drawn);
     }

@@ -1,14 +1,12 @@
 // The hub: all sessions over one site.
 ghost use Rattle.std.specs.Prelude.{ℕ, List, [], Some, ◌≡◌, ◌≤◌, ◌<◌, ◌==◌, true, length, OnErr, OnOk, IfOk, IfErr, IfSome, IsTrue, vec_len, vec_capacity};
 ghost use Rattle.std.specs.List.{position};
-ghost use Rattle.session_core.specs.HeldPins.{HoldsAll, HoldsAll-prop, MayGiveBack};
-ghost use Rattle.session_core.specs.Calls.{IsClosed};
-ghost use Rattle.host_types.specs.CrashStates.{AddsNone};
+ghost use Rattle.session_core.specs.HeldPins.{HoldsAll, HoldsAll-prop};
 ghost use Rattle.session_core.specs.Sessions.{pins_of, AreSound, AreSound-prop};
 
 use crate::drawing::draw;
 use crate::phase::{hear, hear_end, new_phase};
-use crate::pins::give_back;
+use crate::pins::{end_all, give_back};
 use crate::session::Session;
 use crate::{Drawn, HubFault, InputStatus};
 use host_types::{Change, Stamp};
@@ -43,33 +41,18 @@ fn place_in<P>(sessions: &[Session<P>], id: u64) -> Option<usize>
     sessions.iter().position(|session| session.id == id)
 }
 
-/// Ends all sessions, and gives their pins back.
-fn end_all<S: SearchKeeper>(site: S, sessions: Vec<Session<S::Pin>>) -> S
-    requires { HoldsAll (S.site_state site) (pins_of S.pinned sessions.items) }
-    ensures { IsClosed S.site_state S.crash_states site result }
-{
-    let mut site = site;
-    let mut sessions = sessions;
-    while !sessions.is_empty() {
-        let Session { id: _, phase } = sessions.remove(0);
-        give_back(&mut site, phase);
-    }
-    sessions.destroy_empty();
-    site
-}
-
 impl<S: SearchKeeper> Hub<S> {
     ghost use Rattle.session_core.specs.World.{Reply, started, phase_of};
     ghost use Rattle.std.specs.Prelude.{◌⊎◌, false};
     ghost use Rattle.host_types.specs.SiteState.{IsUnchangedBehind, Rose};
-    ghost use Rattle.host_types.specs.CrashStates.{AddsOnly, may_crash_to};
-    ghost use Rattle.session_core.specs.HeldPins.{HoldsForReplies};
+    ghost use Rattle.host_types.specs.CrashStates.{AddsOnly, AddsNone, may_crash_to};
+    ghost use Rattle.session_core.specs.HeldPins.{HoldsForReplies, MayGiveBack};
     ghost use Rattle.session_core.specs.Understood.{KeepsSite, HasBegun};
     ghost use Rattle.session_core.specs.Run.{Step, change_in};
     ghost use Rattle.session_core.specs.RunCrashStates.{RepresentsBy};
     ghost use Rattle.session_core.specs.Outcomes.{join_outcome, bytes_outcome, draw_outcome, drawn_length, leave_outcome, admin_outcome};
     ghost use Rattle.session_core.specs.Hub.{keeper_of, seats_of, world_of};
-    ghost use Rattle.session_core.specs.Calls.{HubCall};
+    ghost use Rattle.session_core.specs.Calls.{HubCall, IsClosed};
     ghost use Rattle.session_core.specs.declared.event.Event.TheVariants.{Join, Bytes, End, Draw, Leave, Admin};
     ghost use Rattle.session_core.specs.Causes.{IsLacking, IsHeardCause, IsDrawCause, IsAdminCause, IsAsBefore};
     ghost use Rattle.session_core.specs.declared.fault.HubFault.TheVariants.{Memory, Broken};

@@ -8,7 +8,7 @@ ghost use Rattle.session_core.specs.Step.{listens, ends, with_change};
 ghost use Rattle.session_core.specs.Run.{is_hearing};
 ghost use Rattle.session_core.specs.Causes.{IsLacking};
 ghost use Rattle.session_core.specs.HeldPins.{MovesPins};
-ghost use Rattle.session_core.specs.Understood.{reply_by, answered, post_of, IsPostFault, IsHearFault, HasWorked, HasRoomFor};
+ghost use Rattle.session_core.specs.Understood.{reply_by, answered, post_of, IsPostFault, IsHearFault, HasWorked, HasRoomFor, next_outcome};
 ghost use Rattle.site_replies.specs.PostReply.{IsRight};
 ghost use Rattle.site_replies.specs.Replies.{answer_of, IsSized, PostsNoView, reply_bytes};
 ghost use Rattle.session_core.specs.Outcomes.{heard_outcome};
@@ -192,6 +192,84 @@ fn conclude<S: SearchKeeper>(
     }
 }
 
+/// A piece comes to a request that isn't whole yet. It gives the next phase, where there is one.
+fn hear_piece<S: SearchKeeper>(
+    alloc: Global,
+    site: &mut S,
+    hearing: &mut Hearing,
+    piece: &[u8],
+    now: Stamp,
+) -> Result<Option<(InputStatus, Phase<S::Pin>)>, HubFault>
+    requires usable { (S.site_state site.old).usable ≡ true }
+    requires room { length (S.site_state site.old).pins < most_pins }
+    ensures gives { IsTrue (S.site_state site.old).honest → IfOk result (λ next. next_outcome next ≡ (listens (S.site_state site.old).site now piece.now (world.Heard hearing.old.reader.input.bytes)).outcome) }
+    ensures open { IsTrue (S.site_state site.old).honest → IfOk result (λ next. next ≡ None → world.Heard hearing.new.reader.input.bytes ≡ (listens (S.site_state site.old).site now piece.now (world.Heard hearing.old.reader.input.bytes)).phase) }
+    ensures phase { IsTrue (S.site_state site.old).honest → IfOk result (λ next. IfSome next (λ n. phase_of S.pinned (S.site_state site.new) n.1 ≡ (listens (S.site_state site.old).site now piece.now (world.Heard hearing.old.reader.input.bytes)).phase)) }
+    ensures err { OnErr result (hearing.new.reader.input.bytes ≡ hearing.old.reader.input.bytes) }
+    ensures sound { IsTrue (S.site_state site.old).honest → IfOk result (λ next. IfSome next (λ n. IsSound S.pinned (S.site_state site.new) n.1)) }
+    ensures pins { IfOk result (λ next. IfSome next (λ n. MovesPins (S.site_state site.old) (S.site_state site.new) None (pin_of S.pinned n.1))) }
+    ensures pins_stay { IfOk result (λ next. next ≡ None → (S.site_state site.new).pins ≡ (S.site_state site.old).pins) }
+    ensures pins_after_fault { OnErr result ((S.site_state site.new).pins ≡ (S.site_state site.old).pins) }
+    ensures done { IsTrue (S.site_state site.old).honest → OnOk result ((S.site_state site.new).site ≡ with_change (S.site_state site.old).site now (listens (S.site_state site.old).site now piece.now (world.Heard hearing.old.reader.input.bytes)).post) }
+    ensures still_usable { OnOk result ((S.site_state site.new).usable ≡ true) }
+    ensures fault { IfErr result (IsPostFault (IsLacking (S.lacks site.old)) (listens (S.site_state site.old).site now piece.now (world.Heard hearing.old.reader.input.bytes)).post now (S.site_state site.old) (S.site_state site.new)) }
+    ensures worked { HasWorked (S.site_state site.old) (S.site_state site.new) }
+    ensures unchanged { IsTrue (S.site_state site.old).honest → IfErr result (λ e. (S.site_state site.new).usable ≡ true → AddsNone (S.crash_states site.old) (S.crash_states site.new)) }
+    ensures at_crash { IsTrue (S.site_state site.old).honest → AddsOnly (S.crash_states site.old) (S.crash_states site.new)
+        (λ c. S.represents c (S.site_state site.old).site ⊎ S.represents c (with_change (S.site_state site.old).site now (listens (S.site_state site.old).site now piece.now (world.Heard hearing.old.reader.input.bytes)).post)) }
+{
+    let Ok(answer) = hearing.reader.feed(piece) else {
+        return Err(HubFault::Memory);
+    };
+    if let Answer::More = answer {
+        return Ok(None);
+    }
+    let concluded = conclude(alloc, site, answer, now);
+    hearing.reader.undo();
+    match concluded {
+        Ok(next) => Ok(Some(next)),
+        Err(fault) => Err(fault),
+    }
+}
+
+/// The input ends before a request is whole. It gives the next phase.
+fn hear_last<S: SearchKeeper>(
+    alloc: Global,
+    site: &mut S,
+    hearing: &mut Hearing,
+    now: Stamp,
+) -> Result<Option<(InputStatus, Phase<S::Pin>)>, HubFault>
+    requires usable { (S.site_state site.old).usable ≡ true }
+    requires room { length (S.site_state site.old).pins < most_pins }
+    ensures gives { IsTrue (S.site_state site.old).honest → IfOk result (λ next. next_outcome next ≡ (ends (S.site_state site.old).site now (world.Heard hearing.old.reader.input.bytes)).outcome) }
+    ensures open { IsTrue (S.site_state site.old).honest → IfOk result (λ next. next ≡ None → world.Heard hearing.new.reader.input.bytes ≡ (ends (S.site_state site.old).site now (world.Heard hearing.old.reader.input.bytes)).phase) }
+    ensures phase { IsTrue (S.site_state site.old).honest → IfOk result (λ next. IfSome next (λ n. phase_of S.pinned (S.site_state site.new) n.1 ≡ (ends (S.site_state site.old).site now (world.Heard hearing.old.reader.input.bytes)).phase)) }
+    ensures err { OnErr result (hearing.new.reader.input.bytes ≡ hearing.old.reader.input.bytes) }
+    ensures sound { IsTrue (S.site_state site.old).honest → IfOk result (λ next. IfSome next (λ n. IsSound S.pinned (S.site_state site.new) n.1)) }
+    ensures pins { IfOk result (λ next. IfSome next (λ n. MovesPins (S.site_state site.old) (S.site_state site.new) None (pin_of S.pinned n.1))) }
+    ensures pins_stay { IfOk result (λ next. next ≡ None → (S.site_state site.new).pins ≡ (S.site_state site.old).pins) }
+    ensures pins_after_fault { OnErr result ((S.site_state site.new).pins ≡ (S.site_state site.old).pins) }
+    ensures done { IsTrue (S.site_state site.old).honest → OnOk result ((S.site_state site.new).site ≡ with_change (S.site_state site.old).site now (ends (S.site_state site.old).site now (world.Heard hearing.old.reader.input.bytes)).post) }
+    ensures still_usable { OnOk result ((S.site_state site.new).usable ≡ true) }
+    ensures fault { IfErr result (IsPostFault (IsLacking (S.lacks site.old)) (ends (S.site_state site.old).site now (world.Heard hearing.old.reader.input.bytes)).post now (S.site_state site.old) (S.site_state site.new)) }
+    ensures worked { HasWorked (S.site_state site.old) (S.site_state site.new) }
+    ensures unchanged { IsTrue (S.site_state site.old).honest → IfErr result (λ e. (S.site_state site.new).usable ≡ true → AddsNone (S.crash_states site.old) (S.crash_states site.new)) }
+    ensures at_crash { IsTrue (S.site_state site.old).honest → AddsOnly (S.crash_states site.old) (S.crash_states site.new)
+        (λ c. S.represents c (S.site_state site.old).site ⊎ S.represents c (with_change (S.site_state site.old).site now (ends (S.site_state site.old).site now (world.Heard hearing.old.reader.input.bytes)).post)) }
+{
+    let answer = hearing.reader.finish();
+    if let Answer::More = answer {
+        hearing.reader.undo();
+        return Ok(None);
+    }
+    let concluded = conclude(alloc, site, answer, now);
+    hearing.reader.undo();
+    match concluded {
+        Ok(next) => Ok(Some(next)),
+        Err(fault) => Err(fault),
+    }
+}
+
 /// Puts a session that has heard its request into its next phase.
 fn answer_with<S: SearchKeeper>(site: &mut S, phase: &mut Phase<S::Pin>, next: Phase<S::Pin>)
     requires { pin_of S.pinned phase.old ≡ None }
@@ -225,22 +303,16 @@ pub fn hear<S: SearchKeeper>(
     ensures at_crash { IsTrue (S.site_state site.old).honest → AddsOnly (S.crash_states site.old) (S.crash_states site.new)
         (λ c. S.represents c (S.site_state site.old).site ⊎ S.represents c (with_change (S.site_state site.old).site now (listens (S.site_state site.old).site now piece.now (phase_of S.pinned (S.site_state site.old) phase.old)).post)) }
 {
-    let hearing = match phase {
-        Phase::Hearing(hearing) => hearing,
+    let heard = match phase {
+        Phase::Hearing(hearing) => hear_piece(alloc, site, hearing, piece, now)?,
         Phase::Replying(_) | Phase::Drawing(_) | Phase::Drawn => return Ok(InputStatus::Ready),
         Phase::Early => return Ok(InputStatus::Finished),
     };
-    let Ok(answer) = hearing.reader.feed(piece) else {
-        return Err(HubFault::Memory);
-    };
-    if let Answer::More = answer {
+    let Some((status, next)) = heard else {
         return Ok(InputStatus::More);
-    }
-    let concluded = conclude(alloc, site, answer, now);
-    hearing.reader.undo();
-    let (heard, next) = concluded?;
+    };
     answer_with(site, phase, next);
-    Ok(heard)
+    Ok(status)
 }
 
 /// The input ends. An `Err` leaves the phase as it was.
@@ -265,19 +337,14 @@ pub fn hear_end<S: SearchKeeper>(
     ensures at_crash { IsTrue (S.site_state site.old).honest → AddsOnly (S.crash_states site.old) (S.crash_states site.new)
         (λ c. S.represents c (S.site_state site.old).site ⊎ S.represents c (with_change (S.site_state site.old).site now (ends (S.site_state site.old).site now (phase_of S.pinned (S.site_state site.old) phase.old)).post)) }
 {
-    let hearing = match phase {
-        Phase::Hearing(hearing) => hearing,
+    let heard = match phase {
+        Phase::Hearing(hearing) => hear_last(alloc, site, hearing, now)?,
         Phase::Replying(_) | Phase::Drawing(_) | Phase::Drawn => return Ok(InputStatus::Ready),
         Phase::Early => return Ok(InputStatus::Finished),
     };
-    let answer = hearing.reader.finish();
-    if let Answer::More = answer {
-        hearing.reader.undo();
+    let Some((status, next)) = heard else {
         return Ok(InputStatus::More);
-    }
-    let concluded = conclude(alloc, site, answer, now);
-    hearing.reader.undo();
-    let (heard, next) = concluded?;
+    };
     answer_with(site, phase, next);
-    Ok(heard)
+    Ok(status)
 }

@@ -1,12 +1,13 @@
 // Pins that sessions hold.
 ghost use Rattle.std.specs.Prelude.{◌≡◌, ◌<◌, None, OnErr, IfOk, IfErr, IfSome, IsTrue, length};
-ghost use Rattle.host_types.specs.SiteState.{SiteState, LacksTheSame};
+ghost use Rattle.host_types.specs.SiteState.{SiteState};
 ghost use Rattle.host_types.specs.CrashStates.{AddsNone};
 ghost use Rattle.host_types.specs.Pins.{is_out, most_pins};
-ghost use Rattle.session_core.specs.HeldPins.{MovesPins, MayGiveBack};
-ghost use Rattle.session_core.specs.Sessions.{pin_of};
+ghost use Rattle.session_core.specs.HeldPins.{HoldsAll, MovesPins, MayGiveBack};
+ghost use Rattle.session_core.specs.Calls.{IsClosed};
+ghost use Rattle.session_core.specs.Sessions.{pin_of, pins_of};
 
-use crate::session::{Drawing, Phase};
+use crate::session::{Drawing, Phase, Session};
 use host_types::SiteKeeper;
 
 /// Gives back the pin of a phase, where it holds one.
@@ -24,4 +25,19 @@ pub fn give_back<S: SiteKeeper>(site: &mut S, phase: Phase<S::Pin>)
         Phase::Drawing(Drawing { pin, view: _ }) => site.unpin_site(pin),
         Phase::Drawn | Phase::Early => {}
     }
+}
+
+/// Ends all sessions, and gives their pins back.
+pub fn end_all<S: SiteKeeper>(site: S, sessions: Vec<Session<S::Pin>>) -> S
+    requires { HoldsAll (S.site_state site) (pins_of S.pinned sessions.items) }
+    ensures { IsClosed S.site_state S.crash_states site result }
+{
+    let mut site = site;
+    let mut sessions = sessions;
+    while !sessions.is_empty() {
+        let Session { id: _, phase } = sessions.remove(0);
+        give_back(&mut site, phase);
+    }
+    sessions.destroy_empty();
+    site
 }

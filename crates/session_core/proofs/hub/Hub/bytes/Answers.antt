@@ -1,4 +1,4 @@
-use Rattle.std.proofs.Common.{◌≡◌, true, false, refl, sym, ap, subst, ◌∙◌, rules, inl}
+use Rattle.std.proofs.Common.{◌≡◌, true, false, length, set, refl, sym, ap, subst, ◌∙◌, rules, arith, inl}
 use Rattle.std.specs.Prelude.{◌==◌, not, IsTrue}
 use Rattle.std.specs.List.{position}
 use Rattle.session_core.specs.Step.{listens, with_change}
@@ -7,7 +7,10 @@ use Rattle.session_core.specs.declared.event.Event.TheVariants.{Bytes}
 use Rattle.session_core.specs.declared.event.Outcome.TheVariants.{Fault}
 use Rattle.session_core.specs.declared.session.Session.{Session}
 use Rattle.session_core.specs.Outcomes.{bytes_outcome}
-use Rattle.session_core.specs.Sessions.{phase_of}
+use Rattle.session_core.specs.Sessions.{phase_of, sessions_of}
+use Rattle.session_core.proofs.SeatPlaces.{seat, seat_below, nobody}
+use Rattle.session_core.proofs.SeatsMoved.{session_moves}
+use Rattle.session_core.proofs.SeatsHeld.{sound_at, room_at}
 use Rattle.session_core.proofs.Hearings.{post_is, heard_cause, heard_at_crash}
 use Rattle.session_core.proofs.FaultsKeep.{as_before}
 use Rattle.session_core.proofs.Steps.{answered_by, hears, unheard, only_changes, seats_stay}
@@ -36,7 +39,7 @@ returns-then-not-is_usable g c =
         honest = refl;
         site = refl;
         flag = refl;
-        steady = steady w _ _ (Fault Failed) _ answers refl;
+        steady = steady g.S.SiteKeeper.site_state w _ _ (Fault Failed) _ answers refl;
         acknowledged = λ honest. tt;
         leaves = λ honest. stays_none_added _ _;
       };
@@ -47,8 +50,10 @@ pub returns-in_default : goal.returns-in_default
 returns-in_default g c =
     let k = g.S.SiteKeeper.site_state c.args.self.now.site in
     let usable : k.usable ≡ true = search rules in
-    let step = unheard k c.args.self.now.next c.args.self.now.sessions.items c.args.id c.args.now (Bytes c.args.id c.args.piece.now c.args.now) (listens k.site c.args.now c.args.piece.now) usable
-    (ap (position (λ (s : Session). s.id == c.args.id)) (sym c.deref.ensures.value) ∙ sym c.place_in.ensures.place ∙ c.in_default.is) refl in
+    let items = c.args.self.now.sessions.items in
+    let found = ap (position (λ (x : Session g.row.S-Pin.Denot). x.id == c.args.id)) (sym c.deref.ensures.value) ∙ sym c.place_in.ensures.place ∙ c.in_default.is in
+    let step = unheard k c.args.self.now.next (sessions_of g.S.SiteKeeper.pinned k items) c.args.id c.args.now (Bytes c.args.id c.args.piece.now c.args.now) (listens k.site c.args.now c.args.piece.now) usable
+    (nobody g.S.SiteKeeper.pinned k items c.args.id found) refl in
     record {
       step = λ honest. step;
       as_before = λ honest. refl;
@@ -63,11 +68,37 @@ returns-in_default g c =
         honest = refl;
         site = refl;
         flag = refl;
-        steady = steady_fault _ _ (Bytes c.args.id c.args.piece.now c.args.now) Unknown (ap not usable) (λ is. cc is);
+        steady = steady_fault g.S.SiteKeeper.site_state _ _ (Bytes c.args.id c.args.piece.now c.args.now) Unknown (ap not usable) (λ is. cc is);
         acknowledged = λ honest. tt;
         leaves = λ honest. stays_none_added _ _;
       };
       acknowledged = λ honest. tt;
+    }
+
+pub hear-requires-clause-room : goal.hear-requires-clause-room
+hear-requires-clause-room g c =
+    let s = g.S.SiteKeeper in
+    let items = c.args.self.now.sessions.items in
+    let found = ap (position (λ (x : Session g.row.S-Pin.Denot). x.id == c.args.id)) (sym c.deref.ensures.value) ∙ sym c.in-Some.ensures.place in
+    room_at s.pinned (s.site_state c.args.self.now.site) items c.args.id c.in-Some.at c.index_mut-session.result.now found c.index_mut-session.ensures.value c.args.self.now.held (omega (arith, c.args.self.now.few))
+
+pub invariant_of-self-2 : goal.invariant_of-self-2
+invariant_of-self-2 g c =
+    let s = g.S.SiteKeeper in
+    let k = s.site_state c.args.self.now.site in
+    let l = s.site_state c.hear.new.site in
+    let items = c.args.self.now.sessions.items in
+    let x = c.index_mut-session.result.now in
+    let found = ap (position (λ (x : Session g.row.S-Pin.Denot). x.id == c.args.id)) (sym c.deref.ensures.value) ∙ sym c.in-Some.ensures.place in
+    let read = c.index_mut-session.ensures.value in
+    let moved = session_moves s.pinned k l items c.args.id c.in-Some.at x c.hear.new.phase found read c.args.self.now.held c.hear.ensures.pins in
+    record {
+      room = search rules;
+      few = search rules;
+      held = moved.held;
+      sound = λ honest.
+          let before = subst IsTrue c.hear.ensures.worked.honest honest in
+          moved.sound (c.args.self.now.sound before) (c.hear.ensures.sound before (sound_at s.pinned k items c.in-Some.at x (seat_below s.pinned items c.args.id c.in-Some.at found) read (c.args.self.now.sound before)));
     }
 
 pub returns : goal.returns
@@ -79,33 +110,39 @@ returns g c =
     let items = c.args.self.now.sessions.items in
     let session = c.index_mut-session.result.now in
     let usable : k.usable ≡ true = search rules in
-    let found = ap (position (λ (s : Session). s.id == c.args.id)) (sym c.deref.ensures.value) ∙ sym c.in-Some.ensures.place in
+    let pinned = g.S.SiteKeeper.pinned in
+    let found = ap (position (λ (x : Session g.row.S-Pin.Denot). x.id == c.args.id)) (sym c.deref.ensures.value) ∙ sym c.in-Some.ensures.place in
     let read = c.index_mut-session.ensures.value in
-    let post = post_is items c.args.id c.in-Some.at session (listens k.site c.args.now c.args.piece.now) found read in
-    let kept = seats_stay items c.args.id c.in-Some.at session c.hear.new.phase c.hear.result found read c.hear.ensures.err in
-    let cause = heard_cause k l lacking c.args.now (phase_of session.phase) _ _ c.hear.result usable post c.hear.ensures.fault in
-    let step = λ (honest : IsTrue k.honest). hears k l lacking c.args.self.now.next items c.args.id c.in-Some.at c.args.now session c.hear.new.phase (Bytes c.args.id c.args.piece.now c.args.now) (listens k.site c.args.now c.args.piece.now) c.hear.result
-    (only_changes (g.S.SiteKeeper.lacks c.args.self.now.site) c.args.now) honest usable found read
-    refl refl refl (c.hear.ensures.gives honest) (c.hear.ensures.phase honest) (c.hear.ensures.done honest) c.hear.ensures.still_usable c.hear.ensures.err c.hear.ensures.fault in
-    let at_crash = λ (honest : IsTrue k.honest). heard_at_crash _ _ g.S.SiteKeeper.represents k l lacking w (record w { site = l.site }) (Bytes c.args.id c.args.piece.now c.args.now) c.args.now (phase_of session.phase) _ c.hear.result (ap not usable) usable
+    let place = seat pinned k items c.args.id c.in-Some.at session found read in
+    let moved = session_moves pinned k l items c.args.id c.in-Some.at session c.hear.new.phase found read c.args.self.now.held c.hear.ensures.pins in
+    let old = sessions_of pinned k items in
+    let phase = phase_of pinned k session.phase in
+    let next = phase_of pinned l c.hear.new.phase in
+    let post = post_is old c.args.id phase (listens k.site c.args.now c.args.piece.now) place.there in
+    let kept = seats_stay old _ c.args.id phase next c.hear.result moved.seen place.stays c.hear.ensures.err in
+    let cause = heard_cause k l lacking c.args.now phase _ _ c.hear.result usable post c.hear.ensures.fault in
+    let step = λ (honest : IsTrue k.honest). hears k l lacking c.args.self.now.next old _ c.args.id c.args.now phase next (Bytes c.args.id c.args.piece.now c.args.now) (listens k.site c.args.now c.args.piece.now) c.hear.result
+    (only_changes (g.S.SiteKeeper.lacks c.args.self.now.site) c.args.now) honest usable place.there moved.seen place.stays
+    refl refl refl refl (c.hear.ensures.gives honest) (c.hear.ensures.phase honest) (c.hear.ensures.done honest) c.hear.ensures.still_usable c.hear.ensures.err c.hear.ensures.fault in
+    let at_crash = λ (honest : IsTrue k.honest). heard_at_crash _ _ g.S.SiteKeeper.represents k l lacking w (record w { site = l.site }) (Bytes c.args.id c.args.piece.now c.args.now) c.args.now phase _ c.hear.result (ap not usable) usable
     (ap (with_change k.site c.args.now) post) refl (c.hear.ensures.done honest) (c.hear.ensures.at_crash honest) (c.hear.ensures.unchanged honest) c.hear.ensures.fault in
     record {
       step = step;
       as_before = λ honest. as_before _ _ _ bytes_outcome (λ fault. refl) c.hear.result (step honest);
       cause = cause;
       kept = kept;
-      honest = c.hear.ensures.tried.honest;
+      honest = c.hear.ensures.worked.honest;
       at_crash = at_crash;
       closed = λ off. (let no : true ≡ false = sym usable ∙ off in absurd (cc no));
       call = record {
         step = step;
         cause = heard_fault c.hear.result _ cause;
-        honest = c.hear.ensures.tried.honest;
+        honest = c.hear.ensures.worked.honest;
         site = refl;
         flag = refl;
-        steady = heard_steady g.S.SiteKeeper.site_state _ _ (Bytes c.args.id c.args.piece.now c.args.now) _ c.hear.new.site lacking (phase_of session.phase) _ c.args.now c.hear.result (ap not usable) usable refl refl kept c.hear.ensures.still_usable c.hear.ensures.fault;
-        acknowledged = λ honest. acknowledged_of g.S.SiteKeeper.site_state g.S.SiteKeeper.crash_states g.S.SiteKeeper.represents _ _ c.hear.new.site (g.met.S.SiteKeeper.crash_states_represent c.hear.new.site) (subst IsTrue (sym c.hear.ensures.tried.honest) honest) refl refl;
+        steady = heard_steady g.S.SiteKeeper.site_state _ _ (Bytes c.args.id c.args.piece.now c.args.now) _ c.hear.new.site lacking phase _ c.args.now c.hear.result (ap not usable) usable refl refl kept c.hear.ensures.still_usable c.hear.ensures.fault;
+        acknowledged = λ honest. acknowledged_of g.S.SiteKeeper.site_state g.S.SiteKeeper.crash_states g.S.SiteKeeper.represents _ _ c.hear.new.site (g.met.S.SiteKeeper.crash_states_represent c.hear.new.site) (subst IsTrue (sym c.hear.ensures.worked.honest) honest) refl refl;
         leaves = at_crash;
       };
-      acknowledged = λ honest. heard_acknowledged l.usable _ c.hear.result c.hear.ensures.still_usable (λ unchanged left may. g.met.S.SiteKeeper.crash_states_represent c.hear.new.site left (subst IsTrue (sym c.hear.ensures.tried.honest) honest) unchanged may);
+      acknowledged = λ honest. heard_acknowledged l.usable _ c.hear.result c.hear.ensures.still_usable (λ unchanged left may. g.met.S.SiteKeeper.crash_states_represent c.hear.new.site left (subst IsTrue (sym c.hear.ensures.worked.honest) honest) unchanged may);
     }
