@@ -91,10 +91,7 @@ impl TextPipe {
         ensures { result ≡ self.now }
     {
         let mut ready = Ready::new();
-        if ready
-            .try_extend_from_slice(self.ready.as_slice())
-            .is_err()
-        {
+        if ready.try_extend_from_slice(self.ready.as_slice()).is_err() {
             unreachable!();
         }
         TextPipe {

@@ -1,8 +1,8 @@
 -- Chunks of a view.
-use Rattle.std.proofs.Common.{◌≡◌, ◌+◌, ◌-◌, ◌*◌, ◌≤◌, ◌<◌, ◌/◌, ◌%◌, ◌⊎◌, inl, inr, ℕ, List, [], ◌++◌, ap, sym, ◌∙◌, subst, take, drop, length, append_assoc, length-drop, refl, arith}
+use Rattle.std.proofs.Common.{◌≡◌, ◌+◌, ◌-◌, ◌*◌, ◌≤◌, ◌<◌, ◌/◌, ◌%◌, ◌⊎◌, inl, inr, ℕ, List, ◌++◌, ap, sym, ◌∙◌, subst, take, drop, length, length-drop, arith}
 use Rattle.std.specs.Prelude.{Option, Some, IfSome}
 use Prim.Native.Nat.{min}
-use Rattle.std.proofs.lemmas.List.{take_all, drop_all, drop-drop, length-take, take_min, take-append-drop, drop-append-le}
+use Rattle.std.proofs.lemmas.List.{drop-drop, length-take, take_min, take-append-drop, drop-append-le}
 use Rattle.host_types.specs.Card.{chunk_of}
 
 pub chunk_length : (body : List ℕ) (k n size : ℕ) → length body ≡ size → n ≡ min (size - 1000 * k) 1000 → length (chunk_of body k) ≡ n

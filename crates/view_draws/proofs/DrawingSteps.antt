@@ -1,11 +1,11 @@
 -- One step of drawing after another.
-use Rattle.std.proofs.Common.{◌≡◌, ◌+◌, ◌-◌, ◌≤◌, ◌<◌, ◌++◌, ◌⊎◌, inl, inr, ℕ, Bool, List, [], ap, sym, ◌∙◌, subst, refl, take, drop, length, arith}
-use Rattle.std.specs.Prelude.{IsTrue}
-use Rattle.std.proofs.lemmas.List.{drop-drop, drop_all, length-take}
+use Rattle.std.proofs.Common.{◌≡◌, ◌+◌, ◌-◌, ◌≤◌, ◌++◌, ℕ, List, ap, sym, ◌∙◌, subst, refl, take, drop, length, arith}
+use Rattle.std.proofs.lemmas.List.{drop-drop, length-take}
 use Rattle.host_types.specs.SiteState.{SiteState, HasRead, IsUnchangedBehind}
 use Rattle.host_types.specs.Pins.{Pinned, pinned_items, viewed_among}
 use Rattle.view_draws.specs.Drawing.{HasPassed}
-use Rattle.view_draws.specs.Source.{viewed_by, IsSameView, IsViewOf}
+use Rattle.view_draws.specs.Progress.{body_left}
+use Rattle.view_draws.specs.Source.{viewed_by, IsSameView}
 use Rattle.view_draws.specs.declared.progress.Progress.{Progress}
 use Rattle.view_draws.specs.declared.source.ViewSource.{ViewSource}
 use Rattle.view_draws.proofs.LaterReads.{pinned_same}
@@ -47,9 +47,9 @@ viewed_same a b pin s t read same =
     ∙ ap (λ selector. viewed_among (pinned_items a pin) selector t.view) same.selector
     ∙ ap (λ view. viewed_among (pinned_items a pin) s.selector view) same.view
 
--- What was given up to a place is the front of what was to be given.
-pub partly_given : (end : ℕ) (out left whole : List ℕ) → end ≤ length out → take end out ++ left ≡ whole → take end out ≡ take end whole
-partly_given end out left whole within is = front_given end (take end out) left whole (omega (arith, length-take end out, within)) is
+-- what one step gave of the view, and those before it, where its bytes are known by two names
+pub given_on : (now body before mid after : List ℕ) (p q r : Progress) → now ≡ body → after ++ body_left r now ≡ mid ++ body_left q now → mid ++ body_left q body ≡ before ++ body_left p body → after ++ body_left r body ≡ before ++ body_left p body
+given_on now body before mid after p q r same step first = subst (λ bytes. after ++ body_left r bytes ≡ mid ++ body_left q bytes) same step ∙ first
 
 -- what the end of a view gives, once all before it was given
 pub passed_at_end : (source : ViewSource) (p q r : Progress) (first mid last : List ℕ) (at half end : ℕ) → HasPassed source p q first mid at half → half ≤ end → end ≤ length last → IsUnchangedBehind end mid last → r.head_drawn ≡ q.head_drawn → r.taken ≡ q.taken → HasPassed source p r first last at end

@@ -1,6 +1,6 @@
 -- One call that only reads after another.
-use Rattle.std.proofs.Common.{◌≡◌, ◌≤◌, ℕ, Bool, ◌∙◌, ap, sym, subst, arith, refl, inl, inr}
-use Rattle.std.specs.Prelude.{IsTrue, true, false, map, ◌==◌}
+use Rattle.std.proofs.Common.{◌≡◌, ◌≤◌, ℕ, ◌∙◌, ap, sym, subst, arith, refl, inl, inr}
+use Rattle.std.specs.Prelude.{IsTrue, false, map, ◌==◌}
 use Rattle.std.specs.Map.{lookup}
 use Rattle.std.proofs.lemmas.Bool.{cases_lt}
 use Rattle.common_types.specs.CrashStates.{CrashStates, no_new_crash_state, adds_none_again}

@@ -1,7 +1,7 @@
 -- Bytes that were put into a buffer from a place on.
-use Rattle.std.proofs.Common.{◌≡◌, ◌+◌, ◌-◌, ◌≤◌, ℕ, List, [], ◌++◌, ap, sym, ◌∙◌, take, drop, length, append_assoc, append-nil, length-append, length-drop, arith}
+use Rattle.std.proofs.Common.{◌≡◌, ◌+◌, ◌-◌, ◌≤◌, ℕ, List, [], ◌++◌, ap, sym, ◌∙◌, take, drop, length, append_assoc, append-nil, length-drop, arith}
 use Rattle.std.proofs.Math.Seq.{take-append-add, drop-append-add}
-use Rattle.std.proofs.lemmas.List.{take_all, drop_all, drop-drop, take-append-le, drop-append-le, length-take, take-append-drop}
+use Rattle.std.proofs.lemmas.List.{take_all, drop_all, drop-drop, take-append-le, drop-append-le, length-take}
 use borrow.Rule.Slice.PartMut.{put_mid, mid_of}
 
 -- the part from a place to the end

@@ -1,6 +1,6 @@
 -- What was given of the head and then of the view.
-use Rattle.std.proofs.Common.{◌≡◌, ◌+◌, ◌-◌, ◌≤◌, ◌<◌, ◌++◌, ◌⊎◌, inl, inr, ℕ, Bool, List, [], ap, sym, ◌∙◌, subst, refl, take, drop, length, append-nil, length-append, length-drop, arith}
-use Rattle.std.specs.Prelude.{IsTrue, Result, Ok, Err, OnErr}
+use Rattle.std.proofs.Common.{◌≡◌, ◌≤◌, ◌++◌, ◌⊎◌, inl, inr, ℕ, List, [], ap, sym, ◌∙◌, refl, take, drop, length, append-nil, length-append, length-drop, arith}
+use Rattle.std.specs.Prelude.{Result, Ok, Err, OnErr}
 use Rattle.std.proofs.lemmas.List.{take_all, drop_all, length-take, take-append-le}
 use Rattle.view_draws.specs.Progress.{body_left, left_of}
 use Rattle.view_draws.specs.declared.progress.Progress.{Progress}

@@ -4,9 +4,9 @@ ghost use Rattle.host_types.specs.SiteState.{IsUnchangedBehind, IsReadFault};
 ghost use Rattle.host_types.specs.Pins.{is_out};
 ghost use Rattle.view_draws.specs.Reading.{ReadsOnly};
 
+use crate::drawing::draw_body;
 use crate::progress::Progress;
 use crate::source::ViewSource;
-use crate::drawing::draw_body;
 use host_types::{Bytes, Selector, SiteFault, SiteKeeper};
 
 /// A reply that is the bytes of a view of a pinned site, as a text or as they are, behind a head. It is drawn by parts.

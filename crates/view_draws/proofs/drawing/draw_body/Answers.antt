@@ -1,9 +1,8 @@
-use Rattle.std.proofs.Common.{◌≡◌, ◌++◌, take, sym, subst, ◌∙◌}
+use Rattle.std.proofs.Common.{◌≡◌, take, sym, subst}
 use Rattle.std.specs.Prelude.{IsTrue}
 use Rattle.view_draws.specs.Source.{viewed_by, IsViewOf}
-use Rattle.view_draws.specs.Progress.{body_left}
 use Rattle.view_draws.proofs.LaterReads.{still_honest, only_on}
-use Rattle.view_draws.proofs.DrawingSteps.{passed_on, passed_at_end, same_on, viewed_same}
+use Rattle.view_draws.proofs.DrawingSteps.{given_on, passed_on, passed_at_end, same_on, viewed_same}
 use Rattle.view_draws.proofs.drawing.draw_body.Goals as goal
 
 pub loop-progress-preserved : goal.loop-progress-preserved
@@ -25,9 +24,8 @@ loop-progress-preserved g c =
       only = only_on site_state g.S.SiteKeeper.lacks g.S.SiteKeeper.crash_states c.args.site.now c.loop-progress.site new.site before.only step.only;
       of = λ honest of. subst (λ bytes. IsViewOf bytes new.source) same_body (step.given (still_honest a b before.only.kept honest) (of_now honest of)).0;
       given = λ honest of.
-        subst (λ bytes. take c.in_ok-end.end new.out ++ body_left new.progress bytes ≡ take c.loop-progress.end c.loop-progress.out ++ body_left c.loop-progress.progress bytes) same_body
-        (step.given (still_honest a b before.only.kept honest) (of_now honest of)).1
-        ∙ before.given honest of;
+          given_on now body (take c.args.at c.args.out.now) (take c.loop-progress.end c.loop-progress.out) (take c.in_ok-end.end new.out) c.args.progress.now c.loop-progress.progress new.progress same_body
+          (step.given (still_honest a b before.only.kept honest) (of_now honest of)).1 (before.given honest of);
     }
 
 pub returns-clause-passed : goal.returns-clause-passed

@@ -1,4 +1,4 @@
-use Rattle.std.proofs.Common.{◌+◌, drop, length, sym, ◌∙◌, arith}
+use Rattle.std.proofs.Common.{◌+◌, drop, length, sym, ◌∙◌}
 use Rattle.view_draws.specs.Source.{viewed_by}
 use Rattle.view_draws.proofs.drawing.draw_chunk.Goals as goal
 

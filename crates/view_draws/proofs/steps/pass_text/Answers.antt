@@ -1,4 +1,3 @@
-use Rattle.std.proofs.Common.{sym, ◌∙◌}
 use Rattle.view_draws.proofs.Parts.{given_from_place, behind_written}
 use Rattle.view_draws.proofs.steps.pass_text.Goals as goal
 

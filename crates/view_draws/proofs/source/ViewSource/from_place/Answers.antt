@@ -1,4 +1,4 @@
-use Rattle.std.proofs.Common.{◌≡◌, ◌+◌, ◌*◌, ◌/◌, ◌%◌, ◌<◌, ℕ, List, take, drop, length, ap, sym, ◌++◌, ◌∙◌, arith}
+use Rattle.std.proofs.Common.{◌≡◌, ◌+◌, ◌*◌, ◌/◌, ◌%◌, ◌<◌, take, drop, length, ap, sym, ◌++◌, ◌∙◌, arith}
 use Rattle.host_types.specs.Card.{chunk_of}
 use Rattle.view_draws.proofs.Chunks.{chunk_from, of_place, in_chunk}
 use Rattle.view_draws.proofs.source.ViewSource.from_place.Goals as goal

@@ -33,7 +33,7 @@ returns-in_err-end-clause-begun g c =
       within = part.within;
       behind = part.behind ∙ unchanged_on half part.end mid c.args.out.now part.onward head.ensures.behind;
       next = λ honest of. front_begun start.head body mid new start.progress head.new.self half part.end head.ensures.within part.within size part.onward
-        (head_or_full start.head c.as_slice.result.now mid head.new.self half c.as_slice.ensures head.ensures.progress) first (part.next honest of);
+          (head_or_full start.head c.as_slice.result.now mid head.new.self half c.as_slice.ensures head.ensures.progress) first (part.next honest of);
     })
 
 pub returns-clause-behind : goal.returns-clause-behind
