@@ -10,6 +10,7 @@ pub mod Planned
 pub mod PinsKept
 pub mod StoreAsSite
 pub mod PinsMade
+pub mod PinnedReads
 pub mod NamedItems
 pub mod SitesRead
 pub mod RisingKeys

@@ -1,6 +1,6 @@
 -- A pin more, and a pin less.
 use Rattle.std.proofs.Common.{◌≡◌, ◌<◌, ◌≤◌, ℕ, ◌+◌, Bool, true, false, List, length, Option, Some, None, cond, refl, inl, inr, sym, ap, subst, ◌∙◌, IsTrue, arith, eq-eqb, ne_eqb}
-use Rattle.std.specs.Prelude.{◌==◌, ◌||◌, ◌&&◌, not, IfSome}
+use Rattle.std.specs.Prelude.{◌==◌, ◌||◌, ◌&&◌, not, IfSome, Result, Ok, Err, IfOk, IfErr}
 use Rattle.std.specs.Map.{lookup}
 use Rattle.std.proofs.lemmas.Bool.{cases_eq}
 use Rattle.std.proofs.Props.{props}
@@ -9,15 +9,16 @@ use Rattle.host_types.specs.Site.{Site, Items}
 use Rattle.host_types.specs.Card.{chunk_of, viewed_at}
 use Rattle.host_types.specs.SiteState.{SiteState}
 use Rattle.host_types.specs.SiteState as sites
-use Rattle.host_types.specs.Pins.{Numbered, HasNumbered, HasGivenBack, IsPinFault, items_or_none, items_under_number, pinned_items, viewed_among}
+use Rattle.host_types.specs.Pins.{Numbered, HasNumbered, HasGivenBack, items_or_none, items_under_number, pinned_items, viewed_among}
 use Rattle.host_types.specs.Pins as site_pins
-use Rattle.host_types.specs.declared.pin_fault.SitePinFault.TheVariants as site_faults
 use Rattle.host_types.specs.declared.site_fault.SiteFault.{SiteFault}
 use Rattle.page_store.specs.Content.{is_among}
 use Rattle.page_store.specs.Pages.{Pair}
-use Rattle.page_store.specs.Pins.{is_out, pairs_at, IsPinned, IsUnpinned}
+use Rattle.page_store.specs.Pins.{is_out, pairs_at, IsPinned, IsPinFault, IsUnpinned}
 use Rattle.page_store.specs.StoreState.{StoreState, HasRead, NeedsTheSame, numbers_out}
 use Rattle.page_store.specs.declared.edit.Edit.{Edit}
+use Rattle.page_store.specs.declared.pin_fault.PinFault.{PinFault}
+use Rattle.page_store.specs.declared.pin_fault.PinFault.TheVariants as pin_faults
 use Rattle.page_store.specs.declared.fault.KeeperFault.{KeeperFault}
 use Rattle.site_store.specs.Lacking.{IsLacking}
 use Rattle.site_store.specs.Pinned.{StoodAt, IsPinnedFault}
@@ -59,6 +60,9 @@ same_state old new ko kn same = subst (λ (h : StoreState). (k : HasSite h) → 
 pub pinned_repins : (old new : StoreState) (number : ℕ) → IsPinned old new number → Repinned old new
 pinned_repins old new number pinned = pinned.same ∙ (λ i. record old { pins = new.pins; free = (sym (ap (λ (h : StoreState). h.free) pinned.same)) i })
 
+unchanged_repins : (old new : StoreState) → new ≡ old → Repinned old new
+unchanged_repins old new same = same ∙ (λ i. record old { pins = (sym same i).pins; free = (sym same i).free })
+
 own_items : (h : StoreState) (s : Site) → RepresentedBy h s → IsLaidOut h.pairs s.items
 own_items h s shown = ∥∥₁_elim shown.valid ∥∥₁_prop (λ site. ∣ (s, site, shown.all, refl) ∣₁)
 
@@ -74,6 +78,20 @@ keeps_pinned old new number pinned keeps = λ t.
     let honest : IsTrue old.honest = sym (honest_still old new same) ∙ t in
     let kept = keeps honest in
     (kept.0, subst (λ h. RepresentedBy h kept.0) (sym same) kept.1, have_more old new number pinned honest (kept.0.items, own_items old kept.0 kept.1) kept.2)
+
+-- what stands whether a pin is given or not
+pub pin_repins : {P : Type 0} (r : Result P PinFault) (number : P → ℕ) (old new : StoreState) → IfOk r (λ pin. IsPinned old new (number pin)) → IfErr r (IsPinFault old new) → Repinned old new
+pin_repins (Ok pin) number old new pinned fault = pinned_repins old new (number pin) pinned
+pin_repins (Err pin_faults.Failed) number old new pinned fault = unchanged_repins old new fault.1
+pin_repins (Err pin_faults.Crowded) number old new pinned fault = unchanged_repins old new fault.2
+
+pub pin_keeps : {P : Type 0} (r : Result P PinFault) (number : P → ℕ) (old new : StoreState) → IfOk r (λ pin. IsPinned old new (number pin)) → IfErr r (IsPinFault old new) → HasSite old → HasSite new
+pin_keeps (Ok pin) number old new pinned fault keeps = keeps_pinned old new (number pin) pinned keeps
+pin_keeps (Err pin_faults.Failed) number old new pinned fault keeps = subst HasSite (sym fault.1) keeps
+pin_keeps (Err pin_faults.Crowded) number old new pinned fault keeps = subst HasSite (sym fault.2) keeps
+
+pub pin_port : (old new : StoreState) → Repinned old new → 0 < old.banner.port → 0 < new.banner.port
+pin_port old new same port = subst (λ (h : StoreState). 0 < h.banner.port) (sym same) port
 
 among_more : (a b c : Bool) → a ≡ true → b ≡ (a || c) → b ≡ true
 among_more a b c is e = e ∙ ap (λ (x : Bool). x || c) is
