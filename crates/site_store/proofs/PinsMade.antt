@@ -11,6 +11,7 @@ use Rattle.host_types.specs.SiteState.{SiteState}
 use Rattle.host_types.specs.SiteState as sites
 use Rattle.host_types.specs.Pins.{Numbered, HasNumbered, HasGivenBack, items_or_none, items_under_number, pinned_items, viewed_among}
 use Rattle.host_types.specs.Pins as site_pins
+use Rattle.host_types.specs.declared.pin_fault.SitePinFault.{SitePinFault}
 use Rattle.host_types.specs.declared.site_fault.SiteFault.{SiteFault}
 use Rattle.page_store.specs.Content.{is_among}
 use Rattle.page_store.specs.Pages.{Pair}
@@ -24,7 +25,7 @@ use Rattle.site_store.specs.Lacking.{IsLacking}
 use Rattle.site_store.specs.Pinned.{StoodAt, IsPinnedFault}
 use Rattle.site_store.specs.PinnedItems.{IsLaidOut, HasItems, AllHave, items_at, same_items}
 use Rattle.site_store.specs.Represented.{RepresentedBy, HasSite, HasSite-prop, site_of, site_state_of, site_kept, site_is}
-use Rattle.site_store.specs.StoreFault.{site_fault_of}
+use Rattle.site_store.specs.StoreFault.{site_fault_of, site_pin_fault_of}
 use Rattle.site_store.specs.declared.fault.SiteOpenFault.{SiteOpenFault}
 use Rattle.site_store.specs.declared.fault.SiteOpenFault.TheVariants.{BadRecord, Keeper, Memory}
 use Rattle.site_store.proofs.PinsKept.{length_of, out_of, found_of, none_kept_under, some_kept_under, are_laid_out, same_items_at}
@@ -52,12 +53,12 @@ pub lacks_repinned : {K : Type 0} (store_state : K → StoreState) (may_need : K
 lacks_repinned store_state may_need k0 k1 ko kn need same =
     lacks_still store_state may_need k0 k1 (site_of (store_state k0) ko) (site_of (store_state k1) kn) (site_kept_still (store_state k0) (store_state k1) ko kn same) need (ap (λ (h : StoreState). h.top) same) (ap (λ (h : StoreState). h.banner) same) (ap (λ (h : StoreState). h.height) same)
 
-pub same_state : (old new : StoreState) (ko : HasSite old) (kn : HasSite new) → new ≡ old → site_state_of new kn ≡ site_state_of old ko
+same_state : (old new : StoreState) (ko : HasSite old) (kn : HasSite new) → new ≡ old → site_state_of new kn ≡ site_state_of old ko
 same_state old new ko kn same = subst (λ (h : StoreState). (k : HasSite h) → site_state_of h k ≡ site_state_of old ko) (sym same) (λ k. ap (site_state_of old) (HasSite-prop old k ko)) kn
 
 -- ---- a pin more
 
-pub pinned_repins : (old new : StoreState) (number : ℕ) → IsPinned old new number → Repinned old new
+pinned_repins : (old new : StoreState) (number : ℕ) → IsPinned old new number → Repinned old new
 pinned_repins old new number pinned = pinned.same ∙ (λ i. record old { pins = new.pins; free = (sym (ap (λ (h : StoreState). h.free) pinned.same)) i })
 
 unchanged_repins : (old new : StoreState) → new ≡ old → Repinned old new
@@ -92,6 +93,13 @@ pin_keeps (Err pin_faults.Crowded) number old new pinned fault keeps = subst Has
 
 pub pin_port : (old new : StoreState) → Repinned old new → 0 < old.banner.port → 0 < new.banner.port
 pin_port old new same port = subst (λ (h : StoreState). 0 < h.banner.port) (sym same) port
+
+pub pin_fault_comes : (old new : StoreState) (ko : HasSite old) (kn : HasSite new) (fault : PinFault) (comes : SitePinFault) → comes ≡ site_pin_fault_of fault → IsPinFault old new fault → site_pins.IsPinFault (site_state_of old ko) (site_state_of new kn) comes
+pin_fault_comes old new ko kn fault comes is h = subst (site_pins.IsPinFault (site_state_of old ko) (site_state_of new kn)) (sym is) (by fault h)
+  where
+    by : (fault : PinFault) → IsPinFault old new fault → site_pins.IsPinFault (site_state_of old ko) (site_state_of new kn) (site_pin_fault_of fault)
+    by pin_faults.Failed h = (h.0, same_state old new ko kn h.1)
+    by pin_faults.Crowded h = (h.0, length_of old.honest old.pins (λ t. (ko t).2) ∙ h.1, same_state old new ko kn h.2)
 
 among_more : (a b c : Bool) → a ≡ true → b ≡ (a || c) → b ≡ true
 among_more a b c is e = e ∙ ap (λ (x : Bool). x || c) is

@@ -7,14 +7,14 @@ ghost use Rattle.site_store.specs.CrashStatesRepresent.{crash_states_represent_s
 use crate::DiskSite;
 use crate::cards::{card_in, chunk_in};
 use crate::pinned_chunks::chunk_in_at;
-use crate::to_site_fault::{store_fault_comes, to_site_fault};
+use crate::to_site_fault::{pin_fault_comes, store_fault_comes, to_site_fault};
 use crate::writing::{banner_after, write_replacements};
 use change_plan::plan_change;
 use host_types::{
     Address, Card, Change, Selector, SiteFault, SiteKeeper, SitePinFault, Stamp,
     changes_keep_sites_valid,
 };
-use page_store::{PinFault, PinKeeper};
+use page_store::PinKeeper;
 
 impl<K: PinKeeper> SiteKeeper for DiskSite<K> {
     ghost site_state = { λ d. site_state_of (K.store_state d.keeper) d.kept };
@@ -69,8 +69,7 @@ impl<K: PinKeeper> SiteKeeper for DiskSite<K> {
     fn pin_site(&mut self) -> Result<K::Pin, SitePinFault> {
         match self.keeper.pin() {
             Ok(pin) => Ok(pin),
-            Err(PinFault::Failed) => Err(SitePinFault::Failed),
-            Err(PinFault::Crowded) => Err(SitePinFault::Crowded),
+            Err(fault) => Err(pin_fault_comes(fault)),
         }
     }
 

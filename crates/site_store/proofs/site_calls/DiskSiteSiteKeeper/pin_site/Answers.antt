@@ -1,6 +1,4 @@
-use Rattle.std.proofs.Common.{◌∙◌}
-use Rattle.site_store.proofs.PinsKept.{length_of}
-use Rattle.site_store.proofs.PinsMade.{has_numbered, pin_keeps, pin_port, pin_repins, lacks_repinned, same_state}
+use Rattle.site_store.proofs.PinsMade.{has_numbered, pin_keeps, pin_port, pin_repins, lacks_repinned, pin_fault_comes}
 use Rattle.site_store.proofs.site_calls.DiskSiteSiteKeeper.pin_site.Goals as goal
 
 pub invariant_of-self : goal.invariant_of-self
@@ -20,23 +18,10 @@ returns-in-Ok-clause-lacking g c =
     let repins = pin_repins c.pin.result g.K.PinKeeper.number (g.K.Keeper.store_state c.args.self.now.keeper) (g.K.Keeper.store_state c.pin.new.self) c.pin.ensures.pinned c.pin.ensures.fault in
     lacks_repinned g.K.Keeper.store_state g.K.Keeper.may_need c.args.self.now.keeper c.pin.new.self c.args.self.now.kept c.self-1.given.0 c.pin.ensures.need repins
 
-pub returns-in-Err-Failed-clause-lacking : goal.returns-in-Err-Failed-clause-lacking
-returns-in-Err-Failed-clause-lacking g c =
+pub returns-in-Err-clause-lacking : goal.returns-in-Err-clause-lacking
+returns-in-Err-clause-lacking g c =
     let repins = pin_repins c.pin.result g.K.PinKeeper.number (g.K.Keeper.store_state c.args.self.now.keeper) (g.K.Keeper.store_state c.pin.new.self) c.pin.ensures.pinned c.pin.ensures.fault in
     lacks_repinned g.K.Keeper.store_state g.K.Keeper.may_need c.args.self.now.keeper c.pin.new.self c.args.self.now.kept c.self-1.given.0 c.pin.ensures.need repins
 
-pub returns-in-Err-Crowded-clause-lacking : goal.returns-in-Err-Crowded-clause-lacking
-returns-in-Err-Crowded-clause-lacking g c =
-    let repins = pin_repins c.pin.result g.K.PinKeeper.number (g.K.Keeper.store_state c.args.self.now.keeper) (g.K.Keeper.store_state c.pin.new.self) c.pin.ensures.pinned c.pin.ensures.fault in
-    lacks_repinned g.K.Keeper.store_state g.K.Keeper.may_need c.args.self.now.keeper c.pin.new.self c.args.self.now.kept c.self-1.given.0 c.pin.ensures.need repins
-
-pub returns-in-Err-Failed-clause-fault : goal.returns-in-Err-Failed-clause-fault
-returns-in-Err-Failed-clause-fault g c =
-    let fault = c.in-Err-Failed.ensures.fault in
-    (fault.0, same_state (g.K.Keeper.store_state c.args.self.now.keeper) (g.K.Keeper.store_state c.pin.new.self) c.args.self.now.kept c.self-1.given.0 fault.1)
-
-pub returns-in-Err-Crowded-clause-fault : goal.returns-in-Err-Crowded-clause-fault
-returns-in-Err-Crowded-clause-fault g c =
-    let h0 = g.K.Keeper.store_state c.args.self.now.keeper in
-    let fault = c.in-Err-Crowded.ensures.fault in
-    (fault.0, length_of h0.honest h0.pins (λ t. (c.args.self.now.kept t).2) ∙ fault.1, same_state h0 (g.K.Keeper.store_state c.pin.new.self) c.args.self.now.kept c.self-1.given.0 fault.2)
+pub returns-in-Err-clause-fault : goal.returns-in-Err-clause-fault
+returns-in-Err-clause-fault g c = pin_fault_comes (g.K.Keeper.store_state c.args.self.now.keeper) (g.K.Keeper.store_state c.pin.new.self) c.args.self.now.kept c.self-1.given.0 c.in-Err.fault c.pin_fault_comes.result c.pin_fault_comes.ensures c.in-Err.ensures.fault

@@ -2,7 +2,7 @@ use Rattle.site_store.proofs.PinsMade.{has_given_back, keeps_unpinned, pin_port,
 use Rattle.site_store.proofs.site_calls.DiskSiteSiteKeeper.unpin_site.Goals as goal
 
 pub unpin-requires : goal.unpin-requires
-unpin-requires g c = out_there (g.K.Keeper.store_state c.args.self.now.keeper) c.args.self.now.kept (g.K.PinKeeper.number c.args.pin) c.requires
+unpin-requires g c = record { out = out_there (g.K.Keeper.store_state c.args.self.now.keeper) c.args.self.now.kept (g.K.PinKeeper.number c.args.pin) c.requires.out }
 
 pub invariant_of-self : goal.invariant_of-self
 invariant_of-self g c =
