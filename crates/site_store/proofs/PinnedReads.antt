@@ -1,5 +1,5 @@
 -- What a pin keeps, as a key-value store that holds it.
-use Rattle.std.proofs.Common.{◌≡◌, ℕ, List, Option, Some, refl, ap, subst, ◌∙◌}
+use Rattle.std.proofs.Common.{◌≡◌, ℕ, List, Option, refl, ap, subst, ◌∙◌}
 use Rattle.std.specs.Prelude.{◌==◌, IsTrue, IfSome}
 use Rattle.std.specs.Map.{lookup}
 use Rattle.host_types.specs.Site.{Site}

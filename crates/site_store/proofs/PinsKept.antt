@@ -1,18 +1,16 @@
 -- What the pins of a key-value store keep, seen as items.
-use Rattle.std.proofs.Common.{◌≡◌, ℕ, ◌+◌, Bool, true, false, List, [], ◌∷◌, length, map, Option, Some, None, cond, is_some, refl, inl, inr, sym, ap, subst, ◌∙◌, IsTrue, eq-eqb, ne_eqb}
+use Rattle.std.proofs.Common.{◌≡◌, ℕ, Bool, true, false, List, [], ◌∷◌, length, map, Option, Some, None, cond, is_some, refl, inl, inr, sym, ap, subst, ◌∙◌, IsTrue, eq-eqb, ne_eqb}
 use Rattle.std.specs.Prelude.{◌==◌, ◌||◌, IfSome, Result, Ok, Err, OnOk, IfErr}
 use Rattle.std.specs.Map.{lookup}
 use Rattle.std.proofs.lemmas.Bool.{cases_eq}
 use Rattle.std.proofs.lemmas.List.{length-map}
-use mathlib.Core.Logic.{∥∥₁_elim, ∥∥₁_prop}
-use Rattle.host_types.specs.Site.{Site, Items, IsSite}
+use Rattle.host_types.specs.Site.{Items}
 use Rattle.host_types.specs.Pins as sites
 use Rattle.page_store.specs.Content as stores
 use Rattle.page_store.specs.Pages.{Pair}
 use Rattle.page_store.specs.StoreState.{StoreState, HasRead, HasStayed, IsCommitFault, numbers_out}
 use Rattle.page_store.specs.declared.fault.KeeperFault.{KeeperFault}
 use Rattle.page_store.specs.declared.fault.KeeperFault.TheVariants as kinds
-use Rattle.site_records.specs.Layout.{layout}
 use Rattle.site_store.specs.PinnedItems.{Pins, IsLaidOut, HasItems, AllHave, items_of, items_at, pins_of, same_items}
 
 -- ---- the pins by their numbers

@@ -1,7 +1,6 @@
 -- A pin more, and a pin less.
-use Rattle.std.proofs.Common.{◌≡◌, ◌<◌, ◌≤◌, ℕ, ◌+◌, Bool, true, false, List, length, Option, Some, None, cond, refl, inl, inr, sym, ap, subst, ◌∙◌, IsTrue, arith, eq-eqb, ne_eqb}
+use Rattle.std.proofs.Common.{◌≡◌, ◌<◌, ℕ, Bool, true, false, List, Some, None, cond, refl, inl, inr, sym, ap, subst, ◌∙◌, IsTrue, arith, eq-eqb, ne_eqb}
 use Rattle.std.specs.Prelude.{◌==◌, ◌||◌, ◌&&◌, not, IfSome, Result, Ok, Err, IfOk, IfErr}
-use Rattle.std.specs.Map.{lookup}
 use Rattle.std.proofs.lemmas.Bool.{cases_eq}
 use Rattle.std.proofs.Props.{props}
 use mathlib.Core.Logic.{∥∥₁_elim, ∥∥₁_prop}
@@ -13,14 +12,11 @@ use Rattle.host_types.specs.Pins.{Numbered, HasNumbered, HasGivenBack, items_or_
 use Rattle.host_types.specs.Pins as site_pins
 use Rattle.host_types.specs.declared.pin_fault.SitePinFault.{SitePinFault}
 use Rattle.host_types.specs.declared.site_fault.SiteFault.{SiteFault}
-use Rattle.page_store.specs.Content.{is_among}
-use Rattle.page_store.specs.Pages.{Pair}
 use Rattle.page_store.specs.Pins.{is_out, pairs_at, IsPinned, IsPinFault, IsUnpinned}
-use Rattle.page_store.specs.StoreState.{StoreState, HasRead, NeedsTheSame, numbers_out}
+use Rattle.page_store.specs.StoreState.{StoreState, NeedsTheSame}
 use Rattle.page_store.specs.declared.edit.Edit.{Edit}
 use Rattle.page_store.specs.declared.pin_fault.PinFault.{PinFault}
 use Rattle.page_store.specs.declared.pin_fault.PinFault.TheVariants as pin_faults
-use Rattle.page_store.specs.declared.fault.KeeperFault.{KeeperFault}
 use Rattle.site_store.specs.Lacking.{IsLacking}
 use Rattle.site_store.specs.Pinned.{StoodAt, IsPinnedFault}
 use Rattle.site_store.specs.PinnedItems.{IsLaidOut, HasItems, AllHave, items_at, same_items}

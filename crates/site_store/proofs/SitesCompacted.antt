@@ -1,5 +1,5 @@
 -- A site that is written anew stays the same.
-use Rattle.std.proofs.Common.{◌≡◌, ◌<◌, inl, inr, ⊎_elim, ℕ, List, refl, sym, ap, subst, ◌∙◌, IsTrue}
+use Rattle.std.proofs.Common.{◌≡◌, ◌<◌, inl, inr, ⊎_elim, ℕ, List, sym, ap, subst, ◌∙◌, IsTrue}
 use Rattle.std.specs.Prelude.{Result, Ok, Err, OnOk, IfErr}
 use Rattle.common_types.specs.CrashStates.{CrashStates, AddsOnly}
 use Rattle.host_types.specs.Site.{Site}
@@ -10,7 +10,7 @@ use Rattle.page_store.specs.declared.banner.Banner.{Banner}
 use Rattle.page_store.specs.declared.fault.KeeperFault.{KeeperFault}
 use Rattle.page_store.specs.declared.fault.KeeperFault.TheVariants as faults
 use Rattle.site_store.proofs.PinsKept.{PinsStay, have_still}
-use Rattle.site_store.specs.Represented.{Shows, Represents, RepresentedBy, HasSite, site_of, site_kept, site_is}
+use Rattle.site_store.specs.Represented.{Represents, RepresentedBy, HasSite, site_of, site_kept, site_is}
 
 -- the pairs and the banner are as before
 pub record Stays (old new : StoreState) : Type 0 where
