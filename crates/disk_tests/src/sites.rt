@@ -4,7 +4,7 @@ use crate::keepers::{show_figures, show_usable};
 use crate::line::{Line, number};
 use crate::trouble::Trouble;
 use host_types::{Card, CardBody, Selector, SiteKeeper, Stamp};
-use page_store::{CompactKeeper, Keeper};
+use page_store::{CompactKeeper, Keeper, PinKeeper};
 use site_store::DiskSite;
 use std::alloc::Global;
 use word_index::SearchKeeper;
@@ -114,7 +114,7 @@ pub fn figures<K: Keeper>(site: &mut DiskSite<K>, line: &mut Line) -> Result<(),
 }
 
 /// `next` and `next SELECTOR`: the first item, and the item behind a selector, with its card, which stands there alone too.
-pub fn next<K: Keeper>(
+pub fn next<K: PinKeeper>(
     site: &mut DiskSite<K>,
     line: &mut Line,
     fields: &[Vec<u8>],

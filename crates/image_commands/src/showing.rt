@@ -15,13 +15,13 @@ use crate::ImageFault;
 use crate::listing::list_item;
 use host_on_disk::open_site;
 use host_types::{Selector, SiteFault, SiteKeeper};
-use page_store::Keeper;
+use page_store::PinKeeper;
 use sector_device::Device;
 use site_store::DiskSite;
 use std::alloc::Global;
 
 /// Adds the line of the first item above a selector, and answers its selector; with no selector, of the first item of all.
-fn list_next<K: Keeper>(
+fn list_next<K: PinKeeper>(
     alloc: Global,
     site: &mut DiskSite<K>,
     text: &mut Vec<u8>,
@@ -42,7 +42,7 @@ fn list_next<K: Keeper>(
 }
 
 /// The lines of all items, in the order of their selectors: letter (`>` of an item that has moved), selector and title, escaped.
-pub fn show_site<K: Keeper>(alloc: Global, site: &mut DiskSite<K>) -> Result<Vec<u8>, SiteFault>
+pub fn show_site<K: PinKeeper>(alloc: Global, site: &mut DiskSite<K>) -> Result<Vec<u8>, SiteFault>
     ensures listing { Reads ⟦<DiskSite<K> as SiteKeeper>⟧.site_state ⟦<DiskSite<K> as SiteKeeper>⟧.lacks ⟦<DiskSite<K> as SiteKeeper>⟧.crash_states site.old site.new result (λ s text. text.items ≡ listing s) }
     ensures counts { OnOk result ((⟦<DiskSite<K> as SiteKeeper>⟧.site_state site.new).failed_reads ≡ (⟦<DiskSite<K> as SiteKeeper>⟧.site_state site.old).failed_reads) }
     ensures closed { (⟦<DiskSite<K> as SiteKeeper>⟧.site_state site.old).usable ≡ false → IsErrOf result Failed }

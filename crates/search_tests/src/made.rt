@@ -70,8 +70,12 @@ fn keeper_on(alloc: Global, disk: MemDisk, reads: Reads) -> Result<Tree, Trouble
     }
 }
 
-/// The site that a keeper has.
-pub fn site_in(alloc: Global, keeper: Tree) -> Result<TreeSite, Trouble> {
+/// The site on a disk.
+pub fn site_on(alloc: Global, disk: CountingDisk<MemDisk>) -> Result<TreeSite, Trouble> {
+    let keeper = match TreeKeeper::open(alloc, disk) {
+        Ok(keeper) => keeper,
+        Err((fault, _)) => return Err(Trouble::Keeper(fault)),
+    };
     match DiskSite::open(alloc, keeper) {
         Ok(site) => Ok(site),
         Err((fault, _)) => Err(Trouble::Open(fault)),
@@ -83,7 +87,7 @@ pub fn on_disk(alloc: Global, reads: Reads) -> Result<TreeSite, Trouble> {
     let Names { host, admin, title } = Names::new()?;
     let mut keeper = keeper_on(alloc, formatted(alloc, host, admin)?, reads)?;
     commit(&mut keeper, &first_edits(alloc, &title)?)?;
-    site_in(alloc, keeper)
+    site_on(alloc, keeper.into_device())
 }
 
 /// The sectors of an image.
@@ -100,7 +104,7 @@ fn sectors_of(alloc: Global, image: &[u8]) -> Result<Vec<[u8; 512]>, Trouble> {
 /// The site of an image.
 pub fn of_image(alloc: Global, image: &[u8], reads: Reads) -> Result<TreeSite, Trouble> {
     let disk = MemDisk::of(alloc, sectors_of(alloc, image)?)?;
-    site_in(alloc, keeper_on(alloc, disk, reads)?)
+    site_on(alloc, CountingDisk::new(disk, reads))
 }
 
 /// The new site in memory.

@@ -1,6 +1,6 @@
 // The same site twice, on a disk and in memory, and queries to both.
 use crate::counting::Reads;
-use crate::made::{Tree, TreeSite, in_memory, of_image, on_disk, site_in};
+use crate::made::{Tree, TreeSite, in_memory, of_image, on_disk, site_on};
 use crate::trouble::Trouble;
 use host_types::{Change, Selector, SiteKeeper, Stamp};
 use mem_site::MemSite;
@@ -128,7 +128,7 @@ impl Sites {
         };
         let mut keeper = site.into_keeper();
         let found = filtered_in(self.alloc, &mut keeper, queries)?;
-        self.disk = Some(site_in(self.alloc, keeper)?);
+        self.disk = Some(site_on(self.alloc, keeper.into_device())?);
         Ok(found)
     }
 

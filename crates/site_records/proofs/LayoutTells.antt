@@ -203,12 +203,17 @@ found_small s site selector = by_cases (item_at s selector) (found_valid s site 
     by_cases None h = tt
     by_cases (Some item) h = small_parts item.body (valid_body selector item h)
 
-pub layout_tells : (s t : Site) → IsSite s → IsSite t → s.host ≡ t.host → s.port ≡ t.port → s.admin ≡ t.admin → layout s ≡ layout t → s ≡ t
-layout_tells s t g h host port admin e =
-    let items : s.items ≡ t.items = same_pairs s.items t.items g.sorted h.sorted (λ selector.
+-- the layout tells the items
+pub items_told : (s t : Site) → IsSite s → IsSite t → layout s ≡ layout t → s.items ≡ t.items
+items_told s t g h e =
+    same_pairs s.items t.items g.sorted h.sorted (λ selector.
     same_found selector (item_at s selector) (item_at t selector) (found_valid s g selector) (found_valid t h selector)
     (sym (record_in-layout s selector g.sorted) ∙ ap (λ (ps : List (List ℕ × List ℕ)). value_at ps (item_key selector)) e ∙ record_in-layout t selector h.sorted)
-    (λ v k fits. sym (chunks_law s selector v k g.sorted (found_small s g selector) fits) ∙ ap (λ (ps : List (List ℕ × List ℕ)). value_at ps (chunk_key selector v k)) e ∙ chunks_law t selector v k h.sorted (found_small t h selector) fits)) in
+    (λ v k fits. sym (chunks_law s selector v k g.sorted (found_small s g selector) fits) ∙ ap (λ (ps : List (List ℕ × List ℕ)). value_at ps (chunk_key selector v k)) e ∙ chunks_law t selector v k h.sorted (found_small t h selector) fits))
+
+pub layout_tells : (s t : Site) → IsSite s → IsSite t → s.host ≡ t.host → s.port ≡ t.port → s.admin ≡ t.admin → layout s ≡ layout t → s ≡ t
+layout_tells s t g h host port admin e =
+    let items = items_told s t g h e in
     λ i. record { items = items i; host = host i; port = port i; admin = admin i }
 
 -- ---- each pair of an item is what stands at its key

@@ -7,7 +7,10 @@ pub mod PartChunks
 pub mod DecodedViews
 pub mod Chunking
 pub mod Planned
+pub mod PinsKept
 pub mod StoreAsSite
+pub mod PinsMade
+pub mod PinnedReads
 pub mod NamedItems
 pub mod SitesRead
 pub mod RisingKeys

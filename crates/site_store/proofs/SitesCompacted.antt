@@ -1,5 +1,5 @@
 -- A site that is written anew stays the same.
-use Rattle.std.proofs.Common.{◌≡◌, ◌<◌, inl, inr, ⊎_elim, ℕ, List, refl, sym, ap, subst, ◌∙◌, IsTrue}
+use Rattle.std.proofs.Common.{◌≡◌, ◌<◌, inl, inr, ⊎_elim, ℕ, List, sym, ap, subst, ◌∙◌, IsTrue}
 use Rattle.std.specs.Prelude.{Result, Ok, Err, OnOk, IfErr}
 use Rattle.common_types.specs.CrashStates.{CrashStates, AddsOnly}
 use Rattle.host_types.specs.Site.{Site}
@@ -9,15 +9,17 @@ use Rattle.page_store.specs.Compaction.{IsCompacted, IsCompactFault}
 use Rattle.page_store.specs.declared.banner.Banner.{Banner}
 use Rattle.page_store.specs.declared.fault.KeeperFault.{KeeperFault}
 use Rattle.page_store.specs.declared.fault.KeeperFault.TheVariants as faults
-use Rattle.site_store.specs.Represented.{Shows, Represents, RepresentedBy, HasSite, site_of, site_kept, site_is}
+use Rattle.site_store.proofs.PinsKept.{PinsStay, have_still}
+use Rattle.site_store.specs.Represented.{Represents, RepresentedBy, HasSite, site_of, site_kept, site_is}
 
 -- the pairs and the banner are as before
 pub record Stays (old new : StoreState) : Type 0 where
   pub pairs : IsTrue old.honest → new.pairs ≡ old.pairs
   pub banner : new.banner ≡ old.banner
+  pub pins : PinsStay old new
 
 stayed : (old new : StoreState) → HasStayed old new → Stays old new
-stayed old new s = record { pairs = s.pairs; banner = s.banner }
+stayed old new s = record { pairs = s.pairs; banner = s.banner; pins = record { out = s.out; pins = s.pins } }
 
 fault_stays : (old new : StoreState) (may : ℕ → Type 0) (e : KeeperFault) → IsCompactFault old new may e → Stays old new
 fault_stays old new may faults.Device f = stayed old new f.0
@@ -28,11 +30,11 @@ fault_stays old new may faults.Small f = absurd f
 fault_stays old new may faults.Spent f = stayed old new f.0
 fault_stays old new may faults.Deep f = absurd f
 fault_stays old new may (faults.Full need free) f = stayed old new f.0
-fault_stays old new may faults.Failed f = record { pairs = f.pairs; banner = f.banner }
+fault_stays old new may faults.Failed f = record { pairs = f.pairs; banner = f.banner; pins = record { out = f.out; pins = f.pins } }
 fault_stays old new may faults.Memory f = stayed old new f
 
 pub stays : (result : Result (Unit {0}) KeeperFault) (old new : StoreState) (may : ℕ → Type 0) → OnOk result (IsCompacted old new) → IfErr result (IsCompactFault old new may) → Stays old new
-stays (Ok x) old new may done fault = record { pairs = done.pairs; banner = done.banner }
+stays (Ok x) old new may done fault = record { pairs = done.pairs; banner = done.banner; pins = record { out = done.out; pins = done.pins } }
 stays (Err e) old new may done fault = fault_stays old new may e fault
 
 shown_still : (old new : StoreState) (s : Site) → IsTrue old.honest → Stays old new → RepresentedBy old s → RepresentedBy new s
@@ -47,7 +49,7 @@ shown_still old new s honest same shown = record {
 pub keeps_site : (old new : StoreState) → new.honest ≡ old.honest → Stays old new → HasSite old → HasSite new
 keeps_site old new same stay keeps = λ honest.
     let before = subst IsTrue same honest in
-    ((keeps before).0, shown_still old new (keeps before).0 before stay (keeps before).1)
+    ((keeps before).0, shown_still old new (keeps before).0 before stay (keeps before).1, have_still old new stay.pins before (keeps before).2)
 
 pub same_site_kept : (old new : StoreState) → new.honest ≡ old.honest → Stays old new → (keeps : HasSite old) (now : HasSite new) → IsTrue old.honest → site_of new now ≡ site_of old keeps
 same_site_kept old new same stay keeps now honest = site_is new now (subst IsTrue (sym same) honest) (site_of old keeps) (shown_still old new (site_of old keeps) honest stay (site_kept old keeps honest))

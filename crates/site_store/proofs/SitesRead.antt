@@ -1,6 +1,6 @@
 -- What a site that was read whole says of what is kept.
 use Rattle.std.proofs.Common.{◌≡◌, ◌<◌, Bool, true, false, Result, Err, refl, ap, sym, ◌∙◌, arith}
-use Rattle.std.specs.Prelude.{IsTrue, IsErrOf, List}
+use Rattle.std.specs.Prelude.{IsTrue, IsErrOf, List, []}
 use Rattle.host_types.specs.Site.{Site}
 use Rattle.page_store.specs.Pages.{Pair}
 use Rattle.page_store.specs.StoreState.{StoreState, HasRead}
@@ -12,6 +12,7 @@ use Rattle.site_store.specs.declared.fault.SiteOpenFault.{SiteOpenFault}
 use Rattle.site_store.specs.declared.fault.SiteOpenFault.TheVariants.{BadRecord, Keeper, Memory}
 use Rattle.site_store.specs.Opening.{IsOpenFault, site_under, with_all_named, HasAddress, IsLayoutOf}
 use Rattle.site_store.proofs.NamedItems.{not_kept}
+use Rattle.site_store.proofs.PinsKept.{none_have}
 
 -- Where the site that was read hasn't the layout that was read, or breaks a rule, no site is kept.
 pub none_kept : (h k : StoreState) (m : Site) (pairs : List Pair) → HasRead h k → IsTrue h.honest → pairs ≡ h.pairs
@@ -22,7 +23,7 @@ none_kept h k m pairs read honest all named bad kept =
     not_kept k kept.0 m pairs later (all ∙ sym (read.same.pairs honest)) (named now kept.0 later) bad
 
 -- Else it is kept.
-pub is_kept_site : (h k : StoreState) (m : Site) (pairs : List Pair) → HasRead h k → (IsTrue h.honest → pairs ≡ h.pairs) → HasAddress m k.banner → IsLayoutOf pairs m → HasSite h
+pub is_kept_site : (h k : StoreState) (m : Site) (pairs : List Pair) → HasRead h k → (IsTrue h.honest → pairs ≡ h.pairs) → HasAddress m k.banner → IsLayoutOf pairs m → IsTrue h.honest → (s : Site) × RepresentedBy h s
 is_kept_site h k m pairs read all address whole = λ honest. (
   m,
   record {
@@ -52,6 +53,13 @@ kept_before a b s read honest kept = record {
 
 pub site_before : (a b : StoreState) (keeps : HasSite b) → HasRead a b → IsTrue a.honest → RepresentedBy a (site_of b keeps)
 site_before a b keeps read honest = kept_before a b (site_of b keeps) read honest (site_kept b keeps (read.honest ∙ honest))
+
+-- the site that was read is kept, and no pin is out
+pub opened : (a b : StoreState) → HasRead a b → a.pins ≡ [] → (IsTrue a.honest → (s : Site) × RepresentedBy a s) → HasSite b
+opened a b read none kept honest1 =
+    let honest0 : IsTrue a.honest = sym read.honest ∙ honest1 in
+    let site = kept honest0 in
+    (site.0, kept_after a b site.0 read honest0 site.1, none_have b.pins (read.same.pins honest0 ∙ none))
 
 -- ---- why it isn't opened
 

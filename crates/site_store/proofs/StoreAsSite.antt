@@ -1,5 +1,5 @@
 -- A key-value store as a keeper of its site: what calls leave.
-use Rattle.std.proofs.Common.{◌≡◌, ◌⊎◌, ℕ, ◌<◌, ◌≤◌, ◌+◌, Bool, true, false, List, length, map, Option, Some, None, Result, Ok, Err, refl, inl, inr, ⊎_elim, sym, ap, subst, ◌∙◌}
+use Rattle.std.proofs.Common.{◌≡◌, ◌⊎◌, ℕ, ◌<◌, ◌≤◌, ◌+◌, Bool, true, false, List, length, map, Option, Some, None, Result, Ok, Err, refl, inl, inr, ⊎_elim, sym, ap, subst, ◌∙◌, arith}
 use Rattle.std.proofs.lemmas.List.{length-map}
 use Rattle.std.specs.Prelude.{◌/◌, IsTrue, IfErr, IfSome, OnOk, IsOk}
 use mathlib.Core.Logic.{∥∥₁_elim, ∥∥₁_prop}
@@ -24,6 +24,7 @@ use Rattle.site_records.specs.Layout.{layout}
 use Rattle.site_pairs.specs.ChangeKeys.{keys_of}
 use Rattle.site_store.specs.ReadLaws.{kept_after}
 use Rattle.site_store.specs.Represented.{Shows, Represents, RepresentedBy, HasSite, no_site, where_passed, site_of, site_state_of, site_kept, site_is}
+use Rattle.site_store.specs.PinnedItems.{AllHave}
 use Rattle.site_store.specs.Lacking.{MayNeed, IsLacking}
 use Rattle.site_store.specs.StoreReads.{ReadsOnly, IsSiteReadFault, IsQuickFault}
 use Rattle.site_pairs.specs.Edits.{batch_of, edits_of}
@@ -41,13 +42,17 @@ use Rattle.site_store.proofs.FoundItems.{kept_sorted}
 use Rattle.site_store.proofs.EditsMakeLayouts.{replacements_make}
 use Rattle.site_store.proofs.ChangedKeys.{changed_keys}
 use Rattle.site_store.proofs.LocalReads.{rose_later, rose_counted}
+use Rattle.site_store.proofs.PinsKept.{PinsStay, pins_stay_read, have_still, same_pins}
 
 -- ---- calls that read
 
 pub keeps_read : (a b : StoreState) → HasRead a b → HasSite a → HasSite b
 keeps_read a b read keeps honest1 =
     let honest0 : IsTrue a.honest = sym read.honest ∙ honest1 in
-    ((keeps honest0).0, kept_after a b (keeps honest0).0 read honest0 (keeps honest0).1)
+    ((keeps honest0).0, kept_after a b (keeps honest0).0 read honest0 (keeps honest0).1, have_still a b (pins_stay_read a b read) honest0 (keeps honest0).2)
+
+pub pins_still : (a b : StoreState) (ka : HasSite a) (kb : HasSite b) → b.honest ≡ a.honest → PinsStay a b → (site_state_of b kb).pins ≡ (site_state_of a ka).pins
+pins_still a b ka kb honest stay = same_pins a.honest b.honest a.pins b.pins (λ t. (ka t).2) (λ t. (kb t).2) honest stay.out stay.pins
 
 pub has_read : (a b : StoreState) (ka : HasSite a) (kb : HasSite b) → HasRead a b → sites.HasRead (site_state_of a ka) (site_state_of b kb)
 has_read a b ka kb read = record {
@@ -57,12 +62,13 @@ has_read a b ka kb read = record {
   free = read.same.free;
   reads = read.reads;
   writes = read.writes;
+  pins = pins_still a b ka kb read.honest (pins_stay_read a b read);
 }
 
 no_truth : (b : Bool) → IsTrue b → b ≡ false → ⊥
 no_truth b t f = let clash : true ≡ false = sym t ∙ f in cc clash
 
-read_fault_of : (may_lack_memory : Bool) (a b : StoreState) (ka : HasSite a) (kb : HasSite b) (fault : KeeperFault) → IsReadFault a b fault → sites.IsReadFault may_lack_memory (site_state_of a ka) (site_state_of b kb) (store_site_fault_of fault)
+pub read_fault_of : (may_lack_memory : Bool) (a b : StoreState) (ka : HasSite a) (kb : HasSite b) (fault : KeeperFault) → IsReadFault a b fault → sites.IsReadFault may_lack_memory (site_state_of a ka) (site_state_of b kb) (store_site_fault_of fault)
 read_fault_of may_lack_memory a b ka kb kinds.Device h = λ honest. rose_counted a.failed_reads b.failed_reads h
 read_fault_of may_lack_memory a b ka kb kinds.NoImage h = absurd h
 read_fault_of may_lack_memory a b ka kb kinds.Version h = absurd h
@@ -96,12 +102,12 @@ not_passed : (test : Bool) (site : IsTrue test → Site) → test ≡ false → 
 not_passed true site h = absurd (cc h)
 not_passed false site h = refl
 
-site_still : (a b : StoreState) (ka : HasSite a) (kb : HasSite b) → HasRead a b → site_of b kb ≡ site_of a ka
-site_still a b ka kb read = by a.honest refl
+pub site_still : (a b : StoreState) (ka : HasSite a) (kb : HasSite b) → b.honest ≡ a.honest → (IsTrue a.honest → site_of b kb ≡ site_of a ka) → site_of b kb ≡ site_of a ka
+site_still a b ka kb same still = by a.honest refl
   where
     by : (test : Bool) → a.honest ≡ test → site_of b kb ≡ site_of a ka
-    by true honest = (has_read a b ka kb read).site honest
-    by false honest = not_passed b.honest (λ t. (kb t).0) (read.honest ∙ honest) ∙ sym (not_passed a.honest (λ t. (ka t).0) honest)
+    by true honest = still honest
+    by false honest = not_passed b.honest (λ t. (kb t).0) (same ∙ honest) ∙ sym (not_passed a.honest (λ t. (ka t).0) honest)
 
 -- a call that leaves banner and height
 deep_later : (a b : StoreState) (edits : ℕ) → b.banner ≡ a.banner → b.height ≡ a.height → MayBeDeep a edits → MayBeDeep b edits
@@ -117,16 +123,21 @@ lacks_later store_state may_need k0 k1 s change now faults.Deep need top banner 
 lacks_later store_state may_need k0 k1 s change now faults.Failed need top banner height h = h
 lacks_later store_state may_need k0 k1 s change now faults.Memory need top banner height h = h
 
+-- what a change may lack stays where the site and these of the keeper do
+pub lacks_still : {K : Type 0} → (store_state : K → StoreState) (may_need : K → List Edit → ℕ → Type 0) (k0 k1 : K) (s0 s1 : Site) → s1 ≡ s0 → NeedsTheSame (may_need k0) (may_need k1) → (store_state k1).top ≡ (store_state k0).top → (store_state k1).banner ≡ (store_state k0).banner → (store_state k1).height ≡ (store_state k0).height
+    → sites.LacksTheSame (IsLacking store_state may_need k0 s0) (IsLacking store_state may_need k1 s1)
+lacks_still store_state may_need k0 k1 s0 s1 still need top banner height = record {
+  after = λ change now fault h. lacks_later store_state may_need k0 k1 s1 change now fault need.after top banner height (subst (λ (s : Site). IsLacking store_state may_need k0 s change now fault) (sym still) h);
+  before = λ change now fault h. lacks_later store_state may_need k1 k0 s0 change now fault need.before (sym top) (sym banner) (sym height) (subst (λ (s : Site). IsLacking store_state may_need k1 s change now fault) still h);
+}
+
 -- a call that reads leaves it
 pub lacks_same : {K L : Type 0} → (store_state : K → StoreState) (may_need : K → List Edit → ℕ → Type 0) (crash_states : K → CrashStates L) (k0 k1 : K) (ka : HasSite (store_state k0)) (kb : HasSite (store_state k1)) → ReadsOnly store_state may_need crash_states k0 k1
     → sites.LacksTheSame (IsLacking store_state may_need k0 (site_of (store_state k0) ka)) (IsLacking store_state may_need k1 (site_of (store_state k1) kb))
 lacks_same store_state may_need crash_states k0 k1 ka kb reads_only =
-    let after = site_still (store_state k0) (store_state k1) ka kb reads_only.read in
+    let still = site_still (store_state k0) (store_state k1) ka kb reads_only.read.honest (has_read (store_state k0) (store_state k1) ka kb reads_only.read).site in
     let same = reads_only.read.same in
-    record {
-      after = λ change now fault h. lacks_later store_state may_need k0 k1 (site_of (store_state k1) kb) change now fault reads_only.need.after same.top same.banner same.height (subst (λ (s : Site). IsLacking store_state may_need k0 s change now fault) (sym after) h);
-      before = λ change now fault h. lacks_later store_state may_need k1 k0 (site_of (store_state k0) ka) change now fault reads_only.need.before (sym same.top) (sym same.banner) (sym same.height) (subst (λ (s : Site). IsLacking store_state may_need k1 s change now fault) after h);
-    }
+    lacks_still store_state may_need k0 k1 (site_of (store_state k0) ka) (site_of (store_state k1) kb) still reads_only.need same.top same.banner same.height
 
 -- ---- crash states
 
@@ -352,16 +363,33 @@ err_banner b c edits may_need (kinds.Full need free) h = h.0.banner
 err_banner b c edits may_need kinds.Failed h = h.banner
 err_banner b c edits may_need kinds.Memory h = h.banner
 
-pub keeps_written : {U : Type 0} → (r : Result U KeeperFault) (a b c : StoreState) (ka : HasSite a) (change : Change) (now : ℕ) (replacements : List Replacement) (banner : Banner) (edits : ℕ) (may_need : ℕ → Type 0) → HasRead a b → c.honest ≡ b.honest
+have_twice : (a b c : StoreState) → HasSite a → HasRead a b → PinsStay b c → IsTrue b.honest → AllHave c.pins
+have_twice a b c ka read stay honest = let keeps = keeps_read a b read ka in have_still b c stay honest (keeps honest).2
+
+pub keeps_written : {U : Type 0} → (r : Result U KeeperFault) (a b c : StoreState) (ka : HasSite a) (change : Change) (now : ℕ) (replacements : List Replacement) (banner : Banner) (edits : ℕ) (may_need : ℕ → Type 0) → HasRead a b → c.honest ≡ b.honest → PinsStay b c
     → (IsTrue a.honest → Makes a b ka change now replacements banner) → (IsTrue b.honest → OnOk r (c.pairs ≡ updated b.pairs (batch_of (edits_of replacements)))) → OnOk r (c.banner ≡ banner) → IfErr r (IsCommitFault b c edits may_need) → HasSite c
-keeps_written (Ok u) a b c ka change now replacements banner edits may_need read same m pairs named fault honest2 =
+keeps_written (Ok u) a b c ka change now replacements banner edits may_need read same stay m pairs named fault honest2 =
     let honest1 : IsTrue b.honest = sym same ∙ honest2 in
     let made = m (sym read.honest ∙ honest1) in
-    (made.site, kept_made a b c ka change now replacements banner made (pairs honest1) named)
-keeps_written (Err e) a b c ka change now replacements banner edits may_need read same m pairs named fault honest2 =
+    (made.site, kept_made a b c ka change now replacements banner made (pairs honest1) named, have_twice a b c ka read stay honest1)
+keeps_written (Err e) a b c ka change now replacements banner edits may_need read same stay m pairs named fault honest2 =
     let honest1 : IsTrue b.honest = sym same ∙ honest2 in
     let made = m (sym read.honest ∙ honest1) in
-    (site_of a ka, err_kept b c edits may_need e (site_of a ka) fault honest1 made.before)
+    (site_of a ka, err_kept b c edits may_need e (site_of a ka) fault honest1 made.before, have_twice a b c ka read stay honest1)
+
+-- what a change leaves that was tried
+pub has_tried : (a b c : StoreState) (ka : HasSite a) (kc : HasSite c) → HasRead a b → HasTried b c → PinsStay b c → sites.HasTried (site_state_of a ka) (site_state_of c kc)
+has_tried a b c ka kc read tried stay =
+    let kb = keeps_read a b read ka in
+    record {
+      honest = tried.honest ∙ read.honest;
+      reads = omega (arith, read.reads, tried.reads);
+      writes = omega (arith, read.writes, tried.writes);
+      pins = pins_still b c kb kc tried.honest stay ∙ pins_still a b ka kb read.honest (pins_stay_read a b read);
+    }
+
+pub has_tried_reading : (a b : StoreState) (ka : HasSite a) (kb : HasSite b) → HasRead a b → sites.HasTried (site_state_of a ka) (site_state_of b kb)
+has_tried_reading a b ka kb read = record { honest = read.honest; reads = read.reads; writes = omega (arith, read.writes); pins = pins_still a b ka kb read.honest (pins_stay_read a b read) }
 
 pub port_written : {U : Type 0} → (r : Result U KeeperFault) (a b c : StoreState) (banner : Banner) (edits : ℕ) (may_need : ℕ → Type 0) → HasRead a b → 0 < a.banner.port → 0 < banner.port → OnOk r (c.banner ≡ banner) → IfErr r (IsCommitFault b c edits may_need) → 0 < c.banner.port
 port_written (Ok u) a b c banner edits may_need read old new named fault = subst (λ (x : Banner). 0 < x.port) (sym named) new

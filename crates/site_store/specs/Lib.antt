@@ -1,3 +1,4 @@
+pub mod PinnedItems
 pub mod Represented
 pub mod StoreReads
 pub mod Reads
@@ -9,6 +10,7 @@ pub mod LookUpLaws
 pub mod Seen
 pub mod Lacking
 pub mod CrashStatesRepresent
+pub mod Pinned
 pub mod Opening
 pub mod Walking
 pub mod FilterSearch

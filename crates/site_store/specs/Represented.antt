@@ -1,7 +1,7 @@
 -- What a key-value store holds, seen as a site.
 use Rattle.std.specs.Prelude.{◌≡◌, Bool, true, false, List, [], refl, IsTrue}
 use Rattle.std.proofs.Common.{ap, sym, subst, ◌∙◌}
-use Rattle.std.specs.Coded.{Π_prop, Coded-set}
+use Rattle.std.specs.Coded.{Π_prop, ×_prop, Coded-set}
 use Rattle.std.proofs.Props.{props}
 use mathlib.Core.Logic.{∥∥₁_elim, ∥∥₁_prop}
 use mathlib.Core.HLevel.{Σ_prop_path}
@@ -13,6 +13,7 @@ use Rattle.page_store.specs.StoreState.{StoreState}
 use Rattle.page_store.specs.declared.banner.Banner.{Banner}
 use Rattle.site_records.specs.Layout.{layout}
 use Rattle.site_records.proofs.LayoutTells.{layout_tells}
+use Rattle.site_store.specs.PinnedItems.{Pins, AllHave, AllHave-prop, pins_of}
 
 -- These pairs and this banner represent a valid site: its layout, and its host, port and administrator.
 pub record Shows (pairs : List Pair) (banner : Banner) (s : Site) : Type 0 where
@@ -30,9 +31,9 @@ Represents has_content c s = (pairs : List Pair) × (banner : Banner) × has_con
 abbrev pub RepresentedBy : StoreState → Site → Type 0
 RepresentedBy h s = Shows h.pairs h.banner s
 
--- An honest keeper holds a site.
+-- An honest keeper holds a site, and what each of its pins keeps are the items of one.
 abbrev pub HasSite : StoreState → Type 0
-HasSite h = IsTrue h.honest → (s : Site) × RepresentedBy h s
+HasSite h = IsTrue h.honest → (s : Site) × RepresentedBy h s × AllHave h.pins
 
 -- that of no items
 abbrev pub no_site : Site
@@ -56,6 +57,7 @@ site_state_of h keeps = record {
   free = h.free;
   failed_reads = h.failed_reads;
   failed_writes = h.failed_writes;
+  pins = pins_of h.honest h.pins (λ honest. (keeps honest).2);
 }
 
 -- ---- a keeper holds at most one site
@@ -82,11 +84,15 @@ Shows-prop pairs banner s x y =
       admin = admin_prop x.admin y.admin i;
     }
 
-site_prop : (pairs : List Pair) (banner : Banner) → IsProp ((s : Site) × Shows pairs banner s)
-site_prop pairs banner x y = Σ_prop_path (λ (s : Site). Shows-prop pairs banner s) (same_site pairs banner x.0 y.0 x.1 y.1)
+site_prop : (pairs : List Pair) (banner : Banner) (pins : Pins) → IsProp ((s : Site) × Shows pairs banner s × AllHave pins)
+site_prop pairs banner pins x y =
+    let a : (s : Site) × (Shows pairs banner s × AllHave pins) = (x.0, (x.1, x.2)) in
+    let b : (s : Site) × (Shows pairs banner s × AllHave pins) = (y.0, (y.1, y.2)) in
+    let same : a ≡ b = Σ_prop_path (λ (s : Site). ×_prop (Shows-prop pairs banner s) (AllHave-prop pins)) (same_site pairs banner x.0 y.0 x.1 y.1) in
+    λ i. ((same i).0, (same i).1.0, (same i).1.1)
 
 pub HasSite-prop : (h : StoreState) → IsProp (HasSite h)
-HasSite-prop h = Π_prop (λ honest. site_prop h.pairs h.banner)
+HasSite-prop h = Π_prop (λ honest. site_prop h.pairs h.banner h.pins)
 
 -- what is kept is that site
 passed : (test : Bool) (site : IsTrue test → Site) (h : IsTrue test) → where_passed test site ≡ site h

@@ -88,7 +88,7 @@ fn has_document<K: Keeper>(keeper: &mut K, selector: &Selector) -> Result<bool, 
 }
 
 /// Puts some bytes into the front of the buffer; what stands behind them stays.
-fn copy_front(bytes: &[u8], buffer: &mut [u8; 1000])
+pub fn copy_front(bytes: &[u8], buffer: &mut [u8; 1000])
     requires { list.length bytes.now ≤ 1000 }
     ensures front { take (list.length bytes.now) buffer.new ≡ bytes.now }
     ensures behind { IsUnchangedBehind (list.length bytes.now) buffer.old buffer.new }

@@ -13,6 +13,7 @@ mod looking;
 mod lookup;
 mod opening;
 mod parts;
+mod pinned_chunks;
 mod records;
 mod search_calls;
 mod searching;

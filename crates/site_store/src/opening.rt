@@ -1,5 +1,5 @@
 // Opening a site: all of it is read, and what is kept must be its layout.
-ghost use Rattle.std.specs.Prelude.{◌≡◌, ◌<◌, true, false, IfOk, IfErr, OnOk, IsErrAnd, IsTrue};
+ghost use Rattle.std.specs.Prelude.{◌≡◌, ◌<◌, true, false, [], IfOk, IfErr, OnOk, IsErrAnd, IsTrue};
 ghost use Rattle.host_types.specs.Site.{Site};
 ghost use Rattle.page_store.specs.Batch.{pair_after};
 ghost use Rattle.page_store.specs.declared.fault.KeeperFault.TheVariants.{Failed};
@@ -124,10 +124,11 @@ fn check<K: Keeper>(alloc: Global, keeper: &mut K) -> Result<(), SiteOpenFault>
 }
 
 impl<K: Keeper> DiskSite<K> {
-    /// Opens the site whose layout a keeper holds, and reads all of it. A refusal hands the keeper back; nothing is written.
+    /// Opens the site whose layout a keeper holds, of which no pin is out, and reads all of it. A refusal hands the keeper back; nothing is written.
     ///
     /// A keeper that isn't usable is `Failed`, and gets no other answer. `BadRecord` where what is kept is no valid site's layout, else the keeper's fault. `Memory` may stand in place of `BadRecord` and of success.
     pub fn open(alloc: Global, keeper: K) -> Result<DiskSite<K>, (SiteOpenFault, K)>
+        requires unpinned { (K.store_state keeper).pins ≡ [] }
         ensures site { IsTrue (K.store_state keeper).honest → IfOk result (λ d. RepresentedBy (K.store_state keeper) (seen_site d)) }
         ensures reads_only { IfOk result (λ d. ReadsOnly K.store_state K.may_need K.crash_states keeper (keeper_of d)) }
         ensures reads { IfOk result (λ d. NoneFailed (K.store_state keeper) (K.store_state (keeper_of d))) }

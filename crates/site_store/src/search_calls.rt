@@ -3,10 +3,10 @@ use crate::DiskSite;
 use crate::searching::search_all;
 use crate::to_site_fault::to_site_fault;
 use host_types::{Selector, SiteFault};
-use page_store::Keeper;
+use page_store::PinKeeper;
 use word_index::{SearchKeeper, SelectorList};
 
-impl<K: Keeper> SearchKeeper for DiskSite<K> {
+impl<K: PinKeeper> SearchKeeper for DiskSite<K> {
     fn search(&mut self, scope: &Selector, query: &[u8]) -> Result<SelectorList, SiteFault> {
         if !self.keeper.is_usable() {
             return Err(SiteFault::Failed);

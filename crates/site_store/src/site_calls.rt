@@ -1,19 +1,22 @@
 // The calls of a site over a key-value store.
+ghost use Rattle.host_types.specs.Pins.{Numbered};
 ghost use Rattle.site_store.specs.Represented.{site_state_of, site_of, Represents};
 ghost use Rattle.site_store.specs.Lacking.{IsLacking};
 ghost use Rattle.site_store.specs.CrashStatesRepresent.{crash_states_represent_site};
 
 use crate::DiskSite;
 use crate::cards::{card_in, chunk_in};
-use crate::to_site_fault::{store_fault_comes, to_site_fault};
+use crate::pinned_chunks::chunk_in_at;
+use crate::to_site_fault::{pin_fault_comes, store_fault_comes, to_site_fault};
 use crate::writing::{banner_after, write_replacements};
 use change_plan::plan_change;
 use host_types::{
-    Address, Card, Change, Selector, SiteFault, SiteKeeper, Stamp, changes_keep_sites_valid,
+    Address, Card, Change, Selector, SiteFault, SiteKeeper, SitePinFault, Stamp,
+    changes_keep_sites_valid,
 };
-use page_store::Keeper;
+use page_store::PinKeeper;
 
-impl<K: Keeper> SiteKeeper for DiskSite<K> {
+impl<K: PinKeeper> SiteKeeper for DiskSite<K> {
     ghost site_state = { λ d. site_state_of (K.store_state d.keeper) d.kept };
 
     ghost lacks = { λ d. IsLacking K.store_state K.may_need d.keeper (site_of (K.store_state d.keeper) d.kept) };
@@ -25,6 +28,10 @@ impl<K: Keeper> SiteKeeper for DiskSite<K> {
     ghost crash_states = { λ d. K.crash_states d.keeper };
 
     ghost crash_states_represent = { λ d c honest usable left. crash_states_represent_site K.has_content (K.store_state d.keeper) d.kept c honest (K.crash_states_represent d.keeper c honest usable left) };
+
+    type Pin = K::Pin;
+
+    ghost pinned = { λ p. Numbered (K.number p) };
 
     fn front(&self) -> Address<'_> {
         let banner = self.keeper.banner();
@@ -54,6 +61,31 @@ impl<K: Keeper> SiteKeeper for DiskSite<K> {
         buffer: &mut [u8; 1000],
     ) -> Result<usize, SiteFault> {
         match chunk_in(&mut self.keeper, selector, view, k, buffer) {
+            Ok(length) => Ok(length),
+            Err(fault) => Err(to_site_fault(fault)),
+        }
+    }
+
+    fn pin_site(&mut self) -> Result<K::Pin, SitePinFault> {
+        match self.keeper.pin() {
+            Ok(pin) => Ok(pin),
+            Err(fault) => Err(pin_fault_comes(fault)),
+        }
+    }
+
+    fn unpin_site(&mut self, pin: K::Pin) {
+        self.keeper.unpin(pin);
+    }
+
+    fn chunk_at(
+        &mut self,
+        pin: &K::Pin,
+        selector: &Selector,
+        view: usize,
+        k: usize,
+        buffer: &mut [u8; 1000],
+    ) -> Result<usize, SiteFault> {
+        match chunk_in_at(&mut self.keeper, pin, selector, view, k, buffer) {
             Ok(length) => Ok(length),
             Err(fault) => Err(to_site_fault(fault)),
         }

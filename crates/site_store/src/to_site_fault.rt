@@ -1,10 +1,10 @@
 // Faults of what is kept, as the site's.
 ghost use Rattle.std.specs.Prelude.{◌≡◌};
-ghost use Rattle.site_store.specs.StoreFault.{site_fault_of, store_site_fault_of};
+ghost use Rattle.site_store.specs.StoreFault.{site_fault_of, store_site_fault_of, site_pin_fault_of};
 
 use crate::SiteOpenFault;
-use host_types::SiteFault;
-use page_store::KeeperFault;
+use host_types::{SiteFault, SitePinFault};
+use page_store::{KeeperFault, PinFault};
 
 /// A keeper's fault as the site's.
 pub fn store_fault_comes(fault: KeeperFault) -> SiteFault
@@ -21,6 +21,16 @@ pub fn store_fault_comes(fault: KeeperFault) -> SiteFault
         KeeperFault::Full { need, free } => SiteFault::Full { need, free },
         KeeperFault::Failed => SiteFault::Failed,
         KeeperFault::Memory => SiteFault::Memory,
+    }
+}
+
+/// Why a keeper gives no pin, as the site's.
+pub fn pin_fault_comes(fault: PinFault) -> SitePinFault
+    ensures { result ≡ site_pin_fault_of fault }
+{
+    match fault {
+        PinFault::Failed => SitePinFault::Failed,
+        PinFault::Crowded => SitePinFault::Crowded,
     }
 }
 

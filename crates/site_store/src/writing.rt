@@ -2,7 +2,7 @@
 ghost use Rattle.std.specs.Prelude.{length, ◌≡◌, ◌⊎◌, ◌<◌, true, IfOk, IfErr, OnOk, IsTrue};
 ghost use Rattle.host_types.specs.CrashStates.{AddsOnly, AddsNone};
 ghost use Rattle.page_store.specs.Batch.{updated};
-ghost use Rattle.page_store.specs.StoreState.{HasTried, IsCommitFault};
+ghost use Rattle.page_store.specs.StoreState.{HasTried, IsCommitFault, numbers_out};
 ghost use Rattle.site_pairs.specs.Edits.{batch_of, edits_of};
 ghost use Rattle.site_store.specs.Lacking.{MayNeed};
 ghost use Rattle.site_store.specs.Planned.{banner_after};
@@ -54,6 +54,8 @@ pub fn write_replacements<K: Keeper>(
     ensures done { IsTrue (K.store_state keeper.old).honest → OnOk result ((K.store_state keeper.new).pairs ≡ updated (K.store_state keeper.old).pairs (batch_of (edits_of replacements.now))) }
     ensures banner { OnOk result ((K.store_state keeper.new).banner ≡ banner) }
     ensures still_usable { OnOk result ((K.store_state keeper.new).usable ≡ true) }
+    ensures out { OnOk result (numbers_out (K.store_state keeper.new) ≡ numbers_out (K.store_state keeper.old)) }
+    ensures pins { IsTrue (K.store_state keeper.old).honest → OnOk result ((K.store_state keeper.new).pins ≡ (K.store_state keeper.old).pins) }
     ensures fault { IfErr result (IsCommitFault (K.store_state keeper.old) (K.store_state keeper.new) (length (batch_of (edits_of replacements.now))) (MayNeed K.may_need keeper.old (batch_of (edits_of replacements.now)))) }
     ensures tried { HasTried (K.store_state keeper.old) (K.store_state keeper.new) }
     ensures at_crash { IsTrue (K.store_state keeper.old).honest →

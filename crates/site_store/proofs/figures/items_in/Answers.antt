@@ -1,4 +1,4 @@
-use Rattle.std.proofs.Common.{◌≡◌, ℕ, List, Some, None, refl, sym, ◌∙◌}
+use Rattle.std.proofs.Common.{◌≡◌, Some, None, refl, sym, ◌∙◌}
 use Rattle.site_store.specs.ReadLaws.{kept_after, none_later, not_yet}
 use Rattle.site_store.specs.Walking.{selector_after}
 use Rattle.site_store.proofs.AfterReads.{done, read_on}

@@ -7,7 +7,8 @@ use Rattle.site_pairs.specs.Edits.{batch_of, edits_of}
 use Rattle.site_store.specs.Lacking.{MayNeed, IsLacking}
 use Rattle.site_store.specs.Planned.{banner_after}
 use Rattle.site_store.specs.Represented.{site_of, site_state_of}
-use Rattle.site_store.proofs.StoreAsSite.{not_changed, none_at_crash, plan_reads_only, plan_fault_comes, plan_makes, done_made, crash_states_made, commit_fault_comes, keeps_written, port_written, after_port}
+use Rattle.site_store.proofs.StoreAsSite.{not_changed, none_at_crash, plan_reads_only, plan_fault_comes, plan_makes, done_made, crash_states_made, commit_fault_comes, keeps_written, port_written, after_port, has_tried, has_tried_reading}
+use Rattle.site_store.proofs.PinsKept.{pins_stay_written}
 use Rattle.site_store.proofs.site_calls.DiskSiteSiteKeeper.change.Goals as goal
 
 pub returns-in-Err-clause-fault : goal.returns-in-Err-clause-fault
@@ -63,8 +64,9 @@ invariant_of-self g c =
     let batch = batch_of (edits_of replacements) in
     let may = MayNeed g.K.Keeper.may_need d1.keeper batch in
     let new : 0 < banner.port = subst (λ (b : Banner). 0 < b.port) (sym named) (after_port h1.banner plan.host plan.admin d1.port c.in-Ok.ensures.port) in
+    let stay = pins_stay_written c.write_replacements.result h1 h2 (length batch) may c.write_replacements.ensures.out c.write_replacements.ensures.pins c.write_replacements.ensures.fault in
     record {
-      kept = keeps_written c.write_replacements.result h0 h1 h2 d.kept c.args.change c.args.now replacements banner (length batch) may read c.write_replacements.ensures.tried.honest make c.write_replacements.ensures.done c.write_replacements.ensures.banner c.write_replacements.ensures.fault;
+      kept = keeps_written c.write_replacements.result h0 h1 h2 d.kept c.args.change c.args.now replacements banner (length batch) may read c.write_replacements.ensures.tried.honest stay make c.write_replacements.ensures.done c.write_replacements.ensures.banner c.write_replacements.ensures.fault;
       port = port_written c.write_replacements.result h0 h1 h2 banner (length batch) may read d.port new c.write_replacements.ensures.banner c.write_replacements.ensures.fault;
     }
 
@@ -146,3 +148,37 @@ returns-clause-at_crash g c = λ honest0 up.
     let crash_states = g.K.Keeper.crash_states in
     crash_states_made g.K.Keeper.has_content h0 h1 d.kept c.args.change c.args.now replacements banner (crash_states d.keeper) (crash_states d1.keeper) (crash_states c.write_replacements.new.keeper) honest0 (reads_only.no_new_crash_state honest0)
     (λ i left. g.met.K.Keeper.crash_states_represent d.keeper i honest0 up left) (make honest0) (c.write_replacements.ensures.at_crash (read.honest ∙ honest0))
+
+pub returns-in-Err-clause-tried : goal.returns-in-Err-clause-tried
+returns-in-Err-clause-tried g c =
+    let store_state = g.K.Keeper.store_state in
+    let d = c.args.self.now in
+    let d1 = c.plan_change.new.lookup in
+    let reads_only = plan_reads_only (λ d. d.keeper) store_state g.K.Keeper.may_need g.K.Keeper.crash_states d d1 (λ s. apply s c.args.change c.args.now) c.in-Err.fault c.in-Err.ensures.fault c.in-Err.ensures.reads_only in
+    has_tried_reading (store_state d.keeper) (store_state d1.keeper) d.kept d1.kept reads_only.read
+
+pub returns-in_err-banner-clause-tried : goal.returns-in_err-banner-clause-tried
+returns-in_err-banner-clause-tried g c =
+    let d = c.args.self.now in
+    let d1 = c.plan_change.new.lookup in
+    has_tried_reading (g.K.Keeper.store_state d.keeper) (g.K.Keeper.store_state d1.keeper) d.kept d1.kept c.in-Ok.ensures.reads_only.reads_only.read
+
+pub returns-in-Ok-write_replacements-clause-tried : goal.returns-in-Ok-write_replacements-clause-tried
+returns-in-Ok-write_replacements-clause-tried g c =
+    let store_state = g.K.Keeper.store_state in
+    let d = c.args.self.now in
+    let h1 = store_state c.plan_change.new.lookup.keeper in
+    let h2 = store_state c.write_replacements.new.keeper in
+    let batch = batch_of (edits_of c.deref.result.now) in
+    let stay = pins_stay_written c.write_replacements.result h1 h2 (length batch) (MayNeed g.K.Keeper.may_need c.plan_change.new.lookup.keeper batch) c.write_replacements.ensures.out c.write_replacements.ensures.pins c.write_replacements.ensures.fault in
+    has_tried (store_state d.keeper) h1 h2 d.kept c.self-1.given.0 c.in-Ok.ensures.reads_only.reads_only.read c.write_replacements.ensures.tried stay
+
+pub returns-clause-tried : goal.returns-clause-tried
+returns-clause-tried g c =
+    let store_state = g.K.Keeper.store_state in
+    let d = c.args.self.now in
+    let h1 = store_state c.plan_change.new.lookup.keeper in
+    let h2 = store_state c.write_replacements.new.keeper in
+    let batch = batch_of (edits_of c.deref.result.now) in
+    let stay = pins_stay_written c.write_replacements.result h1 h2 (length batch) (MayNeed g.K.Keeper.may_need c.plan_change.new.lookup.keeper batch) c.write_replacements.ensures.out c.write_replacements.ensures.pins c.write_replacements.ensures.fault in
+    has_tried (store_state d.keeper) h1 h2 d.kept c.self-1.given.0 c.in-Ok.ensures.reads_only.reads_only.read c.write_replacements.ensures.tried stay

@@ -1,0 +1,24 @@
+-- What a pin keeps, as a key-value store that holds it.
+use Rattle.std.proofs.Common.{◌≡◌, ℕ, List, Option, refl, ap, subst, ◌∙◌}
+use Rattle.std.specs.Prelude.{◌==◌, IsTrue, IfSome}
+use Rattle.std.specs.Map.{lookup}
+use Rattle.host_types.specs.Site.{Site}
+use Rattle.page_store.specs.Batch.{value_at}
+use Rattle.page_store.specs.Pages.{Pair}
+use Rattle.page_store.specs.Pins.{pairs_at}
+use Rattle.page_store.specs.StoreState.{StoreState, HasRead}
+use Rattle.site_store.specs.Pinned.{StoodAt}
+use Rattle.site_store.specs.Represented.{RepresentedBy}
+
+-- a store of these pairs, under the names of a site
+abbrev pub holding : StoreState → List Pair → Site → StoreState
+holding h pairs s = record h { pairs = pairs; banner = record { version = 0; host = s.host; port = s.port; admin = s.admin } }
+
+pub stands_there : (h : StoreState) (number : ℕ) (s : Site) (stood : StoodAt number h s) → RepresentedBy (holding h stood.pairs s) s
+stands_there h number s stood = record { valid = stood.valid; all = stood.all; host = refl; port = refl; admin = refl }
+
+pub stood_after : (a b : StoreState) (number : ℕ) (s : Site) → HasRead a b → IsTrue a.honest → StoodAt number a s → StoodAt number b s
+stood_after a b number s read honest stood = record { pairs = stood.pairs; keeps = ap (lookup (λ n. n == number)) (read.same.pins honest) ∙ stood.keeps; valid = stood.valid; all = stood.all }
+
+pub found_there : (h : StoreState) (number : ℕ) (s : Site) (stood : StoodAt number h s) (value : Option (List ℕ)) (key : List ℕ) → IfSome (pairs_at h number) (λ pairs. value ≡ value_at pairs key) → value ≡ value_at stood.pairs key
+found_there h number s stood value key found = subst (λ (o : Option (List Pair)). IfSome o (λ pairs. value ≡ value_at pairs key)) stood.keeps found
