@@ -2,7 +2,7 @@
 ghost use Rattle.std.specs.Prelude.{◌≡◌, ◌⊎◌, ◌≤◌, ℕ, Bool, true, false, Ok, Err, IfOk, OnOk, IfErr, IsErrOf, IsTrue, length, take};
 ghost use Rattle.host_types.specs.Site.{Site};
 ghost use Rattle.host_types.specs.Change.{apply};
-ghost use Rattle.host_types.specs.Card.{card_at, viewed_at, chunk_of};
+ghost use Rattle.host_types.specs.Card.{card_at, chunk_of};
 ghost use Rattle.common_types.specs.CrashStates.{CrashStates, AddsOnly, AddsNone, may_crash_to};
 ghost use Rattle.host_types.specs.SiteState.{SiteState, HasRead, LacksTheSame, IsUnchangedBehind, HasTried, HasNotChanged, IsReadFault, IsChangeFault};
 ghost use Rattle.host_types.specs.Pins.{Pinned, is_out, pinned_items, viewed_among, IsPinned, IsPinFault, IsUnpinned};
@@ -76,24 +76,6 @@ pub trait SiteKeeper {
         ensures lacking { LacksTheSame (lacks self.old) (lacks self.new) }
         ensures at_crash { IsTrue (site_state self.old).honest → AddsNone (crash_states self.old) (crash_states self.new) };
 
-    /// Puts chunk k of a view into the front of the buffer, and answers its length: no bytes where there is no such view or chunk. What stands behind stays, and after a fault the whole buffer does. It takes no memory.
-    fn chunk(
-        &mut self,
-        selector: &Selector,
-        view: usize,
-        k: usize,
-        buffer: &mut [u8; 1000],
-    ) -> Result<usize, SiteFault>
-        ensures within { IfOk result (λ n. n ≤ length buffer.new) }
-        ensures chunk { IsTrue (site_state self.old).honest → IfOk result (λ n. take n buffer.new ≡ chunk_of (viewed_at (site_state self.old).site selector.now view) k) }
-        ensures behind { IfOk result (λ n. IsUnchangedBehind n buffer.old buffer.new) }
-        ensures untouched { IfErr result (λ e. buffer.new ≡ buffer.old) }
-        ensures kept { HasRead (site_state self.old) (site_state self.new) }
-        ensures fault { IfErr result (IsReadFault false (site_state self.old) (site_state self.new)) }
-        ensures closed { (site_state self.old).usable ≡ false → IsErrOf result Failed }
-        ensures lacking { LacksTheSame (lacks self.old) (lacks self.new) }
-        ensures at_crash { IsTrue (site_state self.old).honest → AddsNone (crash_states self.old) (crash_states self.new) };
-
     /// Pins the site as it stands.
     fn pin_site(&mut self) -> Result<Self::Pin, SitePinFault>
         ensures pinned { IfOk result (λ pin. IsPinned (site_state self.old) (site_state self.new) (pinned pin)) }
@@ -110,8 +92,8 @@ pub trait SiteKeeper {
         ensures at_crash { IsTrue (site_state self.old).honest → AddsNone (crash_states self.old) (crash_states self.new) }
         ensures moment { (crash_states self.new).moment ≡ (crash_states self.old).moment };
 
-    /// As `chunk`, of the items that the pin keeps.
-    fn chunk_at(
+    /// Puts chunk k of a view of the site as it was pinned into the front of the buffer, and answers its length: no bytes where there was no such view or chunk. What stands behind stays, and after a fault the whole buffer does. It takes no memory.
+    fn chunk(
         &mut self,
         pin: &Self::Pin,
         selector: &Selector,

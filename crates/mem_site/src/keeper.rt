@@ -38,18 +38,6 @@ impl SiteKeeper for MemSite {
         Ok(self.card_at(selector)?)
     }
 
-    fn chunk(
-        &mut self,
-        selector: &Selector,
-        view: usize,
-        k: usize,
-        buffer: &mut [u8; 1000],
-    ) -> Result<usize, SiteFault> {
-        let chunk = chunk_of(self.viewed(selector, view), k);
-        buffer[..chunk.len()].copy_from_slice(chunk);
-        Ok(chunk.len())
-    }
-
     fn pin_site(&mut self) -> Result<MemPin, SitePinFault> {
         Ok(MemPin {
             items: self.copied()?,
@@ -60,7 +48,7 @@ impl SiteKeeper for MemSite {
         let MemPin { items: _ } = pin;
     }
 
-    fn chunk_at(
+    fn chunk(
         &mut self,
         pin: &MemPin,
         selector: &Selector,

@@ -1,7 +1,7 @@
 // A site in memory: what it holds, and how it is read.
 ghost use Rattle.std.specs.Prelude.{◌≡◌, ◌<◌, [], None, IfOk, OnOk, IfErr, OnErr, IfSome, IsTrue, option_copied};
 ghost use Rattle.host_types.specs.Site.{item_at, with_item, without_item, board_at, fresh_site, IsSite};
-ghost use Rattle.host_types.specs.Card.{has_short_views, card_at, viewed_at};
+ghost use Rattle.host_types.specs.Card.{has_short_views, card_at};
 ghost use Rattle.host_types.specs.Address.{address};
 ghost use Rattle.host_types.specs.Pins.{viewed_among};
 ghost use Rattle.change_plan.specs.LookUps.{HasNoLongNames};
@@ -117,13 +117,6 @@ impl MemSite {
             Some(item) => Ok(Some(item.card(self.alloc)?)),
             None => Ok(None),
         }
-    }
-
-    /// The bytes of a view of what stands at a selector.
-    pub(crate) fn viewed(&self, selector: &Selector, view: usize) -> &[u8]
-        ensures { result.now ≡ viewed_at self.now selector.now view }
-    {
-        viewed_among(&self.items, selector, view)
     }
 
     /// A copy of all items.

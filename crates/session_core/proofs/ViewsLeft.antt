@@ -2,7 +2,7 @@
 use Rattle.std.proofs.Common.{◌≡◌, ◌<◌, ℕ, Bool, true, false, List, [], ◌∷◌, ◌++◌, length, refl, ap, sym, ◌∙◌, arith}
 use Rattle.std.proofs.lemmas.List.{length-append}
 use Rattle.text_writer.specs.Text.{text, text_end}
-use Rattle.view_draws.specs.Progress.{sent_as}
+use Rattle.text_writer.specs.Text.{sent_as}
 
 text_some : (body : List ℕ) → 0 < length (text body)
 unfolding text

@@ -1,9 +1,9 @@
 -- What a reply is to the client that gets it: its bytes, or those of the view that it names.
-use Rattle.std.specs.Prelude.{◌≡◌, ◌<◌, ℕ, Bool, true, false, List, [], ◌++◌, Option, None, length}
+use Rattle.std.specs.Prelude.{◌≡◌, ◌<◌, ℕ, List, [], ◌++◌, Option, None, length}
 use Rattle.host_types.specs.Site.{Site}
 use Rattle.host_types.specs.Card.{viewed_at}
 use Rattle.host_types.specs.declared.change.Change.{Change}
-use Rattle.text_writer.specs.Text.{text}
+use Rattle.text_writer.specs.Text.{sent_as}
 use Rattle.plus_blocks.specs.Blocks.{text_head, length_head}
 use Rattle.site_replies.specs.Reply.{WholeAnswer}
 use Rattle.site_replies.specs.declared.answered.Answered.{Answered}
@@ -15,11 +15,6 @@ abbrev pub view_head : Bool → Bool → ℕ → List ℕ
 view_head false is_text size = []
 view_head true true size = text_head
 view_head true false size = length_head size
-
--- a view is sent as lines and a period, or as it is
-abbrev pub sent_as : Bool → List ℕ → List ℕ
-sent_as true bytes = text bytes
-sent_as false bytes = bytes
 
 -- the bytes that a client gets, of a site
 abbrev pub reply_bytes : Site → Reply → List ℕ

@@ -11,7 +11,6 @@ ghost use Rattle.site_store.specs.Reads.{AlwaysReads};
 ghost use Rattle.site_store.specs.Pinned.{StoodAt, IsPinnedFault};
 
 use crate::SiteOpenFault;
-use crate::cards::copy_front;
 use host_types::Selector;
 use page_store::PinKeeper;
 use site_records::{Key, chunk_key, item_key};
@@ -48,6 +47,16 @@ fn has_document_at<K: PinKeeper>(
         Ok(None) => Ok(false),
         Err(fault) => Err(fault),
     }
+}
+
+/// Puts some bytes into the front of the buffer; what stands behind them stays.
+fn copy_front(bytes: &[u8], buffer: &mut [u8; 1000])
+    requires { list.length bytes.now ≤ 1000 }
+    ensures front { take (list.length bytes.now) buffer.new ≡ bytes.now }
+    ensures behind { IsUnchangedBehind (list.length bytes.now) buffer.old buffer.new }
+    ensures length { list.length buffer.new ≡ 1000 }
+{
+    buffer[..bytes.len()].copy_from_slice(bytes);
 }
 
 /// Puts chunk k of a view as it stood into the front of the buffer, and answers its length. What stands behind it stays, and after a fault the whole buffer does.

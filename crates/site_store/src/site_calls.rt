@@ -5,7 +5,7 @@ ghost use Rattle.site_store.specs.Lacking.{IsLacking};
 ghost use Rattle.site_store.specs.CrashStatesRepresent.{crash_states_represent_site};
 
 use crate::DiskSite;
-use crate::cards::{card_in, chunk_in};
+use crate::cards::card_in;
 use crate::pinned_chunks::chunk_in_at;
 use crate::to_site_fault::{pin_fault_comes, store_fault_comes, to_site_fault};
 use crate::writing::{banner_after, write_replacements};
@@ -53,19 +53,6 @@ impl<K: PinKeeper> SiteKeeper for DiskSite<K> {
         }
     }
 
-    fn chunk(
-        &mut self,
-        selector: &Selector,
-        view: usize,
-        k: usize,
-        buffer: &mut [u8; 1000],
-    ) -> Result<usize, SiteFault> {
-        match chunk_in(&mut self.keeper, selector, view, k, buffer) {
-            Ok(length) => Ok(length),
-            Err(fault) => Err(to_site_fault(fault)),
-        }
-    }
-
     fn pin_site(&mut self) -> Result<K::Pin, SitePinFault> {
         match self.keeper.pin() {
             Ok(pin) => Ok(pin),
@@ -77,7 +64,7 @@ impl<K: PinKeeper> SiteKeeper for DiskSite<K> {
         self.keeper.unpin(pin);
     }
 
-    fn chunk_at(
+    fn chunk(
         &mut self,
         pin: &K::Pin,
         selector: &Selector,

@@ -17,6 +17,11 @@ text_end = 46 ∷ line_end
 unfoldable pub text : List ℕ → List ℕ
 text body = flat_map sent_line (lines body) ++ text_end
 
+-- bytes as they are sent: as a text, or as they are
+abbrev pub sent_as : Bool → List ℕ → List ℕ
+sent_as true body = text body
+sent_as false body = body
+
 abbrev pub is_period : List ℕ → Bool
 is_period line = bytes_eq line (46 ∷ [])
 

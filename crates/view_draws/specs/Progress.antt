@@ -1,13 +1,7 @@
 -- What is left of a reply, by how far it is drawn.
-use Rattle.std.specs.Prelude.{ℕ, Bool, true, false, List, ◌++◌, Option, None, Some, drop}
+use Rattle.std.specs.Prelude.{ℕ, List, ◌++◌, Option, None, Some, drop}
 use Rattle.text_writer.specs.Pipe.{Piped, will_give}
-use Rattle.text_writer.specs.Text.{text}
 use Rattle.view_draws.specs.declared.progress.Progress.{Progress}
-
--- the bytes of a view as they are sent: as a text, or as they are
-abbrev pub sent_as : Bool → List ℕ → List ℕ
-sent_as true body = text body
-sent_as false body = body
 
 -- what these bytes give, which are the rest of a view
 abbrev pub given_by : Option Piped → List ℕ → List ℕ

@@ -17,7 +17,7 @@ pub struct Progress {
 }
 
 impl Progress {
-    ghost use Rattle.view_draws.specs.Progress.{sent_as, body_left, left_of};
+    ghost use Rattle.view_draws.specs.Progress.{body_left, left_of};
 
     /// Before the first byte.
     pub fn new(is_text: bool) -> Self

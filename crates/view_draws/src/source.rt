@@ -62,7 +62,7 @@ impl ViewSource {
             return Ok(());
         }
         self.place = None;
-        let count = site.chunk_at(pin, &self.selector, self.view, k, &mut self.buffer)?;
+        let count = site.chunk(pin, &self.selector, self.view, k, &mut self.buffer)?;
         if count != chunk_length(self.size, k) {
             return Err(SiteFault::Read);
         }

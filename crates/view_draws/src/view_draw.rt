@@ -20,7 +20,7 @@ pub struct ViewDraw {
 }
 
 impl ViewDraw {
-    ghost use Rattle.view_draws.specs.Progress.{sent_as};
+    ghost use Rattle.text_writer.specs.Text.{sent_as};
     ghost use Rattle.view_draws.specs.ViewDraw.{rest_of, IsOf, body_at, IsSameReply, HasDrawn, HasBegun};
 
     /// The whole reply: a view of so many bytes, behind a head. It takes no memory.
