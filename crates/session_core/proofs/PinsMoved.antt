@@ -112,9 +112,10 @@ others_are_apart h None others holds = each _ others (λ items. (refl, tt)) (λ 
 others_are_apart h (Some (Copied copy)) others holds = each _ others (λ items. (refl, tt)) (λ n some. (some_out (is_among n (numbers_out h)) (let once : times n others ≡ one_if (is_among n (numbers_out h)) = holds.once n in omega (arith, some, once)), tt))
 others_are_apart h (Some (Numbered m)) others holds =
     each (λ pin. IsTrue (is_out h pin) × AreApart (Some (Numbered m)) pin) others (λ items. (refl, tt)) (λ n some.
-    (let once : one_if (n == m) + times n others ≡ one_if (is_among n (numbers_out h)) = holds.once n in
-    (some_out (is_among n (numbers_out h)) (omega (arith, some, once)),
-    λ (same : m ≡ n). (let twice : one_if (n == m) ≡ 1 = rw (eq-eqb n m (sym same)) refl in absurd (omega (arith, some, once, twice, few (is_among n (numbers_out h))))))))
+    (let once : one_if (n == m) + times n others ≡ one_if (is_among n (numbers_out h)) = holds.once n in (
+      some_out (is_among n (numbers_out h)) (omega (arith, some, once)),
+      λ (same : m ≡ n). (let twice : one_if (n == m) ≡ 1 = rw (eq-eqb n m (sym same)) refl in absurd (omega (arith, some, once, twice, few (is_among n (numbers_out h))))),
+    )))
 
 pub each_on : (P Q : Pinned → Type 0) (pins : List Pinned) → ((pin : Pinned) → P pin → Q pin) → EachIs P pins → EachIs Q pins
 each_on P Q [] on all = tt

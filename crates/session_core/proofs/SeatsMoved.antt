@@ -83,9 +83,10 @@ module _ {P : Type 0} (pinned : P → Pinned) where
   all_seen a b [] same = (refl, λ sound. tt)
   all_seen a b (s ∷ ss) same =
       let parts = front_of (Same a b) (listed (pin_of pinned s.phase)) (pins_of pinned ss) same in
-      let rest = all_seen a b ss parts.1 in
-      (ap (λ (p : world.Phase). (s.id, p) ∷ sessions_of pinned b ss) (seen_same a b s.phase parts.0) ∙ ap (λ others. session_of pinned a s ∷ others) rest.0,
-      λ sound. (sound_same a b s.phase parts.0 sound.0, rest.1 sound.1))
+      let rest = all_seen a b ss parts.1 in (
+        ap (λ (p : world.Phase). (s.id, p) ∷ sessions_of pinned b ss) (seen_same a b s.phase parts.0) ∙ ap (λ others. session_of pinned a s ∷ others) rest.0,
+        λ sound. (sound_same a b s.phase parts.0 sound.0, rest.1 sound.1),
+      )
 
   seen_set : (a b : SiteState) (items : List (Session P)) (at : ℕ) (y : Session P) → at < length items → EachIs (Same a b) (pins_of pinned (remove items at))
       → (sessions_of pinned b (set items at y) ≡ set (sessions_of pinned a items) at (session_of pinned b y)) × (AreSound pinned a items → IsSound pinned b y.phase → AreSound pinned b (set items at y))
@@ -93,9 +94,10 @@ module _ {P : Type 0} (pinned : P → Pinned) where
   seen_set a b (s ∷ ss) zero y within same = let rest = all_seen a b ss same in (ap (λ others. session_of pinned b y ∷ others) rest.0, λ sound own. (own, rest.1 sound.1))
   seen_set a b (s ∷ ss) (suc at) y within same =
       let parts = front_of (Same a b) (listed (pin_of pinned s.phase)) (pins_of pinned (remove ss at)) same in
-      let rest = seen_set a b ss at y (omega (arith, within)) parts.1 in
-      (ap (λ (p : world.Phase). (s.id, p) ∷ sessions_of pinned b (set ss at y)) (seen_same a b s.phase parts.0) ∙ ap (λ others. session_of pinned a s ∷ others) rest.0,
-      λ sound own. (sound_same a b s.phase parts.0 sound.0, rest.1 sound.1 own))
+      let rest = seen_set a b ss at y (omega (arith, within)) parts.1 in (
+        ap (λ (p : world.Phase). (s.id, p) ∷ sessions_of pinned b (set ss at y)) (seen_same a b s.phase parts.0) ∙ ap (λ others. session_of pinned a s ∷ others) rest.0,
+        λ sound own. (sound_same a b s.phase parts.0 sound.0, rest.1 sound.1 own),
+      )
 
   seen_gone : (a b : SiteState) (items : List (Session P)) (at : ℕ) → at < length items → EachIs (Same a b) (pins_of pinned (remove items at))
       → (sessions_of pinned b (remove items at) ≡ remove (sessions_of pinned a items) at) × (AreSound pinned a items → AreSound pinned b (remove items at))
@@ -103,9 +105,10 @@ module _ {P : Type 0} (pinned : P → Pinned) where
   seen_gone a b (s ∷ ss) zero within same = let rest = all_seen a b ss same in (rest.0, λ sound. rest.1 sound.1)
   seen_gone a b (s ∷ ss) (suc at) within same =
       let parts = front_of (Same a b) (listed (pin_of pinned s.phase)) (pins_of pinned (remove ss at)) same in
-      let rest = seen_gone a b ss at (omega (arith, within)) parts.1 in
-      (ap (λ (p : world.Phase). (s.id, p) ∷ sessions_of pinned b (remove ss at)) (seen_same a b s.phase parts.0) ∙ ap (λ others. session_of pinned a s ∷ others) rest.0,
-      λ sound. (sound_same a b s.phase parts.0 sound.0, rest.1 sound.1))
+      let rest = seen_gone a b ss at (omega (arith, within)) parts.1 in (
+        ap (λ (p : world.Phase). (s.id, p) ∷ sessions_of pinned b (remove ss at)) (seen_same a b s.phase parts.0) ∙ ap (λ others. session_of pinned a s ∷ others) rest.0,
+        λ sound. (sound_same a b s.phase parts.0 sound.0, rest.1 sound.1),
+      )
 
   -- ---- what a move of one session comes to
 

@@ -237,7 +237,8 @@ impl<S: SearchKeeper> Hub<S> {
 
     /// Ends the hub with all its sessions, and hands its site back with no pin out. It takes no memory.
     pub fn close(self) -> S
-        ensures { IsClosed S.site_state S.crash_states (keeper_of self) result }
+        ensures closed { IsClosed S.site_state S.crash_states (keeper_of self) result }
+        ensures none { seats_of self ≡ [] → result ≡ keeper_of self }
     {
         let Hub {
             alloc: _,

@@ -1,5 +1,5 @@
 // Pins that sessions hold.
-ghost use Rattle.std.specs.Prelude.{◌≡◌, ◌<◌, None, OnErr, IfOk, IfErr, IfSome, IsTrue, length};
+ghost use Rattle.std.specs.Prelude.{◌≡◌, [], None, OnErr, IfOk, IfErr, IfSome, IsTrue, length};
 ghost use Rattle.host_types.specs.SiteState.{SiteState};
 ghost use Rattle.host_types.specs.CrashStates.{AddsNone};
 ghost use Rattle.host_types.specs.Pins.{is_out, most_pins};
@@ -30,7 +30,8 @@ pub fn give_back<S: SiteKeeper>(site: &mut S, phase: Phase<S::Pin>)
 /// Ends all sessions, and gives their pins back.
 pub fn end_all<S: SiteKeeper>(site: S, sessions: Vec<Session<S::Pin>>) -> S
     requires { HoldsAll (S.site_state site) (pins_of S.pinned sessions.items) }
-    ensures { IsClosed S.site_state S.crash_states site result }
+    ensures closed { IsClosed S.site_state S.crash_states site result }
+    ensures none { sessions.items ≡ [] → result ≡ site }
 {
     let mut site = site;
     let mut sessions = sessions;

@@ -1,5 +1,5 @@
 -- What a reply is to the client that gets it: its bytes, or those of the view that it names.
-use Rattle.std.specs.Prelude.{◌≡◌, ◌<◌, ℕ, List, [], ◌++◌, Option, None, length}
+use Rattle.std.specs.Prelude.{◌≡◌, ◌<◌, ℕ, Bool, true, false, List, [], ◌++◌, Option, None, length}
 use Rattle.host_types.specs.Site.{Site}
 use Rattle.host_types.specs.Card.{viewed_at}
 use Rattle.host_types.specs.declared.change.Change.{Change}

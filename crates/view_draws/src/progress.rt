@@ -17,6 +17,7 @@ pub struct Progress {
 }
 
 impl Progress {
+    ghost use Rattle.text_writer.specs.Text.{sent_as};
     ghost use Rattle.view_draws.specs.Progress.{body_left, left_of};
 
     /// Before the first byte.

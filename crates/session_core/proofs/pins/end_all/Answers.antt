@@ -11,7 +11,7 @@ use Rattle.session_core.proofs.SeatsHeld.{out_at}
 use Rattle.session_core.proofs.pins.end_all.Goals as goal
 
 pub loop-sessions-init : goal.loop-sessions-init
-loop-sessions-init g c = (c.requires, record { same = refl; free = omega arith }, λ honest. no_new_crash_state _, refl)
+loop-sessions-init g c = (c.requires, record { same = refl; free = omega arith }, λ honest. no_new_crash_state _, refl, λ none. (refl, none))
 
 pub give_back-requires : goal.give_back-requires
 give_back-requires g c =
@@ -27,14 +27,16 @@ loop-sessions-preserved g c =
     let before = c.loop-sessions.invariant in
     let l = s.site_state c.give_back.new.site in
     let some : 0 < length items = search rules in
-    let left : HoldsAll l (pins_of s.pinned (remove items 0)) = c.give_back.ensures.pins.all (pins_of s.pinned (remove items 0)) (own_pin_is_held s.pinned (s.site_state c.loop-sessions.site) items 0 c.remove-phase.result some c.remove-phase.ensures.value before.0) in
-    (subst (λ (xs : List (Session g.row.S-Pin.Denot)). HoldsAll l (pins_of s.pinned xs)) (sym c.remove-phase.ensures.items) left,
-    gives_again _ _ _ before.1 c.give_back.ensures.only,
-    λ honest. adds_none_again _ _ _ (before.2 honest) (c.give_back.ensures.at_crash (subst IsTrue (sym (ap (λ (h : SiteState). h.honest) before.1.same)) honest)),
-    c.give_back.ensures.moment ∙ before.3)
+    let left : HoldsAll l (pins_of s.pinned (remove items 0)) = c.give_back.ensures.pins.all (pins_of s.pinned (remove items 0)) (own_pin_is_held s.pinned (s.site_state c.loop-sessions.site) items 0 c.remove-phase.result some c.remove-phase.ensures.value before.0) in (
+      subst (λ (xs : List (Session g.row.S-Pin.Denot)). HoldsAll l (pins_of s.pinned xs)) (sym c.remove-phase.ensures.items) left,
+      gives_again _ _ _ before.1 c.give_back.ensures.only,
+      λ honest. adds_none_again _ _ _ (before.2 honest) (c.give_back.ensures.at_crash (subst IsTrue (sym (ap (λ (h : SiteState). h.honest) before.1.same)) honest)),
+      c.give_back.ensures.moment ∙ before.3,
+      λ none. (let no : length items ≡ 0 = ap length (before.4 none).1 in absurd (omega (arith, some, no))),
+    )
 
-pub returns : goal.returns
-returns g c =
+pub returns-clause-closed : goal.returns-clause-closed
+returns-clause-closed g c =
     let s = g.S.SiteKeeper in
     let items = c.loop-sessions.sessions.items in
     let all = c.loop-sessions.invariant in
@@ -46,3 +48,6 @@ returns g c =
       no_new_crash_state = all.2;
       moment = all.3;
     }
+
+pub returns-clause-none : goal.returns-clause-none
+returns-clause-none g c = λ none. (c.loop-sessions.invariant.4 none).0

@@ -1,4 +1,4 @@
-use Rattle.std.proofs.Common.{◌≡◌}
+use Rattle.std.proofs.Common.{◌≡◌, []}
 use Rattle.std.specs.Prelude.{IsTrue}
 use Rattle.host_types.specs.CrashStates.{AddsNone}
 use Rattle.session_core.specs.HeldPins.{HoldsAll, MayGiveBack}
@@ -13,6 +13,7 @@ invariant-loop-sessions g l =
     × MayGiveBack (s.site_state l.initial.site) (s.site_state l.site)
     × (IsTrue (s.site_state l.initial.site).honest → AddsNone (s.crash_states l.initial.site) (s.crash_states l.site))
     × ((s.crash_states l.site).moment ≡ (s.crash_states l.initial.site).moment)
+    × (l.initial.sessions.items ≡ [] → (l.site ≡ l.initial.site) × (l.sessions.items ≡ []))
 
 abbrev pub decreases-loop-sessions : goal.decreases-loop-sessions
 decreases-loop-sessions g l = goal.left-loop-sessions g l
