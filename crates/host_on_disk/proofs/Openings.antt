@@ -17,6 +17,8 @@ use Rattle.page_store.specs.declared.fault.KeeperFault.TheVariants as kinds
 use Rattle.cow_tree.specs.Opening.{IsTree, IsOpenFault}
 use Rattle.cow_tree.specs.KeeperLaws.{opens_trees}
 use Rattle.site_store.specs.Opening as sites
+use Rattle.site_store.specs.PinnedItems.{items_at}
+use Rattle.site_store.specs.Represented.{HasSite, site_state_of}
 use Rattle.site_store.specs.declared.fault.SiteOpenFault.{SiteOpenFault}
 use Rattle.site_store.specs.declared.fault.SiteOpenFault.TheVariants as reading
 use Rattle.host_on_disk.specs.ImageSites.{ImageRepresents}
@@ -31,6 +33,10 @@ none_out h k same none = no_numbers k.pins (same ∙ ap (λ (pins : List (ℕ ×
     no_numbers : (pins : List (ℕ × List Pair)) → map (λ (pin : ℕ × List Pair). pin.0) pins ≡ [] → pins ≡ []
     no_numbers [] e = refl
     no_numbers (pin ∷ pins) e = absurd (cc e)
+
+-- no pin of a site is out where none of its store is
+pub no_site_pins : (h : StoreState) (keeps : HasSite h) → h.pins ≡ [] → (site_state_of h keeps).pins ≡ []
+no_site_pins h keeps none = ap (λ (numbers : List ℕ). map (λ number. (number, items_at h.honest h.pins (λ honest. (keeps honest).2) number)) numbers) (ap (λ (pins : List (ℕ × List Pair)). map (λ (pin : ℕ × List Pair). pin.0) pins) none)
 
 -- a refusal of the key-value store
 pub keeper_refused : (old new : State) → (IsTrue old.honest → length old.disk.view ≡ old.size) → (fault : KeeperFault) → IsOpenFault old new fault → CountsRefusal fault old new → IsOpeningFault old new (of_keeper fault)

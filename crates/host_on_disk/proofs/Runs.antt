@@ -1,9 +1,9 @@
 -- Runs over a site that is handed in, and over a device.
-use Rattle.std.proofs.Common.{◌≡◌, ⊎_elim, inl, inr, ℕ, List, refl, sym, subst, arith}
+use Rattle.std.proofs.Common.{◌≡◌, ⊎_elim, inl, inr, ℕ, List, IsTrue, refl, ap, sym, subst, arith}
 use Rattle.host_types.specs.SiteState.{SiteState}
 use Rattle.host_types.specs.declared.change.Change.{Change}
 use Rattle.host_types.specs.declared.site_fault.SiteFault.{SiteFault}
-use Rattle.session_core.specs.Calls.{Calls}
+use Rattle.session_core.specs.Calls.{Calls, IsClosed}
 use Rattle.host_types.specs.Site.{Site}
 use Rattle.host_types.specs.CrashStates.{CrashStates, AddsNone}
 use Rattle.sector_device.specs.Device.{State}
@@ -13,34 +13,42 @@ use Rattle.session_core.specs.Run.{Run}
 use Rattle.session_core.specs.RunCrashStates.{HasCrashStates, RepresentsFrom}
 use Rattle.session_core.specs.declared.event.Event.{Event}
 use Rattle.session_core.specs.declared.event.Outcome.{Outcome}
+use Rattle.session_core.proofs.ClosedRuns.{closed_run}
 use Rattle.host_on_disk.specs.ImageSites.{ImageRepresents}
 use Rattle.host_on_disk.specs.Headline.{Survives, RunsOver, IsFound}
 
+-- the end of a hub leaves its device as honest as it was
+pub closed_honest : {S L : Type 0} (site_state : S → SiteState) (crash_states : S → CrashStates L) (new result : S) → IsClosed site_state crash_states new result → (site_state result).honest ≡ (site_state new).honest
+closed_honest site_state crash_states new result closes = ap (λ (h : SiteState). h.honest) closes.keeper.same
+
 -- a hub runs over the site that was handed in, and gives it back
-pub handed_over : {S L : Type 0} (stands : L → Site → Type 0) (crash_states : S → CrashStates L) (site held new result : S) (old first last : World) (events : List Event) (outcomes : List Outcome) →
+pub handed_over : {S L : Type 0} (site_state : S → SiteState) (stands : L → Site → Type 0) (crash_states : S → CrashStates L) (site held new result : S) (old first last : World) (events : List Event) (outcomes : List Outcome) →
     held ≡ site →
     old ≡ first →
-    result ≡ new →
+    IsClosed site_state crash_states new result →
+    IsTrue (site_state new).honest →
     Run old events outcomes last →
     HasCrashStates stands old last (crash_states held) (crash_states new) events outcomes →
     (w : World) × Run first events outcomes w × HasCrashStates stands first w (crash_states site) (crash_states result) events outcomes
-handed_over stands crash_states site held new result old first last events outcomes p q r run at_crash = (
+handed_over site_state stands crash_states site held new result old first last events outcomes p q closes honest run at_crash = (
   last,
   subst (λ w. Run w events outcomes last) q run,
-  subst (λ x. HasCrashStates stands first last (crash_states site) (crash_states x) events outcomes) (sym r) (subst (λ x. HasCrashStates stands first last (crash_states x) (crash_states new) events outcomes) p (subst (λ w. HasCrashStates stands w last (crash_states held) (crash_states new) events outcomes) q at_crash)),
+  subst (λ x. HasCrashStates stands first last (crash_states x) (crash_states result) events outcomes) p
+      (subst (λ w. HasCrashStates stands w last (crash_states held) (crash_states result) events outcomes) q (closed_run stands old last (crash_states held) (crash_states new) (crash_states result) events outcomes at_crash (closes.no_new_crash_state honest) closes.moment)),
 )
 
 -- the same of all its calls
 pub handed_on : {S L : Type 0} (site_state : S → SiteState) (lacks : S → Change → ℕ → SiteFault → Type 0) (crash_states : S → CrashStates L) (stands : L → Site → Type 0) (site held new result : S) (old last : World) (first : ℕ) (events : List Event) (outcomes : List Outcome) →
     held ≡ site →
     old ≡ started (site_state site).site first →
-    result ≡ new →
+    IsClosed site_state crash_states new result →
     Calls site_state lacks crash_states stands old held events outcomes last new →
     RunsOver site_state lacks crash_states stands site result first events outcomes
-handed_on site_state lacks crash_states stands site held new result old last first events outcomes p q r calls = record {
+handed_on site_state lacks crash_states stands site held new result old last first events outcomes p q closes calls = record {
   last = last;
-  calls = subst (λ x. Calls site_state lacks crash_states stands (started (site_state site).site first) site events outcomes last x) (sym r)
-      (subst (λ x. Calls site_state lacks crash_states stands (started (site_state site).site first) x events outcomes last new) p (subst (λ w. Calls site_state lacks crash_states stands w held events outcomes last new) q calls));
+  before = new;
+  calls = subst (λ x. Calls site_state lacks crash_states stands (started (site_state site).site first) x events outcomes last new) p (subst (λ w. Calls site_state lacks crash_states stands w held events outcomes last new) q calls);
+  closes = closes;
 }
 
 -- what is left represents a site that is found

@@ -9,7 +9,7 @@ use Rattle.sector_device.specs.Device.{State, NothingCounted}
 use Rattle.page_store.specs.Sectors.{Image}
 use Rattle.session_core.specs.World.{World, started}
 use Rattle.session_core.specs.Run.{Run}
-use Rattle.session_core.specs.Calls.{Calls}
+use Rattle.session_core.specs.Calls.{Calls, IsClosed}
 use Rattle.session_core.specs.RunCrashStates.{HasCrashStates, RepresentsFrom}
 use Rattle.session_core.specs.declared.event.Event.{Event}
 use Rattle.session_core.specs.declared.event.Outcome.{Outcome}
@@ -32,10 +32,12 @@ pub record Survives {D : Type 0} (state : D → State) (crash_states : D → Cra
   pub since : (image : Image) → (crash_states new).possible_since (crash_states old).moment image → may_crash_to (crash_states old) image ⊎ RepresentsFrom ImageRepresents (started site first) events outcomes 0 image
   pub again : (image : Image) → (crash_states new).possible_since (crash_states opened).moment image → (s : Site) × ImageRepresents image s × IsFound (started site first) events outcomes 0 s
 
--- The site is handed in and back: all events are calls, one after another, of one hub over it.
+-- The site is handed in and back: all events are calls, one after another, of one hub over it, which then ends: the pins that its sessions still held are given back, and nothing else changes.
 pub record RunsOver {S L : Type 0} (site_state : S → SiteState) (lacks : S → Change → ℕ → SiteFault → Type 0) (crash_states : S → CrashStates L) (stands : L → Site → Type 0) (old new : S) (first : ℕ) (events : List Event) (outcomes : List Outcome) : Type 0 where
   pub last : World
-  pub calls : Calls site_state lacks crash_states stands (started (site_state old).site first) old events outcomes last new
+  pub before : S
+  pub calls : Calls site_state lacks crash_states stands (started (site_state old).site first) old events outcomes last before
+  pub closes : IsClosed site_state crash_states before new
 
 -- A device is opened as the site that it shows, which counts nothing; that is run over, and handed back: the calls, with their causes, on any device.
 pub record RunsOn {D S L : Type 0} (state : D → State) (device : S → D) (site_state : S → SiteState) (lacks : S → Change → ℕ → SiteFault → Type 0) (crash_states : S → CrashStates L) (stands : L → Site → Type 0) (old new : D) (first : ℕ) (events : List Event) (outcomes : List Outcome) : Type 0 where

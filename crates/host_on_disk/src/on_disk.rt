@@ -1,5 +1,5 @@
 // Runs of events over a site on a disk, and what survives a crash.
-ghost use Rattle.std.specs.Prelude.{◌≡◌, true, IfOk, IfErr, IsTrue};
+ghost use Rattle.std.specs.Prelude.{◌≡◌, true, [], IfOk, IfErr, IsTrue};
 ghost use Rattle.page_store.specs.Steps.{crash_states_of};
 ghost use Rattle.cow_tree.specs.TreeSeen.{device_of};
 ghost use Rattle.site_store.specs.Seen.{keeper_of};
@@ -20,17 +20,19 @@ use site_store::DiskSite;
 use std::alloc::Global;
 use word_index::SearchKeeper;
 
-/// Runs events over a site in one hub, whose first session has this number, and hands the site back. `Memory` comes before the first event.
+/// Runs events over a site of which no pin is out, in one hub whose first session has this number, and hands the site back, again with no pin out. `Memory` comes before the first event.
 pub fn run_over<S: SearchKeeper>(
     alloc: Global,
     site: S,
     first: u64,
     events: &[Event],
 ) -> Result<(OutcomeList, S), (OpenFault, S)>
-    requires { (S.site_state site).usable ≡ true }
+    requires usable { (S.site_state site).usable ≡ true }
+    requires unpinned { (S.site_state site).pins ≡ [] }
     ensures calls { IfOk result (λ r. RunsOver S.site_state S.lacks S.crash_states S.represents site r.1 first events.now r.0) }
     ensures run { IsTrue (S.site_state site).honest → IfOk result (λ r. (last : World) × Run (started (S.site_state site).site first) events.now r.0 last × HasCrashStates S.represents (started (S.site_state site).site first) last (S.crash_states site) (S.crash_states r.1) events.now r.0) }
     ensures honest { IfOk result (λ r. (S.site_state r.1).honest ≡ (S.site_state site).honest) }
+    ensures unpinned { IfOk result (λ r. (S.site_state r.1).pins ≡ []) }
     ensures err { IfErr result (λ e. (e.0 ≡ Memory) × (e.1 ≡ site)) }
 {
     let mut hub = match Hub::new(alloc, site, first) {

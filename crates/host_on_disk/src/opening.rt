@@ -13,6 +13,7 @@ ghost use Rattle.host_on_disk.specs.declared.open_fault.OpenFault.TheVariants.{K
 
 use crate::open_fault::OpenFault;
 use cow_tree::TreeKeeper;
+use host_types::SiteKeeper;
 use sector_device::Device;
 use site_store::DiskSite;
 use std::alloc::Global;
@@ -28,6 +29,7 @@ pub fn open_site<D: Device>(
     ensures alone { IsTrue (D.state device).honest → (s : Site) → ImageRepresents (D.state device).disk.view s → IfOk result (λ d. s ≡ seen_site d) }
     ensures usable { IfOk result (λ d. is_open (keeper_of d) ≡ true) }
     ensures unpinned { IfOk result (λ d. (held D.state (keeper_of d)).pins ≡ []) }
+    ensures none_pinned { IfOk result (λ d. (⟦<DiskSite<TreeKeeper<D>> as SiteKeeper>⟧.site_state d).pins ≡ []) }
     ensures large { IfOk result (λ d. 128 ≤ (D.state device).size) }
     ensures counts { IfOk result (λ d. NothingCounted (D.state device) (D.state (device_of (keeper_of d)))) }
     ensures small { (D.state device).size < 128 → IsErrAnd result (λ e. (e.0 ≡ Keeper Small) × (e.1 ≡ device)) }

@@ -1,5 +1,5 @@
 // Serves whoever comes, over a site that is handed in, and over the site of an image.
-ghost use Rattle.std.specs.Prelude.{◌≡◌, true, IfOk, IfErr};
+ghost use Rattle.std.specs.Prelude.{◌≡◌, true, [], IfOk, IfErr};
 ghost use Rattle.page_store.specs.Steps.{crash_states_of};
 ghost use Rattle.cow_tree.specs.TreeSeen.{device_of};
 ghost use Rattle.site_store.specs.Seen.{keeper_of};
@@ -45,8 +45,10 @@ pub fn visits_over<S: SearchKeeper, C: Clock, R: Time, L: Write>(
     clock: &mut C,
     log: &mut L,
 ) -> Result<(Result<(), VisitFault>, S), (OpenFault, S)>
-    requires { (S.site_state site).usable ≡ true }
+    requires usable { (S.site_state site).usable ≡ true }
+    requires unpinned { (S.site_state site).pins ≡ [] }
     ensures ran { IfOk result (λ r. HasRun (OverSite S.site_state S.lacks S.crash_states S.represents) site r.1 (C.told clock.old) (C.told clock.new) (λ es os. Unit {0})) }
+    ensures unpinned { IfOk result (λ r. (S.site_state r.1).pins ≡ []) }
     ensures err { IfErr result (λ e. (e.0 ≡ OpenFault.Memory) × (e.1 ≡ site)) }
     ensures untold { IfErr result (λ e. clock.new ≡ clock.old) }
 {

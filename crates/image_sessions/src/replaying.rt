@@ -1,5 +1,5 @@
 // A script over a site, and over the site of an image.
-ghost use Rattle.std.specs.Prelude.{◌≡◌, true, IfOk, IfErr};
+ghost use Rattle.std.specs.Prelude.{◌≡◌, true, [], IfOk, IfErr};
 ghost use Rattle.page_store.specs.Steps.{crash_states_of};
 ghost use Rattle.cow_tree.specs.TreeSeen.{device_of};
 ghost use Rattle.site_store.specs.Seen.{keeper_of};
@@ -26,8 +26,10 @@ pub fn replay_over<S: SearchKeeper, R: Read, W: Write>(
     reader: &mut R,
     writer: &mut W,
 ) -> Result<(Result<(), Fault>, S), (OpenFault, S)>
-    requires { (S.site_state site).usable ≡ true }
+    requires usable { (S.site_state site).usable ≡ true }
+    requires unpinned { (S.site_state site).pins ≡ [] }
     ensures replayed { IfOk result (λ r. Replays (OverSite S.site_state S.lacks S.crash_states S.represents) site r.1 (R.remaining reader.old) (W.contents writer.old) (W.contents writer.new) r.0) }
+    ensures unpinned { IfOk result (λ r. (S.site_state r.1).pins ≡ []) }
     ensures err { IfErr result (λ e. (e.0 ≡ Memory) × (e.1 ≡ site)) }
     ensures unread { IfErr result (λ e. (reader.new ≡ reader.old) × (writer.new ≡ writer.old)) }
 {

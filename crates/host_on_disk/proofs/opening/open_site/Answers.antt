@@ -1,7 +1,7 @@
 use Rattle.std.proofs.Common.{◌∙◌, refl, subst, sym, rules, IsTrue}
 use Rattle.cow_tree.specs.TreeSeen.{held}
 use Rattle.host_on_disk.proofs.Images.{one_site, kept_stands}
-use Rattle.host_on_disk.proofs.Openings.{keeper_refused, small_refused, site_refused, none_out}
+use Rattle.host_on_disk.proofs.Openings.{keeper_refused, small_refused, site_refused, none_out, no_site_pins}
 use Rattle.host_on_disk.proofs.opening.open_site.Goals as goal
 
 pub returns-in-Err-clause-refused : goal.returns-in-Err-clause-refused
@@ -48,6 +48,9 @@ returns-in-Ok-open-clause-site g c =
 
 pub returns-in-Ok-open-clause-unpinned : goal.returns-in-Ok-open-clause-unpinned
 returns-in-Ok-open-clause-unpinned g c = none_out (held g.D.Device.state c.in-Ok.keeper) (held g.D.Device.state c.in-Ok-open.site.keeper) c.in-Ok-open.ensures.reads_only.read.same.out c.in-Ok.ensures.unpinned
+
+pub returns-in-Ok-open-clause-none_pinned : goal.returns-in-Ok-open-clause-none_pinned
+returns-in-Ok-open-clause-none_pinned g c = no_site_pins (held g.D.Device.state c.in-Ok-open.site.keeper) c.in-Ok-open.site.kept (none_out (held g.D.Device.state c.in-Ok.keeper) (held g.D.Device.state c.in-Ok-open.site.keeper) c.in-Ok-open.ensures.reads_only.read.same.out c.in-Ok.ensures.unpinned)
 
 pub returns-in-Ok-open-clause-alone : goal.returns-in-Ok-open-clause-alone
 returns-in-Ok-open-clause-alone g c =
