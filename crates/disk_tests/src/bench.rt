@@ -144,8 +144,15 @@ impl Bench {
         }
     }
 
-    /// The site of a keeper.
-    fn open_keeper(&mut self, keeper: TreeKeeper<FuseDisk<MemDisk>>) -> Result<(), Trouble> {
+    /// The site of the tree on a device. Where it is none, the tree is held.
+    fn open_tree(&mut self, device: FuseDisk<MemDisk>) -> Result<(), Trouble> {
+        let keeper = match TreeKeeper::open(self.alloc, device) {
+            Ok(keeper) => keeper,
+            Err((fault, device)) => {
+                self.held = Held::Fuse(device);
+                return Err(Trouble::from(fault));
+            }
+        };
         match DiskSite::open(self.alloc, keeper) {
             Ok(site) => {
                 self.held = Held::Site(site);
@@ -158,14 +165,14 @@ impl Bench {
         }
     }
 
-    /// `turn`: the site of the keeper, or the keeper of the site.
+    /// `turn`: the site of the keeper, which is opened anew, so that no pin of it is out, or the keeper of the site.
     fn turn(&mut self) -> Result<(), Trouble> {
         match mem::replace(&mut self.held, Held::Nothing) {
             Held::Site(site) => {
                 self.held = Held::Tree(site.into_keeper());
                 Ok(())
             }
-            Held::Tree(keeper) => self.open_keeper(keeper),
+            Held::Tree(keeper) => self.open_tree(keeper.into_device()),
             _ => Err(Trouble::Line),
         }
     }

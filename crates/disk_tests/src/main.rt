@@ -43,7 +43,7 @@ use std::io::Write;
 fn shown_at_last(alloc: Global) -> Result<(u8, usize, u8, u32, usize), &'static str> {
     let (shown, calls) = written_often(alloc)?;
     let (byte, keeper) = kept(alloc)?;
-    let (length, found) = noted(alloc, keeper)?;
+    let (length, found) = noted(alloc, keeper.into_device())?;
     Ok((shown, calls, byte, length, found))
 }
 

@@ -1,12 +1,13 @@
 // Calls that are made again where they find no memory. Each says what it did wrong, and else the same whether memory was refused or not.
 use crate::made::{EVENING, change, found, make_site};
 use cow_tree::TreeKeeper;
+use host_on_disk::{OpenFault, open_site};
 use host_types::{
     Bytes, Card, CardBody, Change, Item, Selector, SiteFault, SiteKeeper, Stamp, Title,
 };
 use page_store::{Keeper, KeeperFault};
 use sector_device::{Device, MemDisk};
-use site_store::{DiskSite, SiteOpenFault};
+use site_store::DiskSite;
 use std::alloc::Global;
 use word_index::SearchKeeper;
 
@@ -126,14 +127,15 @@ pub fn kept(alloc: Global) -> Result<(u8, TreeKeeper<MemDisk>), &'static str> {
     }
 }
 
-/// The site that a keeper holds. An opening that finds no memory hands the keeper back.
-fn site_in(alloc: Global, keeper: TreeKeeper<MemDisk>) -> Result<Site, &'static str> {
-    let keeper = match DiskSite::open(alloc, keeper) {
+/// The site on a disk. An opening that finds no memory hands the disk back.
+fn site_on(alloc: Global, disk: MemDisk) -> Result<Site, &'static str> {
+    let disk = match open_site(alloc, disk) {
         Ok(site) => return Ok(site),
-        Err((SiteOpenFault::Memory, keeper)) => keeper,
+        Err((OpenFault::Memory, disk)) => disk,
+        Err((OpenFault::Keeper(KeeperFault::Device), disk)) if disk.failed_writes() > 0 => disk,
         Err(_) => return Err("another fault of a site's opening"),
     };
-    match DiskSite::open(alloc, keeper) {
+    match open_site(alloc, disk) {
         Ok(site) => Ok(site),
         Err(_) => Err("no site"),
     }
@@ -168,14 +170,14 @@ fn note_length(site: &mut Site) -> Option<u32> {
     }
 }
 
-/// Puts a note on the site of a keeper: its length, and how many items a search finds. A change that finds no memory changes nothing, or fails as the disk does, and then for good.
-pub fn noted(alloc: Global, keeper: TreeKeeper<MemDisk>) -> Result<(u32, usize), &'static str> {
-    let mut site = site_in(alloc, keeper)?;
+/// Puts a note on the site of a disk: its length, and how many items a search finds. A change that finds no memory changes nothing, or fails as the disk does, and then for good.
+pub fn noted(alloc: Global, disk: MemDisk) -> Result<(u32, usize), &'static str> {
+    let mut site = site_on(alloc, disk)?;
     match put_note(alloc, &mut site) {
         Ok(()) => {}
         Err(fault) => {
             if fault == SiteFault::Failed && !site.is_usable() {
-                site = site_in(alloc, keeper_on(alloc, site.into_keeper().into_device())?)?;
+                site = site_on(alloc, site.into_keeper().into_device())?;
             } else if fault != SiteFault::Memory || note_length(&mut site).is_some() {
                 return Err("another fault of a change");
             }

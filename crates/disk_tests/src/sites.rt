@@ -54,7 +54,10 @@ fn chunk<S: SiteKeeper>(
     let selector = Selector::new(selector)?;
     let (view, place) = (number(view)? as usize, number(place)? as usize);
     let mut buffer = [0; 1000];
-    let length = site.chunk(&selector, view, place, &mut buffer)?;
+    let pin = site.pin_site()?;
+    let read = site.chunk(&pin, &selector, view, place, &mut buffer);
+    site.unpin_site(pin);
+    let length = read?;
     line.bytes(&buffer[..length])
 }
 

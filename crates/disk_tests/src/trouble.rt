@@ -1,6 +1,6 @@
 // Why a line has no other answer.
 use host_on_disk::OpenFault;
-use host_types::{Refused, SiteFault};
+use host_types::{Refused, SiteFault, SitePinFault};
 use page_store::KeeperFault;
 use sector_device::DeviceFault;
 use site_records::RecordFault;
@@ -20,6 +20,8 @@ pub enum Trouble {
     Open(OpenFault),
     /// A fault of a site, of a name or of memory.
     Site(SiteFault),
+    /// No pin of the site was given.
+    Pin(SitePinFault),
 }
 
 impl fmt::Display for Trouble {
@@ -30,6 +32,7 @@ impl fmt::Display for Trouble {
             Trouble::Device(fault) => fault.fmt(f),
             Trouble::Open(fault) => fault.fmt(f),
             Trouble::Site(fault) => fault.fmt(f),
+            Trouble::Pin(fault) => fault.fmt(f),
         }
     }
 }
@@ -55,6 +58,12 @@ impl From<Refused> for Trouble {
 impl From<SiteFault> for Trouble {
     fn from(fault: SiteFault) -> Self {
         Trouble::Site(fault)
+    }
+}
+
+impl From<SitePinFault> for Trouble {
+    fn from(fault: SitePinFault) -> Self {
+        Trouble::Pin(fault)
     }
 }
 

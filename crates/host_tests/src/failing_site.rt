@@ -1,9 +1,12 @@
 // A site in memory whose reads and changes can be made to fail, or be refused. It promises nothing of its contents.
-ghost use Rattle.std.specs.Prelude.{◌≡◌, ℕ, true, false};
+ghost use Rattle.std.specs.Prelude.{◌≡◌, ℕ, true, false, []};
 ghost use Rattle.host_types.specs.CrashStates.{nothing, no_crash_state};
+ghost use Rattle.host_types.specs.Pins.{Copied};
 
-use host_types::{Address, Card, Change, Refused, Selector, SiteFault, SiteKeeper, Stamp};
-use mem_site::MemSite;
+use host_types::{
+    Address, Card, Change, Refused, Selector, SiteFault, SiteKeeper, SitePinFault, Stamp,
+};
+use mem_site::{MemPin, MemSite};
 use word_index::{SearchKeeper, SelectorList};
 
 /// A site of which one read fails, or a change.
@@ -54,7 +57,7 @@ impl FailingSite {
 }
 
 impl SiteKeeper for FailingSite {
-    ghost site_state = { λ m. record { site = m.site; honest = false; usable = m.usable; free = 0; failed_reads = 0; failed_writes = 0 } };
+    ghost site_state = { λ m. record { site = m.site; honest = false; usable = m.usable; free = 0; failed_reads = 0; failed_writes = 0; pins = [] } };
 
     ghost lacks = { λ m change now fault. ⊥ };
 
@@ -65,6 +68,10 @@ impl SiteKeeper for FailingSite {
     ghost crash_states = { λ m. nothing };
 
     ghost crash_states_represent = { λ m c honest usable left. no_crash_state left };
+
+    type Pin = MemPin;
+
+    ghost pinned = { λ p. Copied [] };
 
     fn front(&self) -> Address<'_> {
         self.site.front()
@@ -84,8 +91,20 @@ impl SiteKeeper for FailingSite {
         self.site.card(selector)
     }
 
+    fn pin_site(&mut self) -> Result<MemPin, SitePinFault> {
+        if !self.usable {
+            return Err(SitePinFault::Failed);
+        }
+        self.site.pin_site()
+    }
+
+    fn unpin_site(&mut self, pin: MemPin) {
+        self.site.unpin_site(pin);
+    }
+
     fn chunk(
         &mut self,
+        pin: &MemPin,
         selector: &Selector,
         view: usize,
         k: usize,
@@ -97,7 +116,7 @@ impl SiteKeeper for FailingSite {
         if self.read_fails() {
             return Err(SiteFault::Read);
         }
-        self.site.chunk(selector, view, k, buffer)
+        self.site.chunk(pin, selector, view, k, buffer)
     }
 
     fn change(&mut self, change: Change, now: Stamp) -> Result<(), SiteFault> {

@@ -142,7 +142,10 @@ fn show_chunk(bench: &mut Bench, line: &mut Line, fields: &[Vec<u8>]) -> Result<
     let view = number(view)? as usize;
     let place = number(place)? as usize;
     let mut buffer = [0; 1000];
-    let length = bench.site.chunk(&selector, view, place, &mut buffer)?;
+    let pin = bench.site.pin_site()?;
+    let read = bench.site.chunk(&pin, &selector, view, place, &mut buffer);
+    bench.site.unpin_site(pin);
+    let length = read?;
     Ok(line.bytes(&buffer[..length])?)
 }
 

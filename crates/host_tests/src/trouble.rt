@@ -1,6 +1,6 @@
 // Why a line has no answer.
 use ask_forms::AskFault;
-use host_types::{Refused, SiteFault};
+use host_types::{Refused, SiteFault, SitePinFault};
 use std::alloc::{AllocError, AllocFailed};
 use std::fmt;
 use url_page::UrlFault;
@@ -14,6 +14,8 @@ pub enum Trouble {
     Differs,
     /// A fault of a site, of a name or of memory.
     Site(SiteFault),
+    /// No pin of the site was given.
+    Pin(SitePinFault),
     Answers(AskFault),
     Link(UrlFault),
 }
@@ -24,6 +26,7 @@ impl fmt::Display for Trouble {
             Trouble::Line => f.write_str("line"),
             Trouble::Differs => f.write_str("differs"),
             Trouble::Site(fault) => fault.fmt(f),
+            Trouble::Pin(fault) => fault.fmt(f),
             Trouble::Answers(fault) => fault.fmt(f),
             Trouble::Link(fault) => fault.fmt(f),
         }
@@ -51,6 +54,12 @@ impl From<Refused> for Trouble {
 impl From<SiteFault> for Trouble {
     fn from(fault: SiteFault) -> Self {
         Trouble::Site(fault)
+    }
+}
+
+impl From<SitePinFault> for Trouble {
+    fn from(fault: SitePinFault) -> Self {
+        Trouble::Pin(fault)
     }
 }
 

@@ -1,0 +1,81 @@
+//! Tests of sites that are pinned while sessions draw. The program makes the calls of standard input. A call prints `ok` and what was seen, or why it gave
+//! nothing. Empty lines and those that begin with `#` stand for themselves.
+//!
+//! - `least` draws a document of 65,536 bytes that is removed meanwhile, in the least image in which it can be, fills that with posts, and prints how many pages it has and how many posts it took.
+//! - `by_bytes` draws such a document at once and in pieces of one byte, and prints how many bytes are sent.
+//! - `random SEED SITES HUBS` mixes events at random, over so many sites with so many hubs each, one after the other, and prints how many there were, how many had no room,
+//!   and how many were answered otherwise by a site in memory.
+#![tactic(auto)]
+
+mod batches;
+mod changes;
+mod dice;
+mod drawing;
+mod least;
+mod made;
+mod random;
+mod trouble;
+
+use least::{drawn_by_bytes, least};
+use random::random;
+use std::alloc::Global;
+use std::io;
+use trouble::Trouble;
+
+/// The number that decimal digits write.
+fn number(field: &str) -> Result<u32, Trouble> {
+    field.parse::<u32>().or(Err(Trouble::Line))
+}
+
+/// `least`
+fn show_least(alloc: Global) -> Result<String, Trouble> {
+    let seen = least(alloc)?;
+    Ok(format!(in alloc; "{} pages, {} posts", seen.pages, seen.posts)?)
+}
+
+/// `by_bytes`
+fn show_by_bytes(alloc: Global) -> Result<String, Trouble> {
+    let count = drawn_by_bytes(alloc)?;
+    Ok(format!(in alloc; "{count} bytes")?)
+}
+
+/// `random SEED SITES HUBS`
+fn show_random(alloc: Global, seed: &str, sites: &str, hubs: &str) -> Result<String, Trouble> {
+    let seen = random(alloc, number(seed)?.into(), number(sites)?, number(hubs)?)?;
+    Ok(format!(in alloc;
+        "{} events, {} without room, {} differ",
+        seen.events, seen.full, seen.differ
+    )?)
+}
+
+fn call(alloc: Global, text: &str) -> Result<String, Trouble> {
+    let fields: Vec<&str> = text.split(' ').collect(alloc)?;
+    match fields.as_slice() {
+        ["least"] => show_least(alloc),
+        ["by_bytes"] => show_by_bytes(alloc),
+        ["random", seed, sites, hubs] => show_random(alloc, seed, sites, hubs),
+        _ => Err(Trouble::Line),
+    }
+}
+
+/// What is printed for a row: an empty one and a comment stand for themselves.
+fn answer(alloc: Global, text: &str) -> Result<String, Trouble> {
+    if text.is_empty() || text.starts_with('#') {
+        return Ok(String::from_str(alloc, text)?);
+    }
+    match call(alloc, text) {
+        Ok(shown) => Ok(format!(in alloc; "ok {shown}")?),
+        Err(trouble) => Ok(format!(in alloc; "{trouble}")?),
+    }
+}
+
+fn main(rt: HostRuntime) -> io::Result<()> {
+    let alloc = rt.alloc();
+    for text in rt.lines(alloc) {
+        match answer(alloc, text?.as_str()) {
+            Ok(shown) => println!(rt; "{}", shown.as_str())?,
+            Err(trouble) => println!(rt; "{trouble}")?,
+        }
+    }
+    Ok(())
+}
