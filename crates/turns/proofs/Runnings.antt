@@ -27,11 +27,11 @@ untold ran old new t P r = record { events = r.events; outcomes = r.outcomes; le
 module _ {S L : Type 0} (site_state : S → SiteState) (lacks : S → Change → ℕ → SiteFault → Type 0) (crash_states : S → CrashStates L) (stands : L → Site → Type 0)
     (law : (k : S) (c : L) → IsTrue (site_state k).honest → (site_state k).usable ≡ true → may_crash_to (crash_states k) c → stands c (site_state k).site) where
   -- no event
-  pub run_none : {bound : _} (hub : Hub S bound) (t : List ℕ) (P : List Event → List Outcome → Type 0) → P [] [] → HasRun (HubRun site_state lacks crash_states stands) hub hub t t P
+  pub run_none : {bound : _} {ghosts : _} (hub : Hub S bound ghosts) (t : List ℕ) (P : List Event → List Outcome → Type 0) → P [] [] → HasRun (HubRun site_state lacks crash_states stands) hub hub t t P
   run_none hub t P p = record { events = []; outcomes = []; led = hub_rests site_state lacks crash_states stands law hub; moments_are = sym (append-nil t); holds = p }
 
   -- one call
-  pub run_one : {bound : _} (old new : Hub S bound) (e : Event) (o : Outcome) (t u : List ℕ) (P : List Event → List Outcome → Type 0) → HubCall site_state lacks crash_states stands old e o new → u ≡ t ++ moment_of e → P (e ∷ []) (o ∷ []) → HasRun (HubRun site_state lacks crash_states stands) old new t u P
+  pub run_one : {bound : _} {ghosts : _} (old new : Hub S bound ghosts) (e : Event) (o : Outcome) (t u : List ℕ) (P : List Event → List Outcome → Type 0) → HubCall site_state lacks crash_states stands old e o new → u ≡ t ++ moment_of e → P (e ∷ []) (o ∷ []) → HasRun (HubRun site_state lacks crash_states stands) old new t u P
   run_one old new e o t u P call told p = record {
     events = e ∷ [];
     outcomes = o ∷ [];
@@ -41,7 +41,7 @@ module _ {S L : Type 0} (site_state : S → SiteState) (lacks : S → Change →
   }
 
   -- some events and then others
-  pub run_both : {bound : _} (old mid new : Hub S bound) (t u v : List ℕ) (P Q R : List Event → List Outcome → Type 0) → HasRun (HubRun site_state lacks crash_states stands) old mid t u P → HasRun (HubRun site_state lacks crash_states stands) mid new u v Q →
+  pub run_both : {bound : _} {ghosts : _} (old mid new : Hub S bound ghosts) (t u v : List ℕ) (P Q R : List Event → List Outcome → Type 0) → HasRun (HubRun site_state lacks crash_states stands) old mid t u P → HasRun (HubRun site_state lacks crash_states stands) mid new u v Q →
       ((es fs : List Event) (os ps : List Outcome) → P es os → Q fs ps → R (es ++ fs) (os ++ ps)) → HasRun (HubRun site_state lacks crash_states stands) old new t v R
   run_both old mid new t u v P Q R first second f = record {
     events = first.events ++ second.events;
