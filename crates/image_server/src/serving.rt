@@ -41,7 +41,7 @@ pub fn serve_over<S: SearchKeeper, C: Clock>(
     requires usable { (S.site_state site).usable ≡ true }
     requires unpinned { (S.site_state site).pins ≡ [] }
     ensures ran { IfOk result (λ r. HasRun (OverSite S.site_state S.lacks S.crash_states S.represents) site r.1 (C.told clock.old) (C.told clock.new) (λ es os. Unit {0})) }
-    ensures serves { IfOk result (λ r. IfOk r.0 (ServesOver S.Pin ⟦<S as SiteKeeper>⟧ S.site_state S.lacks S.crash_states S.represents together rounds site r.1 (C.told clock.old) (C.told clock.new))) }
+    ensures serves { IfOk result (λ r. IfOk r.0 (ServesOver ⟦<S as SiteKeeper>⟧ S.site_state S.lacks S.crash_states S.represents together rounds site r.1 (C.told clock.old) (C.told clock.new))) }
     ensures unpinned { IfOk result (λ r. (S.site_state r.1).pins ≡ []) }
     ensures err { IfErr result (λ e. (e.0 ≡ OpenFault.Memory) × (e.1 ≡ site)) }
     ensures untold { IfErr result (λ e. clock.new ≡ clock.old) }
