@@ -1,4 +1,6 @@
 // Events over a site in memory and over one on a disk, which is stopped at any of its calls.
+ghost use Rattle.std.specs.Prelude.{◌≡◌, [], IfOk};
+
 use crate::disks::unsynced;
 use crate::keepers::pairs_of;
 use crate::made::EVENING;
@@ -6,7 +8,7 @@ use crate::scripts::Dice;
 use crate::trouble::Trouble;
 use cow_tree::TreeKeeper;
 use host_on_disk::{open_site, run_on, run_over};
-use host_types::{Admin, Bytes, Host, Stamp, Title};
+use host_types::{Admin, Bytes, Host, SiteKeeper, Stamp, Title};
 use image_commands::compact_image;
 use mem_site::MemSite;
 use page_store::Keeper;
@@ -33,20 +35,24 @@ fn kept<D: Device + Drop>(alloc: Global, device: D) -> Result<TreeKeeper<D>, Tro
     }
 }
 
-/// The site on a disk.
-fn opened(alloc: Global, disk: MemDisk) -> Result<DiskSite<TreeKeeper<MemDisk>>, Trouble> {
+/// The site on a disk. No pin of it is out.
+fn opened(alloc: Global, disk: MemDisk) -> Result<DiskSite<TreeKeeper<MemDisk>>, Trouble>
+    ensures { IfOk result (λ site. (⟦<DiskSite<TreeKeeper<MemDisk>> as SiteKeeper>⟧.site_state site).pins ≡ []) }
+{
     match open_site(alloc, disk) {
         Ok(site) => Ok(site),
         Err((fault, _)) => Err(Trouble::from(fault)),
     }
 }
 
-/// The outcomes of some events over a site, and the site after them.
+/// The outcomes of some events over a site of which no pin is out, and the site after them.
 fn ran<S: SearchKeeper + Drop>(
     alloc: Global,
     site: S,
     events: &[Event],
-) -> Result<(OutcomeList, S), Trouble> {
+) -> Result<(OutcomeList, S), Trouble>
+    requires { (S.site_state site).pins ≡ [] }
+{
     if !site.is_usable() {
         return Err(Trouble::Wrong("not usable"));
     }

@@ -22,7 +22,7 @@ const POST: &[u8] = b"/sign\t+\t1\r\n+-1\r\nAnn\r\n0\r\n.\r\n";
 /// How many pages the least image has, and how many posts were stored until it was full.
 #[derive(Clone, Copy)]
 pub struct Seen {
-    pub pages: u16,
+    pub pages: u32,
     pub posts: usize,
 }
 
@@ -107,24 +107,31 @@ fn on_hub(alloc: Global, hub: &mut Hub<TreeSite>, document: &Document) -> Result
 }
 
 /// The same in an image of so many pages.
-fn in_image(alloc: Global, pages: u16, document: &Document) -> Result<usize, Trouble> {
+fn in_image(alloc: Global, pages: u32, document: &Document) -> Result<usize, Trouble> {
     let mut hub = hub_over(alloc, site_on(alloc, new_disk(alloc, pages)?)?)?;
     let posts = on_hub(alloc, &mut hub, document);
     let _ = hub.close();
     posts
 }
 
-/// The same in the least image in which the document can be put and removed.
-pub fn least(alloc: Global) -> Result<Seen, Trouble> {
-    let document = Document::new(alloc, &mut Dice::new(1), LINES)?;
+/// How many pages the least image has in which the document can be put, half drawn and removed.
+fn least_pages(alloc: Global, document: &Document) -> Result<u32, Trouble> {
     for pages in 16..512 {
-        match in_image(alloc, pages, &document) {
+        match in_image(alloc, pages, document) {
             Err(Trouble::Hub(HubFault::Full { .. })) => {}
             Err(trouble) => return Err(trouble),
-            Ok(posts) => return Ok(Seen { pages, posts }),
+            Ok(_) => return Ok(pages),
         }
     }
     Err(Trouble::Wrong("no image is large enough"))
+}
+
+/// The same in an image of so many pages more than the least one.
+pub fn above_least(alloc: Global, more: u32) -> Result<Seen, Trouble> {
+    let document = Document::new(alloc, &mut Dice::new(1), LINES)?;
+    let pages = least_pages(alloc, &document)?.saturating_add(more);
+    let posts = in_image(alloc, pages, &document)?;
+    Ok(Seen { pages, posts })
 }
 
 /// The document in an image of 64 pages, drawn at once and in pieces of one byte: how many bytes are sent.

@@ -48,7 +48,7 @@ fn first_edits(alloc: Global, title: &Title) -> Result<Vec<Edit>, Trouble> {
 }
 
 /// A disk with an image of a tree without pairs.
-fn formatted(alloc: Global, pages: u16, host: Host, admin: Admin) -> Result<MemDisk, Trouble> {
+fn formatted(alloc: Global, pages: u32, host: Host, admin: Admin) -> Result<MemDisk, Trouble> {
     let mut disk = MemDisk::new(alloc, 8 * pages as usize)?;
     let banner = Banner {
         version: 1,
@@ -56,12 +56,12 @@ fn formatted(alloc: Global, pages: u16, host: Host, admin: Admin) -> Result<MemD
         port: PORT,
         admin,
     };
-    format(alloc, &mut disk, pages.into(), banner, &[])?;
+    format(alloc, &mut disk, pages, banner, &[])?;
     Ok(disk)
 }
 
 /// A disk with a site of so many pages: its top menu, `Top`, without entries.
-pub fn new_disk(alloc: Global, pages: u16) -> Result<MemDisk, Trouble> {
+pub fn new_disk(alloc: Global, pages: u32) -> Result<MemDisk, Trouble> {
     let Names { host, admin, title } = Names::new()?;
     let disk = formatted(alloc, pages, host, admin)?;
     let mut keeper = match TreeKeeper::open(alloc, disk) {

@@ -1,7 +1,8 @@
 //! Tests of sites that are pinned while sessions draw. The program makes the calls of standard input. A call prints `ok` and what was seen, or why it gave
 //! nothing. Empty lines and those that begin with `#` stand for themselves.
 //!
-//! - `least` draws a document of 65,536 bytes that is removed meanwhile, in the least image in which it can be, fills that with posts, and prints how many pages it has and how many posts it took.
+//! - `least MORE` draws a document of 65,536 bytes that is removed meanwhile, in an image of so many pages more than the least one in which it can be, fills that with posts, and prints how many pages it has and
+//!   how many posts it took.
 //! - `by_bytes` draws such a document at once and in pieces of one byte, and prints how many bytes are sent.
 //! - `random SEED SITES HUBS` mixes events at random, over so many sites with so many hubs each, one after the other, and prints how many there were, how many had no room,
 //!   and how many were answered otherwise by a site in memory.
@@ -16,7 +17,7 @@ mod made;
 mod random;
 mod trouble;
 
-use least::{drawn_by_bytes, least};
+use least::{above_least, drawn_by_bytes};
 use random::random;
 use std::alloc::Global;
 use std::io;
@@ -27,9 +28,9 @@ fn number(field: &str) -> Result<u32, Trouble> {
     field.parse::<u32>().or(Err(Trouble::Line))
 }
 
-/// `least`
-fn show_least(alloc: Global) -> Result<String, Trouble> {
-    let seen = least(alloc)?;
+/// `least MORE`
+fn show_least(alloc: Global, more: &str) -> Result<String, Trouble> {
+    let seen = above_least(alloc, number(more)?)?;
     Ok(format!(in alloc; "{} pages, {} posts", seen.pages, seen.posts)?)
 }
 
@@ -51,7 +52,7 @@ fn show_random(alloc: Global, seed: &str, sites: &str, hubs: &str) -> Result<Str
 fn call(alloc: Global, text: &str) -> Result<String, Trouble> {
     let fields: Vec<&str> = text.split(' ').collect(alloc)?;
     match fields.as_slice() {
-        ["least"] => show_least(alloc),
+        ["least", more] => show_least(alloc, more),
         ["by_bytes"] => show_by_bytes(alloc),
         ["random", seed, sites, hubs] => show_random(alloc, seed, sites, hubs),
         _ => Err(Trouble::Line),

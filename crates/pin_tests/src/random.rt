@@ -20,7 +20,7 @@ const REQUESTS: [&[u8]; 16] = [
 ];
 
 /// The pages of an image, the lines of a document at most, the room of a draw at most, and the events of a hub behind the first joins.
-const PAGES: u16 = 64;
+const PAGES: u32 = 64;
 const LINES: usize = 120;
 const ROOM: usize = 2048;
 const EVENTS: usize = 100;

@@ -1,4 +1,6 @@
 // One site in memory and one on a disk, which are asked the same.
+ghost use Rattle.std.specs.Prelude.{◌≡◌, [], IfOk};
+
 use crate::answer::answer;
 use crate::fault::Fault;
 use crate::fields::number;
@@ -14,8 +16,10 @@ use site_store::DiskSite;
 use std::alloc::Global;
 use word_index::SearchKeeper;
 
-/// The small site on a disk of so many pages.
-fn small_disk_site(alloc: Global, pages: u16) -> Result<DiskSite<TreeKeeper<MemDisk>>, Fault> {
+/// The small site on a disk of so many pages. No pin of it is out.
+fn small_disk_site(alloc: Global, pages: u16) -> Result<DiskSite<TreeKeeper<MemDisk>>, Fault>
+    ensures { IfOk result (λ site. (⟦<DiskSite<TreeKeeper<MemDisk>> as SiteKeeper>⟧.site_state site).pins ≡ []) }
+{
     let names = SiteNames::new(b"localhost", b"Ada <ada@localhost>", b"Top")?;
     let mut disk = MemDisk::new(alloc, 8 * usize::from(pages))?;
     if format_image(
@@ -36,8 +40,10 @@ fn small_disk_site(alloc: Global, pages: u16) -> Result<DiskSite<TreeKeeper<MemD
     }
 }
 
-/// A hub over a site, whose first session has this number.
-fn hub_over<S: SearchKeeper + Drop>(alloc: Global, site: S, first: u64) -> Result<Hub<S>, Fault> {
+/// A hub over a site of which no pin is out. Its first session has this number.
+fn hub_over<S: SearchKeeper + Drop>(alloc: Global, site: S, first: u64) -> Result<Hub<S>, Fault>
+    requires { (S.site_state site).pins ≡ [] }
+{
     if !site.is_usable() {
         return Err(Fault::Line);
     }
