@@ -53,14 +53,14 @@ no_last [] x is = cc
 no_last (y ∷ front) x is = cc
 
 both_tried : (a b c : SiteState) → HasTried a b → HasTried b c → HasTried a c
-both_tried a b c first second = record { honest = second.honest ∙ first.honest; reads = omega (arith, first.reads, second.reads); writes = omega (arith, first.writes, second.writes) }
+both_tried a b c first second = record { honest = second.honest ∙ first.honest; reads = omega (arith, first.reads, second.reads); writes = omega (arith, first.writes, second.writes); pins = second.pins ∙ first.pins }
 
 pub starts : {S L : Type 0} (state : S → SiteState) (crash_states : S → CrashStates L) (represents : L → Site → Type 0) → ((k : S) (c : L) → IsTrue (state k).honest → (state k).usable ≡ true → may_crash_to (crash_states k) c → represents c (state k).site)
     → (k : S) (now : ℕ) → Between state crash_states represents k k [] now
 starts state crash_states represents law k now = record {
   applied = λ honest. refl;
   usable = refl;
-  tried = record { honest = refl; reads = omega arith; writes = omega arith };
+  tried = record { honest = refl; reads = omega arith; writes = omega arith; pins = refl };
   none_before = λ is. refl;
   at_crash = λ honest usable.
       adds_both (crash_states k) (crash_states k) (crash_states k) (may_crash_to (crash_states k)) (may_crash_to (crash_states k)) (RepresentsFront represents (state k).site [] now) (no_new_crash_state (crash_states k)) (no_new_crash_state (crash_states k))
