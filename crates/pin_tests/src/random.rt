@@ -14,15 +14,31 @@ const PLACES: [&[u8]; 6] = [b"/a", b"/b", b"/c", b"/d", b"/e", b"/f"];
 
 /// What sessions ask, whole or in parts: documents, each as a text and by Gopher+, what is not there, the board, and a post.
 const REQUESTS: [&[u8]; 16] = [
-    b"/a\r\n", b"/b\r\n", b"/c\r\n", b"/d\r\n", b"/e\r\n", b"/f\r\n", b"/a\t+\r\n", b"/b\t+\r\n",
-    b"/c\t+\r\n", b"/d\t!\r\n", b"/none\r\n", b"/book\r\n", b"/a", b"\r\n",
-    b"/sign\t+\t1\r\n+-1\r\nAnn\r\n0\r\n.\r\n", b"/sign\t+\t1\r\n+-1\r\nBea\r\n1\r\nHello\r\n.\r\n",
+    b"/a\r\n",
+    b"/b\r\n",
+    b"/c\r\n",
+    b"/d\r\n",
+    b"/e\r\n",
+    b"/f\r\n",
+    b"/a\t+\r\n",
+    b"/b\t+\r\n",
+    b"/c\t+\r\n",
+    b"/d\t!\r\n",
+    b"/none\r\n",
+    b"/book\r\n",
+    b"/a",
+    b"\r\n",
+    b"/sign\t+\t1\r\n+-1\r\nAnn\r\n0\r\n.\r\n",
+    b"/sign\t+\t1\r\n+-1\r\nBea\r\n1\r\nHello\r\n.\r\n",
 ];
 
 /// The pages of an image, the lines of a document at most, the room of a draw at most, and the events of a hub behind the first joins.
 const PAGES: u32 = 64;
+
 const LINES: usize = 120;
+
 const ROOM: usize = 2048;
+
 const EVENTS: usize = 100;
 
 /// What was seen: events, those that the image had no room for, and those that were answered otherwise in memory.
