@@ -21,20 +21,20 @@ use Rattle.image_server.specs.declared.serving.ServingFault.{ServingFault}
 use Rattle.image_server.specs.declared.serving.ServingFault.TheVariants.{Image, Net}
 
 -- A site is handed to a hub whose sessions count from 1, so many rounds are served by it, and the hub ends: the pins that its sessions still held are given back, and the site is handed back with nothing else changed.
-pub record ServesOver {S L : Type 0} {bound : _} (ghosts : _) (site_state : S → SiteState) (lacks : S → Change → ℕ → SiteFault → Type 0) (crash_states : S → CrashStates L) (stands : L → Site → Type 0) (together rounds : ℕ) (old new : S) (told_before told_now : List ℕ) (served : ℕ) : Type 0 where
-  pub first : Hub S bound ghosts
-  pub last : Hub S bound ghosts
+pub record ServesOver {S L Pin : Type 0} (ghosts : _) (site_state : S → SiteState) (lacks : S → Change → ℕ → SiteFault → Type 0) (crash_states : S → CrashStates L) (stands : L → Site → Type 0) (together rounds : ℕ) (old new : S) (told_before told_now : List ℕ) (served : ℕ) : Type 0 where
+  pub first : Hub S Pin ghosts
+  pub last : Hub S Pin ghosts
   pub keeper : keeper_of first ≡ old
   pub world : world_of site_state first ≡ started (site_state old).site 1
   pub serves : IsServing (HubRun site_state lacks crash_states stands) (λ hub. (site_state (keeper_of hub)).usable) together rounds first last told_before told_now served
   pub closes : IsClosed site_state crash_states (keeper_of last) new
 
 -- The same over the site that a device shows.
-pub record ServesImage {D S L : Type 0} {bound : _} (ghosts : _) (state : D → State) (device : S → D) (site_state : S → SiteState) (lacks : S → Change → ℕ → SiteFault → Type 0) (crash_states : S → CrashStates L) (stands : L → Site → Type 0) (together rounds : ℕ) (old new : D) (told_before told_now : List ℕ) (served : ℕ) : Type 0 where
+pub record ServesImage {D S L Pin : Type 0} (ghosts : _) (state : D → State) (device : S → D) (site_state : S → SiteState) (lacks : S → Change → ℕ → SiteFault → Type 0) (crash_states : S → CrashStates L) (stands : L → Site → Type 0) (together rounds : ℕ) (old new : D) (told_before told_now : List ℕ) (served : ℕ) : Type 0 where
   pub opened : S
   pub closed : S
   pub shows : IsTrue (state old).honest → ImageRepresents (state old).disk.view (site_state opened).site
-  pub serves : ServesOver ghosts site_state lacks crash_states stands together rounds opened closed told_before told_now served
+  pub serves : ServesOver {Pin = Pin} ghosts site_state lacks crash_states stands together rounds opened closed told_before told_now served
   pub handed : new ≡ device closed
 
 -- The image's own fault, by its cause; or the port can't be listened on, and then the image was opened and nothing failed.
