@@ -14,16 +14,32 @@ const PLACES: [&[u8]; 6] = [b"/a", b"/b", b"/c", b"/d", b"/e", b"/f"];
 
 /// What sessions ask, whole or in parts: documents, each as a text and by Gopher+, what is not there, the board, and a post.
 const REQUESTS: [&[u8]; 16] = [
-    b"/a\r\n", b"/b\r\n", b"/c\r\n", b"/d\r\n", b"/e\r\n", b"/f\r\n", b"/a\t+\r\n", b"/b\t+\r\n",
-    b"/c\t+\r\n", b"/d\t!\r\n", b"/none\r\n", b"/book\r\n", b"/a", b"\r\n",
-    b"/sign\t+\t1\r\n+-1\r\nAnn\r\n0\r\n.\r\n", b"/sign\t+\t1\r\n+-1\r\nBea\r\n1\r\nHello\r\n.\r\n",
+    b"/a\r\n",
+    b"/b\r\n",
+    b"/c\r\n",
+    b"/d\r\n",
+    b"/e\r\n",
+    b"/f\r\n",
+    b"/a\t+\r\n",
+    b"/b\t+\r\n",
+    b"/c\t+\r\n",
+    b"/d\t!\r\n",
+    b"/none\r\n",
+    b"/book\r\n",
+    b"/a",
+    b"\r\n",
+    b"/sign\t+\t1\r\n+-1\r\nAnn\r\n0\r\n.\r\n",
+    b"/sign\t+\t1\r\n+-1\r\nBea\r\n1\r\nHello\r\n.\r\n",
 ];
 
-/// The pages of an image, the lines of a document at most, the room of a draw at most, and the events of a hub behind the first joins.
+/// The pages of an image, the lines that a document is cut from, the room of a draw at most, and the events of a hub behind the first joins.
 const PAGES: u32 = 64;
-const LINES: usize = 120;
+
+const LINES: usize = 20;
+
 const ROOM: usize = 2048;
-const EVENTS: usize = 100;
+
+const EVENTS: usize = 60;
 
 /// What was seen: events, those that the image had no room for, and those that were answered otherwise in memory.
 #[derive(Clone, Copy)]
@@ -128,9 +144,10 @@ impl Run {
         if self.dice.roll(4) == 0 {
             return remove(place);
         }
-        let lines = self.dice.roll(LINES);
-        let document = Document::new(self.alloc, &mut self.dice, lines)?;
-        put_text(self.alloc, place, &document.text)
+        let mut text = Document::new(self.alloc, &mut self.dice, LINES)?.text;
+        let length = text.len().max(1);
+        text.truncate(self.dice.roll(length));
+        put_text(self.alloc, place, &text)
     }
 
     /// A change of the administrator, which isn't made in memory where the image has no room for it.
