@@ -5,7 +5,7 @@ use host_types::{Body, Bytes, Change, Item, Question, QuestionList, Selector, St
 use std::alloc::{AllocError, Global};
 
 /// How many bytes a line of a document has, with its LF.
-const LINE: usize = 64;
+const LINE: usize = 512;
 
 /// A text of lines of letters, and what is sent of it.
 #[derive(Drop)]

@@ -9,7 +9,7 @@ use session_core::{Drawn, Hub, HubFault, InputStatus};
 use std::alloc::Global;
 
 /// The document of 65,536 bytes, which is half drawn in 512 draws of 64 bytes.
-const LINES: usize = 1024;
+const LINES: usize = 128;
 
 const ROOM: usize = 64;
 

@@ -32,14 +32,14 @@ const REQUESTS: [&[u8]; 16] = [
     b"/sign\t+\t1\r\n+-1\r\nBea\r\n1\r\nHello\r\n.\r\n",
 ];
 
-/// The pages of an image, the lines of a document at most, the room of a draw at most, and the events of a hub behind the first joins.
+/// The pages of an image, the lines that a document is cut from, the room of a draw at most, and the events of a hub behind the first joins.
 const PAGES: u32 = 64;
 
-const LINES: usize = 120;
+const LINES: usize = 20;
 
 const ROOM: usize = 2048;
 
-const EVENTS: usize = 100;
+const EVENTS: usize = 60;
 
 /// What was seen: events, those that the image had no room for, and those that were answered otherwise in memory.
 #[derive(Clone, Copy)]
@@ -144,9 +144,10 @@ impl Run {
         if self.dice.roll(4) == 0 {
             return remove(place);
         }
-        let lines = self.dice.roll(LINES);
-        let document = Document::new(self.alloc, &mut self.dice, lines)?;
-        put_text(self.alloc, place, &document.text)
+        let mut text = Document::new(self.alloc, &mut self.dice, LINES)?.text;
+        let length = text.len().max(1);
+        text.truncate(self.dice.roll(length));
+        put_text(self.alloc, place, &text)
     }
 
     /// A change of the administrator, which isn't made in memory where the image has no room for it.
