@@ -4,8 +4,8 @@
 //! - `least MORE` draws a document of 65,536 bytes that is removed meanwhile, in an image of so many pages more than the least one in which it can be, fills that with posts, and prints how many pages it has and
 //!   how many posts it took.
 //! - `by_bytes` draws such a document at once and in pieces of one byte, and prints how many bytes are sent.
-//! - `random SEED SITES HUBS` mixes events at random, over so many sites with so many hubs each, one after the other, and prints how many there were, how many had no room,
-//!   and how many were answered otherwise by a site in memory.
+//! - `random SEED SITES HUBS` mixes events at random, over so many sites with so many hubs each, one after the other, and compacts the site behind each hub, where it has room for that. It prints how many events there
+//!   were, how many had no room, how often the site was compacted, and how many events were answered otherwise by a site in memory.
 #![tactic(auto)]
 
 mod batches;
@@ -44,8 +44,8 @@ fn show_by_bytes(alloc: Global) -> Result<String, Trouble> {
 fn show_random(alloc: Global, seed: &str, sites: &str, hubs: &str) -> Result<String, Trouble> {
     let seen = random(alloc, number(seed)?.into(), number(sites)?, number(hubs)?)?;
     Ok(format!(in alloc;
-        "{} events, {} without room, {} differ",
-        seen.events, seen.full, seen.differ
+        "{} events, {} without room, {} compactions, {} differ",
+        seen.events, seen.full, seen.compacted, seen.differ
     )?)
 }
 

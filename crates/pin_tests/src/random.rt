@@ -3,7 +3,7 @@ use crate::changes::{Document, put_board, put_form, put_text, remove};
 use crate::dice::Dice;
 use crate::made::{TreeSite, hub_over, in_memory, new_disk, site_on};
 use crate::trouble::Trouble;
-use host_types::{Change, SiteKeeper, Stamp};
+use host_types::{Change, SiteFault, SiteKeeper, Stamp};
 use mem_site::MemSite;
 use sector_device::MemDisk;
 use session_core::{Hub, HubFault, MOST_SESSIONS};
@@ -41,12 +41,13 @@ const ROOM: usize = 2048;
 
 const EVENTS: usize = 60;
 
-/// What was seen: events, those that the image had no room for, and those that were answered otherwise in memory.
+/// What was seen: events, those that the image had no room for, those that were answered otherwise in memory, and how often the site on the disk was compacted.
 #[derive(Clone, Copy)]
 pub struct Seen {
     pub events: usize,
     pub full: usize,
     pub differ: usize,
+    pub compacted: usize,
 }
 
 impl Seen {
@@ -55,6 +56,7 @@ impl Seen {
             events: 0,
             full: 0,
             differ: 0,
+            compacted: 0,
         }
     }
 
@@ -188,14 +190,27 @@ impl Run {
         Ok(())
     }
 
-    /// Events of new hubs over a site, which is handed back.
+    /// The site on the disk is compacted, where the image has room for that.
+    fn compact(&mut self, disk: &mut TreeSite) -> Result<(), Trouble> {
+        match disk.compact() {
+            Ok(()) => self.seen.compacted = self.seen.compacted.saturating_add(1),
+            Err(SiteFault::Full { .. }) => {}
+            Err(fault) => return Err(Trouble::from(fault)),
+        }
+        Ok(())
+    }
+
+    /// Events of new hubs over a site, which is then compacted and handed back.
     fn interleave(&mut self, site: Site) -> Result<Site, Trouble> {
         let mut hubs = hubs_over(self.alloc, site)?;
         let ended = self.events(&mut hubs);
         let Hubs { disk, memory } = hubs;
-        let disk = disk.close().into_keeper().into_device();
+        let mut disk = disk.close();
+        let compacted = self.compact(&mut disk);
+        let disk = disk.into_keeper().into_device();
         let memory = memory.close();
         ended?;
+        compacted?;
         Ok(Site { disk, memory })
     }
 }
