@@ -24,8 +24,8 @@ def program():
 
 def is_daily(host):
     """Whether the program has the server for daily use."""
-    told = subprocess.run([host, "serve", "--help"], stdout=subprocess.PIPE, text=True, timeout=10, check=False).stdout
-    return "--quiet" in told
+    output = subprocess.run([host, "serve", "--help"], stdout=subprocess.PIPE, text=True, timeout=10, check=False).stdout
+    return "--quiet" in output
 
 
 def compiled(folder):
@@ -106,8 +106,8 @@ def gophernicus_words(inetd, port, root):
 
 
 def has_shared_memory():
-    told = subprocess.run(["ipcs", "-m"], stdout=subprocess.PIPE, text=True, timeout=10, check=False).stdout
-    return SHARED_MEMORY in told
+    output = subprocess.run(["ipcs", "-m"], stdout=subprocess.PIPE, text=True, timeout=10, check=False).stdout
+    return SHARED_MEMORY in output
 
 
 @contextlib.contextmanager
@@ -129,7 +129,12 @@ def processor_seconds(pid):
     return (int(fields[11]) + int(fields[12])) / os.sysconf("SC_CLK_TCK")
 
 
+def memory(pid, name):
+    """What the system says of a process's memory under this name, in KiB."""
+    with open(f"/proc/{pid}/status", encoding="ascii") as it:
+        return next(int(line.split()[1]) for line in it if line.startswith(f"{name}:"))
+
+
 def peak_memory(pid):
     """The most memory that a process has had resident, in KiB."""
-    with open(f"/proc/{pid}/status", encoding="ascii") as it:
-        return next(int(line.split()[1]) for line in it if line.startswith("VmHWM:"))
+    return memory(pid, "VmHWM")

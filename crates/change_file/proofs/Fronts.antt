@@ -8,7 +8,7 @@ use Rattle.host_types.specs.SiteState.{SiteState, HasTried}
 use Rattle.host_types.specs.declared.change.Change.{Change as SiteChange}
 use Rattle.host_types.specs.declared.site_fault.SiteFault.{SiteFault}
 use Rattle.host_types.specs.declared.site_fault.SiteFault.TheVariants as faults
-use Rattle.change_file.specs.Applied.{apply_one, and_then, apply_all, RepresentsFront, RepresentsEither, IsStop, IsStopped}
+use Rattle.change_file.specs.Applied.{apply_one, and_then, apply_all, last_seen, RepresentsFront, RepresentsEither, IsStop, IsStopped}
 use Rattle.change_file.specs.declared.fault.FileChange.{FileChange}
 use Rattle.change_file.specs.declared.fault.FileChange.TheVariants.{Change, Refused}
 
@@ -152,3 +152,8 @@ module _ {S L : Type 0} (state : S → SiteState) (lacks : S → SiteChange → 
       let place : number - 1 ≡ length is.front = omega (arith, is.number_is) in
       let cut : take (number - 1) changes ≡ is.front = ap (take (number - 1)) is.parts ∙ take_front is.front (is.change ∷ is.rest) (number - 1) place in
       ap (λ (l : List FileChange). apply_all (state old).site l now) cut ∙ is.applied honest ∙ ap (λ (s : Site). Ok s) (sym (keeps is.change now is.made new fault is.stop (honest_still old is.made is.tried honest)))
+
+-- one more change is seen
+pub seen_more : (before : ℕ × ℕ) (n number count m : ℕ) → number ≡ n + 1 → m ≡ n + 1 → (number, count) ≡ last_seen before m count
+seen_more before n number count zero e l = absurd (omega (arith, l))
+seen_more before n number count (suc m) e l = ap (λ (x : ℕ). (x, count)) (omega (arith, e, l))

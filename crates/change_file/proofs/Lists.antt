@@ -54,16 +54,16 @@ pub all_named_last : {A : Type 0} (names : List (Result A Refused)) (done : List
 all_named_last {A = A} [] done one is = ap (λ (x : Result (List A) Refused). Ok (λ y. y ++ one ∷ []) ◂ x) is
 all_named_last (n ∷ ns) done one is = named_last n (all_named ns) (all_named (ns ++ Ok one ∷ [])) done one (λ d e. all_named_last ns d one e) is
 
-stops : {A : Type 0} (o : Result A Refused) (r s : Result (List A) Refused) (done : List A) (refused : Refused) → ((d : List A) → r ≡ Ok d → s ≡ Err refused) → (Ok (λ x xs. x ∷ xs) ◂ o ◂ r) ≡ Ok done → (Ok (λ x xs. x ∷ xs) ◂ o ◂ s) ≡ Err refused
-stops (Err e) r s done refused more is = absurd (cc)
-stops (Ok a) (Err e) s done refused more is = absurd (cc)
-stops (Ok a) (Ok d) s done refused more is = rw (more d refl)
+ends_there : {A : Type 0} (o : Result A Refused) (r s : Result (List A) Refused) (done : List A) (refused : Refused) → ((d : List A) → r ≡ Ok d → s ≡ Err refused) → (Ok (λ x xs. x ∷ xs) ◂ o ◂ r) ≡ Ok done → (Ok (λ x xs. x ∷ xs) ◂ o ◂ s) ≡ Err refused
+ends_there (Err e) r s done refused more is = absurd (cc)
+ends_there (Ok a) (Err e) s done refused more is = absurd (cc)
+ends_there (Ok a) (Ok d) s done refused more is = rw (more d refl)
 
 -- the first that is refused
 pub all_named_stop : {A : Type 0} (names : List (Result A Refused)) (i : ℕ) (d : Result A Refused) (done : List A) (refused : Refused) → i < length names → all_named (take i names) ≡ Ok done → get_or names i d ≡ Err refused → all_named names ≡ Err refused
 all_named_stop [] i d done refused within is gives = absurd (omega arith)
 all_named_stop (n ∷ ns) zero d done refused within is gives = rw gives
-all_named_stop (n ∷ ns) (suc i) d done refused within is gives = stops n (all_named (take i ns)) (all_named ns) done refused (λ e same. all_named_stop ns i d e refused (omega arith) same gives) is
+all_named_stop (n ∷ ns) (suc i) d done refused within is gives = ends_there n (all_named (take i ns)) (all_named ns) done refused (λ e same. all_named_stop ns i d e refused (omega arith) same gives) is
 
 -- ---- a loop over values that it takes
 

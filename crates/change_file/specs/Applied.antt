@@ -1,5 +1,5 @@
 -- The changes of a file, made on a site one after another.
-use Rattle.std.specs.Prelude.{◌≡◌, ◌⊎◌, ℕ, ◌+◌, false, List, [], ◌∷◌, ◌++◌, length, Result, Ok, Err, IsTrue}
+use Rattle.std.specs.Prelude.{◌≡◌, ◌⊎◌, ℕ, zero, suc, ◌+◌, false, List, [], ◌∷◌, ◌++◌, length, Result, Ok, Err, IsTrue}
 use Rattle.common_types.specs.CrashStates.{CrashStates, AddsNone}
 use Rattle.common_types.specs.declared.refused.Refused.{Refused as Refusal}
 use Rattle.host_types.specs.Site.{Site}
@@ -37,6 +37,11 @@ pub record RepresentsFront {L : Type 0} (represents : L → Site → Type 0) (ol
 -- What a crash within one change leaves represents the site before it, or the changed one.
 abbrev pub RepresentsEither : {L : Type 0} → (L → Site → Type 0) → Site → FileChange → ℕ → L → Type 0
 RepresentsEither represents s change now c = represents c s ⊎ ((t : Site) × (apply_one s change now ≡ Ok t) × represents c t)
+
+-- what was seen last, once so many of some changes are made
+abbrev pub last_seen : ℕ × ℕ → ℕ → ℕ → ℕ × ℕ
+last_seen before zero count = before
+last_seen before (suc n) count = (suc n, count)
 
 -- What every attempt leaves, whatever it answers: the site is as honest as before, no count falls, and a closed site gets no new crash state.
 pub record Tries {S L : Type 0} (state : S → SiteState) (crash_states : S → CrashStates L) (old new : S) : Type 0 where

@@ -13,7 +13,7 @@ mod questions;
 mod tables;
 mod views;
 
-pub use applying::apply_changes;
+pub use applying::{Progress, apply_changes};
 pub use changes::read_changes;
 pub use fault::{ApplyFault, ChangeFileFault, FileChange};
 pub use laws::worked_examples;

@@ -1,9 +1,27 @@
 // A file of changes, line by line, and what is called of it.
+ghost use Rattle.std.specs.Prelude.{◌≡◌};
+
 use crate::shown::Shown;
-use change_file::{FileChange, apply_changes, read_changes};
+use change_file::{FileChange, Progress, apply_changes, read_changes};
 use host_types::{Admin, Host, Refused, Stamp, Title};
 use mem_site::MemSite;
 use std::alloc::{AllocError, Global};
+
+/// The change that was seen last, and of how many.
+#[derive(Drop)]
+struct Seen {
+    number: u64,
+    count: u64,
+}
+
+impl Progress for Seen {
+    ghost seen = { λ seen. (seen.number, seen.count) };
+
+    fn made(&mut self, number: u64, count: u64) {
+        self.number = number;
+        self.count = count;
+    }
+}
 
 /// The lines of a file so far.
 #[derive(Drop)]
@@ -85,11 +103,17 @@ impl Bench {
             Err(refused) => return format!(in self.alloc; "{refused}"),
         };
         let mut shown = Shown::new(self.alloc);
-        let ended = match apply_changes(&mut site, changes, now) {
+        let mut seen = Seen {
+            number: 0,
+            count: 0,
+        };
+        let ended = match apply_changes(&mut site, changes, now, &mut seen) {
             Ok(count) => format!(in self.alloc; "applied {count}")?,
             Err(fault) => format!(in self.alloc; "{fault}")?,
         };
         shown.word(ended.as_str())?;
+        let last = format!(in self.alloc; "\nseen {} of {}", seen.number, seen.count)?;
+        shown.word(last.as_str())?;
         show_site(&mut shown, &site)?;
         Ok(shown.text)
     }

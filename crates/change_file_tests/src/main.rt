@@ -1,7 +1,7 @@
 //! Tests of files of changes. Standard input has such files, each ended by a line that begins with `%`, which is printed again:
 //!
 //! - `% read` prints what the file says, a line for each change, or why it says nothing.
-//! - `% apply SECONDS` makes its changes on a new site in memory at that moment, and prints how many they were, or the one that was not made; then each item
+//! - `% apply SECONDS` makes its changes on a new site in memory at that moment, and prints how many they were, or the one that was not made; the change that was seen last, and of how many; then each item
 //!   of the site.
 //! - `% bytes DIGITS` reads the bytes of these hexadecimal digits as a file.
 //!

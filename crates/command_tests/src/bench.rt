@@ -2,7 +2,7 @@
 ghost use Rattle.std.specs.Prelude.{◌≤◌};
 
 use crate::changes::{change_of, unescaped};
-use crate::faults::{all_told, told};
+use crate::faults::{all_fault_texts, fault_text};
 use crate::trouble::Trouble;
 use host_on_disk::open_site;
 use host_types::{SiteKeeper, Stamp};
@@ -183,7 +183,7 @@ impl Bench {
             }
             ["show"] => self.show(),
             ["check"] => self.check(),
-            ["faults"] => Ok(all_told(self.alloc)?),
+            ["faults"] => Ok(all_fault_texts(self.alloc)?),
             _ => self.change(fields),
         }
     }
@@ -193,7 +193,7 @@ impl Bench {
         let fields: Vec<&str> = text.split(' ').collect(self.alloc)?;
         match self.call(&fields) {
             Ok(shown) => Ok(shown),
-            Err(Trouble::Fault(fault)) => told(self.alloc, fault),
+            Err(Trouble::Fault(fault)) => fault_text(self.alloc, fault),
             Err(Trouble::Line) => String::from_str(self.alloc, "line"),
         }
     }

@@ -5,7 +5,7 @@ use page_store::KeeperFault;
 use std::alloc::{AllocError, Global};
 
 /// The line of a fault, and what it advises on a line of its own.
-pub fn told(alloc: Global, fault: ImageFault) -> Result<String, AllocError> {
+pub fn fault_text(alloc: Global, fault: ImageFault) -> Result<String, AllocError> {
     let mut text = fault_line(alloc, fault)?;
     let more = advice(fault);
     if !more.is_empty() {
@@ -16,7 +16,7 @@ pub fn told(alloc: Global, fault: ImageFault) -> Result<String, AllocError> {
 }
 
 /// The line of each fault, and its text as an error.
-pub fn all_told(alloc: Global) -> Result<String, AllocError> {
+pub fn all_fault_texts(alloc: Global) -> Result<String, AllocError> {
     let mut text = String::from_str(alloc, "all")?;
     for fault in [
         ImageFault::Refused(Refused::TooLong),

@@ -147,11 +147,11 @@ filled_counted slot view pairs ledger draft map few marked dead untaken is keys 
   map = map;
 }
 
--- ---- what is told of a plan of filled pages
+-- ---- what is known of a plan of filled pages
 
 pub told_again : {T : Type 0} (r : Result T KeeperFault) (P : T → Type 0) (free : ℕ) (N : ℕ → Type 0) → IfErr r (IsRoomFault free N) → Tells (Unit {0}) r P → Tells ⊥ r P
-told_again (Ok x) P free N fault told = told
-told_again (Err e) P free N fault told = room_told ⊥ e P P free N fault told
+told_again (Ok x) P free N fault answered = answered
+told_again (Err e) P free N fault answered = room_told ⊥ e P P free N fault answered
 
 -- a filled tree has fewer nodes than 64 bits can count
 pub filled_bounded : (pairs : List Pair) (need : ℕ) → is_map pairs ≡ true → length pairs ≤ most_pairs → need ≡ min (owned_under (filled pairs).root) (2 ^ 64 - 1) → need ≡ owned_under (filled pairs).root

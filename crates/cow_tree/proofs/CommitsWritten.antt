@@ -1,5 +1,5 @@
 -- What stands once a plan is written, where a write failed, and after a crash in between.
-use Rattle.std.proofs.Common.{◌≡◌, ◌⊎◌, ◌≤◌, ◌<◌, ◌+◌, ◌*◌, ◌-◌, inl, inr, ⊎_elim, ℕ, Bool, true, false, List, ◌∷◌, length, refl, sym, ap, subst, ◌∙◌, arith, IsTrue}
+use Rattle.std.proofs.Common.{◌≡◌, ◌⊎◌, ◌≤◌, ◌<◌, ◌+◌, ◌*◌, ◌-◌, inl, inr, ⊎_elim, ℕ, Bool, true, false, List, ◌∷◌, length, refl, sym, ap, subst, arith, IsTrue}
 use Rattle.std.specs.Prelude.{◌==◌, ◌||◌}
 use Rattle.std.proofs.lemmas.Bool.{cases_Bool, ne_eqb}
 use Rattle.common_types.specs.CrashStates.{CrashStates, AddsOnly}

@@ -46,8 +46,8 @@ module _ (old new : State) (slot : Slot) (ledger : LedgerState) (top : ℕ) (usa
 
   pub read_fault : (T : Type 0) (e : PageFault) (P : T → Type 0) → CountsPages {T = T} (Err e) old.failed_reads new.failed_reads → (IsTrue old.honest → IsAnswer {T = T} (Err e) P)
       → IsReadFault (tree_holding old slot ledger top usable trees) (tree_holding new slot ledger top usable trees) (fault_of e)
-  read_fault T Device P counts told = counts
-  read_fault T (Damaged page) P counts told = lies old.honest told
+  read_fault T Device P counts answered = counts
+  read_fault T (Damaged page) P counts answered = lies old.honest answered
     where
       lies : (b : Bool) → (IsTrue b → ⊥) → b ≡ false
       lies true h = absurd (h refl)

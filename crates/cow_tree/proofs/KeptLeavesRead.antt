@@ -7,20 +7,21 @@ use Rattle.page_store.specs.Pages.{Pair, leaf_of}
 use Rattle.page_store.specs.Batch.{pair_after, is_map}
 use Rattle.page_store.specs.Content.{Found, Bounds, place_in, walk}
 use Rattle.tree_nodes.proofs.WalksWithinBounds.{some_is}
-use Rattle.cow_tree.specs.KeptLeaves.{IsPart, IsLeaf, IsNextLeaf, IsKept, has_next}
+use Rattle.cow_tree.specs.KeptLeaves.{IsPart, IsLeaf, IsNextLeaf, IsKeptLeaf, has_next}
 use Rattle.cow_tree.specs.Ways.{IsOnWay}
 use Rattle.cow_tree.proofs.Runs.{run_again, whole_run}
 use Rattle.cow_tree.proofs.RunsTell.{run_tells}
 
 -- a leaf alone is a tree
-pub leaf_next : (a : ℕ → List ℕ) (bounds : Bounds) (page : ℕ) (key : List ℕ) (found : Found) (leaf : List Pair) → leaf_of (place_in bounds 0 page) [] None (a page) ≡ Some leaf → walk a bounds 0 page [] None ≡ Some found
-    → IsNextLeaf a bounds key found leaf
-leaf_next a bounds page key found leaf e w =
+pub leaf_next : (a : ℕ → List ℕ) (bounds : Bounds) (page : ℕ) (key : List ℕ) (found : Found) (kept leaf : List Pair) → leaf_of (place_in bounds 0 page) [] None (a page) ≡ Some leaf → kept ≡ leaf → walk a bounds 0 page [] None ≡ Some found
+    → IsNextLeaf a bounds key found kept
+leaf_next a bounds page key found kept leaf e is w =
     let w1 : Some (record { pages = page ∷ []; pairs = leaf }) ≡ Some found = rw e at w in
-    subst (λ (x : Found). IsNextLeaf a bounds key x leaf) (some_is (record { pages = page ∷ []; pairs = leaf }) found w1) (record {
+    subst (λ (l : List Pair). IsNextLeaf a bounds key found l) (sym is)
+    (subst (λ (x : Found). IsNextLeaf a bounds key x leaf) (some_is (record { pages = page ∷ []; pairs = leaf }) found w1) (record {
       is_leaf = record { page = page; reached = rw (eq-eqb page page refl) refl; pairs_are = e; run = whole_run leaf };
       after = refl;
-    })
+    }))
 
 -- a leaf of a part is one of the whole
 pub leaf_within : (a : ℕ → List ℕ) (bounds : Bounds) (part whole : Found) (leaf : List Pair) → IsPart part whole → IsLeaf a bounds part leaf → IsLeaf a bounds whole leaf
@@ -68,10 +69,10 @@ module _ (a : ℕ → List ℕ) (bounds : Bounds) (level : ℕ) (key : List ℕ)
 
 -- ---- what is kept
 
-pub nothing_kept : (a : ℕ → List ℕ) (bounds : Bounds) (tree : Found) (kept : List Pair) → kept ≡ [] → IsKept a bounds tree kept
+pub nothing_kept : (a : ℕ → List ℕ) (bounds : Bounds) (tree : Found) (kept : List Pair) → kept ≡ [] → IsKeptLeaf a bounds tree kept
 nothing_kept a bounds tree kept none = ∣ inl none ∣₁
 
-pub leaf_kept : (a : ℕ → List ℕ) (bounds : Bounds) (tree : Found) (kept : List Pair) → IsLeaf a bounds tree kept → IsKept a bounds tree kept
+pub leaf_kept : (a : ℕ → List ℕ) (bounds : Bounds) (tree : Found) (kept : List Pair) → IsLeaf a bounds tree kept → IsKeptLeaf a bounds tree kept
 leaf_kept a bounds tree kept leaf = ∣ inr leaf ∣₁
 
 tells : (a : ℕ → List ℕ) (bounds : Bounds) (tree : Found) (kept : List Pair) (key : List ℕ) → is_map tree.pairs ≡ true → has_next kept key ≡ true → (kept ≡ []) ⊎ IsLeaf a bounds tree kept → pair_after tree.pairs key ≡ pair_after kept key
@@ -79,7 +80,7 @@ tells a bounds tree kept key rising h (inl none) = let n = ap (λ (l : List Pair
 tells a bounds tree kept key rising h (inr leaf) = run_tells tree.pairs kept key rising leaf.run h
 
 -- Where the kept leaf of a tree has the pair after a key, it is that of the tree.
-pub kept_tells : (a : ℕ → List ℕ) (bounds : Bounds) (tree : Found) (kept : List Pair) (key : List ℕ) → is_map tree.pairs ≡ true → IsKept a bounds tree kept → has_next kept key ≡ true → pair_after tree.pairs key ≡ pair_after kept key
+pub kept_tells : (a : ℕ → List ℕ) (bounds : Bounds) (tree : Found) (kept : List Pair) (key : List ℕ) → is_map tree.pairs ≡ true → IsKeptLeaf a bounds tree kept → has_next kept key ≡ true → pair_after tree.pairs key ≡ pair_after kept key
 kept_tells a bounds tree kept key rising is h =
     let same : IsProp (pair_after tree.pairs key ≡ pair_after kept key) = hlevel props in
     ∥∥₁_elim is same (tells a bounds tree kept key rising h)

@@ -78,9 +78,6 @@ there place low high bytes pairs e =
     let same = pairs_is f.0 pairs t.1 in
     ap (λ (l : List Pair). pairs_in (length l) (drop 24 bytes)) (sym same) ∙ entries_there place bytes f.0 f.1 ∙ same
 
-abbrev some_pairs : List Pair → Option (List Pair)
-some_pairs l = Some l
-
 -- The pairs of a leaf stand behind the head of its page.
-pub leaf_there : (place : Place) (low : List ℕ) (high : Option (List ℕ)) (bytes : List ℕ) (pairs : List Pair) (n : ℕ) → leaf_of place low high bytes ≡ Some pairs → n ≡ length pairs → leaf_of place low high bytes ≡ Some (pairs_in n (drop 24 bytes))
-leaf_there place low high bytes pairs n e is = e ∙ ap some_pairs (sym (there place low high bytes pairs e) ∙ ap (λ (m : ℕ). pairs_in m (drop 24 bytes)) (sym is))
+pub pairs_there : (place : Place) (low : List ℕ) (high : Option (List ℕ)) (bytes : List ℕ) (pairs : List Pair) (n : ℕ) → leaf_of place low high bytes ≡ Some pairs → n ≡ length pairs → pairs_in n (drop 24 bytes) ≡ pairs
+pairs_there place low high bytes pairs n e is = ap (λ (m : ℕ). pairs_in m (drop 24 bytes)) is ∙ there place low high bytes pairs e

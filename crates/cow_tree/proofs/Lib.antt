@@ -11,6 +11,7 @@ pub mod PairSizes
 pub mod LeafBytes
 pub mod Runs
 pub mod OnTheWay
+pub mod PagesTold
 pub mod RunsTell
 pub mod KeptLeavesRead
 pub mod AnswersGiven

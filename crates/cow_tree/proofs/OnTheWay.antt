@@ -232,7 +232,7 @@ always_around key child [] = ((child.page, None), refl)
 always_around key child (next ∷ children) =
     by_bool (precedes key next.key) (λ less. ((child.page, Some next.page), rw less refl)) (λ most. let more = always_around key next children in (more.0, rw most more.1))
 
-no_page : (key : List ℕ) (children : List Child) → starts_empty (map child_key children) ≡ true → None ≡ pages_around key children → ⊥
+pub no_page : (key : List ℕ) (children : List Child) → starts_empty (map child_key children) ≡ true → None ≡ pages_around key children → ⊥
 no_page key [] s e = cc s
 no_page key (child ∷ children) s e = let x = always_around key child children in none_around x.0 (e ∙ x.1)
 

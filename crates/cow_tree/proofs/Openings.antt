@@ -7,10 +7,12 @@ use Rattle.page_store.specs.Reading.{◌>>=◌}
 use Rattle.page_store.specs.Sectors.{Image, page_of}
 use Rattle.page_store.specs.Roots.{current}
 use Rattle.page_store.specs.Content.{Found, content, content_under, found_as, tree_found, pairs_and_banner, HasContent}
+use Rattle.page_store.specs.Counting.{CountsRefusal}
 use Rattle.page_store.specs.declared.slot.Slot.{Slot}
+use Rattle.page_store.specs.declared.fault.KeeperFault.TheVariants.{Small}
 use Rattle.page_store.proofs.Fields.{bind_some, bind_again}
 use Rattle.cow_tree.specs.Walks.{CountsPages}
-use Rattle.cow_tree.specs.Opening.{fault_of, IsReached, Finds, AreWhole, Holds, MayName, IsOpenFault}
+use Rattle.cow_tree.specs.Opening.{fault_of, IsReached, Finds, AreWhole, IsReadAs, MayName, IsOpenFault}
 use Rattle.cow_tree.specs.PinnedTrees.{or_nothing}
 use Rattle.cow_tree.specs.TreeState.{found_under}
 use Rattle.cow_tree.specs.declared.page_fault.PageFault.{PageFault}
@@ -50,8 +52,8 @@ tree_is image slot found e version =
 pub under_is : (image : Image) (slot : Slot) (found : Found) → content image ≡ Some (slot, found) → slot.root.banner.version ≡ 1 → found_under slot image ≡ found
 under_is image slot found e version = ap or_nothing (tree_is image slot found e version).1
 
--- what the walk told of the tree is told of the image
-pub holds_now : (image : Image) (slot : Slot) (ledger : LedgerState) → current image ≡ Some slot → slot.root.banner.version ≡ 1 → IsReached (tree_found slot (page_of image)) slot ledger → AreWhole image ledger → Holds image slot ledger
+-- what the walk answers of the tree is known of the image
+pub holds_now : (image : Image) (slot : Slot) (ledger : LedgerState) → current image ≡ Some slot → slot.root.banner.version ≡ 1 → IsReached (tree_found slot (page_of image)) slot ledger → AreWhole image ledger → IsReadAs image slot ledger
 holds_now image slot ledger now version r whole = record {
   found = r.found;
   content_is = content_is image slot (Some r.found) now version r.is;
@@ -62,25 +64,35 @@ holds_now image slot ledger now version r whole = record {
 }
 
 -- of the image as it is read now
-pub under_now : (now image : Image) (slot : Slot) (ledger : LedgerState) → now ≡ image → slot.root.banner.version ≡ 1 → (h : Holds image slot ledger) → found_under slot now ≡ h.found
+pub under_now : (now image : Image) (slot : Slot) (ledger : LedgerState) → now ≡ image → slot.root.banner.version ≡ 1 → (h : IsReadAs image slot ledger) → found_under slot now ≡ h.found
 under_now now image slot ledger same version h = ap (found_under slot) same ∙ under_is image slot h.found h.content_is version
 
-pub settled_content : (now image : Image) (slot : Slot) (ledger : LedgerState) → now ≡ image → slot.root.banner.version ≡ 1 → Holds image slot ledger → content now ≡ Some (slot, found_under slot now)
-settled_content now image slot ledger same version h = ap content same ∙ h.content_is ∙ ap (λ (x : Found). some_content (slot, x)) (sym (under_now now image slot ledger same version h))
+pub durable_content : (now image : Image) (slot : Slot) (ledger : LedgerState) → now ≡ image → slot.root.banner.version ≡ 1 → IsReadAs image slot ledger → content now ≡ Some (slot, found_under slot now)
+durable_content now image slot ledger same version h = ap content same ∙ h.content_is ∙ ap (λ (x : Found). some_content (slot, x)) (sym (under_now now image slot ledger same version h))
 
-pub has_content : (image now : Image) (slot : Slot) (ledger : LedgerState) → now ≡ image → slot.root.banner.version ≡ 1 → Holds image slot ledger → HasContent image (found_under slot now).pairs slot.root.banner
+pub has_content : (image now : Image) (slot : Slot) (ledger : LedgerState) → now ≡ image → slot.root.banner.version ≡ 1 → IsReadAs image slot ledger → HasContent image (found_under slot now).pairs slot.root.banner
 has_content image now slot ledger same version h =
     ap pairs_and_banner h.content_is
     ∙ ap (λ (x : Found). pairs_and_banner (Some (slot, x))) (sym (under_is image slot h.found h.content_is version) ∙ ap (found_under slot) (sym same))
 
 -- ---- faults
 
+-- what a walk counts, after calls that counted nothing
+pub walk_counts : (T : Type 0) (old mid new : State) (e : PageFault) → NothingCounted old mid → CountsPages {T = T} (Err e) mid.failed_reads new.failed_reads → new.failed_writes ≡ mid.failed_writes → CountsRefusal (fault_of e) old new
+walk_counts T old mid new Device before reads writes = inl (reads ∙ ap counted before.reads, writes ∙ before.writes)
+walk_counts T old mid new (Damaged page) before reads writes = record { reads = reads ∙ before.reads; writes = writes ∙ before.writes }
+
+-- no page is walked on a device that is too small
+pub walk_not_small : (e : PageFault) → fault_of e ≡ Small → ⊥
+walk_not_small Device is = absurd (cc is)
+walk_not_small (Damaged page) is = absurd (cc is)
+
 pub walk_fault : (T : Type 0) (old mid new : State) (slot : Slot) (ledger : LedgerState) (e : PageFault) → 128 ≤ old.size → (IsTrue old.honest → IsTrue mid.honest) → (IsTrue old.honest → mid.disk.view ≡ old.disk.view) → (IsTrue old.honest → current old.disk.view ≡ Some slot)
     → slot.root.banner.version ≡ 1 → NothingCounted old mid → CountsPages {T = T} (Err e) mid.failed_reads new.failed_reads → new.failed_writes ≡ mid.failed_writes → MayName slot e
     → (IsTrue mid.honest → Finds {T = T} (tree_found slot (page_of mid.disk.view)) slot ledger (Err e)) → IsOpenFault old new (fault_of e)
-walk_fault T old mid new slot ledger Device large keeps view now version a reads writes named told = (large, inl (reads ∙ ap counted a.reads, writes ∙ a.writes))
-walk_fault T old mid new slot ledger (Damaged page) large keeps view now version a reads writes named told = (
+walk_fault T old mid new slot ledger Device large keeps view now version a reads writes named answered = (large, inl (reads ∙ ap counted a.reads, writes ∙ a.writes))
+walk_fault T old mid new slot ledger (Damaged page) large keeps view now version a reads writes named answered = (
   large,
   λ honest.
-      (slot, (now honest, version), content_is old.disk.view slot None (now honest) version (subst (λ (i : Image). tree_found slot (page_of i) ≡ None) (view honest) (told (keeps honest))), named),
+      (slot, (now honest, version), content_is old.disk.view slot None (now honest) version (subst (λ (i : Image). tree_found slot (page_of i) ≡ None) (view honest) (answered (keeps honest))), named),
 )

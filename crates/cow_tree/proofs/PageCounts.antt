@@ -1,11 +1,10 @@
 -- How many pages a tree has, and how many of its image it leaves.
-use Rattle.std.proofs.Common.{◌≡◌, ◌≤◌, ◌<◌, ◌+◌, inl, inr, ℕ, zero, suc, Bool, true, false, List, [], ◌∷◌, length, Some, refl, sym, ap, ◌∙◌, arith, IsTrue, le-leb, eq-eqb, ne_eqb, eqb-true}
+use Rattle.std.proofs.Common.{◌≡◌, ◌≤◌, ◌+◌, ℕ, zero, suc, Bool, true, false, List, [], ◌∷◌, length, Some, refl, sym, ap, ◌∙◌, arith, le-leb, eq-eqb, ne_eqb, eqb-true}
 use Rattle.std.specs.Prelude.{◌==◌, ◌||◌, ◌&&◌, not, nat_le, if◌then◌else◌}
-use Rattle.std.proofs.lemmas.Bool.{cases_eq}
 use Rattle.page_alloc.specs.LedgerState.{count_below}
 use Rattle.page_alloc.proofs.Counting.{count_more}
 use Rattle.page_store.specs.Sectors.{Image, page_of}
-use Rattle.page_store.specs.Content.{Found, tree_found, is_among, are_distinct}
+use Rattle.page_store.specs.Content.{tree_found, is_among, are_distinct}
 use Rattle.page_store.specs.Commit.{numbers}
 use Rattle.page_store.specs.declared.commit.NewPage.{NewPage}
 use Rattle.page_store.specs.declared.slot.Slot.{Slot}

@@ -62,8 +62,8 @@ IsDown key state now = (m : ℕ) → needed_under key now.root ≡ Some m → ne
 -- whatever the device gives, a page leads one level down or ends the path
 pub reads_down : (bounds : Bounds) (bytes : List ℕ) (state now : RootState) (key : List ℕ) (n : ℕ) → needed_under key state.root ≡ Some n → now ≡ stepped (old_of (λ k. bytes) bounds) state (supply_step key)
     → IfSome (needed_under key state.root) (λ page. IsSome (tree_in bounds (needed_level key state) page bytes)) → IsDown key state now
-reads_down bounds bytes state now key n need is told =
-    let some : IsSome (tree_in bounds (needed_level key state) n bytes) = subst (λ (o : Option ℕ). IfSome o (λ page. IsSome (tree_in bounds (needed_level key state) page bytes))) need told in
+reads_down bounds bytes state now key n need is answered =
+    let some : IsSome (tree_in bounds (needed_level key state) n bytes) = subst (λ (o : Option ℕ). IfSome o (λ page. IsSome (tree_in bounds (needed_level key state) page bytes))) need answered in
     let now_is : now ≡ read_under key (tree_in bounds (needed_level key state) n bytes) state.root state.height = is ∙ ap (λ (o : Option ℕ). where_needed (old_of (λ k. bytes) bounds) key o state) need in
     subst (λ (s : RootState). IsDown key state s) (sym now_is) (λ m more. leads_down bounds bytes state key n m need some more)
 
@@ -83,10 +83,10 @@ needed_opens old o state key n v need = go state.root state.height v need
         rw read refl
 
 pub not_damaged : (needed : Option ℕ) (n m : ℕ) (read : ℕ → Option Tree) → needed ≡ Some n → IsSome (read n) → IsSomeAnd needed (λ page. IsReadFault page (read page) (Damaged m)) → ⊥
-not_damaged None n m read is some told = absurd (cc is)
-not_damaged (Some k) n m read is some told =
+not_damaged None n m read is some answered = absurd (cc is)
+not_damaged (Some k) n m read is some answered =
     let same : k ≡ n = some_is k n is in
-    let none : read n ≡ None = ap read (sym same) ∙ told.1 in
+    let none : read n ≡ None = ap read (sym same) ∙ answered.1 in
     no (read n) none some
   where
     no : (r : Option Tree) → r ≡ None → IsSome r → ⊥
@@ -108,7 +108,7 @@ retires_again a b c x y = record { marks = marks_again a b c x.marks y.marks; fr
 pub retires_none : (a : LedgerState) → OnlyRetires a a
 retires_none a = record { marks = record { lives = refl; size = refl; generation = refl; pins = refl }; free = refl }
 
--- what is told of a fault says nothing of an answer
+-- what is known of a fault says nothing of an answer
 pub tells_fault : {T U : Type 0} (deep more : Type 0) (e : KeeperFault) (P : T → Type 0) (Q : U → Type 0) → (deep → more) → Tells deep (Err e) P → Tells more (Err e) Q
 tells_fault deep more faults.Device P Q f h = h
 tells_fault deep more faults.NoImage P Q f h = h

@@ -1,4 +1,4 @@
--- Trees that pins keep, and what is told of the pins.
+-- Trees that pins keep, and what is known of the pins.
 use Rattle.std.proofs.Common.{◌≡◌, ◌<◌, ◌≤◌, ◌+◌, inl, inr, ℕ, zero, suc, Bool, true, false, List, [], ◌∷◌, length, map, Option, Some, None, get_or, set, replicate, cond, is_some, refl, sym, ap, subst, ◌∙◌, arith, eq-eqb, ne_eqb}
 use Rattle.std.specs.Prelude.{◌||◌, ◌&&◌, ◌==◌, nat_le, nat_lt, option_map, IfSome}
 use Rattle.std.specs.List.{list_any, list_all}

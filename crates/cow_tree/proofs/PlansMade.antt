@@ -360,13 +360,13 @@ room_reads faults.Memory free P before now h is = is
 room_reads faults.Deep free P before now h is = is
 
 pub room_told : {T U : Type 0} (deep : Type 0) (e : KeeperFault) (P : T → Type 0) (Q : U → Type 0) (free : ℕ) (N : ℕ → Type 0) → IsRoomFault free N e → Tells (Unit {0}) (Err e) P → Tells deep (Err e) Q
-room_told deep faults.Device P Q free N h told = tt
-room_told deep faults.NoImage P Q free N h told = tt
-room_told deep faults.Version P Q free N h told = tt
-room_told deep (faults.Damaged n) P Q free N h told = told
-room_told deep faults.Small P Q free N h told = tt
-room_told deep faults.Spent P Q free N h told = tt
-room_told deep (faults.Full need k) P Q free N h told = tt
-room_told deep faults.Failed P Q free N h told = tt
-room_told deep faults.Memory P Q free N h told = tt
-room_told deep faults.Deep P Q free N h told = absurd h
+room_told deep faults.Device P Q free N h answered = tt
+room_told deep faults.NoImage P Q free N h answered = tt
+room_told deep faults.Version P Q free N h answered = tt
+room_told deep (faults.Damaged n) P Q free N h answered = answered
+room_told deep faults.Small P Q free N h answered = tt
+room_told deep faults.Spent P Q free N h answered = tt
+room_told deep (faults.Full need k) P Q free N h answered = tt
+room_told deep faults.Failed P Q free N h answered = tt
+room_told deep faults.Memory P Q free N h answered = tt
+room_told deep faults.Deep P Q free N h answered = absurd h

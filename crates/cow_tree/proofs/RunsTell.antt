@@ -33,7 +33,7 @@ front_stands_below key front (first ∷ others) rest r h =
     let b = both_true (not (precedes key first.0)) (is_some (pair_after others key)) h in
     keys_wider (precedes_it first.0) (follows key) (λ k below. below_upto k first.0 key below (not_true (precedes key first.0) b.0)) front (front_below front first (others ++ rest) r)
 
--- The pair after a key is told by a run of the pairs that has one above it, and whose first isn't.
+-- The pair after a key is known by a run of the pairs that has one above it, and whose first isn't.
 pub run_tells : (pairs run : List Pair) (key : List ℕ) → is_map pairs ≡ true → IsRun run pairs → has_next run key ≡ true → pair_after pairs key ≡ pair_after run key
 run_tells pairs run key map_is is h =
     let rising = (both_true (rises (map key_of pairs)) (list_all is_pair pairs) map_is).0 in

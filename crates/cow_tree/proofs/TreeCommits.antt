@@ -23,7 +23,7 @@ use Rattle.page_store.specs.declared.fault.KeeperFault.{KeeperFault}
 use Rattle.page_store.specs.declared.fault.KeeperFault.TheVariants as faults
 use Rattle.page_store.proofs.ReachedPages.{content_under-local}
 use Rattle.cow_tree.specs.PinnedTrees.{or_nothing}
-use Rattle.cow_tree.specs.TreeState.{IsFitted, IsThere, IsSettled, found_under}
+use Rattle.cow_tree.specs.TreeState.{IsFitted, IsThere, IsDurable, found_under}
 use Rattle.cow_tree.specs.Drafts.{Tells, OnlyMarks}
 use Rattle.cow_tree.specs.Plans.{IsHeld, Starts, IsMade, IsPlan, HasNext, IsPlanned, IsPlanFault}
 use Rattle.cow_tree.specs.Compacting.{IsFillFault}
@@ -52,13 +52,13 @@ and_true : (b : Bool) → (b && true) ≡ b
 and_true true = refl
 and_true false = refl
 
-pub is_held : (sectors : ℕ) (slot : Slot) (disk : Disk) (ledger : LedgerState) (top : ℕ) → IsFitted sectors slot ledger → IsThere disk.view slot ledger → IsSettled disk slot top → slot.seal ≤ top → IsHeld disk.view slot top ledger
-is_held sectors slot disk ledger top fit there settled sealed = record {
-  content_is = content_is disk.view slot (Some (found_under slot disk.view)) settled.current_is fit.version there.found_is;
+pub is_held : (sectors : ℕ) (slot : Slot) (disk : Disk) (ledger : LedgerState) (top : ℕ) → IsFitted sectors slot ledger → IsThere disk.view slot ledger → IsDurable disk slot top → slot.seal ≤ top → IsHeld disk.view slot top ledger
+is_held sectors slot disk ledger top fit there durable sealed = record {
+  content_is = content_is disk.view slot (Some (found_under slot disk.view)) durable.current_is fit.version there.found_is;
   held = λ n.
       sym (ap (λ (m : Mark). has_page ledger ledger.generation n && not (is_retired m)) (untaken_at_rest ledger fit.rest.unmarked n) ∙ and_true (has_page ledger ledger.generation n)) ∙ there.alive n;
   sealed = sealed;
-  seals = settled.seals;
+  seals = durable.seals;
 }
 
 abbrev pub may_be_written : (view mid : Image) (states : CrashStates Image) (slot : Slot) (ledger now : LedgerState) (top : ℕ) (plan : Plan) (pairs : List Pair) → IsHeld view slot top ledger → OnlyMarks ledger now → IsPlanned view slot top pairs now plan
@@ -90,30 +90,30 @@ lies false h = refl
 
 pub commit_fault : {T : Type 0} (old new : StoreState) (edits : ℕ) (may : ℕ → Type 0) (slot : Slot) (deep : Type 0) (P : T → Type 0) (N : ℕ → Type 0) (e : KeeperFault) → HasStayed old new → CountsReads {T = T} (Err e) old.failed_reads new.failed_reads
     → (IsTrue old.honest → Tells {T = T} deep (Err e) P) → (deep → MayBeDeep old edits) → IsPlanFault old.free N e → ((n : ℕ) → N n → IsTrue old.honest → may n) → IsCommitFault old new edits may e
-commit_fault old new edits may slot deep P N faults.Device stayed reads told levels fault need = (stayed, reads)
-commit_fault old new edits may slot deep P N faults.NoImage stayed reads told levels fault need = absurd fault
-commit_fault old new edits may slot deep P N faults.Version stayed reads told levels fault need = absurd fault
-commit_fault old new edits may slot deep P N (faults.Damaged page) stayed reads told levels fault need = (stayed, lies old.honest told)
-commit_fault old new edits may slot deep P N faults.Small stayed reads told levels fault need = absurd fault
-commit_fault old new edits may slot deep P N faults.Spent stayed reads told levels fault need = absurd fault
-commit_fault old new edits may slot deep P N (faults.Full n left) stayed reads told levels fault need = (stayed, (let a = fault.0 in let b = fault.1 in omega (arith, a, b)), λ keeps. (fault.0, need n fault.2 keeps))
-commit_fault old new edits may slot deep P N faults.Failed stayed reads told levels fault need = absurd fault
-commit_fault old new edits may slot deep P N faults.Memory stayed reads told levels fault need = stayed
-commit_fault old new edits may slot deep P N faults.Deep stayed reads told levels fault need = (stayed, λ keeps. levels (told keeps))
+commit_fault old new edits may slot deep P N faults.Device stayed reads answered levels fault need = (stayed, reads)
+commit_fault old new edits may slot deep P N faults.NoImage stayed reads answered levels fault need = absurd fault
+commit_fault old new edits may slot deep P N faults.Version stayed reads answered levels fault need = absurd fault
+commit_fault old new edits may slot deep P N (faults.Damaged page) stayed reads answered levels fault need = (stayed, lies old.honest answered)
+commit_fault old new edits may slot deep P N faults.Small stayed reads answered levels fault need = absurd fault
+commit_fault old new edits may slot deep P N faults.Spent stayed reads answered levels fault need = absurd fault
+commit_fault old new edits may slot deep P N (faults.Full n left) stayed reads answered levels fault need = (stayed, (let a = fault.0 in let b = fault.1 in omega (arith, a, b)), λ keeps. (fault.0, need n fault.2 keeps))
+commit_fault old new edits may slot deep P N faults.Failed stayed reads answered levels fault need = absurd fault
+commit_fault old new edits may slot deep P N faults.Memory stayed reads answered levels fault need = stayed
+commit_fault old new edits may slot deep P N faults.Deep stayed reads answered levels fault need = (stayed, λ keeps. levels (answered keeps))
 
 -- a compaction that is refused
 pub compact_fault : {T : Type 0} (old new : StoreState) (may : ℕ → Type 0) (P : T → Type 0) (N : ℕ → Type 0) (e : KeeperFault) → HasStayed old new → CountsReads {T = T} (Err e) old.failed_reads new.failed_reads
     → (IsTrue old.honest → Tells {T = T} ⊥ (Err e) P) → IsFillFault old.free N e → ((n : ℕ) → N n → IsTrue old.honest → may n) → IsCompactFault old new may e
-compact_fault old new may P N faults.Device stayed reads told fault need = (stayed, reads)
-compact_fault old new may P N faults.NoImage stayed reads told fault need = absurd fault
-compact_fault old new may P N faults.Version stayed reads told fault need = absurd fault
-compact_fault old new may P N (faults.Damaged page) stayed reads told fault need = (stayed, lies old.honest told)
-compact_fault old new may P N faults.Small stayed reads told fault need = absurd fault
-compact_fault old new may P N faults.Spent stayed reads told fault need = absurd fault
-compact_fault old new may P N (faults.Full n left) stayed reads told fault need = (stayed, (let a = fault.0 in let b = fault.1 in omega (arith, a, b)), λ keeps. (fault.0, need n fault.2 keeps))
-compact_fault old new may P N faults.Failed stayed reads told fault need = absurd fault
-compact_fault old new may P N faults.Memory stayed reads told fault need = stayed
-compact_fault old new may P N faults.Deep stayed reads told fault need = absurd fault
+compact_fault old new may P N faults.Device stayed reads answered fault need = (stayed, reads)
+compact_fault old new may P N faults.NoImage stayed reads answered fault need = absurd fault
+compact_fault old new may P N faults.Version stayed reads answered fault need = absurd fault
+compact_fault old new may P N (faults.Damaged page) stayed reads answered fault need = (stayed, lies old.honest answered)
+compact_fault old new may P N faults.Small stayed reads answered fault need = absurd fault
+compact_fault old new may P N faults.Spent stayed reads answered fault need = absurd fault
+compact_fault old new may P N (faults.Full n left) stayed reads answered fault need = (stayed, (let a = fault.0 in let b = fault.1 in omega (arith, a, b)), λ keeps. (fault.0, need n fault.2 keeps))
+compact_fault old new may P N faults.Failed stayed reads answered fault need = absurd fault
+compact_fault old new may P N faults.Memory stayed reads answered fault need = stayed
+compact_fault old new may P N faults.Deep stayed reads answered fault need = absurd fault
 
 -- the same content before and after
 pub either : {P : Type 0} → P ⊎ P → P

@@ -82,7 +82,7 @@ module _ (under : ℕ → List ℕ → Option (List ℕ) → Option Found) (low 
       at (Some x) None h = record { each = λ found e. absurd (cc e) }
       at (Some x) (Some y) h = record { each = λ found e. subst (λ (f : Found). are_fresh old f.pages ≡ false) (some_is (joined so_far.front (joined x y)) found e) (fresh_false x y (h.each x refl)) }
 
-  -- a child told a fault
+  -- a child answered a fault
   pub breaks_off : (e : PageFault) (count : ℕ) (now new end : LedgerState) (child : Child) (rest : List Child) → IsWalkedTo (fan under low high) children (child ∷ rest) old now count
       → Tells (under child.page (low_of low child.key) (high_of rest high)) now new (Err e) → Tells (fan under low high children) old end (Err e)
   breaks_off Device count now new end child rest so_far one = tt
@@ -173,7 +173,7 @@ pub no_branch : (a : ℕ → List ℕ) (bounds : Bounds) (level page : ℕ) (low
 no_branch a bounds zero page low high old ne e = absurd (ne refl)
 no_branch a bounds (suc level) page low high old ne e = branch_none a bounds level page low high old e
 
--- what is told of a branch's children is told of the branch
+-- what is known of a branch's children is known of the branch
 pub tells_branch : (r : Result ℕ PageFault) (a : ℕ → List ℕ) (bounds : Bounds) (level page : ℕ) (low : List ℕ) (high : Option (List ℕ)) (old now new : LedgerState) (children : List Child) → level ≢ 0 → is_free old page ≡ true → now ≡ holding page old
     → branch_of (place_in bounds level page) low high (a page) ≡ Some children → Tells (fan (walk a bounds (level - 1)) low high children) now new r → Tells (walk a bounds level page low high) old new r
 tells_branch r a bounds zero page low high old now new children ne free held e h = absurd (ne refl)

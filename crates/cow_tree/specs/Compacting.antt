@@ -1,5 +1,6 @@
 -- Writing all pairs of a tree anew, in filled pages.
-use Rattle.std.specs.Prelude.{◌≡◌, ◌≤◌, ◌*◌, ℕ, List, length, IsTrue}
+use Rattle.std.specs.Prelude.{◌≡◌, ◌≤◌, ◌*◌, ℕ, length, Result, IsTrue, IfErr}
+use Rattle.common_types.specs.CrashStates.{CrashStates}
 use Rattle.sector_device.specs.Device.{State}
 use Rattle.page_alloc.specs.LedgerState.{LedgerState}
 use Rattle.page_store.specs.Sectors.{Image}
@@ -9,6 +10,7 @@ use Rattle.page_store.specs.declared.fault.KeeperFault.TheVariants as faults
 use Rattle.tree_nodes.specs.Growth.{owned_under}
 use Rattle.tree_loading.specs.Filled.{filled}
 use Rattle.cow_tree.specs.TreeState.{found_under}
+use Rattle.cow_tree.specs.Drafts.{IsCountedRead}
 use Rattle.cow_tree.specs.Plans.{IsPlanned, IsTreeFault, IsRoomFault}
 use Rattle.cow_tree.specs.declared.plans.Plan.{Plan}
 
@@ -46,6 +48,11 @@ pub record IsFillPlan (view : Image) (slot : Slot) (top : ℕ) (ledger : LedgerS
 abbrev pub IsPairsFault : KeeperFault → Type 0
 IsPairsFault faults.Device = Unit {0}
 IsPairsFault other = IsTreeFault other
+
+-- A call that reads pairs of a tree: of the device only reads are made, and only these faults come.
+pub record ReadsPairs {T D : Type 0} (state : D → State) (crash_states : D → CrashStates Image) (old new : D) (result : Result T KeeperFault) : Type 0 where
+  pub counted : IsCountedRead state crash_states old new result
+  pub fault : IfErr result IsPairsFault
 
 -- the faults of a plan that writes all pairs anew, where so many pages are free and so many may be needed
 abbrev pub IsFillFault : ℕ → (ℕ → Type 0) → KeeperFault → Type 0

@@ -1,5 +1,5 @@
 -- A tree that a commit changes, before anything is written.
-use Rattle.std.specs.Prelude.{◌≡◌, ◌≤◌, ◌<◌, ◌+◌, ◌-◌, ◌*◌, ◌/◌, ◌^◌, ◌==◌, min, ℕ, Bool, true, false, List, length, take, Result, Ok, Err, IsTrue, IfSome, if◌then◌else◌}
+use Rattle.std.specs.Prelude.{◌≡◌, ◌≤◌, ◌<◌, ◌+◌, ◌-◌, ◌*◌, ◌/◌, ◌^◌, ◌==◌, min, ℕ, Bool, true, false, List, length, take, Result, Ok, Err, IsTrue, IfSome, IfErr, if◌then◌else◌}
 use Rattle.common_types.specs.CrashStates.{CrashStates}
 use Rattle.sector_device.specs.Device.{State}
 use Rattle.page_alloc.specs.LedgerState.{LedgerState, mark_of, is_taken, is_alive, free_count}
@@ -71,7 +71,7 @@ pub record OnlyRetires (old new : LedgerState) : Type 0 where
   pub marks : OnlyMarks old new
   pub free : free_count new ≡ free_count old
 
--- What is told of a step of a commit on an honest device: nothing is damaged, and levels are too many only where they may be.
+-- What is known of a step of a commit on an honest device: nothing is damaged, and levels are too many only where they may be.
 abbrev pub Tells : {T : Type 0} → Type 0 → Result T KeeperFault → (T → Type 0) → Type 0
 Tells deep (Ok x) P = P x
 Tells deep (Err faults.Deep) P = deep
@@ -90,6 +90,12 @@ IsDraftFault (faults.Damaged page) = Unit {0}
 IsDraftFault faults.Deep = Unit {0}
 IsDraftFault faults.Memory = Unit {0}
 IsDraftFault other = ⊥
+
+-- A call that reads pages for a draft: of the device only reads are made, of the ledger only pages are given up, and only these faults come.
+pub record ReadsToDraft {T D : Type 0} (state : D → State) (crash_states : D → CrashStates Image) (old new : D) (before after : LedgerState) (result : Result T KeeperFault) : Type 0 where
+  pub counted : IsCountedRead state crash_states old new result
+  pub ledger : OnlyRetires before after
+  pub fault : IfErr result IsDraftFault
 
 -- the faults of a put into a tree that then stands so
 abbrev pub IsPutFault : RootState → KeeperFault → Type 0

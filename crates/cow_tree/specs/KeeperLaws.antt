@@ -14,7 +14,7 @@ use Rattle.page_store.proofs.Fields.{bind_again}
 use Rattle.cow_tree.specs.Opening.{IsRooted}
 use Rattle.cow_tree.specs.PinnedTrees.{pins_from, ArePinned}
 use Rattle.cow_tree.specs.declared.tree_root.TreeRoot.{TreeRoot}
-use Rattle.cow_tree.specs.TreeState.{IsThere, IsSettled, found_under}
+use Rattle.cow_tree.specs.TreeState.{IsThere, IsDurable, found_under}
 use Rattle.cow_tree.specs.Committed.{is_tree_version, TreeHas}
 
 -- version 1 is the one that is opened
@@ -44,8 +44,8 @@ pub few_out : (image : Image) (pages : ℕ) (ledger : LedgerState) (trees : List
 few_out image pages ledger trees pins = let most = at_most image 0 trees in let count = pins.count in omega (arith, most, count)
 
 -- each crash state of a usable keeper has its pairs and its banner
-pub crash_states_have_the_tree : (disk : Disk) (slot : Slot) (ledger : LedgerState) (top : ℕ) → slot.root.banner.version ≡ 1 → IsThere disk.view slot ledger → IsSettled disk slot top → (c : Image) → IsImage disk c → TreeHas c (found_under slot disk.view).pairs slot.root.banner
-crash_states_have_the_tree disk slot ledger top version there settled c image = (
-  ap (λ (i : Image). pairs_and_banner (content i)) (settled.images c image) ∙ ap pairs_and_banner (content_now disk.view slot (found_under slot disk.view) settled.current_is version there.found_is),
+pub crash_states_have_the_tree : (disk : Disk) (slot : Slot) (ledger : LedgerState) (top : ℕ) → slot.root.banner.version ≡ 1 → IsThere disk.view slot ledger → IsDurable disk slot top → (c : Image) → IsImage disk c → TreeHas c (found_under slot disk.view).pairs slot.root.banner
+crash_states_have_the_tree disk slot ledger top version there durable c image = (
+  ap (λ (i : Image). pairs_and_banner (content i)) (durable.images c image) ∙ ap pairs_and_banner (content_now disk.view slot (found_under slot disk.view) durable.current_is version there.found_is),
   opens_trees slot.root.banner.version version,
 )

@@ -1,12 +1,10 @@
 -- Leaves of a tree whose pairs are kept, and what they tell of the next pair.
-use Rattle.std.specs.Prelude.{◌≡◌, ◌⊎◌, ℕ, Bool, false, IsTrue, List, [], ◌∷◌, ◌++◌, ◌&&◌, not, Option, Some, None, Result, Ok, Err}
+use Rattle.std.specs.Prelude.{◌≡◌, ◌⊎◌, ℕ, Bool, false, IsTrue, List, [], ◌∷◌, ◌++◌, ◌&&◌, not, Some, None}
 use Rattle.std.specs.Option.{is_some}
 use Rattle.page_store.specs.Keys.{precedes}
 use Rattle.page_store.specs.Pages.{Pair, leaf_of}
 use Rattle.page_store.specs.Batch.{pair_after}
 use Rattle.page_store.specs.Content.{Found, Bounds, place_in, is_among}
-use Rattle.cow_tree.specs.declared.page_fault.PageFault.{PageFault}
-use Rattle.cow_tree.specs.declared.page_fault.PageFault.TheVariants.{Device, Damaged}
 
 -- Pairs that stand one after another among others.
 pub record IsRun (run pairs : List Pair) : Type 0 where
@@ -31,15 +29,9 @@ pub record IsNextLeaf (bytes : ℕ → List ℕ) (bounds : Bounds) (key : List �
   pub is_leaf : IsLeaf bytes bounds tree leaf
   pub after : pair_after tree.pairs key ≡ pair_after leaf key
 
--- What reading a leaf tells, by what stands on its page.
-abbrev pub IsLeafRead : {T : Type 0} → Option (List Pair) → List Pair → Result T PageFault → Type 0
-IsLeafRead what kept (Ok done) = what ≡ Some kept
-IsLeafRead what kept (Err Device) = Unit {0}
-IsLeafRead what kept (Err (Damaged page)) = what ≡ None
-
 -- Nothing is kept, or a leaf of a tree.
-abbrev pub IsKept : (ℕ → List ℕ) → Bounds → Found → List Pair → Type 0
-IsKept bytes bounds tree kept = ∥ (kept ≡ []) ⊎ IsLeaf bytes bounds tree kept ∥₁
+abbrev pub IsKeptLeaf : (ℕ → List ℕ) → Bounds → Found → List Pair → Type 0
+IsKeptLeaf bytes bounds tree kept = ∥ (kept ≡ []) ⊎ IsLeaf bytes bounds tree kept ∥₁
 
 -- The first of these pairs isn't above a key, and another is: the first that is above is the next one of all pairs that rise and have these as a run.
 abbrev pub has_next : List Pair → List ℕ → Bool

@@ -7,6 +7,7 @@ pub mod TreeState
 pub mod TreeSeen
 pub mod KeptLeaves
 pub mod Ways
+pub mod LookUps
 pub mod Plans
 pub mod Compacting
 pub mod Drafts

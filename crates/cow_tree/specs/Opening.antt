@@ -45,7 +45,7 @@ pub record IsReached (what : Option Found) (slot : Slot) (ledger : LedgerState) 
   pub alive : (n : ℕ) → is_alive ledger n ≡ is_among n found.pages
   pub keys : slot.root.keys ≡ length found.pairs
 
--- what is told of the tree under a slot
+-- what is known of the tree under a slot
 abbrev pub Finds : {T : Type 0} → Option Found → Slot → LedgerState → Result T PageFault → Type 0
 Finds what slot ledger (Ok _) = IsReached what slot ledger
 Finds what slot ledger (Err Device) = Unit {0}
@@ -56,7 +56,7 @@ abbrev pub AreWhole : Image → LedgerState → Type 0
 AreWhole image ledger = (n : ℕ) → IsTrue (is_alive ledger n) → length (page_of image n) ≡ 4096
 
 -- An image has a content of this slot, and the ledger has exactly its pages, each of them whole.
-pub record Holds (image : Image) (slot : Slot) (ledger : LedgerState) : Type 0 where
+pub record IsReadAs (image : Image) (slot : Slot) (ledger : LedgerState) : Type 0 where
   pub found : Found
   pub content_is : content image ≡ Some (slot, found)
   pub ledger_is : ledger ≡ holding_all (fresh slot.root.pages slot.seal) found.pages
@@ -83,7 +83,7 @@ pub record IsSlotOpened (old new : State) (crash_states : CrashStates Image) (sl
 pub record IsOpened (old new : State) (crash_states : CrashStates Image) (slot : Slot) (ledger : LedgerState) (top : ℕ) : Type 0 where
   pub all : IsTrue old.honest → AllAre crash_states new.disk.view
   pub view : IsTrue old.honest → new.disk.view ≡ old.disk.view
-  pub holds : IsTrue old.honest → Holds old.disk.view slot ledger
+  pub holds : IsTrue old.honest → IsReadAs old.disk.view slot ledger
   pub top_is : IsTrue old.honest → greatest_seal old.disk.view 16 ≡ top
 
 -- Why no current slot of a tree was found, by the image that was read.

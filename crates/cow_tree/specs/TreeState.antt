@@ -57,7 +57,7 @@ pub record IsThere (image : Image) (slot : Slot) (ledger : LedgerState) : Type 0
   pub whole : AreWhole image ledger
 
 -- Each image of the disk is what reads give; the slot is current there, and no seal is above the top.
-pub record IsSettled (disk : Disk) (slot : Slot) (top : ℕ) : Type 0 where
+pub record IsDurable (disk : Disk) (slot : Slot) (top : ℕ) : Type 0 where
   pub images : (c : List (List ℕ)) → IsImage disk c → c ≡ disk.view
   pub current_is : current disk.view ≡ Some slot
   pub seals : greatest_seal disk.view 16 ≤ top

@@ -1,5 +1,5 @@
 -- What a walk over a tree tells.
-use Rattle.std.specs.Prelude.{◌≡◌, ◌⊎◌, ◌≤◌, ◌<◌, ◌-◌, ◌*◌, ◌^◌, min, ℕ, true, false, List, length, Option, Some, Result, Ok, Err, IsTrue}
+use Rattle.std.specs.Prelude.{◌≡◌, ◌⊎◌, ◌≤◌, ◌<◌, ◌-◌, ◌*◌, ◌^◌, min, ℕ, true, false, List, length, Option, Some, Result, Ok, Err, IsTrue, OnOk, IfErr}
 use Rattle.common_types.specs.Counts.{counted}
 use Rattle.common_types.specs.CrashStates.{CrashStates}
 use Rattle.sector_device.specs.Device.{State}
@@ -58,6 +58,13 @@ CountsPages (Err (Damaged page)) before now = now ≡ before
 pub record ReadsPages {T D : Type 0} (state : D → State) (crash_states : D → CrashStates Image) (old new : D) (result : Result T PageFault) : Type 0 where
   pub device : IsReadCall state crash_states old new
   pub reads : CountsPages result (state old).failed_reads (state new).failed_reads
+
+-- A call that walks pages of a tree: of the device only reads are made, of the ledger only lives change, each page that it newly holds was read whole, and a fault names only what it may.
+pub record WalksPages {T D : Type 0} (state : D → State) (crash_states : D → CrashStates Image) (old new : D) (before after : LedgerState) (may_name : PageFault → Type 0) (result : Result T PageFault) : Type 0 where
+  pub whole : IsTrue (state old).honest → OnOk result (HoldsWhole (state old).disk.view before after)
+  pub ledger : OnlyHolds before after
+  pub named : IfErr result may_name
+  pub reads : ReadsPages state crash_states old new result
 
 -- what was found in front of more
 abbrev pub with_front : Found → Option Found → Option Found

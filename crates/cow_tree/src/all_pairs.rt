@@ -1,15 +1,15 @@
 // All pairs of a tree, read leaf by leaf.
-ghost use Rattle.std.specs.Prelude.{◌≡◌, ◌≤◌, ◌*◌, true, IsTrue, IfOk, IfErr, IfSome, Some, length};
+ghost use Rattle.std.specs.Prelude.{◌≡◌, ◌≤◌, ◌*◌, true, IsTrue, IfOk, IfSome, Some, length};
 ghost use Rattle.page_store.specs.Sectors.{page_of};
 ghost use Rattle.page_store.specs.Steps.{crash_states_of};
 ghost use Rattle.page_store.specs.Keys.{precedes};
 ghost use Rattle.page_store.specs.Content.{Found, tree_found};
 ghost use Rattle.page_store.specs.Batch.{is_pair, is_map, pair_after};
 ghost use Rattle.page_store.specs.PairsInOrder.{last_key};
-ghost use Rattle.cow_tree.specs.Drafts.{IsCountedRead, Tells};
-ghost use Rattle.cow_tree.specs.KeptLeaves.{IsKept};
+ghost use Rattle.cow_tree.specs.Drafts.{Tells};
+ghost use Rattle.cow_tree.specs.KeptLeaves.{IsKeptLeaf};
 ghost use Rattle.cow_tree.specs.Opening.{IsRooted, bounds_under};
-ghost use Rattle.cow_tree.specs.Compacting.{most_pairs, IsPairsFault};
+ghost use Rattle.cow_tree.specs.Compacting.{most_pairs, ReadsPairs};
 
 use crate::kept_leaf::KeptLeaf;
 use crate::lookups::find_next;
@@ -40,13 +40,12 @@ fn pair_behind<D: Device>(
 ) -> Result<Option<Pair>, KeeperFault>
     requires fits { 8 * slot.now.root.pages ≤ (D.state device.old).size }
     requires rooted { IsRooted slot.now.root }
-    ensures pair { IsTrue (D.state device.old).honest → (found : Found) → tree_found slot.now (page_of (D.state device.old).disk.view) ≡ Some found → IsKept (page_of (D.state device.old).disk.view) (bounds_under slot.now) found kept.old →
+    ensures pair { IsTrue (D.state device.old).honest → (found : Found) → tree_found slot.now (page_of (D.state device.old).disk.view) ≡ Some found → IsKeptLeaf (page_of (D.state device.old).disk.view) (bounds_under slot.now) found kept.old →
         Tells ⊥ result (λ next. next ≡ pair_after found.pairs (last_key pairs.now)) }
-    ensures kept { IsTrue (D.state device.old).honest → (found : Found) → tree_found slot.now (page_of (D.state device.old).disk.view) ≡ Some found → IsKept (page_of (D.state device.old).disk.view) (bounds_under slot.now) found kept.old →
-        IsKept (page_of (D.state device.old).disk.view) (bounds_under slot.now) found kept.new }
+    ensures kept { IsTrue (D.state device.old).honest → (found : Found) → tree_found slot.now (page_of (D.state device.old).disk.view) ≡ Some found → IsKeptLeaf (page_of (D.state device.old).disk.view) (bounds_under slot.now) found kept.old →
+        IsKeptLeaf (page_of (D.state device.old).disk.view) (bounds_under slot.now) found kept.new }
     ensures rises { IfOk result (λ next. IfSome next (λ p. (precedes (last_key pairs.now) p.0 ≡ true) × (is_pair p ≡ true))) }
-    ensures fault { IfErr result IsPairsFault }
-    ensures reads { IsCountedRead D.state (crash_states_of D.moment D.possible_since) device.old device.new result }
+    ensures reads { ReadsPairs D.state (crash_states_of D.moment D.possible_since) device.old device.new result }
 {
     let (mut key, mut value) = ([0; 300], [0; 1024]);
     match find_next(device, slot, kept, last_key(pairs), &mut key, &mut value) {
@@ -71,8 +70,7 @@ pub(crate) fn all_pairs<D: Device>(
         Tells ⊥ result (λ pairs. pairs.items ≡ found.pairs) }
     ensures map { IfOk result (λ pairs. is_map pairs.items ≡ true) }
     ensures few { IfOk result (λ pairs. length pairs.items ≤ most_pairs) }
-    ensures fault { IfErr result IsPairsFault }
-    ensures reads { IsCountedRead D.state (crash_states_of D.moment D.possible_since) device.old device.new result }
+    ensures reads { ReadsPairs D.state (crash_states_of D.moment D.possible_since) device.old device.new result }
 {
     let mut pairs = Vec::new(alloc);
     let mut kept = KeptLeaf::none();

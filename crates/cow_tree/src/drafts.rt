@@ -11,7 +11,7 @@ ghost use Rattle.tree_nodes.specs.Needs.{needed_level};
 ghost use Rattle.tree_nodes.specs.OwnedTrees.{state_of};
 ghost use Rattle.cow_tree.specs.Opening.{IsRooted};
 ghost use Rattle.cow_tree.specs.Needs.{path_read, edit_made, drafted};
-ghost use Rattle.cow_tree.specs.Drafts.{old_under, IsCountedRead, IsDraft, IsCounted, OnlyRetires, Tells, IsDraftFault, IsPutFault, MayBeTooDeep, keys_with, keys_without, root_under};
+ghost use Rattle.cow_tree.specs.Drafts.{old_under, IsDraft, IsCounted, ReadsToDraft, Tells, IsPutFault, MayBeTooDeep, keys_with, keys_without, root_under};
 
 use crate::opening_walk::load_page;
 use crate::page_bounds::bounds_of;
@@ -49,9 +49,7 @@ fn read_needed<D: Device>(
     ensures read { IsTrue (D.state device.old).honest → OnOk result (state_of tree.new ≡ stepped (old_under slot.now (D.state device.old).disk.view) (state_of tree.old) (supply_step key.now)) }
     ensures down { OnOk result ((n : ℕ) → needed_under key.now (state_of tree.new).root ≡ Some n → needed_level key.now (state_of tree.new) < needed_level key.now (state_of tree.old)) }
     ensures height { OnOk result ((state_of tree.new).height ≡ (state_of tree.old).height) }
-    ensures ledger { OnlyRetires ledger.old ledger.new }
-    ensures fault { IfErr result IsDraftFault }
-    ensures reads { IsCountedRead D.state (crash_states_of D.moment D.possible_since) device.old device.new result }
+    ensures reads { ReadsToDraft D.state (crash_states_of D.moment D.possible_since) device.old device.new ledger.old ledger.new result }
 {
     if !ledger.lives(page) {
         return Err(KeeperFault::Damaged { page });
@@ -87,9 +85,7 @@ fn own_path<D: Device>(
     ensures path { IsTrue (D.state device.old).honest → (edits : ℕ) (pairs : List Pair) → IsDraft slot.now (D.state device.old).disk.view edits 0 pairs ledger.old (state_of tree.old) →
         OnOk result (state_of tree.new ≡ path_read (old_under slot.now (D.state device.old).disk.view) key.now slot.now.root.height (state_of tree.old)) }
     ensures height { OnOk result ((state_of tree.new).height ≡ (state_of tree.old).height) }
-    ensures ledger { OnlyRetires ledger.old ledger.new }
-    ensures fault { IfErr result IsDraftFault }
-    ensures reads { IsCountedRead D.state (crash_states_of D.moment D.possible_since) device.old device.new result }
+    ensures reads { ReadsToDraft D.state (crash_states_of D.moment D.possible_since) device.old device.new ledger.old ledger.new result }
 {
     while let Some(page) = tree.needed(key) {
         read_needed(alloc, device, ledger, slot, tree, key, page)?;
@@ -181,9 +177,7 @@ impl Draft {
         ensures made { IsTrue (D.state device.old).honest → (edits : ℕ) (pairs : List Pair) → IsCounted slot.now (D.state device.old).disk.view edits pairs ledger.old self →
             IfOk result (λ draft. state_of draft.tree ≡ edit_made (old_under slot.now (D.state device.old).disk.view) slot.now.root.height (state_of self.tree) edit.now) }
         ensures low { IfOk result (λ draft. (state_of draft.tree).height ≤ most_levels) }
-        ensures ledger { OnlyRetires ledger.old ledger.new }
-        ensures fault { IfErr result IsDraftFault }
-        ensures reads { IsCountedRead D.state (crash_states_of D.moment D.possible_since) device.old device.new result }
+        ensures reads { ReadsToDraft D.state (crash_states_of D.moment D.possible_since) device.old device.new ledger.old ledger.new result }
     {
         let Draft { tree, keys } = self;
         let mut tree = tree;
@@ -214,9 +208,7 @@ pub(crate) fn draft_batch<D: Device>(
     ensures made { IsTrue (D.state device.old).honest → (pairs : List Pair) → IsDraft slot.now (D.state device.old).disk.view 0 0 pairs ledger.old (root_under slot.now) → slot.now.root.keys ≡ length pairs → is_map pairs ≡ true →
         length pairs + length batch.now < 2 ^ 64 → IfOk result (λ draft. state_of draft.tree ≡ drafted slot.now (D.state device.old).disk.view batch.now) }
     ensures low { IfOk result (λ draft. (state_of draft.tree).height ≤ most_levels) }
-    ensures ledger { OnlyRetires ledger.old ledger.new }
-    ensures fault { IfErr result IsDraftFault }
-    ensures reads { IsCountedRead D.state (crash_states_of D.moment D.possible_since) device.old device.new result }
+    ensures reads { ReadsToDraft D.state (crash_states_of D.moment D.possible_since) device.old device.new ledger.old ledger.new result }
 {
     let mut draft = Draft::of(slot);
     for edit in batch {

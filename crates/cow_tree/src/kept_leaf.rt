@@ -1,18 +1,19 @@
 // The leaf that a next pair was last read from.
-ghost use Rattle.std.specs.Prelude.{◌≡◌, ◌≤◌, ◌<◌, ◌*◌, ◌+◌, ℕ, [], Option, None, Some, Ok, IsTrue, IfErr, IfSome, option_map, length, take};
+ghost use Rattle.std.specs.Prelude.{◌≡◌, ◌≤◌, ◌<◌, ◌*◌, List, [], None, Some, Ok, IsTrue, IfSome, option_map, length, take};
 ghost use Rattle.std.specs.Option.{is_some};
 ghost use Rattle.page_store.specs.Sectors.{page_of};
 ghost use Rattle.page_store.specs.Steps.{crash_states_of};
-ghost use Rattle.page_store.specs.Pages.{leaf_of};
+ghost use Rattle.page_store.specs.Pages.{Pair, leaf_of};
 ghost use Rattle.page_store.specs.Batch.{pair_after};
 ghost use Rattle.page_store.specs.StoreState.{IsFilled};
 ghost use Rattle.page_store.specs.Content.{place_in};
 ghost use Rattle.tree_nodes.specs.PageViews.{bounds_of, pairs_in};
-ghost use Rattle.cow_tree.specs.KeptLeaves.{IsLeafRead, has_next};
+ghost use Rattle.cow_tree.specs.KeptLeaves.{has_next};
+ghost use Rattle.cow_tree.specs.Ways.{IsAnswer};
 ghost use Rattle.cow_tree.specs.Walks.{ReadsPages};
 ghost use Rattle.cow_tree.specs.declared.page_fault.PageFault.{PageFault as PageFaultValue};
 
-use crate::opening_walk::{count_pairs, leaf_in, load_page};
+use crate::opening_walk::{count_pairs, load_page};
 use crate::page_fault::PageFault;
 use sector_device::Device;
 use std::cmp::Ordering;
@@ -57,7 +58,7 @@ impl KeptLeaf {
         self.count = 0;
     }
 
-    /// Reads a leaf from its page.
+    /// Reads a leaf from its page, which was tested before.
     pub(crate) fn read<D: Device>(
         &mut self,
         device: &mut D,
@@ -66,12 +67,12 @@ impl KeptLeaf {
     ) -> Result<(), PageFault>
         requires fits { 8 * bounds.pages ≤ (D.state device.old).size }
         requires most { page < bounds.pages }
-        ensures pairs { IsTrue (D.state device.old).honest → IsLeafRead (leaf_of (place_in (bounds_of bounds) 0 page) [] None (page_of (D.state device.old).disk.view page)) self.new result }
+        ensures pairs { IsTrue (D.state device.old).honest → (pairs : List Pair) → leaf_of (place_in (bounds_of bounds) 0 page) [] None (page_of (D.state device.old).disk.view page) ≡ Some pairs →
+            IsAnswer result (λ done. self.new ≡ pairs) }
         ensures reads { ReadsPages D.state (crash_states_of D.moment D.possible_since) device.old device.new result }
     {
         load_page(device, page, &mut self.bytes)?;
-        let leaf = leaf_in(bounds, page, &[], None, &self.bytes)?;
-        self.count = count_pairs(leaf);
+        self.count = count_pairs(Leaf::of_tested(&self.bytes));
         Ok(())
     }
 

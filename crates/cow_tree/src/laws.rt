@@ -34,7 +34,7 @@ pub fn a_run_tells_the_next_pair()
     ensures { (pairs run : List Pair) (key : List ℕ) → IsTrue (is_map pairs) → IsRun run pairs → IsTrue (has_next run key) → pair_after pairs key ≡ pair_after run key }
 {}
 
-/// A walk goes on in its leaf: of a leaf that has a pair after the one that was found last, that pair is told.
+/// A walk goes on in its leaf: of a leaf that has a pair after the one that was found last, that pair is answered.
 pub fn a_walk_goes_on_in_its_leaf()
     ensures { (bytes : ℕ → List ℕ) (bounds : Bounds) (tree : Found) (leaf : List Pair) (key : List ℕ) (found : Pair) → IsLeaf bytes bounds tree leaf → pair_after leaf key ≡ Some found →
         IsTrue (is_some (pair_after leaf found.0)) → IsTrue (has_next leaf found.0) }

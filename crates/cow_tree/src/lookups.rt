@@ -1,14 +1,11 @@
 // Looking pairs up in a tree: the pages on the way to them are read, and no others.
-ghost use Rattle.std.specs.Prelude.{◌≡◌, ◌≤◌, ◌*◌, ℕ, false, IsTrue, IfOk, IfErr, IsErrOf, IfSome, Some, length, option_map, take};
-ghost use Rattle.page_store.specs.Sectors.{page_of};
+ghost use Rattle.std.specs.Prelude.{◌≡◌, ◌≤◌, ◌*◌, IsTrue, IfOk, IfSome, Some, option_map, take};
 ghost use Rattle.page_store.specs.Steps.{crash_states_of};
-ghost use Rattle.page_store.specs.Content.{Found, tree_found};
-ghost use Rattle.page_store.specs.Pages.{Pair};
-ghost use Rattle.page_store.specs.Batch.{value_at, pair_after};
+ghost use Rattle.page_store.specs.Content.{tree_found};
+ghost use Rattle.page_store.specs.Batch.{pair_after};
 ghost use Rattle.page_store.specs.StoreState.{IsFilled};
-ghost use Rattle.cow_tree.specs.Walks.{ReadsPages};
-ghost use Rattle.cow_tree.specs.Ways.{IsAnswer};
-ghost use Rattle.cow_tree.specs.KeptLeaves.{IsKept, has_next};
+ghost use Rattle.cow_tree.specs.LookUps.{LooksUp, KeepsNext};
+ghost use Rattle.cow_tree.specs.KeptLeaves.{IsKeptLeaf, has_next};
 ghost use Rattle.cow_tree.specs.Opening.{IsRooted, bounds_under};
 ghost use Rattle.cow_tree.specs.PinnedTrees.{IsRootedAt, bounds_at, tree_at};
 
@@ -28,11 +25,7 @@ pub(crate) fn find_value<D: Device>(
 ) -> Result<Option<usize>, PageFault>
     requires fits { 8 * tree.pages ≤ (D.state device.old).size }
     requires rooted { IsRootedAt tree }
-    ensures within { IfOk result (λ found. IfSome found (λ n. n ≤ 1024)) }
-    ensures value { IsTrue (D.state device.old).honest → (found : Found) → tree_at tree (page_of (D.state device.old).disk.view) ≡ Some found →
-        IsAnswer result (λ size. option_map (λ n. take n buffer.new) size ≡ value_at found.pairs key.now) }
-    ensures buffer { IsFilled (λ n. n) result buffer.old buffer.new }
-    ensures reads { ReadsPages D.state (crash_states_of D.moment D.possible_since) device.old device.new result }
+    ensures found { LooksUp D.state (crash_states_of D.moment D.possible_since) (λ pages. tree_at tree pages) key.now device.old device.new buffer.old buffer.new result }
 {
     if tree.height == 0 {
         return Ok(None);
@@ -56,11 +49,7 @@ pub(crate) fn read_next_leaf<D: Device>(
 ) -> Result<(), PageFault>
     requires fits { 8 * tree.pages ≤ (D.state device.old).size }
     requires rooted { IsRootedAt tree }
-    ensures pair { IsTrue (D.state device.old).honest → (found : Found) → tree_at tree (page_of (D.state device.old).disk.view) ≡ Some found →
-        IsAnswer result (λ done. pair_after kept.new after.now ≡ pair_after found.pairs after.now) }
-    ensures kept { IsTrue (D.state device.old).honest → (found : Found) → tree_at tree (page_of (D.state device.old).disk.view) ≡ Some found →
-        IsKept (page_of (D.state device.old).disk.view) (bounds_at tree) found kept.new }
-    ensures reads { ReadsPages D.state (crash_states_of D.moment D.possible_since) device.old device.new result }
+    ensures next { KeepsNext D.state (crash_states_of D.moment D.possible_since) (λ pages found. tree_at tree pages ≡ Some found) (bounds_at tree) after.now device.old device.new kept.new (λ done. pair_after kept.new after.now) result }
 {
     if tree.height == 0 {
         kept.clear();
@@ -91,11 +80,8 @@ fn keep_next_leaf<D: Device>(
 ) -> Result<(), PageFault>
     requires fits { 8 * slot.now.root.pages ≤ (D.state device.old).size }
     requires rooted { IsRooted slot.now.root }
-    ensures pair { IsTrue (D.state device.old).honest → (found : Found) → tree_found slot.now (page_of (D.state device.old).disk.view) ≡ Some found → IsKept (page_of (D.state device.old).disk.view) (bounds_under slot.now) found kept.old →
-        IsAnswer result (λ done. pair_after kept.new after.now ≡ pair_after found.pairs after.now) }
-    ensures kept { IsTrue (D.state device.old).honest → (found : Found) → tree_found slot.now (page_of (D.state device.old).disk.view) ≡ Some found → IsKept (page_of (D.state device.old).disk.view) (bounds_under slot.now) found kept.old →
-        IsKept (page_of (D.state device.old).disk.view) (bounds_under slot.now) found kept.new }
-    ensures reads { ReadsPages D.state (crash_states_of D.moment D.possible_since) device.old device.new result }
+    ensures next { KeepsNext D.state (crash_states_of D.moment D.possible_since) (λ pages found. (tree_found slot.now pages ≡ Some found) × IsKeptLeaf pages (bounds_under slot.now) found kept.old)
+        (bounds_under slot.now) after.now device.old device.new kept.new (λ done. pair_after kept.new after.now) result }
     ensures unread { IsTrue (has_next kept.old after.now) → (device.new ≡ device.old) × (kept.new ≡ kept.old) }
 {
     if kept.has_next(after) {
@@ -116,14 +102,11 @@ pub(crate) fn find_next<D: Device>(
     requires fits { 8 * slot.now.root.pages ≤ (D.state device.old).size }
     requires rooted { IsRooted slot.now.root }
     ensures within { IfOk result (λ found. IfSome found (λ n. (n.0 ≤ 300) × (n.1 ≤ 1024))) }
-    ensures pair { IsTrue (D.state device.old).honest → (found : Found) → tree_found slot.now (page_of (D.state device.old).disk.view) ≡ Some found → IsKept (page_of (D.state device.old).disk.view) (bounds_under slot.now) found kept.old →
-        IsAnswer result (λ sizes. option_map (λ n. (take n.0 key.new, take n.1 value.new)) sizes ≡ pair_after found.pairs after.now) }
-    ensures kept { IsTrue (D.state device.old).honest → (found : Found) → tree_found slot.now (page_of (D.state device.old).disk.view) ≡ Some found → IsKept (page_of (D.state device.old).disk.view) (bounds_under slot.now) found kept.old →
-        IsKept (page_of (D.state device.old).disk.view) (bounds_under slot.now) found kept.new }
+    ensures next { KeepsNext D.state (crash_states_of D.moment D.possible_since) (λ pages found. (tree_found slot.now pages ≡ Some found) × IsKeptLeaf pages (bounds_under slot.now) found kept.old)
+        (bounds_under slot.now) after.now device.old device.new kept.new (λ sizes. option_map (λ n. (take n.0 key.new, take n.1 value.new)) sizes) result }
     ensures from_kept { IfOk result (λ sizes. option_map (λ n. (take n.0 key.new, take n.1 value.new)) sizes ≡ pair_after kept.new after.now) }
     ensures key { IsFilled (λ n. n.0) result key.old key.new }
     ensures value { IsFilled (λ n. n.1) result value.old value.new }
-    ensures reads { ReadsPages D.state (crash_states_of D.moment D.possible_since) device.old device.new result }
     // Where the kept leaf tells the pair, nothing is read.
     ensures unread { IsTrue (has_next kept.old after.now) → (device.new ≡ device.old) × (kept.new ≡ kept.old) }
 {

@@ -7,11 +7,12 @@ ghost use Rattle.page_store.specs.Counting.{CountsReads, CountsRefusal};
 ghost use Rattle.page_store.specs.Sectors.{page_of};
 ghost use Rattle.page_store.specs.Roots.{IsFoundSlot, current, greatest_seal};
 ghost use Rattle.page_store.specs.Steps.{crash_states_of};
-ghost use Rattle.page_store.specs.DeviceEffects.{KeepsDevice, IsReadCall};
+ghost use Rattle.page_store.specs.DeviceEffects.{IsReadCall};
+ghost use Rattle.page_store.specs.Opening.{ReadsToOpen};
 ghost use Rattle.page_store.specs.Content.{tree_of, tree_found, HasContent};
 ghost use Rattle.page_store.specs.declared.fault.KeeperFault.TheVariants.{Small, Memory};
-ghost use Rattle.cow_tree.specs.Walks.{Tells, OnlyHolds, HoldsWhole, ReadsPages};
-ghost use Rattle.cow_tree.specs.Opening.{bounds_under, IsRooted, MayName, Finds, AreWhole, Holds, IsSlotOpened, IsOpened, IsSlotFault, IsOpenFault};
+ghost use Rattle.cow_tree.specs.Walks.{Tells, WalksPages};
+ghost use Rattle.cow_tree.specs.Opening.{bounds_under, IsRooted, MayName, Finds, AreWhole, IsReadAs, IsSlotOpened, IsOpened, IsSlotFault, IsOpenFault};
 ghost use Rattle.cow_tree.specs.TreeState.{IsAtRest, IsFitted};
 ghost use Rattle.cow_tree.specs.TreeSeen.{device_of, slot_of, ledger_of, top_of, is_open, held};
 
@@ -62,11 +63,7 @@ fn open_slot<D: Device>(device: &mut D) -> Result<(Slot, u64), KeeperFault>
     ensures version { IfOk result (λ found. found.0.root.banner.version ≡ 1) }
     ensures sealed { IfOk result (λ found. found.0.seal ≤ found.1) }
     ensures large { IfOk result (λ found. 128 ≤ (D.state device.old).size) }
-    ensures fault { IfErr result (IsOpenFault (D.state device.old) (D.state device.new)) }
-    ensures device { KeepsDevice D.state (crash_states_of D.moment D.possible_since) device.old device.new }
-    ensures counts { OnOk result (NothingCounted (D.state device.old) (D.state device.new)) }
-    ensures counts_fault { IfErr result (λ e. CountsRefusal e (D.state device.old) (D.state device.new)) }
-    ensures small { IfErr result (λ e. e ≡ Small → device.new ≡ device.old) }
+    ensures opens { ReadsToOpen D.state (crash_states_of D.moment D.possible_since) device.old device.new IsOpenFault result }
 {
     if device.sectors() < 128 {
         return Err(KeeperFault::Small);
@@ -82,12 +79,9 @@ fn open_slot<D: Device>(device: &mut D) -> Result<(Slot, u64), KeeperFault>
 fn count_tree<D: Device>(device: &mut D, ledger: &mut Ledger, slot: &Slot) -> Result<u64, PageFault>
     requires pages { length ledger.old.lives ≡ slot.now.root.pages }
     requires fits { 8 * slot.now.root.pages ≤ (D.state device.old).size }
-    ensures told { IsTrue (D.state device.old).honest → Tells (tree_of (page_of (D.state device.old).disk.view) (bounds_under slot.now) slot.now.root.height slot.now.root.tree) ledger.old ledger.new result }
+    ensures answered { IsTrue (D.state device.old).honest → Tells (tree_of (page_of (D.state device.old).disk.view) (bounds_under slot.now) slot.now.root.height slot.now.root.tree) ledger.old ledger.new result }
     ensures rooted { OnOk result (IsRooted slot.now.root) }
-    ensures whole { IsTrue (D.state device.old).honest → OnOk result (HoldsWhole (D.state device.old).disk.view ledger.old ledger.new) }
-    ensures ledger { OnlyHolds ledger.old ledger.new }
-    ensures named { IfErr result (MayName slot.now) }
-    ensures reads { ReadsPages D.state (crash_states_of D.moment D.possible_since) device.old device.new result }
+    ensures walks { WalksPages D.state (crash_states_of D.moment D.possible_since) device.old device.new ledger.old ledger.new (MayName slot.now) result }
 {
     let root = &slot.root;
     if root.height == 0 {
@@ -124,8 +118,7 @@ fn walk_slot<D: Device>(device: &mut D, ledger: &mut Ledger, slot: &Slot) -> Res
     ensures whole { IsTrue (D.state device.old).honest → OnOk result (AreWhole (D.state device.old).disk.view ledger.new) }
     ensures rest { IsAtRest slot.now ledger.new }
     ensures unpinned { ledger.new.pins ≡ replicate 32 None }
-    ensures named { IfErr result (MayName slot.now) }
-    ensures reads { ReadsPages D.state (crash_states_of D.moment D.possible_since) device.old device.new result }
+    ensures walks { WalksPages D.state (crash_states_of D.moment D.possible_since) device.old device.new ledger.old ledger.new (MayName slot.now) result }
 {
     let count = count_tree(device, ledger, slot)?;
     if count != slot.root.keys {
@@ -153,11 +146,7 @@ fn open_parts<D: Device>(alloc: Global, device: &mut D) -> Result<(Slot, Ledger,
     ensures unpinned { IfOk result (λ parts. parts.1.pins ≡ replicate 32 None) }
     ensures sealed { IfOk result (λ parts. parts.0.seal ≤ parts.2) }
     ensures large { IfOk result (λ parts. 128 ≤ (D.state device.old).size) }
-    ensures fault { IfErr result (IsOpenFault (D.state device.old) (D.state device.new)) }
-    ensures device { KeepsDevice D.state (crash_states_of D.moment D.possible_since) device.old device.new }
-    ensures counts { OnOk result (NothingCounted (D.state device.old) (D.state device.new)) }
-    ensures counts_fault { IfErr result (λ e. CountsRefusal e (D.state device.old) (D.state device.new)) }
-    ensures small { IfErr result (λ e. e ≡ Small → device.new ≡ device.old) }
+    ensures opens { ReadsToOpen D.state (crash_states_of D.moment D.possible_since) device.old device.new IsOpenFault result }
 {
     let (slot, top) = open_slot(device)?;
     let mut ledger = new_ledger(alloc, &slot)?;
@@ -175,7 +164,7 @@ impl<D: Device> TreeKeeper<D> {
     pub fn open(alloc: Global, device: D) -> Result<TreeKeeper<D>, (KeeperFault, D)>
         ensures content { IsTrue (D.state device).honest → IfOk result (λ k. HasContent (D.state device).disk.view (held D.state k).pairs (held D.state k).banner) }
         // The slot is the current one, the ledger has exactly the pages of its tree, each of them whole, and there are as many pairs as the slot says.
-        ensures holds { IsTrue (D.state device).honest → IfOk result (λ k. Holds (D.state device).disk.view (slot_of k) (ledger_of k)) }
+        ensures holds { IsTrue (D.state device).honest → IfOk result (λ k. IsReadAs (D.state device).disk.view (slot_of k) (ledger_of k)) }
         ensures top { IsTrue (D.state device).honest → IfOk result (λ k. top_of k ≡ greatest_seal (D.state device).disk.view 16) }
         ensures usable { IfOk result (λ k. is_open k ≡ true) }
         ensures unpinned { IfOk result (λ k. (held D.state k).pins ≡ []) }

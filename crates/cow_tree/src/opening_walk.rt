@@ -1,5 +1,5 @@
 // The walk of an opening: each page once, with all that is tested of it.
-ghost use Rattle.std.specs.Prelude.{◌≡◌, ◌≤◌, ◌<◌, ◌*◌, ◌+◌, ℕ, true, IsTrue, IfOk, OnOk, IfErr, None, Some, length, option_copied, not, if◌then◌else◌};
+ghost use Rattle.std.specs.Prelude.{◌≡◌, ◌≤◌, ◌<◌, ◌*◌, ◌+◌, ℕ, true, IsTrue, IfOk, IfErr, None, Some, length, option_copied, not, if◌then◌else◌};
 ghost use Rattle.std.specs.List.{list_all};
 ghost use Rattle.page_alloc.specs.LedgerState.{is_free};
 ghost use Rattle.page_alloc.specs.Calls.{holding};
@@ -9,7 +9,7 @@ ghost use Rattle.page_store.specs.Pages.{leaf_of, branch_of, is_inside};
 ghost use Rattle.page_store.specs.Batch.{is_pair};
 ghost use Rattle.page_store.specs.Content.{place_in, walk, fan, low_of, high_of};
 ghost use Rattle.tree_nodes.specs.PageViews.{bounds_of, pairs_in, children_in};
-ghost use Rattle.cow_tree.specs.Walks.{Tells, NamesInside, OnlyHolds, HoldsWhole, ReadsPages};
+ghost use Rattle.cow_tree.specs.Walks.{Tells, NamesInside, OnlyHolds, ReadsPages, WalksPages};
 ghost use Rattle.cow_tree.specs.declared.page_fault.PageFault.TheVariants.{Device as NoRead, Damaged};
 
 use crate::page_fault::PageFault;
@@ -102,7 +102,7 @@ pub(crate) fn count_pairs(leaf: Leaf<'_>) -> u16
     count
 }
 
-/// Holds a page, where it is free.
+/// Makes a page held, where it is free.
 fn reach(ledger: &mut Ledger, page: u32) -> bool
     ensures is { result ≡ is_free ledger.old page }
     ensures held { ledger.new ≡ (if result then holding page ledger.old else ledger.old) }
@@ -129,11 +129,8 @@ fn walk_children<D: Device>(
     requires pages { length ledger.old.lives ≡ bounds.pages }
     requires fits { 8 * bounds.pages ≤ (D.state device.old).size }
     requires inside { list_all (is_inside bounds.pages) (children_in branch.now.count branch.now.entries.now) ≡ true }
-    ensures told { IsTrue (D.state device.old).honest → Tells (fan (walk (page_of (D.state device.old).disk.view) (bounds_of bounds) level) low.now (option_copied high.entry) (children_in branch.now.count branch.now.entries.now)) ledger.old ledger.new result }
-    ensures whole { IsTrue (D.state device.old).honest → OnOk result (HoldsWhole (D.state device.old).disk.view ledger.old ledger.new) }
-    ensures ledger { OnlyHolds ledger.old ledger.new }
-    ensures named { IfErr result (NamesInside bounds.pages) }
-    ensures reads { ReadsPages D.state (crash_states_of D.moment D.possible_since) device.old device.new result }
+    ensures answered { IsTrue (D.state device.old).honest → Tells (fan (walk (page_of (D.state device.old).disk.view) (bounds_of bounds) level) low.now (option_copied high.entry) (children_in branch.now.count branch.now.entries.now)) ledger.old ledger.new result }
+    ensures walks { WalksPages D.state (crash_states_of D.moment D.possible_since) device.old device.new ledger.old ledger.new (NamesInside bounds.pages) result }
 {
     let mut count: u64 = 0;
     let mut left = *branch;
@@ -162,11 +159,8 @@ pub(crate) fn walk_tree<D: Device>(
     requires fits { 8 * bounds.pages ≤ (D.state device.old).size }
     requires least { 2 ≤ page }
     requires most { page < bounds.pages }
-    ensures told { IsTrue (D.state device.old).honest → Tells (walk (page_of (D.state device.old).disk.view) (bounds_of bounds) level page low.now (option_copied high.entry)) ledger.old ledger.new result }
-    ensures whole { IsTrue (D.state device.old).honest → OnOk result (HoldsWhole (D.state device.old).disk.view ledger.old ledger.new) }
-    ensures ledger { OnlyHolds ledger.old ledger.new }
-    ensures named { IfErr result (NamesInside bounds.pages) }
-    ensures reads { ReadsPages D.state (crash_states_of D.moment D.possible_since) device.old device.new result }
+    ensures answered { IsTrue (D.state device.old).honest → Tells (walk (page_of (D.state device.old).disk.view) (bounds_of bounds) level page low.now (option_copied high.entry)) ledger.old ledger.new result }
+    ensures walks { WalksPages D.state (crash_states_of D.moment D.possible_since) device.old device.new ledger.old ledger.new (NamesInside bounds.pages) result }
 {
     if !reach(ledger, page) {
         return Err(PageFault::Damaged { page });

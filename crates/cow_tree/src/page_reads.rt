@@ -1,19 +1,19 @@
-// Pages on the way of a key.
-ghost use Rattle.std.specs.Prelude.{◌≡◌, ◌≤◌, ◌<◌, ◌-◌, ◌*◌, ◌+◌, ℕ, [], Option, None, Some, IsTrue, IfOk, IfErr, IfSome, length, option_map, take};
+// Pages on the way of a key. Each page of a tree was tested when the image was opened, or written by a commit since: its form is not tested again.
+ghost use Rattle.std.specs.Prelude.{◌≡◌, ◌≤◌, ◌<◌, ◌-◌, ◌*◌, [], None, Some, Ok, IsTrue, IfOk, IfSome, Decides, length, option_map, take};
 ghost use Rattle.page_store.specs.Sectors.{page_of};
 ghost use Rattle.page_store.specs.Steps.{crash_states_of};
-ghost use Rattle.std.specs.List.{list_all};
-ghost use Rattle.std.specs.Option.{is_some};
-ghost use Rattle.page_store.specs.Batch.{value_at, pair_after, is_pair};
+ghost use Rattle.page_store.specs.Batch.{value_at, pair_after};
 ghost use Rattle.page_store.specs.StoreState.{IsFilled};
 ghost use Rattle.page_store.specs.Content.{Found, walk};
-ghost use Rattle.tree_nodes.specs.PageViews.{bounds_of, pairs_in, children_in};
-ghost use Rattle.cow_tree.specs.KeptLeaves.{IsNextLeaf};
+ghost use Rattle.page_store.specs.Pages.{pair_at};
+ghost use Rattle.tree_nodes.specs.PageViews.{bounds_of, pairs_in, children_in, entries_by_head};
+ghost use Rattle.cow_tree.specs.LookUps.{LooksUp, ReadsNextLeaf};
 ghost use Rattle.cow_tree.specs.Walks.{ReadsPages};
 ghost use Rattle.cow_tree.specs.Ways.{pages_around, IsAnswer, IsOnWay};
+ghost use Rattle.cow_tree.specs.declared.page_fault.PageFault.{PageFault as PageFaultValue};
 
 use crate::kept_leaf::KeptLeaf;
-use crate::opening_walk::{branch_in, leaf_in, load_page};
+use crate::opening_walk::load_page;
 use crate::page_fault::PageFault;
 use sector_device::Device;
 use std::cmp::Ordering;
@@ -36,6 +36,17 @@ fn pages_around(branch: &Branch<'_>, key: &[u8]) -> Option<(u32, Option<u32>)>
     Some((page, None))
 }
 
+/// Whether the pages around a key are pages of an image of so many.
+fn are_inside(pages: u32, around: (u32, Option<u32>)) -> bool
+    ensures { Decides result ((around.0 < pages) × IfSome around.1 (λ page. page < pages)) }
+{
+    let (here, next) = around;
+    match next {
+        Some(next) => here < pages && next < pages,
+        None => here < pages,
+    }
+}
+
 /// The page under a branch's page under which a key stands, and the page after it.
 fn children_around<D: Device>(
     device: &mut D,
@@ -55,21 +66,30 @@ fn children_around<D: Device>(
 {
     let mut bytes = [0; 4096];
     load_page(device, page, &mut bytes)?;
-    let branch = branch_in(bounds, level, page, &[], None, &bytes)?;
-    match pages_around(&branch, key) {
-        Some(around) => Ok(around),
-        None => Err(PageFault::Damaged { page }),
+    match pages_around(&Branch::of_tested(&bytes), key) {
+        Some(around) if are_inside(bounds.pages, around) => Ok(around),
+        _ => Err(PageFault::Damaged { page }),
     }
 }
 
 /// The value at a key of a leaf.
 fn value_of<'a>(leaf: &Leaf<'a>, key: &[u8]) -> Option<&'a [u8]>
-    requires { IsTrue (list_all is_pair (pairs_in leaf.now.count leaf.now.entries.now)) }
     ensures value { option_map (λ v. v.now) result ≡ value_at (pairs_in leaf.now.count leaf.now.entries.now) key.now }
     ensures size { IfSome result (λ v. length v.now ≤ 1024) }
 {
     let value = leaf.get(key)?;
     Some(value)
+}
+
+/// Puts the value at a key of a leaf's page into the buffer.
+fn copy_value(bytes: &[u8; 4096], key: &[u8], buffer: &mut [u8; 1024]) -> Option<usize>
+    ensures within { IfSome result (λ n. n ≤ 1024) }
+    ensures value { option_map (λ n. take n buffer.new) result ≡ value_at (entries_by_head pair_at bytes.now) key.now }
+    ensures buffer { IsFilled {E = PageFaultValue} (λ n. n) (Ok result) buffer.old buffer.new }
+{
+    let value = value_of(&Leaf::of_tested(bytes), key)?;
+    buffer[..value.len()].copy_from_slice(value);
+    Some(value.len())
 }
 
 /// Puts the value at a key of a leaf into the buffer.
@@ -82,20 +102,11 @@ fn get_in_leaf<D: Device>(
 ) -> Result<Option<usize>, PageFault>
     requires fits { 8 * bounds.pages ≤ (D.state device.old).size }
     requires most { page < bounds.pages }
-    ensures within { IfOk result (λ found. IfSome found (λ n. n ≤ 1024)) }
-    ensures value { IsTrue (D.state device.old).honest → (found : Found) → walk (page_of (D.state device.old).disk.view) (bounds_of bounds) 0 page [] None ≡ Some found →
-        IsAnswer result (λ size. option_map (λ n. take n buffer.new) size ≡ value_at found.pairs key.now) }
-    ensures buffer { IsFilled (λ n. n) result buffer.old buffer.new }
-    ensures reads { ReadsPages D.state (crash_states_of D.moment D.possible_since) device.old device.new result }
+    ensures found { LooksUp D.state (crash_states_of D.moment D.possible_since) (λ pages. walk pages (bounds_of bounds) 0 page [] None) key.now device.old device.new buffer.old buffer.new result }
 {
     let mut bytes = [0; 4096];
     load_page(device, page, &mut bytes)?;
-    let leaf = leaf_in(bounds, page, &[], None, &bytes)?;
-    let Some(value) = value_of(&leaf, key) else {
-        return Ok(None);
-    };
-    buffer[..value.len()].copy_from_slice(value);
-    Ok(Some(value.len()))
+    Ok(copy_value(&bytes, key, buffer))
 }
 
 /// Reads a leaf, and tells whether it has a pair after a key.
@@ -108,10 +119,7 @@ fn read_leaf<D: Device>(
 ) -> Result<bool, PageFault>
     requires fits { 8 * bounds.pages ≤ (D.state device.old).size }
     requires most { page < bounds.pages }
-    ensures leaf { IsTrue (D.state device.old).honest → (found : Found) → walk (page_of (D.state device.old).disk.view) (bounds_of bounds) 0 page [] None ≡ Some found →
-        IsAnswer result (λ there. IsNextLeaf (page_of (D.state device.old).disk.view) (bounds_of bounds) after.now found kept.new) }
-    ensures there { IfOk result (λ there. there ≡ is_some (pair_after kept.new after.now)) }
-    ensures reads { ReadsPages D.state (crash_states_of D.moment D.possible_since) device.old device.new result }
+    ensures next { ReadsNextLeaf D.state (crash_states_of D.moment D.possible_since) (λ pages found. walk pages (bounds_of bounds) 0 page [] None ≡ Some found) (bounds_of bounds) after.now device.old device.new kept.new result }
 {
     kept.read(device, bounds, page)?;
     Ok(kept.has_above(after))
@@ -128,11 +136,7 @@ pub(crate) fn get_under<D: Device>(
 ) -> Result<Option<usize>, PageFault>
     requires fits { 8 * bounds.pages ≤ (D.state device.old).size }
     requires most { page < bounds.pages }
-    ensures within { IfOk result (λ found. IfSome found (λ n. n ≤ 1024)) }
-    ensures value { IsTrue (D.state device.old).honest → (found : Found) → walk (page_of (D.state device.old).disk.view) (bounds_of bounds) level page [] None ≡ Some found →
-        IsAnswer result (λ size. option_map (λ n. take n buffer.new) size ≡ value_at found.pairs key.now) }
-    ensures buffer { IsFilled (λ n. n) result buffer.old buffer.new }
-    ensures reads { ReadsPages D.state (crash_states_of D.moment D.possible_since) device.old device.new result }
+    ensures found { LooksUp D.state (crash_states_of D.moment D.possible_since) (λ pages. walk pages (bounds_of bounds) level page [] None) key.now device.old device.new buffer.old buffer.new result }
 {
     if level == 0 {
         return get_in_leaf(device, bounds, page, key, buffer);
@@ -153,10 +157,8 @@ fn leaf_in_sibling<D: Device>(
 ) -> Result<bool, PageFault>
     requires fits { 8 * bounds.pages ≤ (D.state device.old).size }
     requires most { page < bounds.pages }
-    ensures leaf { IsTrue (D.state device.old).honest → (found : Found) → walk (page_of (D.state device.old).disk.view) (bounds_of bounds) level page [] None ≡ Some found → (pair_after found.pairs after.now ≡ None → ⊥) →
-        IsAnswer result (λ there. IsNextLeaf (page_of (D.state device.old).disk.view) (bounds_of bounds) after.now found kept.new) }
-    ensures there { IfOk result (λ there. there ≡ is_some (pair_after kept.new after.now)) }
-    ensures reads { ReadsPages D.state (crash_states_of D.moment D.possible_since) device.old device.new result }
+    ensures next { ReadsNextLeaf D.state (crash_states_of D.moment D.possible_since) (λ pages found. (walk pages (bounds_of bounds) level page [] None ≡ Some found) × (pair_after found.pairs after.now ≡ None → ⊥))
+        (bounds_of bounds) after.now device.old device.new kept.new result }
 {
     if !leaf_after(device, bounds, level, page, after, kept)? {
         return Err(PageFault::Damaged { page });
@@ -176,10 +178,7 @@ pub(crate) fn leaf_after<D: Device>(
 ) -> Result<bool, PageFault>
     requires fits { 8 * bounds.pages ≤ (D.state device.old).size }
     requires most { page < bounds.pages }
-    ensures leaf { IsTrue (D.state device.old).honest → (found : Found) → walk (page_of (D.state device.old).disk.view) (bounds_of bounds) level page [] None ≡ Some found →
-        IsAnswer result (λ there. IsNextLeaf (page_of (D.state device.old).disk.view) (bounds_of bounds) after.now found kept.new) }
-    ensures there { IfOk result (λ there. there ≡ is_some (pair_after kept.new after.now)) }
-    ensures reads { ReadsPages D.state (crash_states_of D.moment D.possible_since) device.old device.new result }
+    ensures next { ReadsNextLeaf D.state (crash_states_of D.moment D.possible_since) (λ pages found. walk pages (bounds_of bounds) level page [] None ≡ Some found) (bounds_of bounds) after.now device.old device.new kept.new result }
 {
     if level == 0 {
         return read_leaf(device, bounds, page, after, kept);

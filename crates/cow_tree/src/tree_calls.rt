@@ -40,7 +40,7 @@ impl<D: Device> Keeper for TreeKeeper<D> {
 
     ghost ordered = { λ k honest. (k.there honest).map };
 
-    ghost crash_states_represent = { λ k c honest usable left. crash_states_have_the_tree (D.state k.device).disk k.slot k.ledger k.top k.fitted.version (k.there honest) (k.settled honest usable) c (D.crash_states_are_images k.device c honest left) };
+    ghost crash_states_represent = { λ k c honest usable left. crash_states_have_the_tree (D.state k.device).disk k.slot k.ledger k.top k.fitted.version (k.there honest) (k.durable honest usable) c (D.crash_states_are_images k.device c honest left) };
 
     fn banner(&self) -> &Banner {
         &self.slot.root.banner

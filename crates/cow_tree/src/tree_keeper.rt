@@ -1,10 +1,10 @@
 // A key-value store in a tree of pages.
 ghost use Rattle.std.specs.Prelude.{◌≤◌, IsTrue};
 ghost use Rattle.page_store.specs.Sectors.{page_of};
-ghost use Rattle.cow_tree.specs.KeptLeaves.{IsKept};
+ghost use Rattle.cow_tree.specs.KeptLeaves.{IsKeptLeaf};
 ghost use Rattle.cow_tree.specs.Opening.{bounds_under};
 ghost use Rattle.cow_tree.specs.PinnedTrees.{ArePinned, AreKept};
-ghost use Rattle.cow_tree.specs.TreeState.{IsFitted, IsThere, IsSettled, found_under};
+ghost use Rattle.cow_tree.specs.TreeState.{IsFitted, IsThere, IsDurable, found_under};
 
 use crate::kept_leaf::KeptLeaf;
 use crate::tree_root::TreeRoot;
@@ -33,6 +33,6 @@ pub struct TreeKeeper<D: Device> {
     ghost pins: { ArePinned slot.root.pages ledger pinned },
     ghost there: { IsTrue (D.state device).honest → IsThere (D.state device).disk.view slot ledger },
     ghost pins_there: { IsTrue (D.state device).honest → AreKept (D.state device).disk.view ledger pinned },
-    ghost settled: { IsTrue (D.state device).honest → IsTrue usable → IsSettled (D.state device).disk slot top },
-    ghost leaf: { IsTrue (D.state device).honest → IsKept (page_of (D.state device).disk.view) (bounds_under slot) (found_under slot (D.state device).disk.view) kept },
+    ghost durable: { IsTrue (D.state device).honest → IsTrue usable → IsDurable (D.state device).disk slot top },
+    ghost leaf: { IsTrue (D.state device).honest → IsKeptLeaf (page_of (D.state device).disk.view) (bounds_under slot) (found_under slot (D.state device).disk.view) kept },
 }

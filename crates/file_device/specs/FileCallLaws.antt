@@ -6,7 +6,7 @@ use Rattle.sector_device.specs.Device.{Elapses}
 use Rattle.sector_device.specs.Images.{image_listed, image_written}
 use Rattle.file_device.specs.FileCalls.{grown, after, is_sound, disk_of, PossibleSince}
 use Rattle.file_device.specs.declared.file_call.FileCall.{FileCall}
-use Rattle.file_device.specs.declared.file_call.FileCall.TheVariants.{Open, Create, Lock, SetLength, Sync, DropCache, Length, Read, Write, FailedWrite, FailedSync}
+use Rattle.file_device.specs.declared.file_call.FileCall.TheVariants.{Open, Create, Lock, SetLength, Sync, DropCache, ReadAhead, Length, Read, Write, FailedWrite, FailedSync}
 
 get_grown : (xs : List (List ℕ)) (n : ℕ) (x b : List ℕ) → slice_get xs n ≡ Some x → slice_get (xs ++ b ∷ []) n ≡ Some x
 get_grown [] n x b h = absurd cc
@@ -44,6 +44,7 @@ good_after sound (SetLength bytes) d g = g
 good_after true Sync d g = record { size = refl; each = λ k x h. inl h }
 good_after false Sync d g = g
 good_after sound DropCache d g = g
+good_after sound ReadAhead d g = g
 good_after sound (Length bytes) d g = g
 good_after sound (Read n b) d g = good_grown b d g
 good_after sound (Write n b) d g = image_written n b d d.view g

@@ -3,7 +3,7 @@ use Rattle.std.specs.Prelude.{◌≡◌, ◌⊎◌, ◌≤◌, ℕ, suc, Bool, t
 use Rattle.sector_device.specs.Disk.{Disk, IsImage, written, listed, synced}
 use Rattle.sector_device.specs.Device.{State}
 use Rattle.file_device.specs.declared.file_call.FileCall.{FileCall}
-use Rattle.file_device.specs.declared.file_call.FileCall.TheVariants.{Open, Create, Lock, SetLength, Sync, DropCache, Length, Read, Write, FailedWrite, FailedSync}
+use Rattle.file_device.specs.declared.file_call.FileCall.TheVariants.{Open, Create, Lock, SetLength, Sync, DropCache, ReadAhead, Length, Read, Write, FailedWrite, FailedSync}
 
 -- how a call is noted, by its answer
 abbrev pub noted : {T E : Type 0} → Result T E → FileCall → FileCall → FileCall
@@ -18,6 +18,7 @@ is_failure Lock = false
 is_failure (SetLength bytes) = false
 is_failure Sync = false
 is_failure DropCache = false
+is_failure ReadAhead = false
 is_failure (Length bytes) = false
 is_failure (Read n bytes) = false
 is_failure (Write n bytes) = false
@@ -42,6 +43,7 @@ after sound Lock d = d
 after sound (SetLength bytes) d = d
 after sound Sync d = if sound then synced d else d
 after sound DropCache d = d
+after sound ReadAhead d = d
 after sound (Length bytes) d = d
 after sound (Read n bytes) d = grown bytes d
 after sound (Write n bytes) d = written n bytes d

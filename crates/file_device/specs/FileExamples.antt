@@ -3,11 +3,11 @@ use Rattle.std.specs.Prelude.{◌≡◌, ℕ, true, false, List, [], ◌∷◌}
 use Rattle.sector_device.specs.Disk.{Disk}
 use Rattle.file_device.specs.FileCalls.{is_sound, disk_of, no_sectors}
 use Rattle.file_device.specs.declared.file_call.FileCall.{FileCall}
-use Rattle.file_device.specs.declared.file_call.FileCall.TheVariants.{Open, Lock, Sync, DropCache, Length, Read, Write, FailedWrite, FailedSync}
+use Rattle.file_device.specs.declared.file_call.FileCall.TheVariants.{Open, Lock, Sync, DropCache, ReadAhead, Length, Read, Write, FailedWrite, FailedSync}
 
 -- the file was opened and has sectors of 5 and of 6; the newest call comes first
 abbrev pub opened : List FileCall
-opened = Read 1 (6 ∷ []) ∷ Read 0 (5 ∷ []) ∷ Length 1024 ∷ DropCache ∷ Sync ∷ Lock ∷ Open ∷ []
+opened = ReadAhead ∷ DropCache ∷ Read 1 (6 ∷ []) ∷ Read 0 (5 ∷ []) ∷ Length 1024 ∷ DropCache ∷ Sync ∷ Lock ∷ Open ∷ []
 
 -- these sectors, each of one byte
 abbrev pub two : ℕ → ℕ → List (List ℕ)

@@ -2,7 +2,7 @@
 use Rattle.std.specs.Prelude.{◌≡◌, ℕ, zero, suc, ◌/◌, true, false, IsErr, Result, List, [], ◌∷◌}
 use Rattle.file_device.specs.FileCalls.{FileHistory, is_sound, no_sectors, disk_of, noted}
 use Rattle.file_device.specs.declared.file_call.FileCall.{FileCall}
-use Rattle.file_device.specs.declared.file_call.FileCall.TheVariants.{Sync, DropCache, Length, Read}
+use Rattle.file_device.specs.declared.file_call.FileCall.TheVariants.{Sync, DropCache, ReadAhead, Length, Read}
 
 -- no sector was read or written yet, and nothing has failed
 pub record IsUnread (calls : List FileCall) : Type 0 where
@@ -14,10 +14,12 @@ abbrev pub AreRead : ℕ → List FileCall → List FileCall → Type 0
 AreRead zero before calls = calls ≡ before
 AreRead (suc n) before calls = (bytes : List ℕ) × (earlier : List FileCall) × (calls ≡ Read n bytes ∷ earlier) × AreRead n before earlier
 
--- After the calls of `before`, the file was synced, its pages in memory were dropped, its length was asked for, and each whole sector of that length was read.
+-- After the calls of `before`, the file was synced, its pages in memory were dropped, its length was asked for, and each whole sector of that length was read. Then its pages in memory were dropped once more, and the system was asked to read it again.
 pub record IsOpened (before : List FileCall) (d : FileHistory) : Type 0 where
   pub bytes : ℕ
-  pub read : AreRead (bytes / 512) (Length bytes ∷ DropCache ∷ Sync ∷ before) d.calls
+  pub until_read : List FileCall
+  pub read : AreRead (bytes / 512) (Length bytes ∷ DropCache ∷ Sync ∷ before) until_read
+  pub renewed : d.calls ≡ ReadAhead ∷ DropCache ∷ until_read
 
 -- A device over a file of which nothing was asked yet: nothing is listed, reads give the base, and nothing has failed.
 pub record IsUnused (d : FileHistory) : Type 0 where

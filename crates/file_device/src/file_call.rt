@@ -14,6 +14,8 @@ pub enum FileCall {
     Sync,
     /// The system let go of the pages that it kept of the file in memory.
     DropCache,
+    /// The system was asked to read the file into memory.
+    ReadAhead,
     /// The length was asked for, and is so many bytes.
     Length(u64),
     /// The sector of this number was read, and has these bytes.

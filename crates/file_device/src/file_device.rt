@@ -8,7 +8,7 @@ ghost use Rattle.common_types.specs.Counts.{counted};
 ghost use Rattle.file_device.specs.FileCalls.{disk_of, file_state, PossibleSince};
 ghost use Rattle.file_device.specs.FileCallLaws.{good, only_images, all_images};
 ghost use Rattle.file_device.specs.Opening.{AreRead, IsUnread, IsOpened, IsUnused, Asks};
-ghost use Rattle.file_device.specs.declared.file_call.FileCall.TheVariants.{Open, Create, Lock, SetLength, Sync, DropCache, Length, Write, FailedWrite, FailedSync};
+ghost use Rattle.file_device.specs.declared.file_call.FileCall.TheVariants.{Open, Create, Lock, SetLength, Sync, DropCache, ReadAhead, Length, Write, FailedWrite, FailedSync};
 
 use crate::image_file::ImageFile;
 use sector_device::{Device, DeviceFault};
@@ -57,6 +57,15 @@ fn sync_and_measure(file: &mut ImageFile) -> io::Result<u64>
     // A sync of an earlier process that failed may have left in the system's memory what the disk doesn't have.
     file.drop_cache()?;
     file.length()
+}
+
+/// Has the system keep a file that was read by small pieces. What it reads one after another it may keep by large ones, and for each sector that is
+/// written it then goes through a whole piece.
+fn renew_cache(image: &mut ImageFile) -> io::Result<()>
+    ensures { OnOk result (image.new.made.calls ≡ ReadAhead ∷ DropCache ∷ image.old.made.calls) }
+{
+    image.drop_cache()?;
+    image.read_ahead()
 }
 
 /// Reads so many sectors from the first.
@@ -132,7 +141,7 @@ impl FileDevice {
         Ok(device)
     }
 
-    /// Makes sure of a file of which no sector was read yet, and reads all of it.
+    /// Makes sure of a file of which no sector was read yet, reads all of it, and has the system keep it by small pieces.
     fn over(alloc: Global, file: ImageFile) -> Result<FileDevice, DeviceFault>
         requires { IsUnread file.made.calls }
         ensures opened { IfOk result (λ d. IsOpened file.made.calls d) }
@@ -144,6 +153,9 @@ impl FileDevice {
             return Err(DeviceFault::NoFile);
         };
         let view = read_all(alloc, &mut file, length / 512)?;
+        let Ok(()) = renew_cache(&mut file) else {
+            return Err(DeviceFault::NoFile);
+        };
         Ok(FileDevice {
             file,
             view,

@@ -2,7 +2,7 @@
 // so each is short, and tests on a real file hold it.
 ghost use Rattle.std.specs.Prelude.{◌≡◌, ◌*◌, ◌<◌, ◌^◌, [], ◌∷◌, IfOk, OnOk};
 ghost use Rattle.file_device.specs.FileCalls.{noted};
-ghost use Rattle.file_device.specs.declared.file_call.FileCall.TheVariants.{Open, Create, Lock, SetLength, Sync, DropCache, Length, Read, Write, FailedWrite, FailedSync};
+ghost use Rattle.file_device.specs.declared.file_call.FileCall.TheVariants.{Open, Create, Lock, SetLength, Sync, DropCache, ReadAhead, Length, Read, Write, FailedWrite, FailedSync};
 
 use crate::FileCall;
 use crate::record::Record;
@@ -81,11 +81,26 @@ impl ImageFile {
     pub(crate) fn drop_cache(&mut self) -> io::Result<()>
         ensures { OnOk result (self.new.made.calls ≡ DropCache ∷ self.old.made.calls) }
     {
-        let status = libc::posix_fadvise(self.file.as_raw_fd(), 0, 0, libc::POSIX_FADV_DONTNEED);
+        self.advise(libc::POSIX_FADV_DONTNEED)?;
+        self.made.note(FileCall::DropCache);
+        Ok(())
+    }
+
+    /// Has the system read the file into its memory, by and by.
+    pub(crate) fn read_ahead(&mut self) -> io::Result<()>
+        ensures { OnOk result (self.new.made.calls ≡ ReadAhead ∷ self.old.made.calls) }
+    {
+        self.advise(libc::POSIX_FADV_WILLNEED)?;
+        self.made.note(FileCall::ReadAhead);
+        Ok(())
+    }
+
+    /// Says to the system what will be done with the whole file.
+    fn advise(&self, advice: i32) -> io::Result<()> {
+        let status = libc::posix_fadvise(self.file.as_raw_fd(), 0, 0, advice);
         if status != 0 {
             return Err(io::Error::from_raw_os_error(status));
         }
-        self.made.note(FileCall::DropCache);
         Ok(())
     }
 

@@ -64,7 +64,7 @@ fn apply<'a>(alloc: Global) -> Result<Command<'a>, AllocError> {
     let file = path(alloc, "FILE", "The file of changes, in TOML").required(true);
     Command::new(alloc, "apply")
         .about(
-            "Makes the changes of a file, one after another; the first that is refused ends it, and earlier ones stay",
+            "Makes the changes of a file, one after another; the first that is refused ends it, and earlier ones stay. On a terminal it shows how far it is",
         )
         .after_help("Example: gopher_host apply site.img changes.toml --now $(date +%s)")
         .arg(image(alloc))?

@@ -1,5 +1,6 @@
 // The commands, over an image in a file or a site in memory.
 use crate::fault::Fault;
+use crate::progress::Shown;
 use crate::words::NewSite;
 use change_file::{ChangeFileFault, FileChange, applied_line, read_changes};
 use file_device::FileDevice;
@@ -78,15 +79,17 @@ fn read(rt: &HostRuntime, file: &str) -> Result<Vec<FileChange>, ChangeFileFault
     }
 }
 
-/// Makes the changes of a file on the site of an image, and prints how many they are.
+/// Makes the changes of a file on the site of an image, and prints how many they are. On a terminal it shows meanwhile how far it is.
 pub fn apply(rt: &HostRuntime, image: &str, file: &str, now: u64) -> Result<(), Fault> {
     let now = moment(now)?;
     let changes = read(rt, file)?;
     let device = open(rt, image)?;
-    let applied = match apply_on(rt.alloc(), device, changes, now) {
+    let mut progress = Shown::new(rt);
+    let applied = match apply_on(rt.alloc(), device, changes, now, &mut progress) {
         Ok((applied, _)) => applied,
         Err((fault, _)) => return Err(Fault::from(ImageFault::from(fault))),
     };
+    progress.end();
     let line = match applied_line(rt.alloc(), applied?) {
         Ok(line) => line,
         Err(_) => return Err(Fault::of_memory()),

@@ -4,6 +4,7 @@
 mod command_line;
 mod commands;
 mod fault;
+mod progress;
 mod words;
 
 use fault::Fault;

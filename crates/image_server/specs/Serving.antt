@@ -42,7 +42,7 @@ abbrev pub IsServingFault : State → State → ServingFault → Type 0
 IsServingFault old new (Image fault) = IsOpeningFault old new fault
 IsServingFault old new Net = NothingCounted old new
 
--- what is told of serving that ended
+-- what is known of serving that ended
 abbrev pub of_visits : VisitFault → ServingFault
 of_visits visits.Net = Net
 of_visits visits.Failed = Image (opening.Keeper keeper.Failed)

@@ -47,7 +47,7 @@ pub fn visits_over<S: SearchKeeper, C: Clock, R: Time, L: Write>(
 ) -> Result<(Result<(), VisitFault>, S), (OpenFault, S)>
     requires usable { (S.site_state site).usable ≡ true }
     requires unpinned { (S.site_state site).pins ≡ [] }
-    ensures ran { IfOk result (λ r. HasRun (OverSite S.site_state S.lacks S.crash_states S.represents) site r.1 (C.told clock.old) (C.told clock.new) (λ es os. Unit {0})) }
+    ensures ran { IfOk result (λ r. HasRun (OverSite S.site_state S.lacks S.crash_states S.represents) site r.1 (C.given clock.old) (C.given clock.new) (λ es os. Unit {0})) }
     ensures unpinned { IfOk result (λ r. (S.site_state r.1).pins ≡ []) }
     ensures err { IfErr result (λ e. (e.0 ≡ OpenFault.Memory) × (e.1 ≡ site)) }
     ensures untold { IfErr result (λ e. clock.new ≡ clock.old) }
@@ -73,7 +73,7 @@ pub fn serve_clients<D: Device, R: Net + Time, C: Clock, L: Write>(
     clock: &mut C,
     log: &mut L,
 ) -> Result<(Result<(), VisitFault>, D), (ServingFault, D)>
-    ensures ran { IfOk result (λ r. HasRun (OnImage D.state (λ d. device_of (keeper_of d)) ⟦<DiskSite<TreeKeeper<D>> as SiteKeeper>⟧.site_state ⟦<DiskSite<TreeKeeper<D>> as SiteKeeper>⟧.lacks ⟦<DiskSite<TreeKeeper<D>> as SiteKeeper>⟧.crash_states ⟦<DiskSite<TreeKeeper<D>> as SiteKeeper>⟧.represents (crash_states_of D.moment D.possible_since)) device r.1 (C.told clock.old) (C.told clock.new) (λ es os. Unit {0})) }
+    ensures ran { IfOk result (λ r. HasRun (OnImage D.state (λ d. device_of (keeper_of d)) ⟦<DiskSite<TreeKeeper<D>> as SiteKeeper>⟧.site_state ⟦<DiskSite<TreeKeeper<D>> as SiteKeeper>⟧.lacks ⟦<DiskSite<TreeKeeper<D>> as SiteKeeper>⟧.crash_states ⟦<DiskSite<TreeKeeper<D>> as SiteKeeper>⟧.represents (crash_states_of D.moment D.possible_since)) device r.1 (C.given clock.old) (C.given clock.new) (λ es os. Unit {0})) }
     ensures refused { IfErr result (λ e. HandsBack IsServingFault D.state (crash_states_of D.moment D.possible_since) device e.1 e.0) }
     ensures untold { IfErr result (λ e. clock.new ≡ clock.old) }
 {

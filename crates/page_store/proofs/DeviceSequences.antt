@@ -5,7 +5,7 @@ use Rattle.sector_device.specs.Device.{State}
 use Rattle.sector_device.specs.Effects.{IsSameDevice, OnlyReads}
 use Rattle.sector_device.specs.declared.device.DeviceFault.{DeviceFault}
 use Rattle.page_store.specs.Sectors.{Image}
-use Rattle.page_store.specs.DeviceEffects.{IsReadCall, ReadsDevice}
+use Rattle.page_store.specs.DeviceEffects.{KeepsDevice, IsReadCall, ReadsDevice}
 
 pub same_after : (a b c : State) → IsSameDevice a b → IsSameDevice b c → IsSameDevice a c
 same_after a b c first second = record { size = second.size ∙ first.size; honest = second.honest ∙ first.honest }
@@ -25,4 +25,11 @@ pub then_read : {T D : Type 0} {state : D → State} {crash_states : D → Crash
 then_read {state = state} {crash_states = crash_states} {a = a} {b = b} {c = c} first second = record {
   only = only_then (state a) (state b) (state c) first.only second.outcome.only;
   no_new_crash_state = λ honest. adds_none_again (crash_states a) (crash_states b) (crash_states c) (first.no_new_crash_state honest) (second.no_new_crash_state (still_honest (state a) (state b) first.only.same honest));
+}
+
+-- what a call that keeps a device and then reads leave as it was
+pub keeps_then_reads : {D : Type 0} {state : D → State} {crash_states : D → CrashStates Image} {a b c : D} → KeepsDevice state crash_states a b → IsReadCall state crash_states b c → KeepsDevice state crash_states a c
+keeps_then_reads {state = state} {crash_states = crash_states} {a = a} {b = b} {c = c} first second = record {
+  same = same_after (state a) (state b) (state c) first.same second.only.same;
+  no_new_crash_state = λ honest. adds_none_again (crash_states a) (crash_states b) (crash_states c) (first.no_new_crash_state honest) (second.no_new_crash_state (still_honest (state a) (state b) first.same honest));
 }

@@ -103,3 +103,7 @@ half_fault old mid new slot faults.Deep large keeps view now version a b h = abs
 half_fault old mid new slot (faults.Full need free) large keeps view now version a b h = absurd h
 half_fault old mid new slot faults.Failed large keeps view now version a b h = absurd h
 half_fault old mid new slot faults.Memory large keeps view now version a b h = (large, λ honest. (slot, (now honest, version)))
+
+-- no page is read of a device that is too small
+pub half_not_small : (slot : Slot) (honest : Bool) (before now : ℕ) (read : Option (List Pair)) (e : KeeperFault) → IsHalfFault slot honest before now read e → e ≡ faults.Small → ⊥
+half_not_small slot honest before now read e h is = subst (λ (f : KeeperFault). IsHalfFault slot honest before now read f) is h

@@ -15,6 +15,7 @@ pub mod Encoding
 pub mod Batch
 pub mod PairsInOrder
 pub mod Counting
+pub mod Opening
 pub mod StoreState
 pub mod Compaction
 pub mod Pins

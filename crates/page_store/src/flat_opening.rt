@@ -1,5 +1,5 @@
 // Opening an image of flat pages.
-ghost use Rattle.std.specs.Prelude.{◌≡◌, ◌⊎◌, ◌≤◌, ◌<◌, ◌*◌, ◌+◌, ◌==◌, ◌^◌, ℕ, List, Bool, true, false, Some, IfOk, OnOk, IfErr, IsTrue, length, map};
+ghost use Rattle.std.specs.Prelude.{◌≡◌, ◌⊎◌, ◌≤◌, ◌<◌, ◌*◌, ◌+◌, ◌==◌, ◌^◌, ℕ, List, Bool, true, false, Some, IfOk, IfErr, IsTrue, length, map};
 ghost use Rattle.std.specs.List.{list_all};
 ghost use Rattle.sector_device.specs.Device.{State, NothingCounted};
 ghost use Rattle.page_store.specs.Counting.{CountsReads, CountsRefusal};
@@ -10,7 +10,8 @@ ghost use Rattle.page_store.specs.Batch.{is_map, is_pair, is_key, is_value};
 ghost use Rattle.page_store.specs.Flat.{half_size, is_half};
 ghost use Rattle.page_store.specs.Content.{HasContent};
 ghost use Rattle.page_store.specs.Steps.{crash_states_of};
-ghost use Rattle.page_store.specs.DeviceEffects.{KeepsDevice, IsReadCall};
+ghost use Rattle.page_store.specs.DeviceEffects.{IsReadCall};
+ghost use Rattle.page_store.specs.Opening.{ReadsToOpen};
 ghost use Rattle.page_store.specs.FlatState.{IsFitted, CrashStatesDoRepresent, IsOpened, IsSlotFault, IsOpenFault, HasOpened, found_in_half};
 ghost use Rattle.page_store.specs.FlatSeen.{pairs_of, banner_of, device_of, top_of, is_open};
 ghost use Rattle.page_store.specs.Roots.{IsFoundSlot, current, greatest_seal};
@@ -76,11 +77,7 @@ fn open_slot<D: Device>(device: &mut D) -> Result<(Slot, u64), KeeperFault>
     ensures fits { IfOk result (λ found. IsFoundSlot (D.state device.old).size found.0) }
     ensures version { IfOk result (λ found. found.0.root.banner.version ≡ 0) }
     ensures large { IfOk result (λ found. 128 ≤ (D.state device.old).size) }
-    ensures fault { IfErr result (IsOpenFault (D.state device.old) (D.state device.new)) }
-    ensures device { KeepsDevice D.state (crash_states_of D.moment D.possible_since) device.old device.new }
-    ensures counts { OnOk result (NothingCounted (D.state device.old) (D.state device.new)) }
-    ensures counts_fault { IfErr result (λ e. CountsRefusal e (D.state device.old) (D.state device.new)) }
-    ensures small { IfErr result (λ e. e ≡ Small → device.new ≡ device.old) }
+    ensures opens { ReadsToOpen D.state (crash_states_of D.moment D.possible_since) device.old device.new IsOpenFault result }
 {
     if device.sectors() < 128 {
         return Err(KeeperFault::Small);
@@ -122,11 +119,7 @@ fn open_parts<D: Device>(
     ensures opened { IfOk result (λ parts. HasOpened (D.state device.old) (D.state device.new) (crash_states_of D.moment D.possible_since device.new) parts.0 parts.1.items parts.2) }
     ensures fitted { IfOk result (λ parts. IsFitted (D.state device.old).size parts.0 parts.1.items) }
     ensures large { IfOk result (λ parts. 128 ≤ (D.state device.old).size) }
-    ensures fault { IfErr result (IsOpenFault (D.state device.old) (D.state device.new)) }
-    ensures device { KeepsDevice D.state (crash_states_of D.moment D.possible_since) device.old device.new }
-    ensures counts { OnOk result (NothingCounted (D.state device.old) (D.state device.new)) }
-    ensures counts_fault { IfErr result (λ e. CountsRefusal e (D.state device.old) (D.state device.new)) }
-    ensures small { IfErr result (λ e. e ≡ Small → device.new ≡ device.old) }
+    ensures opens { ReadsToOpen D.state (crash_states_of D.moment D.possible_since) device.old device.new IsOpenFault result }
 {
     let (slot, top) = open_slot(device)?;
     if !is_half(&slot.root) {

@@ -4,12 +4,15 @@
 //! - `least MORE` draws a document of 65,536 bytes that is removed meanwhile, in an image of so many pages more than the least one in which it can be, fills that with posts, and prints how many pages it has and
 //!   how many posts it took.
 //! - `by_bytes` draws such a document at once and in pieces of one byte, and prints how many bytes are sent.
+//! - `compacted` pins a document of 65,536 bytes, removes it, compacts the site, puts another in its place and compacts again. It prints how many bytes are read at the pin, and how many pages are free before it is spent and
+//!   after.
 //! - `random SEED SITES HUBS` mixes events at random, over so many sites with so many hubs each, one after the other, and compacts the site behind each hub, where it has room for that. It prints how many events there
 //!   were, how many had no room, how often the site was compacted, and how many events were answered otherwise by a site in memory.
 #![tactic(auto)]
 
 mod batches;
 mod changes;
+mod compacted;
 mod dice;
 mod drawing;
 mod least;
@@ -17,6 +20,7 @@ mod made;
 mod random;
 mod trouble;
 
+use compacted::compacted;
 use least::{above_least, drawn_by_bytes};
 use random::random;
 use std::alloc::Global;
@@ -40,6 +44,15 @@ fn show_by_bytes(alloc: Global) -> Result<String, Trouble> {
     Ok(format!(in alloc; "{count} bytes")?)
 }
 
+/// `compacted`
+fn show_compacted(alloc: Global) -> Result<String, Trouble> {
+    let seen = compacted(alloc)?;
+    Ok(format!(in alloc;
+        "{} bytes, {} pages free while it is pinned, {} after",
+        seen.bytes, seen.before, seen.after
+    )?)
+}
+
 /// `random SEED SITES HUBS`
 fn show_random(alloc: Global, seed: &str, sites: &str, hubs: &str) -> Result<String, Trouble> {
     let seen = random(alloc, number(seed)?.into(), number(sites)?, number(hubs)?)?;
@@ -54,6 +67,7 @@ fn call(alloc: Global, text: &str) -> Result<String, Trouble> {
     match fields.as_slice() {
         ["least", more] => show_least(alloc, more),
         ["by_bytes"] => show_by_bytes(alloc),
+        ["compacted"] => show_compacted(alloc),
         ["random", seed, sites, hubs] => show_random(alloc, seed, sites, hubs),
         _ => Err(Trouble::Line),
     }

@@ -1,1 +1,2 @@
+pub mod ComingIn
 pub mod HeadsKept

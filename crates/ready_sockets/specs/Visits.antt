@@ -1,11 +1,17 @@
 -- What is done for clients that are in.
-use Rattle.std.specs.Prelude.{◌≡◌, ℕ, Bool, true, false, not, ◌&&◌, is_some, List, []}
+use Rattle.std.specs.Prelude.{◌≡◌, ◌==◌, ℕ, Bool, true, false, not, ◌&&◌, ◌||◌, is_some, if◌then◌else◌, Option, Some, None, List, [], ◌∷◌, ◌++◌, ◌≤◌, map, length}
+use Rattle.std.specs.List.{All, list_all, list_any}
+use Rattle.std.specs.declared.net.ip_addr.IpAddr.{IpAddr}
+use Rattle.mio.specs.Event.{event_token}
+use Rattle.mio.specs.declared.event.event.Event.{Event as SocketEvent}
+use Rattle.mio.specs.declared.token.Token.{Token}
 use Rattle.session_core.specs.declared.event.Event.{Event}
 use Rattle.session_core.specs.declared.event.Outcome.{Outcome}
 use Rattle.ready_turns.specs.Seats.{For, Turn, Dismissed, ending_of}
 use Rattle.ready_sockets.specs.Limits.{is_over}
 use Rattle.ready_sockets.specs.declared.ready_socket.ReadySocket.{ReadySocket}
 use Rattle.ready_sockets.specs.declared.visit.Visit.{Visit}
+use Rattle.ready_sockets.specs.declared.room.Room.{Room}
 
 -- its wire is closed
 abbrev pub has_gone : Visit → Bool
@@ -26,3 +32,106 @@ GoesIf false old es os new = (es ≡ []) × (os ≡ []) × (new ≡ old)
 
 abbrev pub WasDismissed : ℕ → Visit → List Event → List Outcome → Visit → Type 0
 WasDismissed now old es os new = GoesIf (is_over old.came old.moved now) old es os new
+
+-- ---- who has a turn again
+
+-- an event is one of what has this token
+abbrev pub is_called : List SocketEvent → Token → Bool
+is_called events token = list_any (λ event. (event_token event).0 == token.0) events
+
+-- it doesn't rest, and all else of it is as it was
+abbrev pub woken : Visit → Visit
+woken visit = record {
+  seat = record { wire = visit.seat.wire; stage = visit.seat.stage; unsent = visit.seat.unsent; waits = false };
+  from = visit.from;
+  token = visit.token;
+  came = visit.came;
+  moved = visit.moved;
+}
+
+abbrev pub woken_where : Bool → Visit → Visit
+woken_where true visit = woken visit
+woken_where false visit = visit
+
+-- all have a turn again, or those that an event calls
+abbrev pub woken_by : Bool → List SocketEvent → Visit → Visit
+woken_by all events visit = woken_where (all || is_called events visit.token) visit
+
+-- It is the same client, on the same wire and as far as before; and where it had a turn, it has one.
+pub record IsSameClient (old new : Visit) : Type 0 where
+  pub wire : new.seat.wire ≡ old.seat.wire
+  pub stage : new.seat.stage ≡ old.seat.stage
+  pub unsent : new.seat.unsent ≡ old.seat.unsent
+  pub from : new.from ≡ old.from
+  pub token : new.token ≡ old.token
+  pub came : new.came ≡ old.came
+  pub moved : new.moved ≡ old.moved
+  pub turn : has_turn old ≡ true → has_turn new ≡ true
+
+-- the token of the listener
+abbrev pub listener_token : Token
+listener_token = record { 0 = 0 }
+
+-- Each visit, in order, has its turn again or is as it was. Somebody may be at the door where the listener is called too.
+pub record HasWoken (all : Bool) (events : List SocketEvent) (old new : Room) : Type 0 where
+  pub visits : new.visits.items ≡ map (woken_by all events) old.visits.items
+  pub door : new.may_accept ≡ (old.may_accept || (all || is_called events listener_token))
+
+-- Where it listens, and under which token the next client comes, is as it was.
+pub record HasSameListener (old new : Room) : Type 0 where
+  pub listener : new.listener ≡ old.listener
+  pub next_token : new.next_token ≡ old.next_token
+
+-- All but the visits, and whether somebody may be at the door, is as it was.
+pub record HasSameRest (old new : Room) : Type 0 where
+  pub poll : new.poll ≡ old.poll
+  pub events : new.events ≡ old.events
+  pub listener : HasSameListener old new
+
+-- ---- a wait
+
+abbrev pub all_wait : List Visit → Bool
+all_wait visits = list_all (λ visit. not (has_turn visit)) visits
+
+-- in nanoseconds: none where somebody has a turn, without end where nobody is in or may be at the door, and else a second
+abbrev pub patience : Room → Option ℕ
+patience room = if not (all_wait room.visits.items) then Some 0 else (if length room.visits.items == 0 && not room.may_accept then None else Some 1_000_000_000)
+
+-- a wait that had patience ended with no event
+abbrev pub was_in_vain : Option ℕ → List SocketEvent → Bool
+was_in_vain (Some nanos) events = length events == 0 && not (nanos == 0)
+was_in_vain None events = length events == 0
+
+-- A wait that ended with these events: who is called has a turn again, and all where it was in vain.
+pub record HasWaited (events : List SocketEvent) (old new : Room) : Type 0 where
+  pub woken : HasWoken (was_in_vain (patience old) events) events old new
+  pub listener : HasSameListener old new
+
+-- A wait that failed: who is in stays as it was.
+pub record HasNotWaited (old new : Room) : Type 0 where
+  pub visits : new.visits ≡ old.visits
+  pub door : new.may_accept ≡ old.may_accept
+  pub listener : HasSameListener old new
+
+-- ---- who comes in
+
+-- A client of this address and token has come in behind the others, at this moment, and has a turn.
+pub record ComesIn (from : IpAddr) (token : Token) (now : ℕ) (old new : List Visit) : Type 0 where
+  pub visit : Visit
+  pub is : new ≡ old ++ visit ∷ []
+  pub from_is : visit.from ≡ from
+  pub token_is : visit.token ≡ token
+  pub came_is : visit.came ≡ now
+  pub moved_is : visit.moved ≡ now
+  pub turn : has_turn visit ≡ true
+
+-- it came at this moment, and has a turn
+abbrev pub IsNew : ℕ → Visit → Type 0
+IsNew now visit = (visit.came ≡ now) × (visit.moved ≡ now) × (has_turn visit ≡ true)
+
+-- Who was in is in, in front and as before; behind them those who came; and no more than 32, where there were no more.
+pub record HasLetIn (now : ℕ) (old new : List Visit) : Type 0 where
+  pub came : List Visit
+  pub is : new ≡ old ++ came
+  pub new_ones : All (IsNew now) came
+  pub few : length old ≤ 32 → length new ≤ 32

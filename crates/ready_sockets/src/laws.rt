@@ -1,10 +1,18 @@
 // Laws of the definitions, and worked examples.
-ghost use Rattle.std.specs.Prelude.{◌≡◌, ℕ, List, ◌++◌, take};
+ghost use Rattle.std.specs.Prelude.{◌≡◌, ℕ, Bool, List, ◌++◌, take};
+ghost use Rattle.mio.specs.declared.event.event.Event.{Event as SocketEvent};
 ghost use Rattle.ready_sockets.specs.Examples.{VisitExamples};
+ghost use Rattle.ready_sockets.specs.Visits.{woken_by, IsSameClient};
+ghost use Rattle.ready_sockets.specs.declared.visit.Visit.{Visit};
 
 /// The head of all that was sent is the head of its pieces, one after another.
 pub fn head_of_pieces()
     ensures { (before piece later : List ℕ) → take 256 (take 256 (before ++ piece) ++ later) ≡ take 256 (before ++ piece ++ later) }
+{}
+
+/// A wait takes nobody's turn, and changes nothing of a client but that it rests no more.
+pub fn wait_keeps_clients()
+    ensures { (all : Bool) (events : List SocketEvent) (visit : Visit) → IsSameClient visit (woken_by all events visit) }
 {}
 
 /// Worked examples.

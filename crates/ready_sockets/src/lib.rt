@@ -9,9 +9,10 @@ mod ready_socket;
 mod room;
 mod serving;
 mod visit;
+mod waking;
 
 pub use head::Head;
-pub use laws::{head_of_pieces, worked_examples};
+pub use laws::{head_of_pieces, wait_keeps_clients, worked_examples};
 pub use limits::{LONGEST_SILENCE, LONGEST_VISIT, is_over};
 pub use lines::{Record, log_line};
 pub use ready_socket::ReadySocket;

@@ -1,9 +1,8 @@
 // The listener, the clients that are in, and the wait for whoever is ready.
-ghost use Rattle.std.specs.Prelude.{◌≡◌, ◌<◌, not, length, filter, IfSome};
-ghost use Rattle.std.specs.List.{list_all, list_any};
-ghost use Rattle.ready_sockets.specs.Visits.{has_gone, has_turn};
+ghost use Rattle.std.specs.Prelude.{◌<◌, ◌≤◌, vec_len, vec_capacity};
 
 use crate::visit::Visit;
+use crate::waking::{is_called, wake_if_called, was_in_vain};
 use mio::net::{TcpListener, TcpStream};
 use mio::{Events, Interest, Poll, Token};
 use std::alloc::Global;
@@ -42,11 +41,23 @@ pub struct Room {
     may_accept: bool,
     next_token: usize,
     pub(crate) visits: Vec<Visit>,
+    ghost few: { vec_len visits ≤ 32 },
+    ghost space: { 32 ≤ vec_capacity visits },
+    ghost named: { 0 < next_token },
 }
 
 impl Room {
+    ghost use Rattle.std.specs.Prelude.{◌≡◌, ◌≢◌, ◌⊎◌, true, false, not, [], length, filter, map, option_map, IfOk, IfSome, OnErr};
+    ghost use Rattle.std.specs.List.{list_all, list_any};
+    ghost use Rattle.std.specs.Duration.{as_nanos};
+    ghost use Rattle.mio.specs.Events.{items};
+    ghost use Rattle.ready_sockets.specs.Visits.{has_gone, has_turn, woken, patience, listener_token, HasWoken, HasSameRest, HasWaited, HasNotWaited};
+
     /// Listens at an address, with nobody in.
-    pub fn open<R: Net>(alloc: Global, rt: &R, address: SocketAddr) -> Result<Room, VisitFault> {
+    pub fn open<R: Net>(alloc: Global, rt: &R, address: SocketAddr) -> Result<Room, VisitFault>
+        ensures nobody { IfOk result (λ room. room.visits.items ≡ []) }
+        ensures door { IfOk result (λ room. room.may_accept ≡ true) }
+    {
         let Ok(events) = Events::with_capacity(alloc, MOST_VISITS + 1) else {
             return Err(VisitFault::Memory);
         };
@@ -73,7 +84,9 @@ impl Room {
     }
 
     /// How long the next wait may be: none where somebody has a turn, and without end where nobody is in or may be at the door.
-    fn patience(&self) -> Option<Duration> {
+    fn patience(&self) -> Option<Duration>
+        ensures { option_map as_nanos result ≡ patience self.now }
+    {
         if !self.all_wait() {
             Some(Duration::ZERO)
         } else if self.visits.is_empty() && !self.may_accept {
@@ -84,36 +97,40 @@ impl Room {
     }
 
     /// Who is ready has a turn again.
-    fn wake(&mut self) {
-        for event in self.events.iter() {
-            let token = event.token();
-            if token == LISTENER {
-                self.may_accept = true;
-            }
-            for visit in self.visits.iter_mut() {
-                if visit.token == token {
-                    visit.seat.wake();
-                }
-            }
+    fn wake(&mut self)
+        ensures woken { HasWoken false (items self.old.events) self.old self.new }
+        ensures rest { HasSameRest self.old self.new }
+    {
+        self.may_accept |= is_called(&self.events, LISTENER);
+        for visit in self.visits.iter_mut() {
+            wake_if_called(visit, &self.events);
         }
     }
 
     /// All have a turn again.
-    fn wake_all(&mut self) {
+    fn wake_all(&mut self)
+        ensures visits { self.new.visits.items ≡ map woken self.old.visits.items }
+        ensures door { self.new.may_accept ≡ true }
+        ensures rest { HasSameRest self.old self.new }
+    {
         self.may_accept = true;
         for visit in self.visits.iter_mut() {
-            visit.seat.wake();
+            visit.wake();
         }
     }
 
     /// Waits until somebody is ready, or a second has passed.
-    pub(crate) fn wait(&mut self) -> Result<(), VisitFault> {
+    pub(crate) fn wait(&mut self) -> Result<(), VisitFault>
+        ensures woken { IfOk result (λ _. HasWaited (items self.new.events) self.old self.new) }
+        ensures fault { OnErr result (HasNotWaited self.old self.new) }
+    {
         let patience = self.patience();
         if self.poll.poll(&mut self.events, patience).is_err() {
             return Err(VisitFault::Net);
         }
-        if self.events.is_empty() && patience != Some(Duration::ZERO) {
+        if was_in_vain(&self.events, patience) {
             self.wake_all();
+            return Ok(());
         }
         self.wake();
         Ok(())
@@ -121,7 +138,9 @@ impl Room {
 
     /// The next connection, with its client's address and its token.
     fn accept(&mut self) -> io::Result<(TcpStream, IpAddr, Token)>
-        ensures { self.new.visits ≡ self.old.visits }
+        ensures visits { self.new.visits ≡ self.old.visits }
+        ensures door { self.new.may_accept ≡ self.old.may_accept }
+        ensures token { IfOk result (λ next. next.2 ≢ listener_token) }
     {
         let (mut stream, address) = self.listener.accept()?;
         stream.set_nodelay(true)?;
@@ -137,6 +156,9 @@ impl Room {
     pub(crate) fn next(&mut self) -> Option<(TcpStream, IpAddr, Token)>
         ensures visits { self.new.visits ≡ self.old.visits }
         ensures room { IfSome result (λ _. length self.old.visits.items < 32) }
+        ensures token { IfSome result (λ next. next.2 ≢ listener_token) }
+        ensures door { IfSome result (λ _. (self.old.may_accept ≡ true) × (self.new.may_accept ≡ true)) }
+        ensures shut { (self.new.may_accept ≡ self.old.may_accept) ⊎ (self.new.may_accept ≡ false) }
     {
         if !self.may_accept || self.visits.len() >= MOST_VISITS {
             return None;

@@ -1,9 +1,9 @@
 // Serves whoever comes.
-ghost use Rattle.std.specs.Prelude.{◌≡◌, []};
+ghost use Rattle.std.specs.Prelude.{◌≡◌, ◌⊎◌, ◌<◌, ◌≤◌, [], vec_len, vec_capacity};
 ghost use Rattle.session_core.specs.Calls.{HubRun};
 ghost use Rattle.turns.specs.Runs.{HasRun};
 ghost use Rattle.turns.specs.Turns.{InOrder};
-ghost use Rattle.ready_sockets.specs.Visits.{HadTurn, WasDismissed};
+ghost use Rattle.ready_sockets.specs.Visits.{HadTurn, WasDismissed, ComesIn, HasLetIn};
 
 use crate::ReadySocket;
 use crate::room::{MOST_VISITS, Room, VisitFault};
@@ -31,7 +31,10 @@ fn enter<S: SearchKeeper>(
     next: (TcpStream, IpAddr, Token),
     now: u64,
 )
-    ensures { HasRun (HubRun S.site_state S.lacks S.crash_states S.represents) hub.old hub.new [] [] (λ es os. Unit {0}) }
+    ensures run { HasRun (HubRun S.site_state S.lacks S.crash_states S.represents) hub.old hub.new [] [] (λ es os. Unit {0}) }
+    ensures visits { ComesIn next.1 next.2 now visits.old.items visits.new.items ⊎ (visits.new.items ≡ visits.old.items) }
+    ensures sure { vec_len visits.old < vec_capacity visits.old → ComesIn next.1 next.2 now visits.old.items visits.new.items }
+    ensures capacity { vec_capacity visits.old ≤ vec_capacity visits.new }
 {
     let (stream, from, token) = next;
     let visit = Visit {
@@ -49,7 +52,8 @@ fn enter<S: SearchKeeper>(
 
 /// A session joins for each client that comes, as long as there is room.
 fn admit<S: SearchKeeper>(room: &mut Room, hub: &mut Hub<S>, now: u64)
-    ensures { HasRun (HubRun S.site_state S.lacks S.crash_states S.represents) hub.old hub.new [] [] (λ es os. Unit {0}) }
+    ensures visits { HasLetIn now room.old.visits.items room.new.visits.items }
+    ensures run { HasRun (HubRun S.site_state S.lacks S.crash_states S.represents) hub.old hub.new [] [] (λ es os. Unit {0}) }
 {
     for _ in 0..MOST_VISITS {
         let Some(next) = room.next() else {
@@ -66,7 +70,7 @@ fn take_turn_of<S: SearchKeeper, C: Clock>(
     clock: &mut C,
     now: u64,
 )
-    ensures { HasRun (HubRun S.site_state S.lacks S.crash_states S.represents) hub.old hub.new (C.told clock.old) (C.told clock.new) (λ es os. HadTurn visit.old es os visit.new) }
+    ensures { HasRun (HubRun S.site_state S.lacks S.crash_states S.represents) hub.old hub.new (C.given clock.old) (C.given clock.new) (λ es os. HadTurn visit.old es os visit.new) }
 {
     take_turn(hub, &mut visit.seat, clock);
     visit.note_move(now);
@@ -74,7 +78,7 @@ fn take_turn_of<S: SearchKeeper, C: Clock>(
 
 /// One turn for each client, in order.
 fn pass<S: SearchKeeper, C: Clock>(visits: &mut [Visit], hub: &mut Hub<S>, clock: &mut C, now: u64)
-    ensures { HasRun (HubRun S.site_state S.lacks S.crash_states S.represents) hub.old hub.new (C.told clock.old) (C.told clock.new) (λ es os. InOrder HadTurn visits.old es os visits.new) }
+    ensures { HasRun (HubRun S.site_state S.lacks S.crash_states S.represents) hub.old hub.new (C.given clock.old) (C.given clock.new) (λ es os. InOrder HadTurn visits.old es os visits.new) }
 {
     for visit in visits.iter_mut() {
         take_turn_of(visit, hub, clock, now);
@@ -115,7 +119,7 @@ fn tell_gone<L: Write>(alloc: Global, visits: &[Visit], moment: Stamp, log: &mut
 
 /// Who is ready comes in, and has turns; whose time is over goes.
 fn round<S: SearchKeeper, C: Clock>(room: &mut Room, hub: &mut Hub<S>, clock: &mut C, now: u64)
-    ensures { HasRun (HubRun S.site_state S.lacks S.crash_states S.represents) hub.old hub.new (C.told clock.old) (C.told clock.new) (λ es os. Unit {0}) }
+    ensures { HasRun (HubRun S.site_state S.lacks S.crash_states S.represents) hub.old hub.new (C.given clock.old) (C.given clock.new) (λ es os. Unit {0}) }
 {
     admit(room, hub, now);
     for _turn in 0..TURNS {
@@ -148,7 +152,7 @@ pub fn serve_visits<S: SearchKeeper, C: Clock, R: Time, L: Write>(
     clock: &mut C,
     log: &mut L,
 ) -> Result<(), VisitFault>
-    ensures { HasRun (HubRun S.site_state S.lacks S.crash_states S.represents) hub.old hub.new (C.told clock.old) (C.told clock.new) (λ es os. Unit {0}) }
+    ensures { HasRun (HubRun S.site_state S.lacks S.crash_states S.represents) hub.old hub.new (C.given clock.old) (C.given clock.new) (λ es os. Unit {0}) }
 {
     let start = Instant::now(rt).ok();
     let mut moments = SystemClock::new(rt);

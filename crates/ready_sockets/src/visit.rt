@@ -1,7 +1,7 @@
 // A client that came, and what the log will say of it.
 ghost use Rattle.std.specs.Prelude.{◌≡◌, if◌then◌else◌};
 ghost use Rattle.ready_sockets.specs.Limits as spec;
-ghost use Rattle.ready_sockets.specs.Visits.{has_gone, has_turn};
+ghost use Rattle.ready_sockets.specs.Visits.{has_gone, has_turn, woken};
 
 use crate::ReadySocket;
 use crate::limits::is_over;
@@ -41,6 +41,13 @@ impl Visit {
         if !self.seat.waits() {
             self.moved = now;
         }
+    }
+
+    /// It has its turn again.
+    pub(crate) fn wake(&mut self)
+        ensures { self.new ≡ woken self.old }
+    {
+        self.seat.wake();
     }
 
     /// Whether its wire is closed.

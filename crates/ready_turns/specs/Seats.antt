@@ -48,7 +48,7 @@ abbrev pub joined_state : Outcome → SeatState
 joined_state (outcomes.Joined id) = at (stages.Listening id) [] false
 joined_state outcome = leaving Failed []
 
--- Where there is no room for its post the client is told to try again later; it is told of no other fault.
+-- Where there is no room for its post the client is asked to try again later; it hears of no other fault.
 abbrev pub heard_state : ℕ → Outcome → SeatState
 heard_state id outcomes.More = at (stages.Listening id) [] false
 heard_state id outcomes.Ready = at (stages.Replying id) [] false
@@ -63,7 +63,7 @@ drawn_state id outcome = leaving Failed []
 
 -- ---- what is done in a turn
 
--- One read into room for 512 bytes, which the hub is told as one event at a moment.
+-- One read into room for 512 bytes, which the hub gets as one event at a moment.
 pub record Hears (id : ℕ) (t : Trace) (after : SeatState) : Type 0 where
   pub piece : List ℕ
   pub now : ℕ
@@ -72,7 +72,7 @@ pub record Hears (id : ℕ) (t : Trace) (after : SeatState) : Type 0 where
   pub is : t ≡ trace (Read 512 piece ∷ []) (heard_event id piece now ∷ []) (outcome ∷ [])
   pub after_is : after ≡ heard_state id outcome
 
--- A read that failed: the hub is told nothing.
+-- A read that failed: the hub gets nothing.
 abbrev pub FailsToRead : Trace → SeatState → Type 0
 FailsToRead t after = (t ≡ trace (ReadFailed 512 ∷ []) [] []) × (after ≡ leaving Cut [])
 

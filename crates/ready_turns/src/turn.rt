@@ -39,7 +39,7 @@ pub fn join<S: SearchKeeper, W: ReadyWire>(hub: &mut Hub<S>, wire: W) -> Seat<W>
     }
 }
 
-/// Where a session is once what it heard is answered, and what its client is told of that.
+/// Where a session is once what it heard is answered, and what its client hears of that.
 fn heard<W>(seat: &mut Seat<W>, id: u64, answer: Result<InputStatus, HubFault>)
     ensures state { state_of seat.new ≡ heard_state id (bytes_outcome answer) }
     ensures wire { seat.new.wire ≡ seat.old.wire }
@@ -63,7 +63,7 @@ fn hear<S: SearchKeeper, W: ReadyWire, C: Clock>(
     id: u64,
 )
     requires { seat.old.stage ≡ Stage.Listening id }
-    ensures { HasRun (HubRun S.site_state S.lacks S.crash_states S.represents) hub.old hub.new (C.told clock.old) (C.told clock.new) (λ es os. HasMade (W.calls seat.old.wire) (W.calls seat.new.wire) (λ made. Listens id seat.old.unsent.items (trace made es os) (state_of seat.new))) }
+    ensures { HasRun (HubRun S.site_state S.lacks S.crash_states S.represents) hub.old hub.new (C.given clock.old) (C.given clock.new) (λ es os. HasMade (W.calls seat.old.wire) (W.calls seat.new.wire) (λ made. Listens id seat.old.unsent.items (trace made es os) (state_of seat.new))) }
 {
     let mut buffer = [0; PIECE];
     match seat.wire.read(&mut buffer) {
@@ -141,7 +141,7 @@ pub fn take_turn<S: SearchKeeper, W: ReadyWire, C: Clock>(
     seat: &mut Seat<W>,
     clock: &mut C,
 )
-    ensures { HasRun (HubRun S.site_state S.lacks S.crash_states S.represents) hub.old hub.new (C.told clock.old) (C.told clock.new) (λ es os. For W.calls Turn seat.old es os seat.new) }
+    ensures { HasRun (HubRun S.site_state S.lacks S.crash_states S.represents) hub.old hub.new (C.given clock.old) (C.given clock.new) (λ es os. For W.calls Turn seat.old es os seat.new) }
 {
     if seat.waits {
         return;

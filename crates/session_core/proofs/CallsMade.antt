@@ -1,5 +1,5 @@
 -- What the clauses of one call of a hub make of it.
-use Rattle.std.proofs.Common.{◌≡◌, ◌⊎◌, ℕ, Bool, true, false, not, refl, sym, subst, ap, ◌∙◌, inl, inr, if◌then◌else◌, List, length, arith}
+use Rattle.std.proofs.Common.{◌≡◌, ◌⊎◌, ℕ, Bool, true, false, not, refl, sym, subst, ap, ◌∙◌, inl, inr, if◌then◌else◌, List, arith}
 use Rattle.std.specs.Prelude.{Option, Result, Ok, Err, IfErr, OnErr, OnOk, IsTrue}
 use Rattle.std.proofs.lemmas.Bool.{not-true, not-false}
 use Rattle.host_types.specs.Site.{Site}
@@ -12,7 +12,7 @@ use Rattle.session_core.specs.Step.{Next, then_is, answer, failed_answer, step}
 use Rattle.session_core.specs.Run.{Step, StepBy, IsAnswer, IsFaulty, may_work, may_read, has_change}
 use Rattle.session_core.specs.RunCrashStates.{RepresentsBy}
 use Rattle.session_core.specs.Calls.{IfFault, IsCause, StaysClosed, IsSteady, IsAcknowledged, Call}
-use Rattle.session_core.specs.Understood.{IsHearFault, IsDrawFault}
+use Rattle.session_core.specs.Understood.{IsPostFault, IsDrawFault}
 use Rattle.session_core.specs.Causes.{IsDrawCause}
 use Rattle.session_core.specs.HeldPins.{MayGiveBack}
 use Rattle.session_core.specs.Outcomes.{heard_outcome, bytes_outcome, drawn_outcome, draw_outcome}
@@ -124,40 +124,40 @@ heard_fault (Ok heard.Finished) P is = tt
 heard_fault (Err fault) P is = is
 
 -- of a session that hears something, on any device
-no_failure : (a b : SiteState) (lacking : Option Change → ℕ → SiteFault → Type 0) (phase : Phase) (post : Option Change) (now : ℕ) (fault : HubFault) → a.usable ≡ true → b.usable ≡ false → IsHearFault lacking phase post now a b fault → fault ≡ hub.Failed
-no_failure a b lacking phase post now hub.Memory on off is = absurd (both b.usable a.usable off on is.1.usable)
-no_failure a b lacking phase post now hub.Broken on off is = absurd (both b.usable a.usable off on is.1.0.usable)
-no_failure a b lacking phase post now (hub.Full need free) on off is = absurd (both b.usable a.usable off on is.1.0.usable)
-no_failure a b lacking phase post now hub.Spent on off is = absurd (both b.usable a.usable off on is.1.0.usable)
-no_failure a b lacking phase post now hub.Deep on off is = absurd (both b.usable a.usable off on is.1.0.usable)
-no_failure a b lacking phase post now hub.Failed on off is = refl
-no_failure a b lacking phase post now hub.Unknown on off is = absurd is.1
-no_failure a b lacking phase post now hub.Crowded on off is = absurd is.1
-no_failure a b lacking phase post now (hub.Refused r) on off is = absurd is.1
-no_failure a b lacking phase post now hub.NotReady on off is = absurd is.1
+no_failure : (a b : SiteState) (lacking : Option Change → ℕ → SiteFault → Type 0) (post : Option Change) (now : ℕ) (fault : HubFault) → a.usable ≡ true → b.usable ≡ false → IsPostFault lacking post now a b fault → fault ≡ hub.Failed
+no_failure a b lacking post now hub.Memory on off is = absurd (both b.usable a.usable off on is.usable)
+no_failure a b lacking post now hub.Broken on off is = absurd (both b.usable a.usable off on is.0.usable)
+no_failure a b lacking post now (hub.Full need free) on off is = absurd (both b.usable a.usable off on is.0.usable)
+no_failure a b lacking post now hub.Spent on off is = absurd (both b.usable a.usable off on is.0.usable)
+no_failure a b lacking post now hub.Deep on off is = absurd (both b.usable a.usable off on is.0.usable)
+no_failure a b lacking post now hub.Failed on off is = refl
+no_failure a b lacking post now hub.Unknown on off is = absurd is
+no_failure a b lacking post now hub.Crowded on off is = absurd is
+no_failure a b lacking post now (hub.Refused r) on off is = absurd is
+no_failure a b lacking post now hub.NotReady on off is = absurd is
 
-shut_by : (a b : SiteState) (lacking : Option Change → ℕ → SiteFault → Type 0) (phase : Phase) (post : Option Change) (now : ℕ) (fault : HubFault) → fault ≡ hub.Failed → IsHearFault lacking phase post now a b fault → b.usable ≡ false
-shut_by a b lacking phase post now fault fails is = (subst (IsHearFault lacking phase post now a b) fails is).1.shut
+shut_by : (a b : SiteState) (lacking : Option Change → ℕ → SiteFault → Type 0) (post : Option Change) (now : ℕ) (fault : HubFault) → fault ≡ hub.Failed → IsPostFault lacking post now a b fault → b.usable ≡ false
+shut_by a b lacking post now fault fails is = (subst (IsPostFault lacking post now a b) fails is).shut
 
 never_fault : (h : InputStatus) (fault : HubFault) → heard_outcome h ≡ Fault fault → ⊥
 never_fault heard.More fault is = cc is
 never_fault heard.Ready fault is = cc is
 never_fault heard.Finished fault is = cc is
 
-pub heard_steady : {S : Type 0} (site_state : S → SiteState) (w : World) (k : S) (e : Event) (v : World) (l : S) (lacking : Option Change → ℕ → SiteFault → Type 0) (phase : Phase) (post : Option Change) (now : ℕ) (result : Result InputStatus HubFault) →
-    w.failed ≡ false → (site_state k).usable ≡ true → v.failed ≡ not (site_state l).usable → v.next ≡ w.next → OnErr result (v.sessions ≡ w.sessions) → OnOk result ((site_state l).usable ≡ true) → IfErr result (IsHearFault lacking phase post now (site_state k) (site_state l))
+pub heard_steady : {S : Type 0} (site_state : S → SiteState) (w : World) (k : S) (e : Event) (v : World) (l : S) (lacking : Option Change → ℕ → SiteFault → Type 0) (post : Option Change) (now : ℕ) (result : Result InputStatus HubFault) →
+    w.failed ≡ false → (site_state k).usable ≡ true → v.failed ≡ not (site_state l).usable → v.next ≡ w.next → OnErr result (v.sessions ≡ w.sessions) → OnOk result ((site_state l).usable ≡ true) → IfErr result (IsPostFault lacking post now (site_state k) (site_state l))
     → IsSteady site_state w k e (bytes_outcome result) v l
-heard_steady site_state w k e v l lacking phase post now (Ok h) off usable flag next seats unchanged is = record {
+heard_steady site_state w k e v l lacking post now (Ok h) off usable flag next seats unchanged is = record {
   closed = λ shut. absurd (both w.failed w.failed off shut refl);
   shuts = λ no shut. (let end : true ≡ false = sym unchanged ∙ not-true (site_state l).usable (sym flag ∙ shut) in absurd (cc end));
   failed = λ fails. absurd (never_fault h hub.Failed fails);
   next = λ fault fails. next;
   sessions = λ fault fails. absurd (never_fault h fault fails);
 }
-heard_steady site_state w k e v l lacking phase post now (Err fault) off usable flag next seats unchanged is = record {
+heard_steady site_state w k e v l lacking post now (Err fault) off usable flag next seats unchanged is = record {
   closed = λ shut. absurd (both w.failed w.failed off shut refl);
-  shuts = λ no shut. ap (λ (f : HubFault). Fault f) (no_failure (site_state k) (site_state l) lacking phase post now fault usable (not-true (site_state l).usable (sym flag ∙ shut)) is);
-  failed = λ fails. flag ∙ ap not (shut_by (site_state k) (site_state l) lacking phase post now fault (cc fails) is);
+  shuts = λ no shut. ap (λ (f : HubFault). Fault f) (no_failure (site_state k) (site_state l) lacking post now fault usable (not-true (site_state l).usable (sym flag ∙ shut)) is);
+  failed = λ fails. flag ∙ ap not (shut_by (site_state k) (site_state l) lacking post now fault (cc fails) is);
   next = λ any fails. next;
   sessions = λ any fails. seats;
 }

@@ -1,7 +1,6 @@
 -- A change that the site did not make, as an answer to its administrator.
-use Rattle.std.proofs.Common.{◌≡◌, ◌⊎◌, ⊎_elim, ℕ, Bool, true, false, List, not, refl, sym, subst, ap, ◌∙◌, inl, inr, [], if◌then◌else◌}
-use Rattle.std.specs.Prelude.{Option, Some, None, Result, Ok, Err, IsTrue, IsOk, is_some}
-use Rattle.std.proofs.lemmas.Bool.{not-false}
+use Rattle.std.proofs.Common.{◌≡◌, ◌⊎◌, ⊎_elim, ℕ, Bool, true, false, List, not, refl, sym, subst, ap, ◌∙◌, inl, inr, if◌then◌else◌}
+use Rattle.std.specs.Prelude.{Option, Some, Result, Ok, Err, IsTrue, IsOk, is_some}
 use Rattle.common_types.specs.declared.refused.Refused.{Refused}
 use Rattle.host_types.specs.Site.{Site}
 use Rattle.host_types.specs.Change.{apply}
@@ -10,16 +9,15 @@ use Rattle.host_types.specs.CrashStates.{CrashStates, AddsOnly, AddsNone, may_cr
 use Rattle.host_types.specs.declared.change.Change.{Change}
 use Rattle.host_types.specs.declared.site_fault.SiteFault.{SiteFault}
 use Rattle.host_types.specs.declared.site_fault.SiteFault.TheVariants as faults
-use Rattle.session_core.specs.World.{World, Phase, Heard}
+use Rattle.session_core.specs.World.{Phase}
 use Rattle.session_core.specs.Step.{changed, made_or, then_is, step, with_change, answer, failed_answer, Next}
-use Rattle.session_core.specs.Run.{Step, StepBy, IsAnswer, IsFaulty, change_in, valid_one}
+use Rattle.session_core.specs.Run.{valid_one}
 use Rattle.session_core.specs.RunCrashStates.{RepresentsBy}
-use Rattle.session_core.specs.Calls.{Call, IsSteady}
+use Rattle.session_core.specs.Calls.{Call}
 use Rattle.session_core.specs.Causes.{IsLacking, IsAdminCause}
 use Rattle.session_core.specs.Understood.{IsPostFault}
 use Rattle.session_core.specs.Outcomes.{fault_of}
 use Rattle.session_core.specs.declared.event.Event.TheVariants.{Admin}
-use Rattle.session_core.specs.declared.event.Outcome.{Outcome}
 use Rattle.session_core.specs.declared.event.Outcome.TheVariants.{Fault}
 use Rattle.session_core.specs.declared.fault.HubFault.{HubFault}
 use Rattle.session_core.specs.declared.fault.HubFault.TheVariants as hub
@@ -75,11 +73,11 @@ module _ {S L : Type 0} (site_state : S → SiteState) (lacks : S → Change →
         honest = same;
         site = refl;
         flag = refl;
-        steady = heard_steady site_state w k e v l (IsLacking (lacks k)) (Heard []) post now (Err fault) off usable refl refl refl tt (refl, post_cause);
+        steady = heard_steady site_state w k e v l (IsLacking (lacks k)) post now (Err fault) off usable refl refl refl tt post_cause;
         acknowledged = λ honest. tt;
-        leaves = λ honest. heard_at_crash (crash_states k) (crash_states l) stands a b (IsLacking (lacks k)) w v e now (Heard []) post (Err fault) off usable refl refl tt
+        leaves = λ honest. heard_at_crash (crash_states k) (crash_states l) stands a b (IsLacking (lacks k)) w v e now post (Err fault) off usable refl refl tt
             (weaker (crash_states k) (crash_states l) _ (λ c. stands c a.site ⊎ stands c (with_change a.site now post)) (crashes honest)
-            (λ c. ⊎_elim (λ old. inl old) (λ made. inr (subst (stands c) (sym (made_site change now a.site made.0 made.1)) made.2)))) (none honest) (refl, post_cause);
+            (λ c. ⊎_elim (λ old. inl old) (λ made. inr (subst (stands c) (sym (made_site change now a.site made.0 made.1)) made.2)))) (none honest) post_cause;
       }
 
   -- a change that is not valid

@@ -1,9 +1,7 @@
 -- Calls of a hub as steps of its world.
-use Rattle.std.proofs.Common.{◌≡◌, ℕ, ◌+◌, ◌-◌, ◌^◌, ◌<◌, ◌≤◌, Bool, true, false, not, List, [], ◌∷◌, ◌++◌, length, get_or, set, remove, refl, ap, sym, ◌∙◌, arith, inl, inr, subst}
-use Rattle.std.specs.Prelude.{◌==◌, Option, Some, None, is_some, Result, Ok, Err, IfOk, IfErr, OnOk, OnErr, IsOk, IsTrue, if◌then◌else◌}
-use Rattle.std.specs.List.{position}
+use Rattle.std.proofs.Common.{◌≡◌, ℕ, ◌+◌, ◌-◌, ◌^◌, ◌<◌, ◌≤◌, Bool, true, false, not, List, [], ◌∷◌, ◌++◌, length, refl, ap, sym, ◌∙◌, inl, inr, subst}
+use Rattle.std.specs.Prelude.{Option, Some, None, is_some, Result, Ok, Err, IfOk, IfErr, OnOk, OnErr, IsTrue, if◌then◌else◌}
 use Rattle.std.proofs.lemmas.Bool.{cases_Bool, le-leb, lt-leb, ne_eqb, eq-eqb}
-use Rattle.std.proofs.lemmas.List.{length-map, map-append}
 use Rattle.host_types.specs.Site.{Site}
 use Rattle.host_types.specs.SiteState.{SiteState, Rose}
 use Rattle.host_types.specs.declared.change.Change.{Change}
@@ -14,7 +12,7 @@ use Rattle.session_core.specs.World.{World, phase_in}
 use Rattle.session_core.specs.Step.{StepResult, says, Next, then_is, at_session, at_hearing, with_change, draws, joined, left, answer, failed_answer, step}
 use Rattle.session_core.specs.Run.{Step, StepBy, IsAnswer, IsFaulty, is_hearing, may_work, has_change, change_in, post_in, may_read, has_bytes_left}
 use Rattle.session_core.specs.Causes.{IsLacking}
-use Rattle.session_core.specs.Understood.{IsPostFault, IsHearFault, IsDrawFault, HasBegun}
+use Rattle.session_core.specs.Understood.{IsPostFault, IsDrawFault, HasBegun}
 use Rattle.session_core.specs.Outcomes.{heard_outcome, bytes_outcome, drawn_outcome, draw_outcome}
 use Rattle.session_core.specs.declared.event.Event.{Event}
 use Rattle.session_core.specs.declared.event.Event.TheVariants.{Join, Draw, Leave}
@@ -144,15 +142,15 @@ not_heard : (a b : SiteState) (lacking : Option Change → ℕ → SiteFault →
     → may_work (world_at a next old) e ≡ is_hearing (phase_in old id)
     → may_read (world_at a next old) e ≡ may_work (world_at a next old) e
     → change_in (world_at a next old) e ≡ post_in (phase_in old id) f
-    → q ≡ p → IsHearFault lacking p (f p).post now a b fault
+    → q ≡ p → is_hearing (Some p) ≡ true → IsPostFault lacking (f p).post now a b fault
     → Step (world_at a next old) e (Fault fault) (world_at b next new)
-not_heard a b lacking next old new id now p q e f fault only honest usable there seen stays works reads changes same cause =
+not_heard a b lacking next old new id now p q e f fault only honest usable there seen stays works reads changes same hearing cause =
     let w = world_at a next old in
     let seats : new ≡ old = seen ∙ ap (world.moved_in old id) same ∙ stays in
-    let hears : may_work w e ≡ true = works ∙ ap is_hearing there ∙ cause.0 in
+    let hears : may_work w e ≡ true = works ∙ ap is_hearing there ∙ hearing in
     let change : change_in w e ≡ (f p).post = changes ∙ ap (λ (x : Option world.Phase). post_in x f) there in
     faulty_by w.failed w e (Fault fault) _ (is_open a next old usable)
-    (post_fault a b lacking next old new now e (f p).post fault only honest usable hears (reads ∙ hears) change seats cause.1)
+    (post_fault a b lacking next old new now e (f p).post fault only honest usable hears (reads ∙ hears) change seats cause)
 
 -- a session hears a piece or the end of its input
 pub hears : (a b : SiteState) (lacking : Option Change → ℕ → SiteFault → Type 0) (next : ℕ) (old new : List (ℕ × world.Phase)) (id now : ℕ) (p q : world.Phase) (e : Event) (f : world.Phase → StepResult) (result : Result InputStatus HubFault) →
@@ -164,12 +162,12 @@ pub hears : (a b : SiteState) (lacking : Option Change → ℕ → SiteFault →
     → change_in (world_at a next old) e ≡ post_in (phase_in old id) f
     → IfOk result (λ h. heard_outcome h ≡ (f p).outcome) → OnOk result (q ≡ (f p).phase)
     → OnOk result (b.site ≡ with_change a.site now (f p).post) → OnOk result (b.usable ≡ true)
-    → OnErr result (q ≡ p) → IfErr result (IsHearFault lacking p (f p).post now a b)
+    → OnErr result (q ≡ p) → OnErr result (is_hearing (Some p) ≡ true) → IfErr result (IsPostFault lacking (f p).post now a b)
     → Step (world_at a next old) e (bytes_outcome result) (world_at b next new)
-hears a b lacking next old new id now p q e f (Ok h) only honest usable there seen stays asks works reads changes outcome moved site unchanged same cause =
+hears a b lacking next old new id now p q e f (Ok h) only honest usable there seen stays asks works reads changes outcome moved site unchanged same hearing cause =
     heard_well a b next old new id now p q e f (heard_outcome h) usable unchanged site there seen asks outcome moved
-hears a b lacking next old new id now p q e f (Err fault) only honest usable there seen stays asks works reads changes outcome moved site unchanged same cause =
-    not_heard a b lacking next old new id now p q e f fault only honest usable there seen stays works reads changes same cause
+hears a b lacking next old new id now p q e f (Err fault) only honest usable there seen stays asks works reads changes outcome moved site unchanged same hearing cause =
+    not_heard a b lacking next old new id now p q e f fault only honest usable there seen stays works reads changes same hearing cause
 
 -- a session draws
 drawn_well : (a b : SiteState) (next : ℕ) (old new : List (ℕ × world.Phase)) (id room : ℕ) (p q : world.Phase) (o : Outcome) → a.usable ≡ true → b.site ≡ a.site → b.usable ≡ a.usable → phase_in old id ≡ Some p → new ≡ world.moved_in old id q

@@ -54,10 +54,6 @@ IsPostFault lacking post now old new hub.Crowded = ⊥
 IsPostFault lacking post now old new (hub.Refused refused) = ⊥
 IsPostFault lacking post now old new hub.NotReady = ⊥
 
--- What stands where a session that hears something could not be answered, and why.
-abbrev pub IsHearFault : (Option Change → ℕ → SiteFault → Type 0) → Phase → Option Change → ℕ → SiteState → SiteState → HubFault → Type 0
-IsHearFault lacking phase post now old new fault = (is_hearing (Some phase) ≡ true) × IsPostFault lacking post now old new fault
-
 -- ---- what a session leaves of the keeper
 
 -- Whatever a session is answered, the keeper is as honest as before, and counts don't fall.

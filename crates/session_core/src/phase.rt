@@ -1,14 +1,13 @@
 // What moves one session that hears a request.
-ghost use Rattle.std.specs.Prelude.{◌≡◌, ◌⊎◌, ◌<◌, true, [], None, length, OnErr, OnOk, IfOk, IfErr, IfSome, IsTrue, option_map};
+ghost use Rattle.std.specs.Prelude.{◌≡◌, ◌<◌, true, [], None, length, IfOk, IfErr, IfSome, IsTrue, option_map};
 ghost use Rattle.host_types.specs.Pins.{Pinned, most_pins};
 ghost use Rattle.host_types.specs.SiteState.{SiteState, HasRead, LacksTheSame, IsReadFault};
-ghost use Rattle.host_types.specs.CrashStates.{AddsNone, AddsOnly};
+ghost use Rattle.host_types.specs.CrashStates.{AddsNone};
 ghost use Rattle.session_core.specs.World as world;
-ghost use Rattle.session_core.specs.Step.{listens, ends, with_change};
-ghost use Rattle.session_core.specs.Run.{is_hearing};
-ghost use Rattle.session_core.specs.Causes.{IsLacking};
+ghost use Rattle.session_core.specs.Step.{listens, ends};
 ghost use Rattle.session_core.specs.HeldPins.{MovesPins};
-ghost use Rattle.session_core.specs.Understood.{reply_by, answered, post_of, IsPostFault, IsHearFault, HasWorked, HasRoomFor, next_outcome};
+ghost use Rattle.session_core.specs.Understood.{reply_by, answered, post_of, HasWorked, HasRoomFor};
+ghost use Rattle.session_core.specs.Hears.{MakesPost, GetsNext, HearsOn, Hears};
 ghost use Rattle.site_replies.specs.PostReply.{IsRight};
 ghost use Rattle.site_replies.specs.Replies.{answer_of, IsSized, PostsNoView, reply_bytes};
 ghost use Rattle.session_core.specs.Outcomes.{heard_outcome};
@@ -71,14 +70,8 @@ fn reply_to<S: SearchKeeper>(
 fn store<S: SearchKeeper>(site: &mut S, post: Option<Change>, now: Stamp) -> Result<(), HubFault>
     requires usable { (S.site_state site.old).usable ≡ true }
     requires right { IsTrue (S.site_state site.old).honest → IsRight (S.site_state site.old).site now post }
-    ensures done { IsTrue (S.site_state site.old).honest → OnOk result ((S.site_state site.new).site ≡ with_change (S.site_state site.old).site now post) }
-    ensures still_usable { OnOk result ((S.site_state site.new).usable ≡ true) }
-    ensures fault { IfErr result (IsPostFault (IsLacking (S.lacks site.old)) post now (S.site_state site.old) (S.site_state site.new)) }
-    ensures worked { HasWorked (S.site_state site.old) (S.site_state site.new) }
     ensures pins { (S.site_state site.new).pins ≡ (S.site_state site.old).pins }
-    ensures unchanged { IsTrue (S.site_state site.old).honest → IfErr result (λ e. (S.site_state site.new).usable ≡ true → AddsNone (S.crash_states site.old) (S.crash_states site.new)) }
-    ensures at_crash { IsTrue (S.site_state site.old).honest → AddsOnly (S.crash_states site.old) (S.crash_states site.new)
-        (λ c. S.represents c (S.site_state site.old).site ⊎ S.represents c (with_change (S.site_state site.old).site now post)) }
+    ensures site { MakesPost S.site_state S.lacks S.crash_states S.represents post now site.old site.new result }
 {
     let Some(change) = post else {
         return Ok(());
@@ -134,17 +127,8 @@ fn settle<S: SearchKeeper>(
     requires sized { IsTrue (S.site_state site.old).honest → IfSome made (λ a. IsSized (S.site_state site.old).site a.reply) }
     requires posts { IfSome made (λ a. PostsNoView a.reply a.post) }
     ensures heard { IfOk result (λ r. heard_outcome r.0 ≡ (answered (option_map (answer_of (S.site_state site.old).site) made)).outcome) }
-    ensures phase { IsTrue (S.site_state site.old).honest → IfOk result (λ r. phase_of S.pinned (S.site_state site.new) r.1 ≡ (answered (option_map (answer_of (S.site_state site.old).site) made)).phase) }
-    ensures sound { IsTrue (S.site_state site.old).honest → IfOk result (λ r. IsSound S.pinned (S.site_state site.new) r.1) }
-    ensures pins { IfOk result (λ r. MovesPins (S.site_state site.old) (S.site_state site.new) None (pin_of S.pinned r.1)) }
-    ensures pins_after_fault { OnErr result ((S.site_state site.new).pins ≡ (S.site_state site.old).pins) }
-    ensures done { IsTrue (S.site_state site.old).honest → OnOk result ((S.site_state site.new).site ≡ with_change (S.site_state site.old).site now (post_of (option_map (answer_of (S.site_state site.old).site) made))) }
-    ensures still_usable { OnOk result ((S.site_state site.new).usable ≡ true) }
-    ensures fault { IfErr result (IsPostFault (IsLacking (S.lacks site.old)) (post_of (option_map (answer_of (S.site_state site.old).site) made)) now (S.site_state site.old) (S.site_state site.new)) }
-    ensures worked { HasWorked (S.site_state site.old) (S.site_state site.new) }
-    ensures unchanged { IsTrue (S.site_state site.old).honest → IfErr result (λ e. (S.site_state site.new).usable ≡ true → AddsNone (S.crash_states site.old) (S.crash_states site.new)) }
-    ensures at_crash { IsTrue (S.site_state site.old).honest → AddsOnly (S.crash_states site.old) (S.crash_states site.new)
-        (λ c. S.represents c (S.site_state site.old).site ⊎ S.represents c (with_change (S.site_state site.old).site now (post_of (option_map (answer_of (S.site_state site.old).site) made)))) }
+    ensures next { GetsNext S.pinned (answered (option_map (answer_of (S.site_state site.old).site) made)) (S.site_state site.old) (S.site_state site.new) result }
+    ensures site { MakesPost S.site_state S.lacks S.crash_states S.represents (post_of (option_map (answer_of (S.site_state site.old).site) made)) now site.old site.new result }
 {
     let Some(Answered { reply, post }) = made else {
         return Ok((InputStatus::Finished, Phase::Early));
@@ -174,17 +158,8 @@ fn conclude<S: SearchKeeper>(
     requires usable { (S.site_state site.old).usable ≡ true }
     requires room { length (S.site_state site.old).pins < most_pins }
     ensures heard { IsTrue (S.site_state site.old).honest → IfOk result (λ r. heard_outcome r.0 ≡ (answered (reply_by (S.site_state site.old).site now (seen answer.entry))).outcome) }
-    ensures phase { IsTrue (S.site_state site.old).honest → IfOk result (λ r. phase_of S.pinned (S.site_state site.new) r.1 ≡ (answered (reply_by (S.site_state site.old).site now (seen answer.entry))).phase) }
-    ensures sound { IsTrue (S.site_state site.old).honest → IfOk result (λ r. IsSound S.pinned (S.site_state site.new) r.1) }
-    ensures pins { IfOk result (λ r. MovesPins (S.site_state site.old) (S.site_state site.new) None (pin_of S.pinned r.1)) }
-    ensures pins_after_fault { OnErr result ((S.site_state site.new).pins ≡ (S.site_state site.old).pins) }
-    ensures done { IsTrue (S.site_state site.old).honest → OnOk result ((S.site_state site.new).site ≡ with_change (S.site_state site.old).site now (answered (reply_by (S.site_state site.old).site now (seen answer.entry))).post) }
-    ensures still_usable { OnOk result ((S.site_state site.new).usable ≡ true) }
-    ensures fault { IfErr result (IsPostFault (IsLacking (S.lacks site.old)) (answered (reply_by (S.site_state site.old).site now (seen answer.entry))).post now (S.site_state site.old) (S.site_state site.new)) }
-    ensures worked { HasWorked (S.site_state site.old) (S.site_state site.new) }
-    ensures unchanged { IsTrue (S.site_state site.old).honest → IfErr result (λ e. (S.site_state site.new).usable ≡ true → AddsNone (S.crash_states site.old) (S.crash_states site.new)) }
-    ensures at_crash { IsTrue (S.site_state site.old).honest → AddsOnly (S.crash_states site.old) (S.crash_states site.new)
-        (λ c. S.represents c (S.site_state site.old).site ⊎ S.represents c (with_change (S.site_state site.old).site now (answered (reply_by (S.site_state site.old).site now (seen answer.entry))).post)) }
+    ensures next { GetsNext S.pinned (answered (reply_by (S.site_state site.old).site now (seen answer.entry))) (S.site_state site.old) (S.site_state site.new) result }
+    ensures site { MakesPost S.site_state S.lacks S.crash_states S.represents (answered (reply_by (S.site_state site.old).site now (seen answer.entry))).post now site.old site.new result }
 {
     match reply_to(alloc, site, answer, now) {
         Ok(made) => settle(site, made, now),
@@ -202,21 +177,8 @@ fn hear_piece<S: SearchKeeper>(
 ) -> Result<Option<(InputStatus, Phase<S::Pin>)>, HubFault>
     requires usable { (S.site_state site.old).usable ≡ true }
     requires room { length (S.site_state site.old).pins < most_pins }
-    ensures gives { IsTrue (S.site_state site.old).honest → IfOk result (λ next. next_outcome next ≡ (listens (S.site_state site.old).site now piece.now (world.Heard hearing.old.reader.input.bytes)).outcome) }
-    ensures open { IsTrue (S.site_state site.old).honest → IfOk result (λ next. next ≡ None → world.Heard hearing.new.reader.input.bytes ≡ (listens (S.site_state site.old).site now piece.now (world.Heard hearing.old.reader.input.bytes)).phase) }
-    ensures phase { IsTrue (S.site_state site.old).honest → IfOk result (λ next. IfSome next (λ n. phase_of S.pinned (S.site_state site.new) n.1 ≡ (listens (S.site_state site.old).site now piece.now (world.Heard hearing.old.reader.input.bytes)).phase)) }
-    ensures err { OnErr result (hearing.new.reader.input.bytes ≡ hearing.old.reader.input.bytes) }
-    ensures sound { IsTrue (S.site_state site.old).honest → IfOk result (λ next. IfSome next (λ n. IsSound S.pinned (S.site_state site.new) n.1)) }
-    ensures pins { IfOk result (λ next. IfSome next (λ n. MovesPins (S.site_state site.old) (S.site_state site.new) None (pin_of S.pinned n.1))) }
-    ensures pins_stay { IfOk result (λ next. next ≡ None → (S.site_state site.new).pins ≡ (S.site_state site.old).pins) }
-    ensures pins_after_fault { OnErr result ((S.site_state site.new).pins ≡ (S.site_state site.old).pins) }
-    ensures done { IsTrue (S.site_state site.old).honest → OnOk result ((S.site_state site.new).site ≡ with_change (S.site_state site.old).site now (listens (S.site_state site.old).site now piece.now (world.Heard hearing.old.reader.input.bytes)).post) }
-    ensures still_usable { OnOk result ((S.site_state site.new).usable ≡ true) }
-    ensures fault { IfErr result (IsPostFault (IsLacking (S.lacks site.old)) (listens (S.site_state site.old).site now piece.now (world.Heard hearing.old.reader.input.bytes)).post now (S.site_state site.old) (S.site_state site.new)) }
-    ensures worked { HasWorked (S.site_state site.old) (S.site_state site.new) }
-    ensures unchanged { IsTrue (S.site_state site.old).honest → IfErr result (λ e. (S.site_state site.new).usable ≡ true → AddsNone (S.crash_states site.old) (S.crash_states site.new)) }
-    ensures at_crash { IsTrue (S.site_state site.old).honest → AddsOnly (S.crash_states site.old) (S.crash_states site.new)
-        (λ c. S.represents c (S.site_state site.old).site ⊎ S.represents c (with_change (S.site_state site.old).site now (listens (S.site_state site.old).site now piece.now (world.Heard hearing.old.reader.input.bytes)).post)) }
+    ensures hears { HearsOn S.pinned (listens (S.site_state site.old).site now piece.now (world.Heard hearing.old.reader.input.bytes)) hearing.old.reader.input.bytes hearing.new.reader.input.bytes (S.site_state site.old) (S.site_state site.new) result }
+    ensures site { MakesPost S.site_state S.lacks S.crash_states S.represents (listens (S.site_state site.old).site now piece.now (world.Heard hearing.old.reader.input.bytes)).post now site.old site.new result }
 {
     let Ok(answer) = hearing.reader.feed(piece) else {
         return Err(HubFault::Memory);
@@ -241,21 +203,8 @@ fn hear_last<S: SearchKeeper>(
 ) -> Result<Option<(InputStatus, Phase<S::Pin>)>, HubFault>
     requires usable { (S.site_state site.old).usable ≡ true }
     requires room { length (S.site_state site.old).pins < most_pins }
-    ensures gives { IsTrue (S.site_state site.old).honest → IfOk result (λ next. next_outcome next ≡ (ends (S.site_state site.old).site now (world.Heard hearing.old.reader.input.bytes)).outcome) }
-    ensures open { IsTrue (S.site_state site.old).honest → IfOk result (λ next. next ≡ None → world.Heard hearing.new.reader.input.bytes ≡ (ends (S.site_state site.old).site now (world.Heard hearing.old.reader.input.bytes)).phase) }
-    ensures phase { IsTrue (S.site_state site.old).honest → IfOk result (λ next. IfSome next (λ n. phase_of S.pinned (S.site_state site.new) n.1 ≡ (ends (S.site_state site.old).site now (world.Heard hearing.old.reader.input.bytes)).phase)) }
-    ensures err { OnErr result (hearing.new.reader.input.bytes ≡ hearing.old.reader.input.bytes) }
-    ensures sound { IsTrue (S.site_state site.old).honest → IfOk result (λ next. IfSome next (λ n. IsSound S.pinned (S.site_state site.new) n.1)) }
-    ensures pins { IfOk result (λ next. IfSome next (λ n. MovesPins (S.site_state site.old) (S.site_state site.new) None (pin_of S.pinned n.1))) }
-    ensures pins_stay { IfOk result (λ next. next ≡ None → (S.site_state site.new).pins ≡ (S.site_state site.old).pins) }
-    ensures pins_after_fault { OnErr result ((S.site_state site.new).pins ≡ (S.site_state site.old).pins) }
-    ensures done { IsTrue (S.site_state site.old).honest → OnOk result ((S.site_state site.new).site ≡ with_change (S.site_state site.old).site now (ends (S.site_state site.old).site now (world.Heard hearing.old.reader.input.bytes)).post) }
-    ensures still_usable { OnOk result ((S.site_state site.new).usable ≡ true) }
-    ensures fault { IfErr result (IsPostFault (IsLacking (S.lacks site.old)) (ends (S.site_state site.old).site now (world.Heard hearing.old.reader.input.bytes)).post now (S.site_state site.old) (S.site_state site.new)) }
-    ensures worked { HasWorked (S.site_state site.old) (S.site_state site.new) }
-    ensures unchanged { IsTrue (S.site_state site.old).honest → IfErr result (λ e. (S.site_state site.new).usable ≡ true → AddsNone (S.crash_states site.old) (S.crash_states site.new)) }
-    ensures at_crash { IsTrue (S.site_state site.old).honest → AddsOnly (S.crash_states site.old) (S.crash_states site.new)
-        (λ c. S.represents c (S.site_state site.old).site ⊎ S.represents c (with_change (S.site_state site.old).site now (ends (S.site_state site.old).site now (world.Heard hearing.old.reader.input.bytes)).post)) }
+    ensures hears { HearsOn S.pinned (ends (S.site_state site.old).site now (world.Heard hearing.old.reader.input.bytes)) hearing.old.reader.input.bytes hearing.new.reader.input.bytes (S.site_state site.old) (S.site_state site.new) result }
+    ensures site { MakesPost S.site_state S.lacks S.crash_states S.represents (ends (S.site_state site.old).site now (world.Heard hearing.old.reader.input.bytes)).post now site.old site.new result }
 {
     let answer = hearing.reader.finish();
     if let Answer::More = answer {
@@ -290,18 +239,8 @@ pub fn hear<S: SearchKeeper>(
 ) -> Result<InputStatus, HubFault>
     requires usable { (S.site_state site.old).usable ≡ true }
     requires room { HasRoomFor (S.site_state site.old) (phase_of S.pinned (S.site_state site.old) phase.old) }
-    ensures gives { IsTrue (S.site_state site.old).honest → IfOk result (λ h. heard_outcome h ≡ (listens (S.site_state site.old).site now piece.now (phase_of S.pinned (S.site_state site.old) phase.old)).outcome) }
-    ensures phase { IsTrue (S.site_state site.old).honest → OnOk result (phase_of S.pinned (S.site_state site.new) phase.new ≡ (listens (S.site_state site.old).site now piece.now (phase_of S.pinned (S.site_state site.old) phase.old)).phase) }
-    ensures err { OnErr result (phase_of S.pinned (S.site_state site.new) phase.new ≡ phase_of S.pinned (S.site_state site.old) phase.old) }
-    ensures sound { IsTrue (S.site_state site.old).honest → IsSound S.pinned (S.site_state site.old) phase.old → IsSound S.pinned (S.site_state site.new) phase.new }
-    ensures pins { MovesPins (S.site_state site.old) (S.site_state site.new) (pin_of S.pinned phase.old) (pin_of S.pinned phase.new) }
-    ensures done { IsTrue (S.site_state site.old).honest → OnOk result ((S.site_state site.new).site ≡ with_change (S.site_state site.old).site now (listens (S.site_state site.old).site now piece.now (phase_of S.pinned (S.site_state site.old) phase.old)).post) }
-    ensures still_usable { OnOk result ((S.site_state site.new).usable ≡ true) }
-    ensures fault { IfErr result (IsHearFault (IsLacking (S.lacks site.old)) (phase_of S.pinned (S.site_state site.old) phase.old) (listens (S.site_state site.old).site now piece.now (phase_of S.pinned (S.site_state site.old) phase.old)).post now (S.site_state site.old) (S.site_state site.new)) }
-    ensures worked { HasWorked (S.site_state site.old) (S.site_state site.new) }
-    ensures unchanged { IsTrue (S.site_state site.old).honest → IfErr result (λ e. (S.site_state site.new).usable ≡ true → AddsNone (S.crash_states site.old) (S.crash_states site.new)) }
-    ensures at_crash { IsTrue (S.site_state site.old).honest → AddsOnly (S.crash_states site.old) (S.crash_states site.new)
-        (λ c. S.represents c (S.site_state site.old).site ⊎ S.represents c (with_change (S.site_state site.old).site now (listens (S.site_state site.old).site now piece.now (phase_of S.pinned (S.site_state site.old) phase.old)).post)) }
+    ensures hears { Hears S.pinned (listens (S.site_state site.old).site now piece.now (phase_of S.pinned (S.site_state site.old) phase.old)) phase.old phase.new (S.site_state site.old) (S.site_state site.new) result }
+    ensures site { MakesPost S.site_state S.lacks S.crash_states S.represents (listens (S.site_state site.old).site now piece.now (phase_of S.pinned (S.site_state site.old) phase.old)).post now site.old site.new result }
 {
     let heard = match phase {
         Phase::Hearing(hearing) => hear_piece(alloc, site, hearing, piece, now)?,
@@ -324,18 +263,8 @@ pub fn hear_end<S: SearchKeeper>(
 ) -> Result<InputStatus, HubFault>
     requires usable { (S.site_state site.old).usable ≡ true }
     requires room { HasRoomFor (S.site_state site.old) (phase_of S.pinned (S.site_state site.old) phase.old) }
-    ensures gives { IsTrue (S.site_state site.old).honest → IfOk result (λ h. heard_outcome h ≡ (ends (S.site_state site.old).site now (phase_of S.pinned (S.site_state site.old) phase.old)).outcome) }
-    ensures phase { IsTrue (S.site_state site.old).honest → OnOk result (phase_of S.pinned (S.site_state site.new) phase.new ≡ (ends (S.site_state site.old).site now (phase_of S.pinned (S.site_state site.old) phase.old)).phase) }
-    ensures err { OnErr result (phase_of S.pinned (S.site_state site.new) phase.new ≡ phase_of S.pinned (S.site_state site.old) phase.old) }
-    ensures sound { IsTrue (S.site_state site.old).honest → IsSound S.pinned (S.site_state site.old) phase.old → IsSound S.pinned (S.site_state site.new) phase.new }
-    ensures pins { MovesPins (S.site_state site.old) (S.site_state site.new) (pin_of S.pinned phase.old) (pin_of S.pinned phase.new) }
-    ensures done { IsTrue (S.site_state site.old).honest → OnOk result ((S.site_state site.new).site ≡ with_change (S.site_state site.old).site now (ends (S.site_state site.old).site now (phase_of S.pinned (S.site_state site.old) phase.old)).post) }
-    ensures still_usable { OnOk result ((S.site_state site.new).usable ≡ true) }
-    ensures fault { IfErr result (IsHearFault (IsLacking (S.lacks site.old)) (phase_of S.pinned (S.site_state site.old) phase.old) (ends (S.site_state site.old).site now (phase_of S.pinned (S.site_state site.old) phase.old)).post now (S.site_state site.old) (S.site_state site.new)) }
-    ensures worked { HasWorked (S.site_state site.old) (S.site_state site.new) }
-    ensures unchanged { IsTrue (S.site_state site.old).honest → IfErr result (λ e. (S.site_state site.new).usable ≡ true → AddsNone (S.crash_states site.old) (S.crash_states site.new)) }
-    ensures at_crash { IsTrue (S.site_state site.old).honest → AddsOnly (S.crash_states site.old) (S.crash_states site.new)
-        (λ c. S.represents c (S.site_state site.old).site ⊎ S.represents c (with_change (S.site_state site.old).site now (ends (S.site_state site.old).site now (phase_of S.pinned (S.site_state site.old) phase.old)).post)) }
+    ensures hears { Hears S.pinned (ends (S.site_state site.old).site now (phase_of S.pinned (S.site_state site.old) phase.old)) phase.old phase.new (S.site_state site.old) (S.site_state site.new) result }
+    ensures site { MakesPost S.site_state S.lacks S.crash_states S.represents (ends (S.site_state site.old).site now (phase_of S.pinned (S.site_state site.old) phase.old)).post now site.old site.new result }
 {
     let heard = match phase {
         Phase::Hearing(hearing) => hear_last(alloc, site, hearing, now)?,

@@ -9,8 +9,8 @@ use Rattle.page_store.specs.Compaction.{IsCompacted, IsCompactFault}
 use Rattle.page_store.specs.declared.banner.Banner.{Banner}
 use Rattle.page_store.specs.declared.fault.KeeperFault.{KeeperFault}
 use Rattle.page_store.specs.declared.fault.KeeperFault.TheVariants as faults
-use Rattle.site_store.proofs.PinsKept.{PinsStay, have_still}
-use Rattle.site_store.specs.Represented.{Represents, RepresentedBy, HasSite, site_of, site_kept, site_is}
+use Rattle.site_store.proofs.PinsKept.{PinsStay, have_still, same_pins}
+use Rattle.site_store.specs.Represented.{Represents, RepresentedBy, HasSite, site_of, site_state_of, site_kept, site_is}
 
 -- the pairs and the banner are as before
 pub record Stays (old new : StoreState) : Type 0 where
@@ -53,6 +53,9 @@ keeps_site old new same stay keeps = λ honest.
 
 pub same_site_kept : (old new : StoreState) → new.honest ≡ old.honest → Stays old new → (keeps : HasSite old) (now : HasSite new) → IsTrue old.honest → site_of new now ≡ site_of old keeps
 same_site_kept old new same stay keeps now honest = site_is new now (subst IsTrue (sym same) honest) (site_of old keeps) (shown_still old new (site_of old keeps) honest stay (site_kept old keeps honest))
+
+pub pins_as_before : (old new : StoreState) → new.honest ≡ old.honest → Stays old new → (keeps : HasSite old) (now : HasSite new) → (site_state_of new now).pins ≡ (site_state_of old keeps).pins
+pins_as_before old new same stay keeps now = same_pins old.honest new.honest old.pins new.pins (λ honest. (keeps honest).2) (λ honest. (now honest).2) same stay.pins.out stay.pins.pins
 
 pub port_stays : (old new : StoreState) → Stays old new → 0 < old.banner.port → 0 < new.banner.port
 port_stays old new stay port = subst (λ (b : Banner). 0 < b.port) (sym stay.banner) port

@@ -5,7 +5,7 @@ ghost use Rattle.host_types.specs.declared.site_fault.SiteFault.TheVariants.{Fai
 ghost use Rattle.page_store.specs.Compaction.{IsCompacted};
 ghost use Rattle.page_store.specs.StoreState.{HasTried};
 ghost use Rattle.site_store.specs.Compacting.{IsSiteCompactFault, CountsNothing};
-ghost use Rattle.site_store.specs.Represented.{site_of, Represents};
+ghost use Rattle.site_store.specs.Represented.{site_of, site_state_of, Represents};
 
 use crate::DiskSite;
 use crate::to_site_fault::store_fault_comes;
@@ -18,6 +18,8 @@ impl<K: CompactKeeper> DiskSite<K> {
     /// Faults in order: `Failed`, `Spent`, `Read`, `Full`, and `Failed` again once a write or a sync has failed; never `Deep`. `Memory` may stand in place of any fault or success after `Spent`; nothing is written then.
     pub fn compact(&mut self) -> Result<(), SiteFault>
         ensures site { IsTrue (K.store_state self.old.keeper).honest → site_of (K.store_state self.new.keeper) self.new.kept ≡ site_of (K.store_state self.old.keeper) self.old.kept }
+        // What pins keep stays.
+        ensures pins { (site_state_of (K.store_state self.new.keeper) self.new.kept).pins ≡ (site_state_of (K.store_state self.old.keeper) self.old.kept).pins }
         ensures done { OnOk result (IsCompacted (K.store_state self.old.keeper) (K.store_state self.new.keeper)) }
         ensures filled { IsTrue (K.store_state self.old.keeper).honest → OnOk result (K.is_filled self.new.keeper) }
         ensures fits { IsTrue (K.store_state self.old.keeper).honest → OnOk result ((n : ℕ) × K.compact_need self.old.keeper n × (n ≤ (K.store_state self.old.keeper).free)) }

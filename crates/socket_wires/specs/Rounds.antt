@@ -30,7 +30,7 @@ module _ {H : Type 0} (ran : H → List Event → List Outcome → H → Type 0)
   -- so many rounds, one after another
   abbrev pub Rounds : ℕ → H → H → List ℕ → List ℕ → ℕ → ℕ → Type 0
   Rounds zero old new told_before told_now before after = (new ≡ old) × (told_now ≡ told_before) × (after ≡ before)
-  Rounds (suc k) old new told_before told_now before after = (mid : H) × (told : List ℕ) × (count : ℕ) × Rounds k old mid told_before told before count × OneRound mid new told told_now count after
+  Rounds (suc k) old new told_before told_now before after = (mid : H) × (given : List ℕ) × (count : ℕ) × Rounds k old mid told_before given before count × OneRound mid new given told_now count after
 
   -- Rounds as many as are asked for, or until a hub is left that isn't usable.
   pub record IsServing (rounds : ℕ) (old new : H) (told_before told_now : List ℕ) (served : ℕ) : Type 0 where

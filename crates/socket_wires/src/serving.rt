@@ -56,8 +56,8 @@ pub fn serve_on<S: SearchKeeper, C: Clock>(
     together: u32,
     rounds: u32,
 ) -> Result<u64, ServeFault>
-    ensures serves { IfOk result (IsServing (HubRun S.site_state S.lacks S.crash_states S.represents) (λ h. (S.site_state (keeper_of h)).usable) together rounds hub.old hub.new (C.told clock.old) (C.told clock.new)) }
-    ensures ran { HasRun (HubRun S.site_state S.lacks S.crash_states S.represents) hub.old hub.new (C.told clock.old) (C.told clock.new) (λ es os. Unit {0}) }
+    ensures serves { IfOk result (IsServing (HubRun S.site_state S.lacks S.crash_states S.represents) (λ h. (S.site_state (keeper_of h)).usable) together rounds hub.old hub.new (C.given clock.old) (C.given clock.new)) }
+    ensures ran { HasRun (HubRun S.site_state S.lacks S.crash_states S.represents) hub.old hub.new (C.given clock.old) (C.given clock.new) (λ es os. Unit {0}) }
 {
     let mut served = 0u64;
     for _round in 0..rounds {

@@ -6,21 +6,21 @@ use host_types::Stamp;
 use std::time::{Clock as Time, SystemTime, UNIX_EPOCH};
 use turns::{Clock, MomentLog};
 
-/// The clock of the system, and the moments that it told.
+/// The clock of the system, and the moments that it gave.
 #[derive(Drop)]
 pub struct SystemClock<'a, R: Time> {
     rt: &'a R,
-    told: MomentLog,
+    given: MomentLog,
 }
 
 impl<'a, R: Time> SystemClock<'a, R> {
-    /// A clock that has told nothing.
+    /// A clock that has given nothing.
     pub fn new(rt: &'a R) -> SystemClock<'a, R>
-        ensures { result.told.moments ≡ [] }
+        ensures { result.given.moments ≡ [] }
     {
         SystemClock {
             rt,
-            told: MomentLog::new(),
+            given: MomentLog::new(),
         }
     }
 }
@@ -50,11 +50,11 @@ fn seconds<R: Time>(rt: &R) -> Option<u64> {
 }
 
 impl<R: Time> Clock for SystemClock<'_, R> {
-    ghost told = { λ clock. clock.told.moments };
+    ghost given = { λ clock. clock.given.moments };
 
     fn now(&mut self) -> Stamp {
         let now = moment_of(seconds(self.rt));
-        self.told.note(now);
+        self.given.note(now);
         now
     }
 }

@@ -19,10 +19,10 @@ given_on part given old new moved stayed rest =
 -- one byte more of the chunk
 pub byte_passed : (chunk part given : List ℕ) (taken byte : ℕ) (old now mid new : Piped) → taken < length chunk → byte ≡ get_or chunk taken 0 → Passes old chunk taken part now →
     ((rest : List ℕ) → will_give mid rest ≡ will_give now (byte ∷ rest)) → given ++ new.ready ≡ part ++ mid.ready → new.place ≡ mid.place → Passes old chunk (taken + 1) given new
-byte_passed chunk part given taken byte old now mid new below is passes told moved stayed more =
+byte_passed chunk part given taken byte old now mid new below is passes whole moved stayed more =
     let next : byte ∷ drop (taken + 1) chunk ≡ drop taken chunk = ap (λ n. byte ∷ drop n chunk) (add-one taken) ∙ ap (λ b. b ∷ drop (suc taken) chunk) is ∙ sym (drop-cons chunk taken 0 below) in
     given_on part given mid new moved stayed (drop (taken + 1) chunk ++ more)
-    ∙ ap (λ l. part ++ l) (told (drop (taken + 1) chunk ++ more))
+    ∙ ap (λ l. part ++ l) (whole (drop (taken + 1) chunk ++ more))
     ∙ ap (λ l. part ++ will_give now (l ++ more)) next
     ∙ passes more
 

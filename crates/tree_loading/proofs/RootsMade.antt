@@ -69,23 +69,23 @@ fewer old level row h some = let quarter = a_quarter old level row [] None h.row
 -- ---- the root is valid, and has the pairs
 
 -- a valid root, with these pairs
-abbrev Holds : OldPages → RootState → List Pair → Type 0
-Holds old state pairs = IsValidRoot old state.root state.height × (root_pairs old state.root ≡ pairs)
+abbrev HasPairs : OldPages → RootState → List Pair → Type 0
+HasPairs old state pairs = IsValidRoot old state.root state.height × (root_pairs old state.root ≡ pairs)
 
-root_holds : (old : OldPages) (most level : ℕ) (row : Others) → IsLevel old level row → other_count row ≤ suc most → Holds old (root_over most (suc level) row) (row_pairs old row)
+root_holds : (old : OldPages) (most level : ℕ) (row : Others) → IsLevel old level row → other_count row ≤ suc most → HasPairs old (root_over most (suc level) row) (row_pairs old row)
 root_holds old most level none h few = (refl, refl)
 root_holds old most level (other key tree none) h few = ((level, refl, h.starts), sym (append-nil _))
 root_holds old zero level (other key tree (other next sibling others)) h few = absurd (omega (arith, few))
 root_holds old (suc most) level (other key tree (other next sibling others)) h few =
     let row = other key tree (other next sibling others) in
     let less = fewer old level row h (omega arith) in
-    subst (Holds old (root_over most (suc (suc level)) (branches_of row))) (branches_pairs old row) (root_holds old most (suc level) (branches_of row) (branch_level old level row h) (omega (arith, less, few)))
+    subst (HasPairs old (root_over most (suc (suc level)) (branches_of row))) (branches_pairs old row) (root_holds old most (suc level) (branches_of row) (branch_level old level row h) (omega (arith, less, few)))
 
 few_leaves : (pairs : List Pair) → other_count (leaves_of pairs) ≤ suc (length pairs)
 few_leaves pairs = let few = behind_count 0 pairs in omega (arith, few)
 
-filled_holds : (old : OldPages) (pairs : List Pair) → is_map pairs ≡ true → Holds old (filled pairs) pairs
-filled_holds old pairs h = subst (Holds old (filled pairs)) (leaves_pairs old pairs) (root_holds old (length pairs) 0 (leaves_of pairs) (leaf_level old pairs h) (few_leaves pairs))
+filled_holds : (old : OldPages) (pairs : List Pair) → is_map pairs ≡ true → HasPairs old (filled pairs) pairs
+filled_holds old pairs h = subst (HasPairs old (filled pairs)) (leaves_pairs old pairs) (root_holds old (length pairs) 0 (leaves_of pairs) (leaf_level old pairs h) (few_leaves pairs))
 
 pub filled_valid : (old : OldPages) (pairs : List Pair) → is_map pairs ≡ true → IsValidRoot old (filled pairs).root (filled pairs).height
 filled_valid old pairs h = (filled_holds old pairs h).0

@@ -21,8 +21,8 @@ use Rattle.tree_nodes.proofs.NodesAndLevels.{rooted_valid}
 use Rattle.tree_nodes.proofs.SupplyKeepsPairs.{supply_tree}
 
 -- a state that is valid, with these pairs
-abbrev Holds : OldPages → RootState → List Pair → Type 0
-Holds old state pairs = IsValidRoot old state.root state.height × (root_pairs old state.root ≡ pairs)
+abbrev HasPairs : OldPages → RootState → List Pair → Type 0
+HasPairs old state pairs = IsValidRoot old state.root state.height × (root_pairs old state.root ≡ pairs)
 
 pub everywhere : (key : List ℕ) → is_between [] None key ≡ true
 everywhere key = between_from [] None key (not_below_nothing key) refl
@@ -41,7 +41,7 @@ first_leaf : (pair : Pair) → is_pair pair ≡ true → IsValidLeaf (pair ∷ [
 first_leaf pair p = (rw (everywhere pair.0) refl, rw p refl, tt, (let size = pair_size pair p in omega (arith, size)))
 
 put_holds : (old : OldPages) (o : IsOld old) (root : Option Tree) (height : ℕ) (key value : List ℕ) → is_pair (key, value) ≡ true → IsValidRoot old root height → needed_under key root ≡ None
-    → Holds old (put_under key value root height) (insert_entry byte_cmp (root_pairs old root) key value)
+    → HasPairs old (put_under key value root height) (insert_entry byte_cmp (root_pairs old root) key value)
 put_holds old o None height key value p v w = ((0, refl, first_leaf (key, value) p), refl)
 put_holds old o (Some tree) height key value p v w = (
   (rooted_level v.0 (put key value tree), height_is v.0 height (put key value tree) v.1, rooted_valid old v.0 (put key value tree) [] None (put_tree_valid tree old v.0 [] None key value v.2 (everywhere key) p)),
@@ -50,12 +50,12 @@ put_holds old o (Some tree) height key value p v w = (
 
 -- ---- a delete
 
-left_holds : (old : OldPages) (level height : ℕ) (left : Option Tree) (pairs : List Pair) → height ≡ suc level → IsLeft old level left [] None → left_pairs old left ≡ pairs → Holds old (left_under left height) pairs
+left_holds : (old : OldPages) (level height : ℕ) (left : Option Tree) (pairs : List Pair) → height ≡ suc level → IsLeft old level left [] None → left_pairs old left ≡ pairs → HasPairs old (left_under left height) pairs
 left_holds old level height None pairs e v s = (refl, s)
 left_holds old level height (Some tree) pairs e v s = ((level, e, v), s)
 
 delete_holds : (old : OldPages) (o : IsOld old) (root : Option Tree) (height : ℕ) (key : List ℕ) → IsValidRoot old root height → needed_under key root ≡ None
-    → Holds old (delete_under key root height) (remove_entry (is_at (byte_cmp key)) (root_pairs old root))
+    → HasPairs old (delete_under key root height) (remove_entry (is_at (byte_cmp key)) (root_pairs old root))
 delete_holds old o None height key v w = (refl, refl)
 delete_holds old o (Some tree) height key v w =
     left_holds old v.0 height (delete key tree) (remove_entry (is_at (byte_cmp key)) (pairs_of old tree)) v.1 (delete_tree_valid tree old o v.0 [] None key v.2) (delete_tree_pairs tree old o v.0 [] None key v.2 w)
@@ -63,31 +63,31 @@ delete_holds old o (Some tree) height key v w =
 -- ---- a supply
 
 supply_holds : (old : OldPages) (o : IsOld old) (root : Option Tree) (height : ℕ) (key : List ℕ) (n : ℕ) → IsValidRoot old root height → needed_under key root ≡ Some n
-    → Holds old (where_needed old key (Some n) (record { root = root; height = height })) (root_pairs old root)
+    → HasPairs old (where_needed old key (Some n) (record { root = root; height = height })) (root_pairs old root)
 supply_holds old o None height key n v w = absurd (cc w)
 supply_holds old o (Some tree) height key n v w =
     let s = supply_tree tree old o v.0 [] None key n v.2 w in
     let level : height - 1 - path_depth key tree ≡ v.0 - path_depth key tree = omega (arith, v.1) in
     let read : old.opened (height - 1 - path_depth key tree) n ≡ Some s.0 = ap (λ (l : ℕ). old.opened l n) level ∙ s.1 in
-    subst (λ (r : Option Tree). Holds old (read_under key r (Some tree) height) (pairs_of old tree)) (sym read) ((v.0, v.1, s.2), s.3)
+    subst (λ (r : Option Tree). HasPairs old (read_under key r (Some tree) height) (pairs_of old tree)) (sym read) ((v.0, v.1, s.2), s.3)
 
 -- ---- a step, and any list of them
 
 put_step_holds : (old : OldPages) (o : IsOld old) (state : RootState) (key value : List ℕ) (need : Option ℕ) → needed_under key state.root ≡ need → is_pair (key, value) ≡ true → IsValidRoot old state.root state.height
-    → Holds old (where_owned need (put_under key value state.root state.height) state) (where_done need (insert_entry byte_cmp (root_pairs old state.root) key value) (root_pairs old state.root))
+    → HasPairs old (where_owned need (put_under key value state.root state.height) state) (where_done need (insert_entry byte_cmp (root_pairs old state.root) key value) (root_pairs old state.root))
 put_step_holds old o state key value None w p v = put_holds old o state.root state.height key value p v w
 put_step_holds old o state key value (Some n) w p v = (v, refl)
 
 delete_step_holds : (old : OldPages) (o : IsOld old) (state : RootState) (key : List ℕ) (need : Option ℕ) → needed_under key state.root ≡ need → IsValidRoot old state.root state.height
-    → Holds old (where_owned need (delete_under key state.root state.height) state) (where_done need (remove_entry (is_at (byte_cmp key)) (root_pairs old state.root)) (root_pairs old state.root))
+    → HasPairs old (where_owned need (delete_under key state.root state.height) state) (where_done need (remove_entry (is_at (byte_cmp key)) (root_pairs old state.root)) (root_pairs old state.root))
 delete_step_holds old o state key None w v = delete_holds old o state.root state.height key v w
 delete_step_holds old o state key (Some n) w v = (v, refl)
 
-supply_step_holds : (old : OldPages) (o : IsOld old) (state : RootState) (key : List ℕ) (need : Option ℕ) → needed_under key state.root ≡ need → IsValidRoot old state.root state.height → Holds old (where_needed old key need state) (root_pairs old state.root)
+supply_step_holds : (old : OldPages) (o : IsOld old) (state : RootState) (key : List ℕ) (need : Option ℕ) → needed_under key state.root ≡ need → IsValidRoot old state.root state.height → HasPairs old (where_needed old key need state) (root_pairs old state.root)
 supply_step_holds old o state key None w v = (v, refl)
 supply_step_holds old o state key (Some n) w v = supply_holds old o state.root state.height key n v w
 
-step_holds : (old : OldPages) (o : IsOld old) (state : RootState) (step : Step) → IsStep step → IsValidRoot old state.root state.height → Holds old (stepped old state step) (changed state (root_pairs old state.root) step)
+step_holds : (old : OldPages) (o : IsOld old) (state : RootState) (step : Step) → IsStep step → IsValidRoot old state.root state.height → HasPairs old (stepped old state step) (changed state (root_pairs old state.root) step)
 step_holds old o state (put_step key value) s v = put_step_holds old o state key value (needed_under key state.root) refl s v
 step_holds old o state (delete_step key) s v = delete_step_holds old o state key (needed_under key state.root) refl v
 step_holds old o state (supply_step key) s v = supply_step_holds old o state key (needed_under key state.root) refl v

@@ -6,8 +6,8 @@ use Rattle.page_store.specs.Reading.{◌>>=◌, where_true}
 use Rattle.page_store.specs.Roots.{is_zero}
 use Rattle.page_store.specs.Keys.{rises, is_between}
 use Rattle.page_store.specs.Pages.{Pair, Child, Head, Place, key_of, child_key, page_word, head_at, pair_at, child_at, entries_at, entries_of, fits_place, leaf_of, branch_of, are_leaf, are_branch}
-use Rattle.page_store.proofs.Fields.{bind_again}
-use Rattle.tree_nodes.specs.PageViews.{in_row, after_entries, are_children}
+use Rattle.page_store.proofs.Fields.{bind_again, bind_some, test_passed}
+use Rattle.tree_nodes.specs.PageViews.{in_row, row_behind, entries_by_head, after_entries, are_children}
 use Rattle.tree_nodes.proofs.KeyOrder.{between_from}
 use Rattle.tree_nodes.proofs.WalksWithinBounds.{not_below_nothing}
 use Rattle.tree_nodes.proofs.EntriesOneByOne.{in_row_all}
@@ -99,3 +99,29 @@ branch_formed place bytes children e r = branch_tested place bytes children e �
 
 pub branch_unformed : (place : Place) (bytes : List ℕ) (children : List Child) → entries_of child_at place bytes ≡ Some children → are_children place.pages children ≡ false → branch_of place [] None bytes ≡ None
 branch_unformed place bytes children e r = branch_tested place bytes children e ∙ rw r refl
+
+-- ---- what the head alone tells
+
+by_head : {E : Type 0} (entry_at : List ℕ → Option (E × List ℕ)) (place : Place) (bytes : List ℕ) (entries : List E) → entries_of entry_at place bytes ≡ Some entries → entries_by_head entry_at bytes ≡ entries
+unfolding entries_of
+by_head entry_at place bytes entries e =
+    let h = bind_some (head_at page_word bytes) (λ head. entries_at entry_at head.0.count head.1 >>= λ es. where_true (fits_place place head.0 && list_all is_zero es.1) (Some es.0)) entries e in
+    let r = bind_some (entries_at entry_at h.0.0.count h.0.1) (λ es. where_true (fits_place place h.0.0 && list_all is_zero es.1) (Some es.0)) entries h.2 in
+    let t = test_passed (fits_place place h.0.0 && list_all is_zero r.0.1) (Some r.0.0) entries r.2 in
+    ap (row_behind entry_at) h.1 ∙ in_row_all entry_at h.0.0.count h.0.1 r.0 r.1 ∙ some_is r.0.0 entries t.1
+
+-- the pairs of a leaf
+pub leaf_told : (place : Place) (low : List ℕ) (high : Option (List ℕ)) (bytes : List ℕ) (pairs : List Pair) → leaf_of place low high bytes ≡ Some pairs → entries_by_head pair_at bytes ≡ pairs
+unfolding leaf_of
+leaf_told place low high bytes pairs e =
+    let f = bind_some (entries_of pair_at place bytes) (λ ps. where_true (are_leaf low high ps) (Some ps)) pairs e in
+    let t = test_passed (are_leaf low high f.0) (Some f.0) pairs f.2 in
+    by_head pair_at place bytes f.0 f.1 ∙ some_is f.0 pairs t.1
+
+-- the children of a branch
+pub branch_told : (place : Place) (low : List ℕ) (high : Option (List ℕ)) (bytes : List ℕ) (children : List Child) → branch_of place low high bytes ≡ Some children → entries_by_head child_at bytes ≡ children
+unfolding branch_of
+branch_told place low high bytes children e =
+    let f = bind_some (entries_of child_at place bytes) (λ cs. where_true (are_branch place.pages low high cs) (Some cs)) children e in
+    let t = test_passed (are_branch place.pages low high f.0) (Some f.0) children f.2 in
+    by_head child_at place bytes f.0 f.1 ∙ some_is f.0 children t.1

@@ -2,7 +2,7 @@
 use Rattle.std.specs.Prelude.{ℕ, zero, suc, Bool, map, ◌&&◌, List, [], ◌∷◌, Option, Some, None, if◌then◌else◌}
 use Rattle.std.specs.List.{list_all}
 use Rattle.page_store.specs.Keys.{precedes, rises}
-use Rattle.page_store.specs.Pages.{Pair, Child, child_key, starts_empty, is_inside, pair_at, child_at}
+use Rattle.page_store.specs.Pages.{Pair, Child, Head, child_key, starts_empty, is_inside, page_word, head_at, pair_at, child_at}
 use Rattle.page_store.specs.Content.{Bounds}
 use Rattle.tree_nodes.specs.declared.page_views.ImageBounds.{ImageBounds}
 
@@ -24,6 +24,15 @@ pairs_in = in_row pair_at
 
 abbrev pub children_in : ℕ → List ℕ → List Child
 children_in = in_row child_at
+
+-- as many entries as a head counts, as far as they have the form
+abbrev pub row_behind : {E : Type 0} → (List ℕ → Option (E × List ℕ)) → Option (Head × List ℕ) → List E
+row_behind entry_at None = []
+row_behind entry_at (Some head) = in_row entry_at head.0.count head.1
+
+-- the entries that a page has by its head alone: where it has the form of a page, they are all of its entries
+abbrev pub entries_by_head : {E : Type 0} → (List ℕ → Option (E × List ℕ)) → List ℕ → List E
+entries_by_head entry_at bytes = row_behind entry_at (head_at page_word bytes)
 
 -- the bytes after so many entries
 abbrev pub after_entries : {E : Type 0} → Option (List E × List ℕ) → Option (List ℕ)

@@ -8,7 +8,7 @@ ghost use Rattle.page_store.specs.Heads.{seen_head, seen_child};
 ghost use Rattle.std.specs.List.{list_all};
 ghost use Rattle.tree_nodes.specs.NodeView.{others_view};
 ghost use Rattle.tree_nodes.specs.Supply.{others_named};
-ghost use Rattle.tree_nodes.specs.PageViews.{bounds_of, pairs_in, children_in, after_entries, are_children, page_on_path};
+ghost use Rattle.tree_nodes.specs.PageViews.{bounds_of, pairs_in, children_in, entries_by_head, after_entries, are_children, page_on_path};
 ghost use Rattle.tree_nodes.specs.declared.fault.NodeFault.TheVariants.{Damaged};
 
 use crate::{Node, NodeFault};
@@ -97,6 +97,22 @@ impl<'a> Leaf<'a> {
         ensures { pairs_in result.count result.entries.now ≡ pairs_in count entries.now }
     {
         Leaf { count, entries }
+    }
+
+    /// The pairs of a page that was tested before, as many as its head counts: nothing is tested again but their sizes. It takes no memory.
+    pub fn of_tested(bytes: &'a [u8; 4096]) -> Leaf<'a>
+        ensures { pairs_in result.count result.entries.now ≡ entries_by_head pair_at bytes.now }
+    {
+        match head_at(&PAGE_WORD, bytes) {
+            Some((head, entries)) => Leaf {
+                count: head.count,
+                entries,
+            },
+            None => Leaf {
+                count: 0,
+                entries: bytes,
+            },
+        }
     }
 
     /// Its first pair, and the others; none where it has none. It takes no memory.
@@ -262,6 +278,22 @@ impl<'a> Branch<'a> {
         match branch_in(bounds, level, page, bytes) {
             Some(branch) => Ok(branch),
             None => Err(NodeFault::Damaged { page }),
+        }
+    }
+
+    /// The children of a page that was tested before, as many as its head counts: nothing is tested again but the sizes of their keys. It takes no memory.
+    pub fn of_tested(bytes: &'a [u8; 4096]) -> Branch<'a>
+        ensures { children_in result.count result.entries.now ≡ entries_by_head child_at bytes.now }
+    {
+        match head_at(&PAGE_WORD, bytes) {
+            Some((head, entries)) => Branch {
+                count: head.count,
+                entries,
+            },
+            None => Branch {
+                count: 0,
+                entries: bytes,
+            },
         }
     }
 

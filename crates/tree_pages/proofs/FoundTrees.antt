@@ -21,7 +21,7 @@ use Rattle.page_store.specs.Keys.{precedes, is_below}
 use Rattle.tree_nodes.proofs.WalksWithinBounds.{is_found, old_pairs, walk_level, walk_wider, not_below_nothing}
 use Rattle.tree_nodes.proofs.EncodedPages.{leaf_again, valid_branch_again}
 use Rattle.tree_pages.specs.Written.{IsWritten, AreWritten, ArePut, AreTreePages, IsTreePage, page_for}
-use Rattle.tree_pages.specs.Reached.{times, found_pages, pages_under, all_under, reached, until, IsLater, IsKept, AreKept, FindsTree}
+use Rattle.tree_pages.specs.Reached.{times, found_pages, pages_under, all_under, reached, until, IsLater, TreeStays, AreKept, FindsTree}
 use Rattle.tree_pages.proofs.Counted.{times_joined, numbers_joined}
 
 put_left : (now : ℕ → List ℕ) (xs ys : List NewPage) → ArePut now (xs ++ ys) → ArePut now xs
@@ -82,7 +82,7 @@ pub under_is : (bytes : ℕ → List ℕ) (bounds : Bounds) (level n : ℕ) (low
 under_is bytes bounds level n low high found e = ap (λ (l : ℕ). found_pages (walk bytes bounds l n [] None)) (walk_level bytes bounds level n low high found e) ∙ ap found_pages (walk_wider bytes bounds level n low [] high None found (not_below_nothing low) (λ key h. refl) e)
 
 module _ (old now : ℕ → List ℕ) (bounds : Bounds) (generation : ℕ) (later : IsLater bounds generation) where
-  named_page : (level m : ℕ) (low : List ℕ) (high : Option (List ℕ)) → is_some (walk old bounds level m low high) ≡ true → IsKept old now bounds m → Finds old now bounds generation level (page m) low high m []
+  named_page : (level m : ℕ) (low : List ℕ) (high : Option (List ℕ)) → is_some (walk old bounds level m low high) ≡ true → TreeStays old now bounds m → Finds old now bounds generation level (page m) low high m []
   named_page level m low high stands kept =
       let f = is_found (walk old bounds level m low high) stands in
       let under = under_is old bounds level m low high f.0 f.1 in (

@@ -49,12 +49,12 @@ pub record IsLater (bounds : Bounds) (generation : ℕ) : Type 0 where
   pub last : generation < 2 ^ 64
 
 -- a page of the image that is there still, with all that is under it
-abbrev pub IsKept : (ℕ → List ℕ) → (ℕ → List ℕ) → Bounds → ℕ → Type 0
-IsKept old now bounds n = IsTreePage bounds.pages n × Agree (pages_under old bounds n) old now
+abbrev pub TreeStays : (ℕ → List ℕ) → (ℕ → List ℕ) → Bounds → ℕ → Type 0
+TreeStays old now bounds n = IsTreePage bounds.pages n × Agree (pages_under old bounds n) old now
 
 abbrev pub AreKept : (ℕ → List ℕ) → (ℕ → List ℕ) → Bounds → List ℕ → Type 0
 AreKept old now bounds [] = Unit {0}
-AreKept old now bounds (n ∷ ns) = IsKept old now bounds n × AreKept old now bounds ns
+AreKept old now bounds (n ∷ ns) = TreeStays old now bounds n × AreKept old now bounds ns
 
 -- A walk from a page finds the pairs of a tree, and reaches the new pages and those that the tree reaches, each as often as they have it.
 pub record FindsTree (old now : ℕ → List ℕ) (bounds : Bounds) (generation level : ℕ) (tree : Tree) (low : List ℕ) (high : Option (List ℕ)) (n : ℕ) (pages : List NewPage) : Type 0 where

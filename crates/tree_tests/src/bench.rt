@@ -34,8 +34,8 @@ fn crashes(alloc: Global, fields: &str) -> Result<String, Trouble> {
     let height = number(height)?;
     let image = crashes::used_image(alloc, height)?;
     let seen = crashes::survives(alloc, &image, &crashes::batch_of(alloc, height, word)?)?;
-    let (stops, images, new) = (seen.stops, seen.images, seen.new);
-    Ok(format!(in alloc; " {stops} stops, {images} images, {new} of them new")?)
+    let (crashes, images, new) = (seen.crashes, seen.images, seen.new);
+    Ok(format!(in alloc; " {crashes} crashes, {images} images, {new} of them new")?)
 }
 
 /// `switched`

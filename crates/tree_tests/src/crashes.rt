@@ -29,7 +29,7 @@ const CALLS: u64 = 2_000;
 #[derive(Clone, Copy)]
 pub struct Seen {
     /// At how many calls it was stopped.
-    pub stops: usize,
+    pub crashes: usize,
     /// How many images were left, and how many of them with the new pairs.
     pub images: usize,
     pub new: usize,
@@ -198,7 +198,7 @@ fn try_all_left(
         }
         return Ok(());
     }
-    let mut dice = Dice::new(seen.stops as u64);
+    let mut dice = Dice::new(seen.crashes as u64);
     for turn in 0..SUBSETS + 2 {
         let picks = some(alloc, count, turn, &mut dice)?;
         try_left(alloc, disk, sides, &picks, is_done, seen)?;
@@ -237,11 +237,11 @@ fn sides_of(alloc: Global, image: &[[u8; 512]], batch: &[Edit]) -> Result<Sides,
     }
 }
 
-/// Stops the commit of a batch at each call: every image that is left has the old pairs or the new ones, the new ones once it is answered, and takes one more commit.
+/// Ends the commit of a batch at each call: every image that is left has the old pairs or the new ones, the new ones once it is answered, and takes one more commit.
 pub fn survives(alloc: Global, image: &[[u8; 512]], batch: &[Edit]) -> Result<Seen, Trouble> {
     let sides = sides_of(alloc, image, batch)?;
     let mut seen = Seen {
-        stops: 0,
+        crashes: 0,
         images: 0,
         new: 0,
     };
@@ -249,7 +249,7 @@ pub fn survives(alloc: Global, image: &[[u8; 512]], batch: &[Edit]) -> Result<Se
         let Some((is_done, disk)) = stopped(alloc, image, batch, calls)? else {
             continue;
         };
-        seen.stops = seen.stops.saturating_add(1);
+        seen.crashes = seen.crashes.saturating_add(1);
         try_all_left(alloc, &disk, &sides, is_done, &mut seen)?;
         if is_done {
             return Ok(seen);

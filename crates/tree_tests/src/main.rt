@@ -4,7 +4,7 @@
 //! lines and those that begin with `#` stand for themselves.
 //!
 //! - `random SEED BATCHES` commits batches to a tree and to flat pages, and compares them.
-//! - `crashes HEIGHT BATCH` stops the commit of a batch, `new`, `over`, `delete` or `split`, at each call of the device, and opens what may be left.
+//! - `crashes HEIGHT BATCH` ends the commit of a batch, `new`, `over`, `delete` or `split`, at each call of the device, and opens what may be left.
 //! - `switched` commits over root slots of generations 98 and 99; `torn HALF` opens an image whose newer root slot has lost that half, 0 or 1, and `both_torn HALF` one with
 //!   two such slots; `spent SECTORS` commits where so many sectors of the second slot are of the last generation.
 //! - `room` fills an image of 16 pages; `one_more PAIRS` puts another pair into one with so many; `emptied PAIRS` takes all from it.

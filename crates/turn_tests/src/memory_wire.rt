@@ -109,23 +109,23 @@ impl Wire for MemoryWire {
 /// A clock that always tells the start of 1970.
 #[derive(Drop)]
 pub struct StandingClock {
-    told: MomentLog,
+    given: MomentLog,
 }
 
 impl StandingClock {
     pub fn new() -> StandingClock {
         StandingClock {
-            told: MomentLog::new(),
+            given: MomentLog::new(),
         }
     }
 }
 
 impl Clock for StandingClock {
-    ghost told = { λ clock. clock.told.moments };
+    ghost given = { λ clock. clock.given.moments };
 
     fn now(&mut self) -> Stamp {
         let now = Stamp::start();
-        self.told.note(now);
+        self.given.note(now);
         now
     }
 }

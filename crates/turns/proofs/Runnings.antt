@@ -20,7 +20,7 @@ use Rattle.turns.specs.Runs.{moment_of, moments, HasRun}
 pub run_as : {H : Type 0} (ran : H → List Event → List Outcome → H → Type 0) (old new : H) (t u : List ℕ) (P Q : List Event → List Outcome → Type 0) → HasRun ran old new t u P → ((es : List Event) (os : List Outcome) → P es os → Q es os) → HasRun ran old new t u Q
 run_as ran old new t u P Q r f = record { events = r.events; outcomes = r.outcomes; led = r.led; moments_are = r.moments_are; holds = f r.events r.outcomes r.holds }
 
--- A clock that was not asked told nothing, whatever it told before.
+-- A clock that was not asked gave nothing, whatever it gave before.
 pub untold : {H : Type 0} (ran : H → List Event → List Outcome → H → Type 0) (old new : H) (t : List ℕ) (P : List Event → List Outcome → Type 0) → HasRun ran old new [] [] P → HasRun ran old new t t P
 untold ran old new t P r = record { events = r.events; outcomes = r.outcomes; led = r.led; moments_are = sym (append-nil t) ∙ ap (λ l. t ++ l) r.moments_are; holds = r.holds }
 
@@ -32,11 +32,11 @@ module _ {S L : Type 0} (site_state : S → SiteState) (lacks : S → Change →
 
   -- one call
   pub run_one : {bound : _} {ghosts : _} (old new : Hub S bound ghosts) (e : Event) (o : Outcome) (t u : List ℕ) (P : List Event → List Outcome → Type 0) → HubCall site_state lacks crash_states stands old e o new → u ≡ t ++ moment_of e → P (e ∷ []) (o ∷ []) → HasRun (HubRun site_state lacks crash_states stands) old new t u P
-  run_one old new e o t u P call told p = record {
+  run_one old new e o t u P call given p = record {
     events = e ∷ [];
     outcomes = o ∷ [];
     led = hub_run site_state lacks crash_states stands law old new (e ∷ []) (o ∷ []) (world_of site_state new, keeper_of new, call, (refl, refl));
-    moments_are = told ∙ ap (λ l. t ++ l) (sym (append-nil (moment_of e)));
+    moments_are = given ∙ ap (λ l. t ++ l) (sym (append-nil (moment_of e)));
     holds = p;
   }
 

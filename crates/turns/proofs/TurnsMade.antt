@@ -195,7 +195,7 @@ times_next n step old mid new es fs os ps before one = subst (λ m. Times m step
 pub passes_made : {W : Type 0} (calls : W → List WireCall) (count : ℕ) (old new : List (Connection W)) (es : List Event) (os : List Outcome) → count ≤ 1000000 → (count < 1000000 → AreClosed new) → Times count (InOrder (For calls Turn)) old es os new → Passes calls old es os new
 passes_made calls count old new es os few until passes = record { count = count; few = few; passes = passes; until = until }
 
--- a client is told nothing of what the hub took
+-- a client hears nothing of what the hub took
 pub says_nothing : (status : InputStatus) → heard_reply (heard_outcome status) ≡ []
 says_nothing statuses.More = refl
 says_nothing statuses.Ready = refl

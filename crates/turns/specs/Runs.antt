@@ -1,4 +1,4 @@
--- Events that were run over a hub, at moments that a clock told.
+-- Events that were run over a hub, at moments that a clock gave.
 use Rattle.std.specs.Prelude.{◌≡◌, ℕ, List, [], ◌∷◌, ◌++◌, flat_map}
 use Rattle.session_core.specs.declared.event.Event.{Event}
 use Rattle.session_core.specs.declared.event.Event.TheVariants.{Join, Bytes, End, Draw, Leave, Admin}
@@ -16,7 +16,7 @@ moment_of (Admin change now) = now ∷ []
 abbrev pub moments : List Event → List ℕ
 moments es = flat_map moment_of es
 
--- Some events led from one hub to another, at the moments that a clock told meanwhile, and this holds of them and of their outcomes.
+-- Some events led from one hub to another, at the moments that a clock gave meanwhile, and this holds of them and of their outcomes.
 pub record HasRun {H : Type 0} (ran : H → List Event → List Outcome → H → Type 0) (old new : H) (told_before told_now : List ℕ) (P : List Event → List Outcome → Type 0) : Type 0 where
   pub events : List Event
   pub outcomes : List Outcome

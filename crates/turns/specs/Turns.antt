@@ -67,12 +67,12 @@ heard_stage id outcomes.More = Listening id
 heard_stage id outcomes.Ready = Replying id
 heard_stage id outcome = Left
 
--- Where there is no room for its post the client is told to try again later; it is told of no other fault.
+-- Where there is no room for its post the client is asked to try again later; it hears of no other fault.
 abbrev pub heard_reply : Outcome → List ℕ
 heard_reply (outcomes.Fault (Full need free)) = error_reply true TryAgainLater []
 heard_reply outcome = []
 
--- One read into room for 512 bytes, which the hub is told as one event at a moment.
+-- One read into room for 512 bytes, which the hub gets as one event at a moment.
 pub record Hears (id : ℕ) (t : Trace) (after : Stage) : Type 0 where
   pub piece : List ℕ
   pub now : ℕ
@@ -86,7 +86,7 @@ pub record Hears (id : ℕ) (t : Trace) (after : Stage) : Type 0 where
   pub reply : IsSent (heard_reply outcome) sent whole
   pub after_is : after ≡ heard_stage id outcome
 
--- A read that failed: the hub is told nothing.
+-- A read that failed: the hub gets nothing.
 pub record HearsNothing (t : Trace) (after : Stage) : Type 0 where
   pub is : t ≡ trace (ReadFailed 512 ∷ []) [] []
   pub after_is : after ≡ Left

@@ -7,15 +7,15 @@ use std::marker::Model;
 
 /// What tells the moments of events.
 pub trait Clock {
-    /// All moments that it told, in order.
-    ghost told: { Self → List ℕ };
+    /// All moments that it gave, in order.
+    ghost given: { Self → List ℕ };
 
     /// The moment now.
     fn now(&mut self) -> Stamp
-        ensures { told self.new ≡ told self.old ++ result ∷ [] };
+        ensures { given self.new ≡ given self.old ++ result ∷ [] };
 }
 
-/// The moments that a clock told, in order. Only clauses read it, and it takes no memory.
+/// The moments that a clock gave, in order. Only clauses read it, and it takes no memory.
 #[derive(Drop)]
 pub struct MomentLog {
     pub ghost moments: { List ℕ },
@@ -40,7 +40,7 @@ impl MomentLog {
         MomentLog {}
     }
 
-    /// Notes a moment that was told.
+    /// Notes a moment that was given.
     pub fn note(&mut self, moment: Stamp)
         ensures { self.new.moments ≡ self.old.moments ++ moment ∷ [] }
     {

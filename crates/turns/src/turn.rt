@@ -19,7 +19,7 @@ use word_index::SearchKeeper;
 /// How many bytes are read or drawn in a turn, at most.
 pub const PIECE: usize = 512;
 
-/// What a client is told where there is no room for its post, by Gopher+.
+/// What a client gets where there is no room for its post, by Gopher+.
 #[tactic(auto, unfolding(text_writer::specs::Errors::plus_error, text_writer::specs::Errors::words_of))]
 pub fn try_again_later() -> &'static [u8]
     ensures { result.now ≡ error_reply true TryAgainLater [] }
@@ -27,7 +27,7 @@ pub fn try_again_later() -> &'static [u8]
     b"--1\r\n2 Try again later\r\n.\r\n"
 }
 
-/// The client is told to try again later where there is no room for its post, and of no other fault.
+/// The client is asked to try again later where there is no room for its post, and of no other fault.
 fn refused<W: Wire>(wire: &mut W, fault: HubFault)
     ensures { HasMade (W.calls wire.old) (W.calls wire.new) (λ made. (whole : Bool) × IsSent (heard_reply (Fault fault)) made whole) }
 {
@@ -50,7 +50,7 @@ fn stage_after(id: u64, status: InputStatus) -> Stage
     }
 }
 
-/// Where a session is once what it heard is answered, and what its client is told of that.
+/// Where a session is once what it heard is answered, and what its client hears of that.
 fn heard<W: Wire>(wire: &mut W, id: u64, answer: Result<InputStatus, HubFault>) -> Stage
     ensures stage { result ≡ heard_stage id (bytes_outcome answer) }
     ensures reply { HasMade (W.calls wire.old) (W.calls wire.new) (λ made. (whole : Bool) × IsSent (heard_reply (bytes_outcome answer)) made whole) }
@@ -64,7 +64,7 @@ fn heard<W: Wire>(wire: &mut W, id: u64, answer: Result<InputStatus, HubFault>) 
     }
 }
 
-/// The hub is told what was read: no bytes are the end.
+/// The hub gets what was read: no bytes are the end.
 pub fn tell<S: SearchKeeper>(
     hub: &mut Hub<S>,
     id: u64,
@@ -87,7 +87,7 @@ fn hear<S: SearchKeeper, W: Wire, C: Clock>(
     clock: &mut C,
     id: u64,
 ) -> Stage
-    ensures { HasRun (HubRun S.site_state S.lacks S.crash_states S.represents) hub.old hub.new (C.told clock.old) (C.told clock.new) (λ es os. HasMade (W.calls wire.old) (W.calls wire.new) (λ made. Hears id (trace made es os) result ⊎ HearsNothing (trace made es os) result)) }
+    ensures { HasRun (HubRun S.site_state S.lacks S.crash_states S.represents) hub.old hub.new (C.given clock.old) (C.given clock.new) (λ es os. HasMade (W.calls wire.old) (W.calls wire.new) (λ made. Hears id (trace made es os) result ⊎ HearsNothing (trace made es os) result)) }
 {
     let mut buffer = [0; PIECE];
     let Ok(count) = wire.read(&mut buffer) else {
@@ -161,7 +161,7 @@ pub(crate) fn take_turn<S: SearchKeeper, W: Wire, C: Clock>(
     connection: &mut Connection<W>,
     clock: &mut C,
 )
-    ensures { HasRun (HubRun S.site_state S.lacks S.crash_states S.represents) hub.old hub.new (C.told clock.old) (C.told clock.new) (λ es os. For W.calls Turn connection.old es os connection.new) }
+    ensures { HasRun (HubRun S.site_state S.lacks S.crash_states S.represents) hub.old hub.new (C.given clock.old) (C.given clock.new) (λ es os. For W.calls Turn connection.old es os connection.new) }
 {
     match connection.stage {
         Stage::Listening(id) => {

@@ -28,7 +28,7 @@ fn pass<S: SearchKeeper, W: Wire, C: Clock>(
     connections: &mut [Connection<W>],
     clock: &mut C,
 )
-    ensures { HasRun (HubRun S.site_state S.lacks S.crash_states S.represents) hub.old hub.new (C.told clock.old) (C.told clock.new) (λ es os. InOrder (For W.calls Turn) connections.old es os connections.new) }
+    ensures { HasRun (HubRun S.site_state S.lacks S.crash_states S.represents) hub.old hub.new (C.given clock.old) (C.given clock.new) (λ es os. InOrder (For W.calls Turn) connections.old es os connections.new) }
 {
     for connection in connections.iter_mut() {
         take_turn(hub, connection, clock);
@@ -48,7 +48,7 @@ fn pass_on<S: SearchKeeper, W: Wire, C: Clock>(
     connections: &mut [Connection<W>],
     clock: &mut C,
 )
-    ensures { HasRun (HubRun S.site_state S.lacks S.crash_states S.represents) hub.old hub.new (C.told clock.old) (C.told clock.new) (λ es os. Passes W.calls connections.old es os connections.new) }
+    ensures { HasRun (HubRun S.site_state S.lacks S.crash_states S.represents) hub.old hub.new (C.given clock.old) (C.given clock.new) (λ es os. Passes W.calls connections.old es os connections.new) }
 {
     for _pass in 0..MOST_PASSES {
         if are_closed(connections) {
@@ -74,7 +74,7 @@ pub fn take_turns<S: SearchKeeper, W: Wire, C: Clock>(
     connections: &mut [Connection<W>],
     clock: &mut C,
 ) -> u64
-    ensures serves { HasRun (HubRun S.site_state S.lacks S.crash_states S.represents) hub.old hub.new (C.told clock.old) (C.told clock.new) (λ es os. Serves W.calls connections.old es os connections.new) }
+    ensures serves { HasRun (HubRun S.site_state S.lacks S.crash_states S.represents) hub.old hub.new (C.given clock.old) (C.given clock.new) (λ es os. Serves W.calls connections.old es os connections.new) }
     ensures closed { AreClosed connections.new }
     ensures count { result ≡ length (filter (λ c. is_served c.stage) connections.new) }
 {

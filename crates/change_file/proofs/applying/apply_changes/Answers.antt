@@ -7,7 +7,7 @@ use Rattle.common_types.specs.CrashStates.{AddsOnly}
 use Rattle.change_file.specs.declared.fault.FileChange.{FileChange}
 use Rattle.change_file.specs.Applied.{RepresentsFront}
 use Rattle.change_file.proofs.Lists.{parts_at}
-use Rattle.change_file.proofs.Fronts.{take_front, stopped, earlier_stay, crash_more, crash_refused, goes_on}
+use Rattle.change_file.proofs.Fronts.{take_front, stopped, earlier_stay, crash_more, crash_refused, goes_on, seen_more}
 use Rattle.change_file.proofs.applying.apply_changes.Goals as goal
 
 -- the changes are those that were made, the one in hand, and those behind it
@@ -45,4 +45,5 @@ loop-change-preserved g c = record {
   so_far = goes_on g.S.SiteKeeper.site_state g.S.SiteKeeper.lacks g.S.SiteKeeper.crash_states g.S.SiteKeeper.represents c.args.site.now c.loop-change.site c.apply_one.new.site c.loop-change.yielded c.in-Some.change c.args.now c.loop-change.invariant.so_far
       (λ honest. search (rules, c.apply_one.ensures.done honest)) (search rules) c.apply_one.ensures.tried.tried c.apply_one.ensures.at_crash c.apply_one.ensures.tried.no_new_crash_state_when_closed;
   counted = omega (arith, c.loop-change.invariant.counted, length-append c.loop-change.yielded (c.in-Some.change ∷ []));
+  seen = c.made.ensures ∙ seen_more _ (length c.loop-change.yielded) _ _ _ (omega (arith, c.loop-change.invariant.counted)) (length-append c.loop-change.yielded (c.in-Some.change ∷ []));
 }

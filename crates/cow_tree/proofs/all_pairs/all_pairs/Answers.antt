@@ -1,4 +1,4 @@
-use Rattle.std.proofs.Common.{◌≡◌, ◌≤◌, true, List, [], ◌∷◌, length, Option, IfSome, Some, None, refl, sym, ap, subst, ◌∙◌, arith, IsTrue}
+use Rattle.std.proofs.Common.{◌≡◌, true, List, [], ◌∷◌, length, Option, IfSome, Some, None, sym, ap, subst, ◌∙◌, arith, IsTrue}
 use Rattle.std.proofs.lemmas.List.{length-append}
 use Rattle.std.proofs.lemmas.Result.{err_from_is_err_and}
 use Rattle.sector_device.specs.Disk.{Disk}
@@ -10,7 +10,7 @@ use Rattle.page_store.specs.Content.{tree_found}
 use Rattle.page_store.specs.PairsInOrder.{last_key}
 use Rattle.page_store.proofs.PairsInOrder.{first_more, first_all}
 use Rattle.cow_tree.specs.Opening.{bounds_under}
-use Rattle.cow_tree.specs.KeptLeaves.{IsKept}
+use Rattle.cow_tree.specs.KeptLeaves.{IsKeptLeaf}
 use Rattle.cow_tree.specs.Compacting.{most_pairs}
 use Rattle.cow_tree.proofs.PathReads.{tells_fault}
 use Rattle.cow_tree.proofs.PairsRead.{map_more, one_too_many}
@@ -25,10 +25,10 @@ returns-in_err-pair-clause-pairs g c = λ keeps found is few.
     let inv = c.loop-pairs.invariant in
     let same : (state c.loop-pairs.device).disk.view ≡ (state c.args.device.now).disk.view = ap (λ (x : Disk). x.view) (inv.device.only.disk keeps) in
     let here = subst (λ (v : Image). tree_found slot (page_of v) ≡ Some found) (sym same) is in
-    let kept = subst (λ (v : Image). IsKept (page_of v) (bounds_under slot) found c.loop-pairs.kept) (sym same) (inv.first keeps found is).1 in
-    let told = c.in_err-pair.ensures.pair (subst IsTrue (sym inv.device.only.same.honest) keeps) found here kept in
+    let kept = subst (λ (v : Image). IsKeptLeaf (page_of v) (bounds_under slot) found c.loop-pairs.kept) (sym same) (inv.first keeps found is).1 in
+    let answered = c.in_err-pair.ensures.pair (subst IsTrue (sym inv.device.only.same.honest) keeps) found here kept in
     let e = err_from_is_err_and c.from_residual.result c.from_residual.ensures.1 in
-    rw (e.1, e.2) (tells_fault ⊥ ⊥ c.in_err-pair.field-0.0 _ _ (λ h. h) told)
+    rw (e.1, e.2) (tells_fault ⊥ ⊥ c.in_err-pair.field-0.0 _ _ (λ h. h) answered)
 
 pub returns-then-len-ge-MOST_PAIRS-clause-pairs : goal.returns-then-len-ge-MOST_PAIRS-clause-pairs
 returns-then-len-ge-MOST_PAIRS-clause-pairs g c = λ keeps found is few.
@@ -37,7 +37,7 @@ returns-then-len-ge-MOST_PAIRS-clause-pairs g c = λ keeps found is few.
     let inv = c.loop-pairs.invariant in
     let same : (state c.loop-pairs.device).disk.view ≡ (state c.args.device.now).disk.view = ap (λ (x : Disk). x.view) (inv.device.only.disk keeps) in
     let here = subst (λ (v : Image). tree_found slot (page_of v) ≡ Some found) (sym same) is in
-    let kept = subst (λ (v : Image). IsKept (page_of v) (bounds_under slot) found c.loop-pairs.kept) (sym same) (inv.first keeps found is).1 in
+    let kept = subst (λ (v : Image). IsKeptLeaf (page_of v) (bounds_under slot) found c.loop-pairs.kept) (sym same) (inv.first keeps found is).1 in
     let next : Some c.in-Some.pair ≡ pair_after found.pairs (last_key c.loop-pairs.pairs.items) =
     sym c.in-Some.is ∙ c.in_ok-pair.ensures.pair (subst IsTrue (sym inv.device.only.same.honest) keeps) found here kept ∙ ap (λ (l : List Pair). pair_after found.pairs (last_key l)) c.deref.ensures.value in
     let full = c.if-len-ge-MOST_PAIRS.true in
@@ -49,19 +49,19 @@ loop-pairs-preserved g c =
     let state = g.D.Device.state in
     let slot = c.args.slot.now in
     let inv = c.loop-pairs.invariant in
-    let told = c.in_ok-pair.ensures in
+    let answered = c.in_ok-pair.ensures in
     let items = c.in_ok-push.ensures.items in
-    let rises = subst (λ (o : Option Pair). IfSome o (λ p. (precedes (last_key c.deref.result.now) p.0 ≡ true) × (is_pair p ≡ true))) c.in-Some.is told.rises in
+    let rises = subst (λ (o : Option Pair). IfSome o (λ p. (precedes (last_key c.deref.result.now) p.0 ≡ true) × (is_pair p ≡ true))) c.in-Some.is answered.rises in
     let after : precedes (last_key c.loop-pairs.pairs.items) c.in-Some.pair.0 ≡ true = subst (λ (l : List Pair). precedes (last_key l) c.in-Some.pair.0 ≡ true) c.deref.ensures.value rises.0 in
     record {
       first = λ keeps found is.
           let same : (state c.loop-pairs.device).disk.view ≡ (state c.args.device.now).disk.view = ap (λ (x : Disk). x.view) (inv.device.only.disk keeps) in
           let here = subst (λ (v : Image). tree_found slot (page_of v) ≡ Some found) (sym same) is in
-          let kept = subst (λ (v : Image). IsKept (page_of v) (bounds_under slot) found c.loop-pairs.kept) (sym same) (inv.first keeps found is).1 in
+          let kept = subst (λ (v : Image). IsKeptLeaf (page_of v) (bounds_under slot) found c.loop-pairs.kept) (sym same) (inv.first keeps found is).1 in
           let now = subst IsTrue (sym inv.device.only.same.honest) keeps in
-          let next : Some c.in-Some.pair ≡ pair_after found.pairs (last_key c.loop-pairs.pairs.items) = sym c.in-Some.is ∙ told.pair now found here kept ∙ ap (λ (l : List Pair). pair_after found.pairs (last_key l)) c.deref.ensures.value in
+          let next : Some c.in-Some.pair ≡ pair_after found.pairs (last_key c.loop-pairs.pairs.items) = sym c.in-Some.is ∙ answered.pair now found here kept ∙ ap (λ (l : List Pair). pair_after found.pairs (last_key l)) c.deref.ensures.value in
           let more = first_more c.loop-pairs.pairs.items found.pairs c.in-Some.pair (found_map slot (page_of (state c.args.device.now).disk.view) found is) (inv.first keeps found is).0 next in
-          (rw items more, subst (λ (v : Image). IsKept (page_of v) (bounds_under slot) found c.pair_behind.new.kept) same (c.pair_behind.ensures.kept now found here kept));
+          (rw items more, subst (λ (v : Image). IsKeptLeaf (page_of v) (bounds_under slot) found c.pair_behind.new.kept) same (c.pair_behind.ensures.kept now found here kept));
       map = rw items (map_more c.loop-pairs.pairs.items c.in-Some.pair inv.map after rises.1);
       few =
           let less = c.if-len-ge-MOST_PAIRS.false in
@@ -69,8 +69,8 @@ loop-pairs-preserved g c =
           let all = ap (λ (l : List Pair). length l) items in
           let one = length-append c.loop-pairs.pairs.items (c.in-Some.pair ∷ []) in
           omega (arith, less, size, all, one);
-      device = reads_again inv.device c.pair_behind.ensures.reads.device;
-      reads = told.reads.reads ∙ inv.reads;
+      device = reads_again inv.device c.pair_behind.ensures.reads.counted.device;
+      reads = answered.reads.counted.reads ∙ inv.reads;
     }
 
 pub returns-clause-pairs : goal.returns-clause-pairs
@@ -80,7 +80,7 @@ returns-clause-pairs g c = λ keeps found is few.
     let inv = c.loop-pairs.invariant in
     let same : (state c.loop-pairs.device).disk.view ≡ (state c.args.device.now).disk.view = ap (λ (x : Disk). x.view) (inv.device.only.disk keeps) in
     let here = subst (λ (v : Image). tree_found slot (page_of v) ≡ Some found) (sym same) is in
-    let kept = subst (λ (v : Image). IsKept (page_of v) (bounds_under slot) found c.loop-pairs.kept) (sym same) (inv.first keeps found is).1 in
+    let kept = subst (λ (v : Image). IsKeptLeaf (page_of v) (bounds_under slot) found c.loop-pairs.kept) (sym same) (inv.first keeps found is).1 in
     let next : None ≡ pair_after found.pairs (last_key c.loop-pairs.pairs.items) =
     sym c.in_default.is ∙ c.in_ok-pair.ensures.pair (subst IsTrue (sym inv.device.only.same.honest) keeps) found here kept ∙ ap (λ (l : List Pair). pair_after found.pairs (last_key l)) c.deref.ensures.value in
     first_all c.loop-pairs.pairs.items found.pairs (found_map slot (page_of (state c.args.device.now).disk.view) found is) (inv.first keeps found is).0 next

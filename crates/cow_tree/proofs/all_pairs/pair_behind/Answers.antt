@@ -1,7 +1,6 @@
-use Rattle.std.proofs.Common.{◌≡◌, ◌≤◌, ℕ, true, List, Option, IfSome, Some, sym, ap, subst, take, ◌∙◌}
+use Rattle.std.proofs.Common.{◌≡◌, ◌≤◌, ℕ, true, List, Option, IfSome, sym, ap, subst, take, ◌∙◌}
 use Rattle.std.specs.Prelude.{option_map}
 use Rattle.page_store.specs.Keys.{precedes}
-use Rattle.page_store.specs.Pages.{Pair}
 use Rattle.cow_tree.proofs.PairsRead.{behind_fits}
 use Rattle.cow_tree.proofs.all_pairs.pair_behind.Goals as goal
 

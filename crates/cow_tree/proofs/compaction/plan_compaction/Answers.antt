@@ -14,9 +14,9 @@ pub returns-in_err-pairs-clause-planned : goal.returns-in_err-pairs-clause-plann
 returns-in_err-pairs-clause-planned g c = λ keeps top held there seal.
     let state = g.D.Device.state c.args.device.now in
     let slot = c.args.slot.now in
-    let told = c.in_err-pairs.ensures.pairs keeps (found_under slot state.disk.view) there.found_is (keys_bounded state.size slot state.disk.view c.args.ledger.now c.requires.fitted there) in
+    let answered = c.in_err-pairs.ensures.pairs keeps (found_under slot state.disk.view) there.found_is (keys_bounded state.size slot state.disk.view c.args.ledger.now c.requires.fitted there) in
     let e = err_from_is_err_and c.from_residual.result c.from_residual.ensures.1 in
-    rw (e.1, e.2) (tells_fault ⊥ ⊥ c.in_err-pairs.field-0.0 _ _ (λ h. h) told)
+    rw (e.1, e.2) (tells_fault ⊥ ⊥ c.in_err-pairs.field-0.0 _ _ (λ h. h) answered)
 
 pub returns-in-Ok-clause-planned : goal.returns-in-Ok-clause-planned
 returns-in-Ok-clause-planned g c = λ keeps top held there seal.
@@ -39,8 +39,8 @@ returns-in-Ok-clause-planned g c = λ keeps top held there seal.
 pub returns-in-Err-clause-planned : goal.returns-in-Err-clause-planned
 returns-in-Err-clause-planned g c = λ keeps top held there seal.
     let view = (g.D.Device.state c.args.device.now).disk.view in
-    let told = c.in-Err.ensures.planned view top held (λ n. ap is_taken (untaken_at_rest c.args.ledger.now c.requires.fitted.rest.unmarked n)) seal in
-    tells_fault ⊥ ⊥ c.in-Err.fault _ _ (λ h. h) told
+    let answered = c.in-Err.ensures.planned view top held (λ n. ap is_taken (untaken_at_rest c.args.ledger.now c.requires.fitted.rest.unmarked n)) seal in
+    tells_fault ⊥ ⊥ c.in-Err.fault _ _ (λ h. h) answered
 
 pub returns-in-Err-clause-refused : goal.returns-in-Err-clause-refused
 returns-in-Err-clause-refused g c = c.abandon.ensures ∙ abandoned_again c.args.ledger.now c.plan_pairs.new.ledger c.plan_pairs.ensures.marks c.requires.fitted.rest.unmarked

@@ -1,9 +1,8 @@
-use Rattle.std.proofs.Common.{◌≡◌, ◌≤◌, ℕ, length, refl, sym, ap, ◌∙◌, arith}
+use Rattle.std.proofs.Common.{length, refl, sym, ap, ◌∙◌, arith}
 use Rattle.std.proofs.lemmas.Result.{IfOk-weaker, IfErr-weaker}
 use Rattle.page_store.specs.declared.banner.Banner.{Banner}
 use Rattle.tree_nodes.specs.Growth.{owned_under}
 use Rattle.tree_nodes.specs.Steps.{RootState}
-use Rattle.tree_loading.specs.Filled.{filled}
 use Rattle.tree_loading.proofs.RootsMade.{filled_height}
 use Rattle.cow_tree.specs.Plans.{levels_of}
 use Rattle.cow_tree.proofs.PlansMade.{held_still}

@@ -31,9 +31,9 @@ returns-in_err-draft-clause-draft g c = λ keeps pairs first keys map_is room.
     let lt = c.loop-edit-test.true in
     let few = so_far.1 in
     let small : length (updated pairs (take i batch)) < 2 ^ 64 - 1 = omega (arith, lt, few, room) in
-    let told = c.in_err-draft.ensures.draft (subst IsTrue (sym inv.device.only.same.honest) keeps) i (updated pairs (take i batch)) here small in
+    let answered = c.in_err-draft.ensures.draft (subst IsTrue (sym inv.device.only.same.honest) keeps) i (updated pairs (take i batch)) here small in
     let e = err_from_is_err_and c.from_residual.result c.from_residual.ensures.1 in
-    rw (e.1, e.2) (tells_fault (MayBeTooDeep slot (i + 1)) (MayBeTooDeep slot (length batch)) c.in_err-draft.field-0.0 _ _ (deeper slot (i + 1) (length batch) (omega (arith, lt))) told)
+    rw (e.1, e.2) (tells_fault (MayBeTooDeep slot (i + 1)) (MayBeTooDeep slot (length batch)) c.in_err-draft.field-0.0 _ _ (deeper slot (i + 1) (length batch) (omega (arith, lt))) answered)
 
 pub loop-edit-preserved : goal.loop-edit-preserved
 loop-edit-preserved g c =
@@ -52,19 +52,19 @@ loop-edit-preserved g c =
           let here = subst (λ (v : Image). IsCounted slot v i before c.loop-edit.ledger c.loop-edit.draft) (sym same) so_far.0 in
           let few = so_far.1 in
           let small : length (updated pairs (take i batch)) < 2 ^ 64 - 1 = omega (arith, lt, few, room) in
-          let told = more.draft (subst IsTrue (sym inv.device.only.same.honest) keeps) i before here small in
+          let answered = more.draft (subst IsTrue (sym inv.device.only.same.honest) keeps) i before here small in
           let next = updated_more pairs batch i c.edit-item.result lt c.edit-item.is in
           let rise = both_true (rises (map key_of before)) (list_all is_pair before) so_far.0.map in
           let most = edited_most before c.edit-item.result rise.0 in
           let size = ap (λ (l : List Pair). length l) next in (
-            subst (λ (l : List Pair). IsCounted slot (state c.args.device.now).disk.view (i + 1) l c.edit.new.ledger c.in_ok-draft.draft) next (subst (λ (v : Image). IsCounted slot v (i + 1) (edited before c.edit-item.result) c.edit.new.ledger c.in_ok-draft.draft) same told),
+            subst (λ (l : List Pair). IsCounted slot (state c.args.device.now).disk.view (i + 1) l c.edit.new.ledger c.in_ok-draft.draft) next (subst (λ (v : Image). IsCounted slot v (i + 1) (edited before c.edit-item.result) c.edit.new.ledger c.in_ok-draft.draft) same answered),
             omega (arith, most, size, few),
             subst (λ (v : Image). state_of c.in_ok-draft.draft.tree ≡ edit_made (old_under slot v) slot.root.height (state_of c.loop-edit.draft.tree) c.edit-item.result) same (more.made (subst IsTrue (sym inv.device.only.same.honest) keeps) i before here)
                 ∙ ap (λ (s : RootState). edit_made (old_under slot (state c.args.device.now).disk.view) slot.root.height s c.edit-item.result) so_far.2
                 ∙ drafted_more slot (state c.args.device.now).disk.view batch i c.edit-item.result lt c.edit-item.is,
           );
       low = more.low;
-      ledger = retires_again c.args.ledger.now c.loop-edit.ledger c.edit.new.ledger inv.ledger c.edit.ensures.ledger;
-      device = reads_again inv.device c.edit.ensures.reads.device;
-      reads = more.reads.reads ∙ inv.reads;
+      ledger = retires_again c.args.ledger.now c.loop-edit.ledger c.edit.new.ledger inv.ledger c.edit.ensures.reads.ledger;
+      device = reads_again inv.device c.edit.ensures.reads.counted.device;
+      reads = more.reads.counted.reads ∙ inv.reads;
     }

@@ -35,18 +35,18 @@ loop-page-preserved g c =
           let p = inv.draft keeps edits pairs d in
           let same : (state c.loop-page.device).disk.view ≡ (state c.args.device.now).disk.view = ap (λ (x : Disk). x.view) (inv.device.only.disk keeps) in
           let here = subst (λ (v : Image). IsDraft slot v edits p.0 pairs c.loop-page.ledger (state_of c.loop-page.tree)) (sym same) p.1 in
-          let told = more.draft (subst IsTrue (sym inv.device.only.same.honest) keeps) edits p.0 pairs here in (
+          let answered = more.draft (subst IsTrue (sym inv.device.only.same.honest) keeps) edits p.0 pairs here in (
             p.0 + 1,
-            subst (λ (v : Image). IsDraft slot v edits (p.0 + 1) pairs c.read_needed.new.ledger (state_of c.read_needed.new.tree)) same told,
+            subst (λ (v : Image). IsDraft slot v edits (p.0 + 1) pairs c.read_needed.new.ledger (state_of c.read_needed.new.tree)) same answered,
             path_goes_on slot (state c.args.device.now).disk.view edits pairs c.args.key.now p.0 c.in-Some.page (state_of c.loop-page.tree) (state_of c.read_needed.new.tree) p.2 (sym c.needed.ensures ∙ c.in-Some.is) more.down,
             subst (λ (v : Image). state_of c.read_needed.new.tree ≡ stepped (old_under slot v) (state_of c.loop-page.tree) (supply_step c.args.key.now)) same (more.read (subst IsTrue (sym inv.device.only.same.honest) keeps))
                 ∙ ap (λ (s : RootState). stepped (old_under slot (state c.args.device.now).disk.view) s (supply_step c.args.key.now)) p.3
                 ∙ sym (read_more (old_under slot (state c.args.device.now).disk.view) c.args.key.now p.0 (state_of c.args.tree.now)),
           );
       height = more.height ∙ inv.height;
-      ledger = retires_again c.args.ledger.now c.loop-page.ledger c.read_needed.new.ledger inv.ledger c.read_needed.ensures.ledger;
-      device = reads_again inv.device c.read_needed.ensures.reads.device;
-      reads = more.reads.reads ∙ inv.reads;
+      ledger = retires_again c.args.ledger.now c.loop-page.ledger c.read_needed.new.ledger inv.ledger c.read_needed.ensures.reads.ledger;
+      device = reads_again inv.device c.read_needed.ensures.reads.counted.device;
+      reads = more.reads.counted.reads ∙ inv.reads;
     }
 
 pub returns-in_err-read_needed-clause-draft : goal.returns-in_err-read_needed-clause-draft
@@ -57,9 +57,9 @@ returns-in_err-read_needed-clause-draft g c = λ keeps edits pairs d.
     let p = inv.draft keeps edits pairs d in
     let same : (state c.loop-page.device).disk.view ≡ (state c.args.device.now).disk.view = ap (λ (x : Disk). x.view) (inv.device.only.disk keeps) in
     let here = subst (λ (v : Image). IsDraft slot v edits p.0 pairs c.loop-page.ledger (state_of c.loop-page.tree)) (sym same) p.1 in
-    let told = c.in_err-read_needed.ensures.draft (subst IsTrue (sym inv.device.only.same.honest) keeps) edits p.0 pairs here in
+    let answered = c.in_err-read_needed.ensures.draft (subst IsTrue (sym inv.device.only.same.honest) keeps) edits p.0 pairs here in
     let e = err_from_is_err_and c.from_residual.result c.from_residual.ensures.1 in
-    rw (e.1, e.2) (tells_fault (MayBeTooDeep slot edits) (MayBeTooDeep slot edits) c.in_err-read_needed.field-0.0 _ _ (λ h. h) told)
+    rw (e.1, e.2) (tells_fault (MayBeTooDeep slot edits) (MayBeTooDeep slot edits) c.in_err-read_needed.field-0.0 _ _ (λ h. h) answered)
 
 pub returns-clause-draft : goal.returns-clause-draft
 returns-clause-draft g c = λ keeps edits pairs d.

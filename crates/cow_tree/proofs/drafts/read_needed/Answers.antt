@@ -23,7 +23,7 @@ returns-then-not-lives-clause-draft g c = λ keeps edits read pairs d.
     let view = (g.D.Device.state c.args.device.now).disk.view in
     let alive = needed_alive c.args.slot.now view edits read pairs c.args.ledger.now (state_of c.args.tree.now) c.args.key.now c.args.page d c.requires.needed in
     let dead = c.if-not-lives.true in
-    let told = c.lives.ensures in
+    let answered = c.lives.ensures in
     cc
 
 pub returns-in-Ok-clause-draft : goal.returns-in-Ok-clause-draft
@@ -75,6 +75,6 @@ returns-in-Err-Damaged-clause-draft g c = λ keeps edits read pairs d.
     let loaded : page_of view c.args.page ≡ bytes = if_ok_done c.load_page.result c.is_err.result _ c.is_err.ensures.value c.if-is_err.false (c.load_page.ensures.page keeps) in
     let here : bytes_in view c.args.page ≡ bytes = ap (take 4096) loaded ∙ take_all 4096 bytes (omega (arith, long)) in
     let opens = needed_opens (old_under slot view) (old_is slot view) tree key c.args.page d.valid c.requires.needed in
-    let told = subst (λ (e : NodeFault). IsSomeAnd (needed_under key tree.root) (λ page. IsReadFault page (tree_in (bounds_of c.bounds_of.result) (needed_level key tree) page bytes) e)) c.in-Err-Damaged.field-0-is c.in-Err-Damaged.ensures.fault in
+    let answered = subst (λ (e : NodeFault). IsSomeAnd (needed_under key tree.root) (λ page. IsReadFault page (tree_in (bounds_of c.bounds_of.result) (needed_level key tree) page bytes) e)) c.in-Err-Damaged.field-0-is c.in-Err-Damaged.ensures.fault in
     let some : IsSome (tree_in (bounds_of c.bounds_of.result) (needed_level key tree) c.args.page bytes) = rw c.bounds_of.ensures.bounds (subst (λ (l : List ℕ). IsSome (tree_in (bounds_under slot) (needed_level key tree) c.args.page l)) here opens) in
-    not_damaged (needed_under key tree.root) c.args.page c.in-Err-Damaged.page (λ page. tree_in (bounds_of c.bounds_of.result) (needed_level key tree) page bytes) c.requires.needed some told
+    not_damaged (needed_under key tree.root) c.args.page c.in-Err-Damaged.page (λ page. tree_in (bounds_of c.bounds_of.result) (needed_level key tree) page bytes) c.requires.needed some answered

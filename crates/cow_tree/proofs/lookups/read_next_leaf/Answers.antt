@@ -1,4 +1,4 @@
-use Rattle.std.proofs.Common.{◌≡◌, ◌-◌, ◌<◌, List, [], Some, None, Err, refl, sym, ap, ◌∙◌, subst, arith, inr}
+use Rattle.std.proofs.Common.{◌≡◌, ◌-◌, ◌<◌, List, [], Some, None, Err, refl, sym, ap, ◌∙◌, subst, arith, inr, inl, rules}
 use Rattle.page_store.specs.Sectors.{page_of}
 use Rattle.page_store.specs.Pages.{Pair}
 use Rattle.page_store.specs.Batch.{pair_after}
@@ -8,32 +8,46 @@ use Rattle.cow_tree.proofs.AnswersGiven.{answer_err}
 use Rattle.cow_tree.proofs.RootWalks.{walk_at, no_pair_after}
 use Rattle.cow_tree.proofs.lookups.read_next_leaf.Goals as goal
 
-pub returns-then-tree-eq0-clause-pair : goal.returns-then-tree-eq0-clause-pair
-returns-then-tree-eq0-clause-pair g c = λ keeps found is.
-    ap (λ (l : List Pair). pair_after l c.args.after.now) c.clear.ensures ∙ no_pair_after c.args.tree (page_of (g.D.Device.state c.args.device.now).disk.view) found c.args.after.now c.if-tree-eq0.true is
+pub returns-then-tree-eq0 : goal.returns-then-tree-eq0
+returns-then-tree-eq0 g c = record {
+  next = record {
+    pair = λ keeps found is.
+        ap (λ (l : List Pair). pair_after l c.args.after.now) c.clear.ensures ∙ no_pair_after c.args.tree (page_of (g.D.Device.state c.args.device.now).disk.view) found c.args.after.now c.if-tree-eq0.true is;
+    kept = λ keeps found is. ∣ inl c.clear.ensures ∣₁;
+    reads = search rules;
+  };
+}
 
-pub returns-in-Ok-clause-pair : goal.returns-in-Ok-clause-pair
-returns-in-Ok-clause-pair g c = λ keeps found is.
+pub returns-in-Ok : goal.returns-in-Ok
+returns-in-Ok g c =
     let a = page_of (g.D.Device.state c.args.device.now).disk.view in
     let tree = c.args.tree in
     let ne = c.if-tree-eq0.false in
     let some : 0 < tree.height = omega (arith, ne) in
-    sym (c.in-Ok.ensures.leaf keeps found (subst (λ (b : Bounds). walk a b (tree.height - 1) tree.tree [] None ≡ Some found) (sym c.bounds.ensures.bounds) (walk_at tree a found some is))).after
+    let under = c.in-Ok.ensures.next in
+    record {
+      next = record {
+        pair = λ keeps found is. sym (under.leaf keeps found (subst (λ (b : Bounds). walk a b (tree.height - 1) tree.tree [] None ≡ Some found) (sym c.bounds.ensures.bounds) (walk_at tree a found some is))).after;
+        kept = λ keeps found is.
+            let leaf = under.leaf keeps found (subst (λ (b : Bounds). walk a b (tree.height - 1) tree.tree [] None ≡ Some found) (sym c.bounds.ensures.bounds) (walk_at tree a found some is)) in
+            ∣ inr (subst (λ (b : Bounds). IsNextLeaf a b c.args.after.now found c.leaf_after.new.kept) c.bounds.ensures.bounds leaf).is_leaf ∣₁;
+        reads = record { device = under.reads.device; reads = under.reads.reads };
+      };
+    }
 
-pub returns-in-Ok-clause-kept : goal.returns-in-Ok-clause-kept
-returns-in-Ok-clause-kept g c = λ keeps found is.
+pub returns-in-Err : goal.returns-in-Err
+returns-in-Err g c =
     let a = page_of (g.D.Device.state c.args.device.now).disk.view in
     let tree = c.args.tree in
     let ne = c.if-tree-eq0.false in
     let some : 0 < tree.height = omega (arith, ne) in
-    let leaf = c.in-Ok.ensures.leaf keeps found (subst (λ (b : Bounds). walk a b (tree.height - 1) tree.tree [] None ≡ Some found) (sym c.bounds.ensures.bounds) (walk_at tree a found some is)) in
-    ∣ inr (subst (λ (b : Bounds). IsNextLeaf a b c.args.after.now found c.leaf_after.new.kept) c.bounds.ensures.bounds leaf).is_leaf ∣₁
-
-pub returns-in-Err-clause-pair : goal.returns-in-Err-clause-pair
-returns-in-Err-clause-pair g c = λ keeps found is.
-    let a = page_of (g.D.Device.state c.args.device.now).disk.view in
-    let tree = c.args.tree in
-    let ne = c.if-tree-eq0.false in
-    let some : 0 < tree.height = omega (arith, ne) in
-    answer_err (Err c.in-Err.fault) c.in-Err.fault c.in-Err.fault _ _ refl refl
-    (c.in-Err.ensures.leaf keeps found (subst (λ (b : Bounds). walk a b (tree.height - 1) tree.tree [] None ≡ Some found) (sym c.bounds.ensures.bounds) (walk_at tree a found some is)))
+    let under = c.in-Err.ensures.next in
+    record {
+      next = record {
+        pair = λ keeps found is.
+            answer_err (Err c.in-Err.fault) c.in-Err.fault c.in-Err.fault _ _ refl refl
+            (under.leaf keeps found (subst (λ (b : Bounds). walk a b (tree.height - 1) tree.tree [] None ≡ Some found) (sym c.bounds.ensures.bounds) (walk_at tree a found some is)));
+        kept = λ keeps found is. ∣ inl c.clear-in-Err.ensures ∣₁;
+        reads = search rules;
+      };
+    }

@@ -2,17 +2,19 @@ use Rattle.std.proofs.Common.{IsTrue, sym, subst, ap, ◌∙◌}
 use Rattle.sector_device.specs.Disk.{Disk}
 use Rattle.page_store.specs.Sectors.{Image, page_of}
 use Rattle.page_store.specs.Content.{tree_found}
+use Rattle.page_store.specs.Counting.{CountsRefusal}
 use Rattle.page_store.specs.declared.fault.KeeperFault.{KeeperFault}
+use Rattle.page_store.proofs.DeviceSequences.{still_honest, keeps_then_reads}
 use Rattle.cow_tree.specs.Opening.{IsReached, AreWhole, IsOpenFault}
-use Rattle.cow_tree.proofs.Openings.{holds_now, walk_fault}
+use Rattle.cow_tree.proofs.Openings.{holds_now, walk_counts, walk_not_small, walk_fault}
 use Rattle.cow_tree.proofs.opening.open_parts.Goals as goal
 
 pub returns-in-Ok-clause-opened : goal.returns-in-Ok-clause-opened
 returns-in-Ok-clause-opened g c =
     let d = g.D.Device in
     let opened = c.in_ok-slot.ensures.opened in
-    let keeps1 = λ (keeps : IsTrue (d.state c.args.device.now).honest). let h : IsTrue (d.state c.open_slot.new.device).honest = subst IsTrue (sym c.open_slot.ensures.device.same.honest) keeps in h in
-    let only = c.walk_slot.ensures.reads.device in
+    let keeps1 = λ (keeps : IsTrue (d.state c.args.device.now).honest). let h : IsTrue (d.state c.open_slot.new.device).honest = subst IsTrue (sym c.open_slot.ensures.opens.device.same.honest) keeps in h in
+    let only = c.walk_slot.ensures.walks.reads.device in
     let slot = c.in_ok-slot.slot in
     record {
       all = λ keeps i left. opened.all keeps i ((only.no_new_crash_state (keeps1 keeps)).now i left) ∙ sym (ap (λ (x : Disk). x.view) (only.only.disk (keeps1 keeps)));
@@ -23,10 +25,22 @@ returns-in-Ok-clause-opened g c =
       top_is = λ keeps. opened.top_is keeps;
     }
 
-pub returns-in-Err-clause-fault : goal.returns-in-Err-clause-fault
-returns-in-Err-clause-fault g c =
+pub returns-in-Err-clause-opens : goal.returns-in-Err-clause-opens
+returns-in-Err-clause-opens g c =
     let d = g.D.Device in
+    let old = d.state c.args.device.now in
+    let mid = d.state c.open_slot.new.device in
+    let new = d.state c.walk_slot.new.device in
     let opened = c.in_ok-slot.ensures.opened in
-    subst (λ (e : KeeperFault). IsOpenFault (d.state c.args.device.now) (d.state c.walk_slot.new.device) e) (sym c.from.ensures)
-    (walk_fault (Unit {0}) (d.state c.args.device.now) (d.state c.open_slot.new.device) (d.state c.walk_slot.new.device) c.in_ok-slot.slot c.walk_slot.new.ledger c.in-Err.fault c.in_ok-slot.ensures.large
-    (λ keeps. subst IsTrue (sym c.open_slot.ensures.device.same.honest) keeps) opened.view opened.slot_is c.in_ok-slot.ensures.version c.in_ok-slot.ensures.counts c.in-Err.ensures.reads.reads c.walk_slot.ensures.reads.device.only.writes c.in-Err.ensures.named c.in-Err.ensures.found)
+    let opens = c.in_ok-slot.ensures.opens in
+    let reads = c.walk_slot.ensures.walks.reads.device in
+    let walks = c.in-Err.ensures.walks in
+    record {
+      device = keeps_then_reads opens.device reads;
+      counts = tt;
+      counts_fault = subst (λ (e : KeeperFault). CountsRefusal e old new) (sym c.from.ensures) (walk_counts (Unit {0}) old mid new c.in-Err.fault opens.counts walks.reads.reads reads.only.writes);
+      small = λ is. absurd (walk_not_small c.in-Err.fault (sym c.from.ensures ∙ is));
+      fault =
+          subst (λ (e : KeeperFault). IsOpenFault old new e) (sym c.from.ensures)
+          (walk_fault (Unit {0}) old mid new c.in_ok-slot.slot c.walk_slot.new.ledger c.in-Err.fault c.in_ok-slot.ensures.large (still_honest old mid opens.device.same) opened.view opened.slot_is c.in_ok-slot.ensures.version opens.counts walks.reads.reads reads.only.writes walks.named c.in-Err.ensures.found);
+    }

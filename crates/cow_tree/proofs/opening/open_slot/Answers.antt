@@ -1,4 +1,5 @@
 use Rattle.std.proofs.Common.{IsTrue, sym, subst, ap, ◌∙◌, inr, arith}
+use Rattle.sector_device.specs.Device.{OneCounted}
 use Rattle.sector_device.specs.Disk.{Disk}
 use Rattle.page_store.specs.Sectors.{Image}
 use Rattle.page_store.specs.Roots.{current, greatest_seal}
@@ -17,8 +18,14 @@ returns-clause-opened g c =
       top_is = λ keeps. ap (λ (i : Image). greatest_seal i 16) (sym (synced keeps)) ∙ c.in_ok-found.ensures.top (keeps1 keeps);
     }
 
-pub returns-then-is_err-clause-fault : goal.returns-then-is_err-clause-fault
-returns-then-is_err-clause-fault g c = (omega (arith, c.sectors.ensures, c.if-sectors-lt128.false), inr (c.sync_all.ensures.outcome.reads, counts_err c.sync_all.result c.is_err.result _ _ c.is_err.ensures.value c.if-is_err.true c.sync_all.ensures.outcome.writes))
-
-pub returns-then-is_err-clause-counts_fault : goal.returns-then-is_err-clause-counts_fault
-returns-then-is_err-clause-counts_fault g c = inr (c.sync_all.ensures.outcome.reads, counts_err c.sync_all.result c.is_err.result _ _ c.is_err.ensures.value c.if-is_err.true c.sync_all.ensures.outcome.writes)
+pub returns-then-is_err-clause-opens : goal.returns-then-is_err-clause-opens
+returns-then-is_err-clause-opens g c =
+    let outcome = c.sync_all.ensures.outcome in
+    let one : OneCounted (g.D.Device.state c.args.device.now) (g.D.Device.state c.sync_all.new.device) = inr (outcome.reads, counts_err c.sync_all.result c.is_err.result _ _ c.is_err.ensures.value c.if-is_err.true outcome.writes) in
+    record {
+      device = record { same = outcome.same; no_new_crash_state = c.sync_all.ensures.at_crash };
+      counts = tt;
+      counts_fault = one;
+      small = λ e. absurd (cc e);
+      fault = (omega (arith, c.sectors.ensures, c.if-sectors-lt128.false), one);
+    }

@@ -14,42 +14,42 @@ returns-in_err-count-clause-found g c = λ keeps.
     let a = page_of (g.D.Device.state c.args.device.now).disk.view in
     let slot = c.args.slot.now in
     let p = err_from_is_err_and c.from_residual.result c.from_residual.ensures.1 in
-    let told = subst (λ (s : LedgerState). Tells (tree_of a (bounds_under slot) slot.root.height slot.root.tree) s c.count_tree.new.ledger (Err c.in_err-count.field-0.0)) c.requires.fresh (c.in_err-count.ensures.told keeps) in
-    rw (p.1, p.2) (finds_fault slot a c.count_tree.new.ledger (Unit {0}) c.in_err-count.field-0.0 told)
+    let answered = subst (λ (s : LedgerState). Tells (tree_of a (bounds_under slot) slot.root.height slot.root.tree) s c.count_tree.new.ledger (Err c.in_err-count.field-0.0)) c.requires.fresh (c.in_err-count.ensures.answered keeps) in
+    rw (p.1, p.2) (finds_fault slot a c.count_tree.new.ledger (Unit {0}) c.in_err-count.field-0.0 answered)
 
 pub returns-then-count-slot-clause-found : goal.returns-then-count-slot-clause-found
 returns-then-count-slot-clause-found g c = λ keeps.
     let a = page_of (g.D.Device.state c.args.device.now).disk.view in
     let slot = c.args.slot.now in
-    let w = subst (λ (s : LedgerState). IsWalked (tree_of a (bounds_under slot) slot.root.height slot.root.tree) s c.count_tree.new.ledger c.in_ok-count.count) c.requires.fresh (c.in_ok-count.ensures.told keeps) in
+    let w = subst (λ (s : LedgerState). IsWalked (tree_of a (bounds_under slot) slot.root.height slot.root.tree) s c.count_tree.new.ledger c.in_ok-count.count) c.requires.fresh (c.in_ok-count.ensures.answered keeps) in
     keys_differ slot a c.count_tree.new.ledger c.in_ok-count.count c.requires.small w c.if-count-slot.true
 
 pub returns-clause-found : goal.returns-clause-found
 returns-clause-found g c = λ keeps.
     let a = page_of (g.D.Device.state c.args.device.now).disk.view in
     let slot = c.args.slot.now in
-    let w = subst (λ (s : LedgerState). IsWalked (tree_of a (bounds_under slot) slot.root.height slot.root.tree) s c.count_tree.new.ledger c.in_ok-count.count) c.requires.fresh (c.in_ok-count.ensures.told keeps) in
+    let w = subst (λ (s : LedgerState). IsWalked (tree_of a (bounds_under slot) slot.root.height slot.root.tree) s c.count_tree.new.ledger c.in_ok-count.count) c.requires.fresh (c.in_ok-count.ensures.answered keeps) in
     is_reached slot a c.count_tree.new.ledger c.in_ok-count.count c.requires.small w c.if-count-slot.false
 
 pub returns-clause-whole : goal.returns-clause-whole
 returns-clause-whole g c = λ keeps.
     let slot = c.args.slot.now in
-    all_whole (g.D.Device.state c.args.device.now).disk.view slot.root.pages slot.seal c.args.ledger.now c.count_tree.new.ledger c.requires.fresh (c.in_ok-count.ensures.whole keeps)
+    all_whole (g.D.Device.state c.args.device.now).disk.view slot.root.pages slot.seal c.args.ledger.now c.count_tree.new.ledger c.requires.fresh (c.in_ok-count.ensures.walks.whole keeps)
 
 pub returns-clause-rest : goal.returns-clause-rest
-returns-clause-rest g c = at_rest c.args.slot.now c.args.ledger.now c.count_tree.new.ledger c.requires.fresh c.count_tree.ensures.ledger
+returns-clause-rest g c = at_rest c.args.slot.now c.args.ledger.now c.count_tree.new.ledger c.requires.fresh c.count_tree.ensures.walks.ledger
 
 pub returns-then-count-slot-clause-rest : goal.returns-then-count-slot-clause-rest
-returns-then-count-slot-clause-rest g c = at_rest c.args.slot.now c.args.ledger.now c.count_tree.new.ledger c.requires.fresh c.count_tree.ensures.ledger
+returns-then-count-slot-clause-rest g c = at_rest c.args.slot.now c.args.ledger.now c.count_tree.new.ledger c.requires.fresh c.count_tree.ensures.walks.ledger
 
 pub returns-in_err-count-clause-rest : goal.returns-in_err-count-clause-rest
-returns-in_err-count-clause-rest g c = at_rest c.args.slot.now c.args.ledger.now c.count_tree.new.ledger c.requires.fresh c.count_tree.ensures.ledger
+returns-in_err-count-clause-rest g c = at_rest c.args.slot.now c.args.ledger.now c.count_tree.new.ledger c.requires.fresh c.count_tree.ensures.walks.ledger
 
 pub returns-clause-unpinned : goal.returns-clause-unpinned
-returns-clause-unpinned g c = no_pins c.args.slot.now c.args.ledger.now c.count_tree.new.ledger c.requires.fresh c.count_tree.ensures.ledger
+returns-clause-unpinned g c = no_pins c.args.slot.now c.args.ledger.now c.count_tree.new.ledger c.requires.fresh c.count_tree.ensures.walks.ledger
 
 pub returns-then-count-slot-clause-unpinned : goal.returns-then-count-slot-clause-unpinned
-returns-then-count-slot-clause-unpinned g c = no_pins c.args.slot.now c.args.ledger.now c.count_tree.new.ledger c.requires.fresh c.count_tree.ensures.ledger
+returns-then-count-slot-clause-unpinned g c = no_pins c.args.slot.now c.args.ledger.now c.count_tree.new.ledger c.requires.fresh c.count_tree.ensures.walks.ledger
 
 pub returns-in_err-count-clause-unpinned : goal.returns-in_err-count-clause-unpinned
-returns-in_err-count-clause-unpinned g c = no_pins c.args.slot.now c.args.ledger.now c.count_tree.new.ledger c.requires.fresh c.count_tree.ensures.ledger
+returns-in_err-count-clause-unpinned g c = no_pins c.args.slot.now c.args.ledger.now c.count_tree.new.ledger c.requires.fresh c.count_tree.ensures.walks.ledger

@@ -12,7 +12,7 @@ use Rattle.page_store.specs.Content.{walk, fan, low_of, high_of, place_in}
 use Rattle.page_store.proofs.DeviceSequences.{still_honest}
 use Rattle.tree_nodes.specs.PageViews.{bounds_of, children_in}
 use Rattle.tree_nodes.proofs.KeyOrder.{both_true}
-use Rattle.cow_tree.specs.Walks.{Tells, IsWalked, IsWalkedTo, HoldsWhole}
+use Rattle.cow_tree.specs.Walks.{Tells, IsWalked, IsWalkedTo, HoldsWhole, CountsPages}
 use Rattle.cow_tree.specs.declared.page_fault.PageFault.{PageFault}
 use Rattle.cow_tree.proofs.Reaching.{holds_again, holds_none, holds_read, wholes_again}
 use Rattle.cow_tree.proofs.ReadsInTurn.{reads_again}
@@ -41,8 +41,8 @@ walk_children-loop-key-init g t c =
       so_far = λ keeps. start (walk (page_of (d.state c.args.device.now).disk.view) (bounds_of c.args.bounds) c.args.level) c.args.low.now (option_copied c.args.high) children c.args.ledger.now;
     }
 
-pub walk_children-returns-in_err-more-clause-told : goal.walk_children-returns-in_err-more-clause-told
-walk_children-returns-in_err-more-clause-told g t c = λ keeps.
+pub walk_children-returns-in_err-more-clause-answered : goal.walk_children-returns-in_err-more-clause-answered
+walk_children-returns-in_err-more-clause-answered g t c = λ keeps.
     let d = g.D.Device in
     let v = page_of (d.state c.args.device.now).disk.view in
     let i = c.loop-key.invariant in
@@ -54,7 +54,7 @@ walk_children-returns-in_err-more-clause-told g t c = λ keeps.
     let keeps1 = still_honest (d.state c.args.device.now) (d.state c.loop-key.device) i.device.only.same keeps in
     let so_far = subst (λ (cs : List Child). IsWalkedTo (fan under c.args.low.now (option_copied c.args.high)) children cs c.args.ledger.now c.loop-key.ledger c.loop-key.count) c.in-Some.ensures.children (i.so_far keeps) in
     let one = at_child (λ x. Tells x c.loop-key.ledger c.walk_tree.new.ledger (Err c.in_err-more.field-0.0)) (page_of (d.state c.loop-key.device).disk.view) v (bounds_of c.args.bounds) c.args.level c.in-Some.page c.lower-from.result.now (low_of c.args.low.now c.in-Some.key.now)
-    (option_copied c.upper-to.result) (high_of others (option_copied c.args.high)) (ap (λ (x : Disk). page_of x.view) (i.device.only.disk keeps)) c.lower-from.ensures c.upper-to.ensures (c.in_err-more.ensures.told keeps1) in
+    (option_copied c.upper-to.result) (high_of others (option_copied c.args.high)) (ap (λ (x : Disk). page_of x.view) (i.device.only.disk keeps)) c.lower-from.ensures c.upper-to.ensures (c.in_err-more.ensures.answered keeps1) in
     subst (λ (r : Result ℕ PageFault). Tells (fan under c.args.low.now (option_copied c.args.high) children) c.args.ledger.now c.walk_tree.new.ledger r) (sym (p.1 ∙ ap (λ (e : PageFault). err e) p.2))
     (breaks_off under c.args.low.now (option_copied c.args.high) children c.args.ledger.now c.in_err-more.field-0.0 c.loop-key.count c.loop-key.ledger c.walk_tree.new.ledger c.walk_tree.new.ledger child others so_far one)
   where
@@ -72,25 +72,25 @@ walk_children-loop-key-preserved g t c =
     let children = children_in c.args.branch.now.count c.args.branch.now.entries.now in
     let inside = subst (λ (cs : List Child). list_all (is_inside c.args.bounds.pages) cs ≡ true) c.in-Some.ensures.children i.inside in
     record {
-      ledger = holds_again c.loop-key.invariant.ledger c.in_ok-more.ensures.ledger;
+      ledger = holds_again c.loop-key.invariant.ledger c.in_ok-more.ensures.walks.ledger;
       inside = (both_true (is_inside c.args.bounds.pages child) (list_all (is_inside c.args.bounds.pages) others) inside).1;
-      device = reads_again i.device c.in_ok-more.ensures.reads.device;
-      reads = c.in_ok-more.ensures.reads.reads ∙ i.reads;
+      device = reads_again i.device c.in_ok-more.ensures.walks.reads.device;
+      reads = c.in_ok-more.ensures.walks.reads.reads ∙ i.reads;
       whole = λ keeps.
           let keeps1 = still_honest (d.state c.args.device.now) (d.state c.loop-key.device) i.device.only.same keeps in
-          let more = subst (λ (x : Disk). HoldsWhole x.view c.loop-key.ledger c.walk_tree.new.ledger) (i.device.only.disk keeps) (c.in_ok-more.ensures.whole keeps1) in
+          let more = subst (λ (x : Disk). HoldsWhole x.view c.loop-key.ledger c.walk_tree.new.ledger) (i.device.only.disk keeps) (c.in_ok-more.ensures.walks.whole keeps1) in
           wholes_again (i.whole keeps) more;
       so_far = λ keeps.
           let keeps1 = still_honest (d.state c.args.device.now) (d.state c.loop-key.device) i.device.only.same keeps in
           let so_far = subst (λ (cs : List Child). IsWalkedTo (fan under c.args.low.now (option_copied c.args.high)) children cs c.args.ledger.now c.loop-key.ledger c.loop-key.count) c.in-Some.ensures.children (i.so_far keeps) in
           let one = at_child (λ x. IsWalked x c.loop-key.ledger c.walk_tree.new.ledger c.in_ok-more.more) (page_of (d.state c.loop-key.device).disk.view) v (bounds_of c.args.bounds) c.args.level c.in-Some.page c.lower-from.result.now (low_of c.args.low.now c.in-Some.key.now)
-          (option_copied c.upper-to.result) (high_of others (option_copied c.args.high)) (ap (λ (x : Disk). page_of x.view) (i.device.only.disk keeps)) c.lower-from.ensures c.upper-to.ensures (c.in_ok-more.ensures.told keeps1) in
+          (option_copied c.upper-to.result) (high_of others (option_copied c.args.high)) (ap (λ (x : Disk). page_of x.view) (i.device.only.disk keeps)) c.lower-from.ensures c.upper-to.ensures (c.in_ok-more.ensures.answered keeps1) in
           subst (λ (n : ℕ). IsWalkedTo (fan under c.args.low.now (option_copied c.args.high)) children others c.args.ledger.now c.walk_tree.new.ledger n) (sym c.saturating_add-count.ensures)
           (go_on under c.args.low.now (option_copied c.args.high) children c.args.ledger.now c.loop-key.count c.in_ok-more.more c.loop-key.ledger c.walk_tree.new.ledger child others so_far one);
     }
 
-pub walk_tree-returns-in_err-branch-clause-told : goal.walk_tree-returns-in_err-branch-clause-told
-walk_tree-returns-in_err-branch-clause-told g t c = λ keeps.
+pub walk_tree-returns-in_err-branch-clause-answered : goal.walk_tree-returns-in_err-branch-clause-answered
+walk_tree-returns-in_err-branch-clause-answered g t c = λ keeps.
     let d = g.D.Device in
     let v = page_of (d.state c.args.device.now).disk.view in
     let p = err_from_is_err_and c.from_residual-in_err-branch.result c.from_residual-in_err-branch.ensures.1 in
@@ -98,8 +98,8 @@ walk_tree-returns-in_err-branch-clause-told g t c = λ keeps.
     ap (branch_of (place_in (bounds_of c.args.bounds) c.args.level c.args.page) c.args.low.now (option_copied c.args.high)) (c.in_ok-load_page.ensures.page keeps) ∙ c.in_err-branch.ensures.fault.1 in
     rw (p.1, p.2, c.in_err-branch.ensures.fault.0) (no_branch v (bounds_of c.args.bounds) c.args.level c.args.page c.args.low.now (option_copied c.args.high) c.args.ledger.now c.if-level-eq0.false none)
 
-pub walk_tree-returns-clause-told : goal.walk_tree-returns-clause-told
-walk_tree-returns-clause-told g t c = λ keeps.
+pub walk_tree-returns-clause-answered : goal.walk_tree-returns-clause-answered
+walk_tree-returns-clause-answered g t c = λ keeps.
     let d = g.D.Device in
     let v = page_of (d.state c.args.device.now).disk.view in
     let bounds = bounds_of c.args.bounds in
@@ -107,9 +107,9 @@ walk_tree-returns-clause-told g t c = λ keeps.
     let r = reached c.reach.result (is_free c.args.ledger.now c.args.page) c.reach.new.ledger c.args.ledger.now c.args.page c.reach.ensures.is c.reach.ensures.held c.if-not-reach.false in
     let keeps1 = still_honest (d.state c.args.device.now) (d.state c.load_page.new.device) c.in_ok-load_page.ensures.reads.device.only.same keeps in
     let children = children_in c.in_ok-branch.branch.count c.in_ok-branch.branch.entries.now in
-    let told = subst (λ (x : Disk). Tells (fan (walk (page_of x.view) bounds (c.args.level - 1)) c.args.low.now high children) c.reach.new.ledger c.walk_children.new.ledger c.walk_children.result) (c.in_ok-load_page.ensures.reads.device.only.disk keeps) (c.walk_children.ensures.told keeps1) in
+    let answered = subst (λ (x : Disk). Tells (fan (walk (page_of x.view) bounds (c.args.level - 1)) c.args.low.now high children) c.reach.new.ledger c.walk_children.new.ledger c.walk_children.result) (c.in_ok-load_page.ensures.reads.device.only.disk keeps) (c.walk_children.ensures.answered keeps1) in
     tells_branch c.walk_children.result v bounds c.args.level c.args.page c.args.low.now high c.args.ledger.now c.reach.new.ledger c.walk_children.new.ledger children c.if-level-eq0.false r.0 r.1
-    (ap (branch_of (place_in bounds c.args.level c.args.page) c.args.low.now high) (c.in_ok-load_page.ensures.page keeps) ∙ c.in_ok-branch.ensures.children) told
+    (ap (branch_of (place_in bounds c.args.level c.args.page) c.args.low.now high) (c.in_ok-load_page.ensures.page keeps) ∙ c.in_ok-branch.ensures.children) answered
 
 whole_after : (image : Image) (a b c : LedgerState) (r : Result ℕ PageFault) → HoldsWhole image a b → OnOk r (HoldsWhole image b c) → OnOk r (HoldsWhole image a c)
 whole_after image a b c (Ok x) first second = wholes_again first second
@@ -119,17 +119,22 @@ whole_after image a b c (Err e) first second = tt
 page_whole : (image : Image) (b free : Bool) (old now : LedgerState) (page : ℕ) (bytes : List ℕ) → b ≡ free → now ≡ (if b then holding page old else old) → b ≡ true → page_of image page ≡ bytes → length bytes ≡ 4096 → HoldsWhole image old now
 page_whole image b free old now page bytes is held t read long = holds_read image old now page (reached b free now old page is held t).1 (ap (λ (l : List ℕ). length l) read ∙ long)
 
-pub walk_tree-returns-then-level-eq0-clause-whole : goal.walk_tree-returns-then-level-eq0-clause-whole
-walk_tree-returns-then-level-eq0-clause-whole g t c = λ keeps.
-    page_whole (g.D.Device.state c.args.device.now).disk.view c.reach.result (is_free c.args.ledger.now c.args.page) c.args.ledger.now c.reach.new.ledger c.args.page c.load_page.new.bytes c.reach.ensures.is c.reach.ensures.held c.if-not-reach.false
-    (c.in_ok-load_page.ensures.page keeps) c.load_page.array_long
-
-pub walk_tree-returns-clause-whole : goal.walk_tree-returns-clause-whole
-walk_tree-returns-clause-whole g t c = λ keeps.
+pub walk_tree-returns-clause-walks : goal.walk_tree-returns-clause-walks
+walk_tree-returns-clause-walks g t c =
     let d = g.D.Device in
-    let view = (d.state c.args.device.now).disk.view in
-    let keeps1 = still_honest (d.state c.args.device.now) (d.state c.load_page.new.device) c.in_ok-load_page.ensures.reads.device.only.same keeps in
-    let here = page_whole view c.reach.result (is_free c.args.ledger.now c.args.page) c.args.ledger.now c.reach.new.ledger c.args.page c.load_page.new.bytes c.reach.ensures.is c.reach.ensures.held c.if-not-reach.false
-    (c.in_ok-load_page.ensures.page keeps) c.load_page.array_long in
-    let under = subst (λ (x : Disk). OnOk c.walk_children.result (HoldsWhole x.view c.reach.new.ledger c.walk_children.new.ledger)) (c.in_ok-load_page.ensures.reads.device.only.disk keeps) (c.walk_children.ensures.whole keeps1) in
-    whole_after view c.args.ledger.now c.reach.new.ledger c.walk_children.new.ledger c.walk_children.result here under
+    let old = d.state c.args.device.now in
+    let loaded = c.in_ok-load_page.ensures.reads in
+    let under = c.walk_children.ensures.walks in
+    record {
+      whole = λ keeps.
+          let keeps1 = still_honest old (d.state c.load_page.new.device) loaded.device.only.same keeps in
+          let here = page_whole old.disk.view c.reach.result (is_free c.args.ledger.now c.args.page) c.args.ledger.now c.reach.new.ledger c.args.page c.load_page.new.bytes c.reach.ensures.is c.reach.ensures.held c.if-not-reach.false (c.in_ok-load_page.ensures.page keeps) c.load_page.array_long in
+          whole_after old.disk.view c.args.ledger.now c.reach.new.ledger c.walk_children.new.ledger c.walk_children.result here
+          (subst (λ (x : Disk). OnOk c.walk_children.result (HoldsWhole x.view c.reach.new.ledger c.walk_children.new.ledger)) (loaded.device.only.disk keeps) (under.whole keeps1));
+      ledger = holds_again c.reach.ensures.only under.ledger;
+      named = under.named;
+      reads = record {
+        device = reads_again loaded.device under.reads.device;
+        reads = subst (λ (n : ℕ). CountsPages c.walk_children.result n (d.state c.walk_children.new.device).failed_reads) loaded.reads under.reads.reads;
+      };
+    }

@@ -1,4 +1,4 @@
-use Rattle.std.proofs.Common.{◌≡◌, ◌-◌, ℕ, [], Option, Some, None, sym, subst}
+use Rattle.std.proofs.Common.{◌≡◌, ◌-◌, ℕ, [], Option, Some, None, sym, subst, rules}
 use Rattle.std.specs.Prelude.{option_map, take}
 use Rattle.std.proofs.lemmas.Result.{err_from_is_err_and}
 use Rattle.sector_device.specs.Disk.{Disk}
@@ -10,20 +10,45 @@ use Rattle.tree_nodes.specs.PageViews.{bounds_of}
 use Rattle.cow_tree.proofs.AnswersGiven.{answer_is, answer_err}
 use Rattle.cow_tree.proofs.page_reads.+get_under.Goals as goal
 
-pub returns-then-level-eq0-clause-value : goal.returns-then-level-eq0-clause-value
-returns-then-level-eq0-clause-value g t c = λ keeps found walked.
-    c.get_in_leaf.ensures.value keeps found (subst (λ (n : ℕ). walk (page_of (g.D.Device.state c.args.device.now).disk.view) (bounds_of c.args.bounds) n c.args.page [] None ≡ Some found) c.if-level-eq0.true walked)
+pub returns-then-level-eq0 : goal.returns-then-level-eq0
+returns-then-level-eq0 g t c =
+    let here = c.get_in_leaf.ensures.found in
+    record {
+      found = record {
+        within = here.within;
+        value = λ keeps found walked.
+            here.value keeps found (subst (λ (n : ℕ). walk (page_of (g.D.Device.state c.args.device.now).disk.view) (bounds_of c.args.bounds) n c.args.page [] None ≡ Some found) c.if-level-eq0.true walked);
+        buffer = here.buffer;
+        reads = here.reads;
+      };
+    }
 
-pub returns-in_err-child-clause-value : goal.returns-in_err-child-clause-value
-returns-in_err-child-clause-value g t c = λ keeps found walked.
+pub returns-in_err-child : goal.returns-in_err-child
+returns-in_err-child g t c =
     let p = err_from_is_err_and c.from_residual.result c.from_residual.ensures.1 in
-    answer_err c.from_residual.result c.in_err-child.field-0.0 p.0 _ _ p.1 p.2 (c.in_err-child.ensures.way keeps found walked)
+    record {
+      found = record {
+        within = search rules;
+        value = λ keeps found walked. answer_err c.from_residual.result c.in_err-child.field-0.0 p.0 _ _ p.1 p.2 (c.in_err-child.ensures.way keeps found walked);
+        buffer = search rules;
+        reads = search rules;
+      };
+    }
 
-pub returns-clause-value : goal.returns-clause-value
-returns-clause-value g t c = λ keeps found walked.
+pub returns : goal.returns
+returns g t c =
     let d = g.D.Device in
-    let w = c.in_ok-child.ensures.way keeps found walked in
-    let device = c.in_ok-child.ensures.reads.device in
-    let keeps1 = still_honest (d.state c.args.device.now) (d.state c.children_around.new.device) device.only.same keeps in
-    let here = subst (λ (x : Disk). walk (page_of x.view) (bounds_of c.args.bounds) (c.args.level - 1) c.in_ok-child.child [] None ≡ Some w.here) (sym (device.only.disk keeps)) w.here_is in
-    answer_is c.get_under.result (λ (size : Option ℕ). option_map (λ (n : ℕ). take n c.get_under.new.buffer) size) (value_at w.here.pairs c.args.key.now) (value_at found.pairs c.args.key.now) (sym w.value) (c.get_under.ensures.value keeps1 w.here here)
+    let under = c.get_under.ensures.found in
+    let read = c.in_ok-child.ensures.reads in
+    record {
+      found = record {
+        within = under.within;
+        value = λ keeps found walked.
+            let w = c.in_ok-child.ensures.way keeps found walked in
+            let keeps1 = still_honest (d.state c.args.device.now) (d.state c.children_around.new.device) read.device.only.same keeps in
+            let here = subst (λ (x : Disk). walk (page_of x.view) (bounds_of c.args.bounds) (c.args.level - 1) c.in_ok-child.child [] None ≡ Some w.here) (sym (read.device.only.disk keeps)) w.here_is in
+            answer_is c.get_under.result (λ (size : Option ℕ). option_map (λ (n : ℕ). take n c.get_under.new.buffer) size) (value_at w.here.pairs c.args.key.now) (value_at found.pairs c.args.key.now) (sym w.value) (under.value keeps1 w.here here);
+        buffer = under.buffer;
+        reads = search rules;
+      };
+    }

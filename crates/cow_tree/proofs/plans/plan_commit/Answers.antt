@@ -8,10 +8,10 @@ use Rattle.cow_tree.proofs.PlansMade.{needs_pages, held_still, few_nodes, room_f
 use Rattle.cow_tree.proofs.plans.plan_commit.Goals as goal
 
 pub returns-in-Err-clause-refused : goal.returns-in-Err-clause-refused
-returns-in-Err-clause-refused g c = c.abandon.ensures ∙ abandoned_again c.args.ledger.now c.draft_batch.new.ledger c.draft_batch.ensures.ledger.marks c.requires.fitted.rest.unmarked
+returns-in-Err-clause-refused g c = c.abandon.ensures ∙ abandoned_again c.args.ledger.now c.draft_batch.new.ledger c.draft_batch.ensures.reads.ledger.marks c.requires.fitted.rest.unmarked
 
 pub returns-in-Ok-plan_draft-clause-room : goal.returns-in-Ok-plan_draft-clause-room
-returns-in-Ok-plan_draft-clause-room g c = let room = c.in-Ok-plan_draft.ensures.room in let free = c.draft_batch.ensures.ledger.free in omega (arith, room, free)
+returns-in-Ok-plan_draft-clause-room g c = let room = c.in-Ok-plan_draft.ensures.room in let free = c.draft_batch.ensures.reads.ledger.free in omega (arith, room, free)
 
 pub returns-clause-planned : goal.returns-clause-planned
 returns-clause-planned g c = λ keeps top pairs held first seal version.
@@ -20,19 +20,19 @@ returns-clause-planned g c = λ keeps top pairs held first seal version.
     let batch = c.args.batch.now in
     let few = first.few in
     let counted = c.in-Ok.ensures.draft keeps pairs first.draft first.keys first.map (omega (arith, few)) in
-    let told = c.in-Err-plan_draft.ensures.planned view top (length batch) (updated pairs batch) (held_still view slot top c.args.ledger.now c.draft_batch.new.ledger c.draft_batch.ensures.ledger.marks held) counted seal version in
-    room_told (MayBeTooDeep slot (length batch)) c.in-Err-plan_draft.fault _ _ _ _ c.in-Err-plan_draft.ensures.fault told
+    let answered = c.in-Err-plan_draft.ensures.planned view top (length batch) (updated pairs batch) (held_still view slot top c.args.ledger.now c.draft_batch.new.ledger c.draft_batch.ensures.reads.ledger.marks held) counted seal version in
+    room_told (MayBeTooDeep slot (length batch)) c.in-Err-plan_draft.fault _ _ _ _ c.in-Err-plan_draft.ensures.fault answered
 
 pub returns-clause-refused : goal.returns-clause-refused
 returns-clause-refused g c =
     c.abandon-in-Err-plan_draft.ensures
-    ∙ abandoned_again c.args.ledger.now c.plan_draft.new.ledger (marks_again c.args.ledger.now c.draft_batch.new.ledger c.plan_draft.new.ledger c.draft_batch.ensures.ledger.marks c.plan_draft.ensures.marks) c.requires.fitted.rest.unmarked
+    ∙ abandoned_again c.args.ledger.now c.plan_draft.new.ledger (marks_again c.args.ledger.now c.draft_batch.new.ledger c.plan_draft.new.ledger c.draft_batch.ensures.reads.ledger.marks c.plan_draft.ensures.marks) c.requires.fitted.rest.unmarked
 
 pub returns-clause-fault : goal.returns-clause-fault
 returns-clause-fault g c =
     let slot = c.args.slot.now in
     let batch = c.args.batch.now in
-    room_fault c.in-Err-plan_draft.fault _ _ _ _ c.draft_batch.ensures.ledger.free
+    room_fault c.in-Err-plan_draft.fault _ _ _ _ c.draft_batch.ensures.reads.ledger.free
     (λ need is keeps pairs first.
     let view = (g.D.Device.state c.args.device.now).disk.view in
     let few = first.few in
@@ -44,6 +44,6 @@ returns-clause-fault g c =
 
 pub returns-clause-reads : goal.returns-clause-reads
 returns-clause-reads g c = record {
-  device = c.draft_batch.ensures.reads.device;
-  reads = room_reads c.in-Err-plan_draft.fault _ _ _ _ c.in-Err-plan_draft.ensures.fault c.in-Ok.ensures.reads.reads;
+  device = c.draft_batch.ensures.reads.counted.device;
+  reads = room_reads c.in-Err-plan_draft.fault _ _ _ _ c.in-Err-plan_draft.ensures.fault c.in-Ok.ensures.reads.counted.reads;
 }

@@ -16,8 +16,8 @@ returns-in-Ok-checked-clause-checked g c = λ honest.
     let disk = (g.D.Device.state keeper.device).disk in
     let still = subst IsTrue (sym opened.honest) honest in
     let there = keeper.there still in
-    let settled = keeper.settled still opened.usable in
-    let has = crash_states_have_the_tree disk keeper.slot keeper.ledger keeper.top keeper.fitted.version there settled disk.view (g.met.D.Device.view_is_image keeper.device still) in
+    let durable = keeper.durable still opened.usable in
+    let has = crash_states_have_the_tree disk keeper.slot keeper.ledger keeper.top keeper.fitted.version there durable disk.view (g.met.D.Device.view_is_image keeper.device still) in
     record {
       site = seen_site site;
       stands = opened.site honest;
@@ -25,6 +25,6 @@ returns-in-Ok-checked-clause-checked g c = λ honest.
       no_new_crash_state = opened.at_crash honest;
       shows = kept_stands disk.view (held g.D.Device.state keeper).pairs keeper.slot.root.banner (seen_site site) has.0 keeper.fitted.version (site_kept (held g.D.Device.state keeper) site.kept still);
       slot = keeper.slot;
-      current_is = settled.current_is;
+      current_is = durable.current_is;
       line_is = c.in-Ok-checked.ensures.line.gives still ∙ ap (λ n. checked_line (seen_site site) n keeper.slot.seal) (free_is disk.view keeper.slot keeper.ledger keeper.pinned keeper.fitted.rest keeper.pins.seals (keeper.pins_there still) there ∙ unreached_alone disk.view keeper.slot keeper.pinned opened.unpinned);
     }

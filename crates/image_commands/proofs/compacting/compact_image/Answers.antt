@@ -43,9 +43,9 @@ returns-in-Ok-free_line-clause-shows g c = λ honest.
     let now = subst (λ x. IsTrue (state (device_of x)).honest) (sym same) before in
     let usable : k.usable ≡ true = ap (λ x. is_open x) same ∙ c.in-Ok-compacted.ensures.done.usable in
     let disk = (state k.device).disk in
-    let settled = k.settled now usable in
+    let durable = k.durable now usable in
     let shown = subst (λ s. RepresentedBy (held state written.keeper) s) (c.compact-compacted.ensures.site still) (site_kept (held state written.keeper) written.kept before) in
-    let has = crash_states_have_the_tree disk k.slot k.ledger k.top k.fitted.version (k.there now) settled disk.view (g.met.D.Device.view_is_image k.device now) in
+    let has = crash_states_have_the_tree disk k.slot k.ledger k.top k.fitted.version (k.there now) durable disk.view (g.met.D.Device.view_is_image k.device now) in
     let stands = kept_stands disk.view (held state k).pairs k.slot.root.banner (seen_site site) has.0 k.fitted.version (subst (λ x. RepresentedBy (held state x) (seen_site site)) (sym same) shown) in
     record { site = seen_site site; before = opened.site honest; now = subst (λ d. ImageRepresents (state d).disk.view (seen_site site)) (sym c.into_device-device.ensures) stands }
 
@@ -62,12 +62,12 @@ returns-in-Ok-free_line-clause-anew g c = λ honest.
     let now = subst (λ x. IsTrue (state (device_of x)).honest) (sym same) before in
     let usable : k.usable ≡ true = ap (λ x. is_open x) same ∙ c.in-Ok-compacted.ensures.done.usable in
     let disk = (state k.device).disk in
-    let settled = k.settled now usable in
+    let durable = k.durable now usable in
     let none = ap (λ x. (held state x).pins) same ∙ none_out (held state site.keeper) (held state written.keeper) c.in-Ok-compacted.ensures.done.out opened.unpinned in
     subst (λ d. IsWrittenAnew (state d).disk.view (string_bytes c.in-Ok-free_line.line)) (sym c.into_device-device.ensures)
     (record {
       slot = k.slot;
-      current_is = settled.current_is;
+      current_is = durable.current_is;
       filled = subst (λ x. IsFilled (slot_of x) (state (device_of x)).disk.view) (sym same) (c.in-Ok-compacted.ensures.filled still);
       line_is = c.in-Ok-free_line.ensures ∙ ap free_line (c.figures-free.ensures.free now ∙ free_is disk.view k.slot k.ledger k.pinned k.fitted.rest k.pins.seals (k.pins_there now) (k.there now) ∙ unreached_alone disk.view k.slot k.pinned none);
     })

@@ -8,4 +8,4 @@ use Rattle.ready_sockets.proofs.serving.pass.Given as goal
 abbrev pub invariant-loop-visit : goal.invariant-loop-visit
 invariant-loop-visit g l =
     let s = g.S.SiteKeeper in
-    HasRun (HubRun s.site_state s.lacks s.crash_states s.represents) l.fn.hub l.hub (g.C.Clock.told l.fn.clock) (g.C.Clock.told l.clock) (λ es os. IsDoneTo HadTurn l.visit-index l.fn.visits es os l.visits)
+    HasRun (HubRun s.site_state s.lacks s.crash_states s.represents) l.fn.hub l.hub (g.C.Clock.given l.fn.clock) (g.C.Clock.given l.clock) (λ es os. IsDoneTo HadTurn l.visit-index l.fn.visits es os l.visits)

@@ -6,4 +6,4 @@ use Rattle.ready_sockets.proofs.serving.round.Given as goal
 abbrev pub invariant-loop-turn : goal.invariant-loop-turn
 invariant-loop-turn g l =
     let s = g.S.SiteKeeper in
-    HasRun (HubRun s.site_state s.lacks s.crash_states s.represents) l.fn.hub l.hub (g.C.Clock.told l.fn.clock) (g.C.Clock.told l.clock) (λ es os. Unit {0})
+    HasRun (HubRun s.site_state s.lacks s.crash_states s.represents) l.fn.hub l.hub (g.C.Clock.given l.fn.clock) (g.C.Clock.given l.clock) (λ es os. Unit {0})

@@ -11,7 +11,7 @@ pub returns-in-Ok-Some : goal.returns-in-Ok-Some
 returns-in-Ok-Some g c =
     let piece = take c.in-Ok-Some.count c.read.new.buffer in
     run_one _ _ _ _ g.met.S.SiteKeeper.crash_states_represent _ _ (heard_event c.args.id piece c.now.result) (bytes_outcome c.tell-answer.result) _ _ _ c.tell-answer.ensures
-    (c.now.ensures ∙ ap (λ l. g.C.Clock.told c.args.clock.now ++ l) (sym (heard_moment c.args.id c.now.result piece)))
+    (c.now.ensures ∙ ap (λ l. g.C.Clock.given c.args.clock.now ++ l) (sym (heard_moment c.args.id c.now.result piece)))
     (heard_made c.args.id _ _ _ piece c.now.result _ _ (omega (arith, length-take c.in-Ok-Some.count c.read.new.buffer, c.read.auto.buffer))
     (ap g.W.ReadyWire.calls c.heard.ensures.wire ∙ c.read.ensures.calls ∙ ap (λ w. g.W.ReadyWire.calls c.args.seat.now.wire ++ w ∷ []) (read_is c.read.result c.in-Ok-Some.field-0 c.in-Ok-Some.count c.read.new.buffer c.in-Ok-Some.is c.in-Ok-Some.field-0-is)
     ∙ ap (λ n. g.W.ReadyWire.calls c.args.seat.now.wire ++ Read n piece ∷ []) c.read.auto.buffer)

@@ -8,4 +8,4 @@ use Rattle.turns.proofs.turns.pass.Given as goal
 abbrev pub invariant-loop-connection : goal.invariant-loop-connection
 invariant-loop-connection g l =
     let s = g.S.SiteKeeper in
-    HasRun (HubRun s.site_state s.lacks s.crash_states s.represents) l.fn.hub l.hub (g.C.Clock.told l.fn.clock) (g.C.Clock.told l.clock) (λ es os. IsDoneTo (For g.W.Wire.calls Turn) l.connection-index l.fn.connections es os l.connections)
+    HasRun (HubRun s.site_state s.lacks s.crash_states s.represents) l.fn.hub l.hub (g.C.Clock.given l.fn.clock) (g.C.Clock.given l.clock) (λ es os. IsDoneTo (For g.W.Wire.calls Turn) l.connection-index l.fn.connections es os l.connections)

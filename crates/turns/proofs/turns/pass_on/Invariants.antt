@@ -7,4 +7,4 @@ use Rattle.turns.proofs.turns.pass_on.Given as goal
 abbrev pub invariant-loop-pass : goal.invariant-loop-pass
 invariant-loop-pass g l =
     let s = g.S.SiteKeeper in
-    HasRun (HubRun s.site_state s.lacks s.crash_states s.represents) l.fn.hub l.hub (g.C.Clock.told l.fn.clock) (g.C.Clock.told l.clock) (λ es os. Times l._pass (InOrder (For g.W.Wire.calls Turn)) l.fn.connections es os l.connections)
+    HasRun (HubRun s.site_state s.lacks s.crash_states s.represents) l.fn.hub l.hub (g.C.Clock.given l.fn.clock) (g.C.Clock.given l.clock) (λ es os. Times l._pass (InOrder (For g.W.Wire.calls Turn)) l.fn.connections es os l.connections)

@@ -1,12 +1,16 @@
-use Rattle.std.proofs.Common.{ap, ◌∙◌, [], None}
+use Rattle.std.proofs.Common.{ap, sym, ◌∙◌, length, List, [], None}
+use Rattle.page_store.specs.Sectors.{page_of}
 use Rattle.page_store.specs.Content.{place_in}
-use Rattle.page_store.specs.Pages.{leaf_of}
-use Rattle.tree_nodes.specs.PageViews.{bounds_of, pairs_in}
-use Rattle.cow_tree.proofs.LeafBytes.{leaf_there}
+use Rattle.page_store.specs.Pages.{Pair, pair_at, leaf_of}
+use Rattle.tree_nodes.specs.PageViews.{bounds_of, entries_by_head}
+use Rattle.tree_nodes.proofs.PageForm.{leaf_told}
+use Rattle.cow_tree.proofs.LeafBytes.{pairs_there}
 use Rattle.cow_tree.proofs.kept_leaf.KeptLeaf.read.Goals as goal
 
 pub returns-clause-pairs : goal.returns-clause-pairs
-returns-clause-pairs g c = λ keeps.
+returns-clause-pairs g c = λ keeps pairs leaf.
     let place = place_in (bounds_of c.args.bounds) 0 c.args.page in
-    ap (leaf_of place [] None) (c.in_ok-load_page.ensures.page keeps)
-    ∙ leaf_there place [] None c.load_page.new.bytes (pairs_in c.in_ok-leaf.leaf.count c.in_ok-leaf.leaf.entries.now) _ c.in_ok-leaf.ensures.pairs c.count_pairs-self-inside.ensures
+    let bytes = c.load_page.new.bytes in
+    let is = c.in_ok-load_page.ensures.page keeps in
+    let answered = c.of_tested.ensures ∙ ap (entries_by_head pair_at) (sym is) ∙ leaf_told place [] None (page_of (g.D.Device.state c.args.device.now).disk.view c.args.page) pairs leaf in
+    pairs_there place [] None bytes pairs _ (ap (leaf_of place [] None) (sym is) ∙ leaf) (c.count_pairs-self-inside.ensures ∙ ap (λ (l : List Pair). length l) answered)

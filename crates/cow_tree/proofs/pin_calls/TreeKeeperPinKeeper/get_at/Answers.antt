@@ -26,20 +26,20 @@ returns-in-Ok-clause-value g c = λ keeps.
     let view = (g.D.Device.state k.device).disk.view in
     let tree = c.tree_of-tree.result in
     subst (λ (o : Option (List Pair)). IfSome o (λ pairs. option_map (λ n. take n c.find_value.new.buffer) c.in-Ok.found ≡ value_at pairs c.args.key.now)) (sym (pairs_there view k.pinned c.args.pin.now tree c.tree_of-tree.ensures))
-    (c.in-Ok.ensures.value keeps (found_at tree view) (k.pins_there keeps c.args.pin.now tree c.tree_of-tree.ensures).found_is)
+    (c.in-Ok.ensures.found.value keeps (found_at tree view) (k.pins_there keeps c.args.pin.now tree c.tree_of-tree.ensures).found_is)
 
 pub returns-in-Ok-clause-kept : goal.returns-in-Ok-clause-kept
 returns-in-Ok-clause-kept g c =
     let d = g.D.Device in
     let k = c.args.self.now in
-    let reads = c.in-Ok.ensures.reads in
+    let reads = c.in-Ok.ensures.found.reads in
     has_read (d.state k.device) (d.state c.find_value.new.device) k.slot k.ledger k.top k.usable k.pinned reads.device.only (let e = reads.reads in omega (arith, e))
 
 pub returns-in-Err-clause-kept : goal.returns-in-Err-clause-kept
 returns-in-Err-clause-kept g c =
     let d = g.D.Device in
     let k = c.args.self.now in
-    let reads = c.in-Err.ensures.reads in
+    let reads = c.in-Err.ensures.found.reads in
     has_read (d.state k.device) (d.state c.find_value.new.device) k.slot k.ledger k.top k.usable k.pinned reads.device.only (counts_rise (Option ℕ) c.in-Err.fault (d.state k.device).failed_reads (d.state c.find_value.new.device).failed_reads reads.reads)
 
 pub returns-in-Err-clause-fault : goal.returns-in-Err-clause-fault
@@ -48,19 +48,19 @@ returns-in-Err-clause-fault g c =
     let k = c.args.self.now in
     let view = (d.state k.device).disk.view in
     let tree = c.tree_of-tree.result in
-    let reads = c.in-Err.ensures.reads in
+    let reads = c.in-Err.ensures.found.reads in
     subst (λ (e : KeeperFault). IsReadFault (tree_holding (d.state k.device) k.slot k.ledger k.top k.usable k.pinned) (tree_holding (d.state c.find_value.new.device) k.slot k.ledger k.top k.usable k.pinned) e) (sym c.from.ensures)
     (read_fault (d.state k.device) (d.state c.find_value.new.device) k.slot k.ledger k.top k.usable k.pinned reads.device.only (Option ℕ) c.in-Err.fault _ reads.reads
-    (λ keeps. c.in-Err.ensures.value keeps (found_at tree view) (k.pins_there keeps c.args.pin.now tree c.tree_of-tree.ensures).found_is))
+    (λ keeps. c.in-Err.ensures.found.value keeps (found_at tree view) (k.pins_there keeps c.args.pin.now tree c.tree_of-tree.ensures).found_is))
 
 pub returns-in-Ok-clause-need : goal.returns-in-Ok-clause-need
 returns-in-Ok-clause-need g c =
     let d = g.D.Device in
     let k = c.args.self.now in
-    needs_again (d.state k.device) (d.state c.find_value.new.device) k.slot c.in-Ok.ensures.reads.device.only
+    needs_again (d.state k.device) (d.state c.find_value.new.device) k.slot c.in-Ok.ensures.found.reads.device.only
 
 pub returns-in-Err-clause-need : goal.returns-in-Err-clause-need
 returns-in-Err-clause-need g c =
     let d = g.D.Device in
     let k = c.args.self.now in
-    needs_again (d.state k.device) (d.state c.find_value.new.device) k.slot c.in-Err.ensures.reads.device.only
+    needs_again (d.state k.device) (d.state c.find_value.new.device) k.slot c.in-Err.ensures.found.reads.device.only

@@ -26,7 +26,7 @@ invariant_of-self g c =
       pins_there = λ keeps.
           subst (λ (ts : List (Option TreeRoot)). AreKept view c.pin.new.self ts) trees
           (subst (λ (l : LedgerState). AreKept view l (set k.pinned number (Some (tree_under k.slot)))) (sym is) (kept_more k.slot k.ledger k.pinned number given.0 given.1 k.fitted.rest k.pins view (k.there keeps) (k.pins_there keeps)));
-      settled = k.settled;
+      durable = k.durable;
       leaf = k.leaf;
     }
 

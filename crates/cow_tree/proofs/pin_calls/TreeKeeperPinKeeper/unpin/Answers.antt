@@ -27,7 +27,7 @@ invariant_of-self g c =
       pins_there = λ keeps.
           subst (λ (ts : List (Option TreeRoot)). AreKept view c.unpin.new.self ts) trees
           (subst (λ (l : LedgerState). AreKept view l (set k.pinned c.args.pin None)) (sym is) (kept_less k.slot.root.pages k.ledger k.pinned c.args.pin out k.pins view (k.pins_there keeps)));
-      settled = k.settled;
+      durable = k.durable;
       leaf = k.leaf;
     }
 

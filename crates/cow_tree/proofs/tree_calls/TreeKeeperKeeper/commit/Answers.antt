@@ -29,7 +29,7 @@ returns-then-self-clause-at_crash g c = λ keeps up.
     let view = (g.D.Device.state k.device).disk.view in
     let states = crash_states_of g.D.Device.moment g.D.Device.possible_since k.device in
     adds_weaker states states (may_crash_to states) (λ (i : Image). TreeHas i (found_under k.slot view).pairs k.slot.root.banner ⊎ TreeHas i (updated (found_under k.slot view).pairs c.args.batch.now) c.args.banner)
-    (λ i left. inl (crash_states_have_the_tree (g.D.Device.state k.device).disk k.slot k.ledger k.top k.fitted.version (k.there keeps) (k.settled keeps up) i (d.crash_states_are_images k.device i keeps left))) (no_new_crash_state states)
+    (λ i left. inl (crash_states_have_the_tree (g.D.Device.state k.device).disk k.slot k.ledger k.top k.fitted.version (k.there keeps) (k.durable keeps up) i (d.crash_states_are_images k.device i keeps left))) (no_new_crash_state states)
 
 pub returns-in-Err-clause-fault : goal.returns-in-Err-clause-fault
 returns-in-Err-clause-fault g c =
@@ -44,7 +44,7 @@ returns-in-Err-clause-fault g c =
     let version = version_is c.args.banner.version c.requires.version in
     let pairs = (found_under k.slot old.disk.view).pairs in
     let batch = c.args.batch.now in
-    let held_by = λ (keeps : IsTrue old.honest). is_held old.size k.slot old.disk k.ledger k.top k.fitted (k.there keeps) (k.settled keeps up) k.sealed in
+    let held_by = λ (keeps : IsTrue old.honest). is_held old.size k.slot old.disk k.ledger k.top k.fitted (k.there keeps) (k.durable keeps up) k.sealed in
     let first = λ (keeps : IsTrue old.honest). starts old.size k.slot old.disk.view k.ledger k.fitted (k.there keeps) in
     let rise = reads_rise c.in-Err.fault old.failed_reads mid.failed_reads c.in-Err.ensures.reads.reads in
     let stayed = subst (λ (l : LedgerState). HasStayed (tree_holding old k.slot k.ledger k.top k.usable k.pinned) (tree_holding mid k.slot l k.top k.usable k.pinned)) (sym c.in-Err.ensures.refused) (has_read old mid k.slot k.ledger k.top k.usable k.pinned only rise).same in
@@ -77,7 +77,7 @@ returns-in-Err-clause-at_crash g c = λ keeps usable.
     let pairs = (found_under k.slot old.disk.view).pairs in
     let batch = c.args.batch.now in
     adds_weaker (states k.device) (states c.plan_commit.new.device) (may_crash_to (states k.device)) (λ (i : Image). TreeHas i pairs k.slot.root.banner ⊎ TreeHas i (updated pairs batch) c.args.banner)
-    (λ i left. inl (crash_states_have_the_tree old.disk k.slot k.ledger k.top k.fitted.version (k.there keeps) (k.settled keeps up) i (d.crash_states_are_images k.device i keeps left))) (c.plan_commit.ensures.reads.device.no_new_crash_state keeps)
+    (λ i left. inl (crash_states_have_the_tree old.disk k.slot k.ledger k.top k.fitted.version (k.there keeps) (k.durable keeps up) i (d.crash_states_are_images k.device i keeps left))) (c.plan_commit.ensures.reads.device.no_new_crash_state keeps)
 
 pub write_plan-requires-clause-planned : goal.write_plan-requires-clause-planned
 write_plan-requires-clause-planned g c = λ keeps2.
@@ -92,11 +92,11 @@ write_plan-requires-clause-planned g c = λ keeps2.
     let version = version_is c.args.banner.version c.requires.version in
     let pairs = (found_under k.slot old.disk.view).pairs in
     let batch = c.args.batch.now in
-    let held_by = λ (keeps : IsTrue old.honest). is_held old.size k.slot old.disk k.ledger k.top k.fitted (k.there keeps) (k.settled keeps up) k.sealed in
+    let held_by = λ (keeps : IsTrue old.honest). is_held old.size k.slot old.disk k.ledger k.top k.fitted (k.there keeps) (k.durable keeps up) k.sealed in
     let first = λ (keeps : IsTrue old.honest). starts old.size k.slot old.disk.view k.ledger k.fitted (k.there keeps) in
     let same = λ (keeps : IsTrue old.honest). let e : mid.disk.view ≡ old.disk.view = ap (λ (x : Disk). x.view) (only.disk keeps) in e in
     let sure = λ (keeps : IsTrue old.honest) (i : Image) (left : may_crash_to (states c.plan_commit.new.device) i).
-    let e : i ≡ mid.disk.view = (k.settled keeps up).images i (d.crash_states_are_images k.device i keeps ((c.plan_commit.ensures.reads.device.no_new_crash_state keeps).now i left)) ∙ sym (same keeps) in e in
+    let e : i ≡ mid.disk.view = (k.durable keeps up).images i (d.crash_states_are_images k.device i keeps ((c.plan_commit.ensures.reads.device.no_new_crash_state keeps).now i left)) ∙ sym (same keeps) in e in
     let ready = λ (keeps : IsTrue old.honest).
     may_be_written old.disk.view mid.disk.view (states c.plan_commit.new.device) k.slot k.ledger c.plan_commit.new.ledger k.top c.in-Ok.plan (updated pairs batch) (held_by keeps) c.plan_commit.ensures.marks
     (c.in-Ok.ensures.planned keeps k.top pairs (held_by keeps) (first keeps) refl version).0 k.fitted.version (same keeps) (sure keeps) in
@@ -115,11 +115,11 @@ invariant_of-self-in-Ok-write_plan g c =
     let version = version_is c.args.banner.version c.requires.version in
     let pairs = (found_under k.slot old.disk.view).pairs in
     let batch = c.args.batch.now in
-    let held_by = λ (keeps : IsTrue old.honest). is_held old.size k.slot old.disk k.ledger k.top k.fitted (k.there keeps) (k.settled keeps up) k.sealed in
+    let held_by = λ (keeps : IsTrue old.honest). is_held old.size k.slot old.disk k.ledger k.top k.fitted (k.there keeps) (k.durable keeps up) k.sealed in
     let first = λ (keeps : IsTrue old.honest). starts old.size k.slot old.disk.view k.ledger k.fitted (k.there keeps) in
     let same = λ (keeps : IsTrue old.honest). let e : mid.disk.view ≡ old.disk.view = ap (λ (x : Disk). x.view) (only.disk keeps) in e in
     let sure = λ (keeps : IsTrue old.honest) (i : Image) (left : may_crash_to (states c.plan_commit.new.device) i).
-    let e : i ≡ mid.disk.view = (k.settled keeps up).images i (d.crash_states_are_images k.device i keeps ((c.plan_commit.ensures.reads.device.no_new_crash_state keeps).now i left)) ∙ sym (same keeps) in e in
+    let e : i ≡ mid.disk.view = (k.durable keeps up).images i (d.crash_states_are_images k.device i keeps ((c.plan_commit.ensures.reads.device.no_new_crash_state keeps).now i left)) ∙ sym (same keeps) in e in
     let ready = λ (keeps : IsTrue old.honest).
     may_be_written old.disk.view mid.disk.view (states c.plan_commit.new.device) k.slot k.ledger c.plan_commit.new.ledger k.top c.in-Ok.plan (updated pairs batch) (held_by keeps) c.plan_commit.ensures.marks
     (c.in-Ok.ensures.planned keeps k.top pairs (held_by keeps) (first keeps) refl version).0 k.fitted.version (same keeps) (sure keeps) in
@@ -142,7 +142,7 @@ invariant_of-self-in-Ok-write_plan g c =
           (subst (λ (l : LedgerState). PinnedStay c.plan_commit.new.ledger l) c.in-Ok-write_plan.ensures.advanced c.in-Ok-write_plan.ensures.pinned));
       leaf = λ keeps2. ∣ inl c.clear.ensures ∣₁;
       there = λ keeps2. (done (back keeps2)).there;
-      settled = λ keeps2 usable. record {
+      durable = λ keeps2 usable. record {
         images = λ i image. (done (back keeps2)).all i (d.each_image_is_a_crash_state c.write_plan.new.device i keeps2 image);
         current_is = (done (back keeps2)).current_is;
         seals = let s = (done (back keeps2)).seals in omega (arith, s, seal);
@@ -162,11 +162,11 @@ returns-in-Ok-write_plan-clause-done g c = λ keeps.
     let version = version_is c.args.banner.version c.requires.version in
     let pairs = (found_under k.slot old.disk.view).pairs in
     let batch = c.args.batch.now in
-    let held_by = λ (keeps : IsTrue old.honest). is_held old.size k.slot old.disk k.ledger k.top k.fitted (k.there keeps) (k.settled keeps up) k.sealed in
+    let held_by = λ (keeps : IsTrue old.honest). is_held old.size k.slot old.disk k.ledger k.top k.fitted (k.there keeps) (k.durable keeps up) k.sealed in
     let first = λ (keeps : IsTrue old.honest). starts old.size k.slot old.disk.view k.ledger k.fitted (k.there keeps) in
     let same = λ (keeps : IsTrue old.honest). let e : mid.disk.view ≡ old.disk.view = ap (λ (x : Disk). x.view) (only.disk keeps) in e in
     let sure = λ (keeps : IsTrue old.honest) (i : Image) (left : may_crash_to (states c.plan_commit.new.device) i).
-    let e : i ≡ mid.disk.view = (k.settled keeps up).images i (d.crash_states_are_images k.device i keeps ((c.plan_commit.ensures.reads.device.no_new_crash_state keeps).now i left)) ∙ sym (same keeps) in e in
+    let e : i ≡ mid.disk.view = (k.durable keeps up).images i (d.crash_states_are_images k.device i keeps ((c.plan_commit.ensures.reads.device.no_new_crash_state keeps).now i left)) ∙ sym (same keeps) in e in
     let ready = λ (keeps : IsTrue old.honest).
     may_be_written old.disk.view mid.disk.view (states c.plan_commit.new.device) k.slot k.ledger c.plan_commit.new.ledger k.top c.in-Ok.plan (updated pairs batch) (held_by keeps) c.plan_commit.ensures.marks
     (c.in-Ok.ensures.planned keeps k.top pairs (held_by keeps) (first keeps) refl version).0 k.fitted.version (same keeps) (sure keeps) in
@@ -186,11 +186,11 @@ returns-in-Ok-write_plan-clause-pins g c = λ keeps.
     let version = version_is c.args.banner.version c.requires.version in
     let pairs = (found_under k.slot old.disk.view).pairs in
     let batch = c.args.batch.now in
-    let held_by = λ (keeps : IsTrue old.honest). is_held old.size k.slot old.disk k.ledger k.top k.fitted (k.there keeps) (k.settled keeps up) k.sealed in
+    let held_by = λ (keeps : IsTrue old.honest). is_held old.size k.slot old.disk k.ledger k.top k.fitted (k.there keeps) (k.durable keeps up) k.sealed in
     let first = λ (keeps : IsTrue old.honest). starts old.size k.slot old.disk.view k.ledger k.fitted (k.there keeps) in
     let same = λ (keeps : IsTrue old.honest). let e : mid.disk.view ≡ old.disk.view = ap (λ (x : Disk). x.view) (only.disk keeps) in e in
     let sure = λ (keeps : IsTrue old.honest) (i : Image) (left : may_crash_to (states c.plan_commit.new.device) i).
-    let e : i ≡ mid.disk.view = (k.settled keeps up).images i (d.crash_states_are_images k.device i keeps ((c.plan_commit.ensures.reads.device.no_new_crash_state keeps).now i left)) ∙ sym (same keeps) in e in
+    let e : i ≡ mid.disk.view = (k.durable keeps up).images i (d.crash_states_are_images k.device i keeps ((c.plan_commit.ensures.reads.device.no_new_crash_state keeps).now i left)) ∙ sym (same keeps) in e in
     let ready = λ (keeps : IsTrue old.honest).
     may_be_written old.disk.view mid.disk.view (states c.plan_commit.new.device) k.slot k.ledger c.plan_commit.new.ledger k.top c.in-Ok.plan (updated pairs batch) (held_by keeps) c.plan_commit.ensures.marks
     (c.in-Ok.ensures.planned keeps k.top pairs (held_by keeps) (first keeps) refl version).0 k.fitted.version (same keeps) (sure keeps) in
@@ -215,18 +215,18 @@ returns-in-Ok-write_plan-clause-at_crash g c = λ keeps usable.
     let version = version_is c.args.banner.version c.requires.version in
     let pairs = (found_under k.slot old.disk.view).pairs in
     let batch = c.args.batch.now in
-    let held_by = λ (keeps : IsTrue old.honest). is_held old.size k.slot old.disk k.ledger k.top k.fitted (k.there keeps) (k.settled keeps up) k.sealed in
+    let held_by = λ (keeps : IsTrue old.honest). is_held old.size k.slot old.disk k.ledger k.top k.fitted (k.there keeps) (k.durable keeps up) k.sealed in
     let first = λ (keeps : IsTrue old.honest). starts old.size k.slot old.disk.view k.ledger k.fitted (k.there keeps) in
     let same = λ (keeps : IsTrue old.honest). let e : mid.disk.view ≡ old.disk.view = ap (λ (x : Disk). x.view) (only.disk keeps) in e in
     let sure = λ (keeps : IsTrue old.honest) (i : Image) (left : may_crash_to (states c.plan_commit.new.device) i).
-    let e : i ≡ mid.disk.view = (k.settled keeps up).images i (d.crash_states_are_images k.device i keeps ((c.plan_commit.ensures.reads.device.no_new_crash_state keeps).now i left)) ∙ sym (same keeps) in e in
+    let e : i ≡ mid.disk.view = (k.durable keeps up).images i (d.crash_states_are_images k.device i keeps ((c.plan_commit.ensures.reads.device.no_new_crash_state keeps).now i left)) ∙ sym (same keeps) in e in
     let ready = λ (keeps : IsTrue old.honest).
     may_be_written old.disk.view mid.disk.view (states c.plan_commit.new.device) k.slot k.ledger c.plan_commit.new.ledger k.top c.in-Ok.plan (updated pairs batch) (held_by keeps) c.plan_commit.ensures.marks
     (c.in-Ok.ensures.planned keeps k.top pairs (held_by keeps) (first keeps) refl version).0 k.fitted.version (same keeps) (sure keeps) in
     let keeps1 = λ (keeps : IsTrue old.honest). let h : IsTrue mid.honest = subst IsTrue (sym only.same.honest) keeps in h in
     adds_both (states k.device) (states c.plan_commit.new.device) (states c.write_plan.new.device) (may_crash_to (states k.device)) (IsTreeBetween mid.disk.view k.slot k.top (updated pairs batch) c.in-Ok.plan.slot.root.banner) (λ (i : Image). TreeHas i pairs k.slot.root.banner ⊎ TreeHas i (updated pairs batch) c.args.banner)
     (c.plan_commit.ensures.reads.device.no_new_crash_state keeps) (c.write_plan.ensures.at_crash (keeps1 keeps) (ready keeps))
-    (λ i left. inl (crash_states_have_the_tree old.disk k.slot k.ledger k.top k.fitted.version (k.there keeps) (k.settled keeps up) i (d.crash_states_are_images k.device i keeps left)))
+    (λ i left. inl (crash_states_have_the_tree old.disk k.slot k.ledger k.top k.fitted.version (k.there keeps) (k.durable keeps up) i (d.crash_states_are_images k.device i keeps left)))
     (λ i h. old_or_new old.disk.view k.slot k.top (updated pairs batch) c.args.banner i k.fitted.version (between_again old.disk.view mid.disk.view k.slot k.top (updated pairs batch) c.in-Ok.plan.slot.root.banner c.args.banner i (same keeps) c.in-Ok.ensures.made.banner_is h))
 
 pub invariant_of-self-in-Err-write_plan : goal.invariant_of-self-in-Err-write_plan
@@ -242,11 +242,11 @@ invariant_of-self-in-Err-write_plan g c =
     let version = version_is c.args.banner.version c.requires.version in
     let pairs = (found_under k.slot old.disk.view).pairs in
     let batch = c.args.batch.now in
-    let held_by = λ (keeps : IsTrue old.honest). is_held old.size k.slot old.disk k.ledger k.top k.fitted (k.there keeps) (k.settled keeps up) k.sealed in
+    let held_by = λ (keeps : IsTrue old.honest). is_held old.size k.slot old.disk k.ledger k.top k.fitted (k.there keeps) (k.durable keeps up) k.sealed in
     let first = λ (keeps : IsTrue old.honest). starts old.size k.slot old.disk.view k.ledger k.fitted (k.there keeps) in
     let same = λ (keeps : IsTrue old.honest). let e : mid.disk.view ≡ old.disk.view = ap (λ (x : Disk). x.view) (only.disk keeps) in e in
     let sure = λ (keeps : IsTrue old.honest) (i : Image) (left : may_crash_to (states c.plan_commit.new.device) i).
-    let e : i ≡ mid.disk.view = (k.settled keeps up).images i (d.crash_states_are_images k.device i keeps ((c.plan_commit.ensures.reads.device.no_new_crash_state keeps).now i left)) ∙ sym (same keeps) in e in
+    let e : i ≡ mid.disk.view = (k.durable keeps up).images i (d.crash_states_are_images k.device i keeps ((c.plan_commit.ensures.reads.device.no_new_crash_state keeps).now i left)) ∙ sym (same keeps) in e in
     let ready = λ (keeps : IsTrue old.honest).
     may_be_written old.disk.view mid.disk.view (states c.plan_commit.new.device) k.slot k.ledger c.plan_commit.new.ledger k.top c.in-Ok.plan (updated pairs batch) (held_by keeps) c.plan_commit.ensures.marks
     (c.in-Ok.ensures.planned keeps k.top pairs (held_by keeps) (first keeps) refl version).0 k.fitted.version (same keeps) (sure keeps) in
@@ -268,7 +268,7 @@ invariant_of-self-in-Err-write_plan g c =
           let keeps = back keeps2 in
           let here = subst (λ (v : Image). IsThere v k.slot k.ledger) (sym (same keeps)) (k.there keeps) in
           subst (λ (l : LedgerState). IsThere new.disk.view k.slot l) (sym as_before) (still_there k.slot mid.disk.view new.disk.view k.ledger k.fitted.version here (c.in-Err-write_plan.ensures.kept (keeps1 keeps) (ready keeps)));
-      settled = λ keeps2 usable. absurd (cc usable);
+      durable = λ keeps2 usable. absurd (cc usable);
     }
 
 pub returns-clause-fault : goal.returns-clause-fault
@@ -284,11 +284,11 @@ returns-clause-fault g c =
     let version = version_is c.args.banner.version c.requires.version in
     let pairs = (found_under k.slot old.disk.view).pairs in
     let batch = c.args.batch.now in
-    let held_by = λ (keeps : IsTrue old.honest). is_held old.size k.slot old.disk k.ledger k.top k.fitted (k.there keeps) (k.settled keeps up) k.sealed in
+    let held_by = λ (keeps : IsTrue old.honest). is_held old.size k.slot old.disk k.ledger k.top k.fitted (k.there keeps) (k.durable keeps up) k.sealed in
     let first = λ (keeps : IsTrue old.honest). starts old.size k.slot old.disk.view k.ledger k.fitted (k.there keeps) in
     let same = λ (keeps : IsTrue old.honest). let e : mid.disk.view ≡ old.disk.view = ap (λ (x : Disk). x.view) (only.disk keeps) in e in
     let sure = λ (keeps : IsTrue old.honest) (i : Image) (left : may_crash_to (states c.plan_commit.new.device) i).
-    let e : i ≡ mid.disk.view = (k.settled keeps up).images i (d.crash_states_are_images k.device i keeps ((c.plan_commit.ensures.reads.device.no_new_crash_state keeps).now i left)) ∙ sym (same keeps) in e in
+    let e : i ≡ mid.disk.view = (k.durable keeps up).images i (d.crash_states_are_images k.device i keeps ((c.plan_commit.ensures.reads.device.no_new_crash_state keeps).now i left)) ∙ sym (same keeps) in e in
     let ready = λ (keeps : IsTrue old.honest).
     may_be_written old.disk.view mid.disk.view (states c.plan_commit.new.device) k.slot k.ledger c.plan_commit.new.ledger k.top c.in-Ok.plan (updated pairs batch) (held_by keeps) c.plan_commit.ensures.marks
     (c.in-Ok.ensures.planned keeps k.top pairs (held_by keeps) (first keeps) refl version).0 k.fitted.version (same keeps) (sure keeps) in
@@ -335,18 +335,18 @@ returns-clause-at_crash g c = λ keeps usable.
     let version = version_is c.args.banner.version c.requires.version in
     let pairs = (found_under k.slot old.disk.view).pairs in
     let batch = c.args.batch.now in
-    let held_by = λ (keeps : IsTrue old.honest). is_held old.size k.slot old.disk k.ledger k.top k.fitted (k.there keeps) (k.settled keeps up) k.sealed in
+    let held_by = λ (keeps : IsTrue old.honest). is_held old.size k.slot old.disk k.ledger k.top k.fitted (k.there keeps) (k.durable keeps up) k.sealed in
     let first = λ (keeps : IsTrue old.honest). starts old.size k.slot old.disk.view k.ledger k.fitted (k.there keeps) in
     let same = λ (keeps : IsTrue old.honest). let e : mid.disk.view ≡ old.disk.view = ap (λ (x : Disk). x.view) (only.disk keeps) in e in
     let sure = λ (keeps : IsTrue old.honest) (i : Image) (left : may_crash_to (states c.plan_commit.new.device) i).
-    let e : i ≡ mid.disk.view = (k.settled keeps up).images i (d.crash_states_are_images k.device i keeps ((c.plan_commit.ensures.reads.device.no_new_crash_state keeps).now i left)) ∙ sym (same keeps) in e in
+    let e : i ≡ mid.disk.view = (k.durable keeps up).images i (d.crash_states_are_images k.device i keeps ((c.plan_commit.ensures.reads.device.no_new_crash_state keeps).now i left)) ∙ sym (same keeps) in e in
     let ready = λ (keeps : IsTrue old.honest).
     may_be_written old.disk.view mid.disk.view (states c.plan_commit.new.device) k.slot k.ledger c.plan_commit.new.ledger k.top c.in-Ok.plan (updated pairs batch) (held_by keeps) c.plan_commit.ensures.marks
     (c.in-Ok.ensures.planned keeps k.top pairs (held_by keeps) (first keeps) refl version).0 k.fitted.version (same keeps) (sure keeps) in
     let keeps1 = λ (keeps : IsTrue old.honest). let h : IsTrue mid.honest = subst IsTrue (sym only.same.honest) keeps in h in
     adds_both (states k.device) (states c.plan_commit.new.device) (states c.write_plan.new.device) (may_crash_to (states k.device)) (IsTreeBetween mid.disk.view k.slot k.top (updated pairs batch) c.in-Ok.plan.slot.root.banner) (λ (i : Image). TreeHas i pairs k.slot.root.banner ⊎ TreeHas i (updated pairs batch) c.args.banner)
     (c.plan_commit.ensures.reads.device.no_new_crash_state keeps) (c.write_plan.ensures.at_crash (keeps1 keeps) (ready keeps))
-    (λ i left. inl (crash_states_have_the_tree old.disk k.slot k.ledger k.top k.fitted.version (k.there keeps) (k.settled keeps up) i (d.crash_states_are_images k.device i keeps left)))
+    (λ i left. inl (crash_states_have_the_tree old.disk k.slot k.ledger k.top k.fitted.version (k.there keeps) (k.durable keeps up) i (d.crash_states_are_images k.device i keeps left)))
     (λ i h. old_or_new old.disk.view k.slot k.top (updated pairs batch) c.args.banner i k.fitted.version (between_again old.disk.view mid.disk.view k.slot k.top (updated pairs batch) c.in-Ok.plan.slot.root.banner c.args.banner i (same keeps) c.in-Ok.ensures.made.banner_is h))
 
 pub returns-then-self-clause-between : goal.returns-then-self-clause-between
@@ -384,11 +384,11 @@ returns-in-Ok-write_plan-clause-between g c = λ keeps usable.
     let version = version_is c.args.banner.version c.requires.version in
     let pairs = (found_under k.slot old.disk.view).pairs in
     let batch = c.args.batch.now in
-    let held_by = λ (keeps : IsTrue old.honest). is_held old.size k.slot old.disk k.ledger k.top k.fitted (k.there keeps) (k.settled keeps up) k.sealed in
+    let held_by = λ (keeps : IsTrue old.honest). is_held old.size k.slot old.disk k.ledger k.top k.fitted (k.there keeps) (k.durable keeps up) k.sealed in
     let first = λ (keeps : IsTrue old.honest). starts old.size k.slot old.disk.view k.ledger k.fitted (k.there keeps) in
     let same = λ (keeps : IsTrue old.honest). let e : mid.disk.view ≡ old.disk.view = ap (λ (x : Disk). x.view) (only.disk keeps) in e in
     let sure = λ (keeps : IsTrue old.honest) (i : Image) (left : may_crash_to (states c.plan_commit.new.device) i).
-    let e : i ≡ mid.disk.view = (k.settled keeps up).images i (d.crash_states_are_images k.device i keeps ((c.plan_commit.ensures.reads.device.no_new_crash_state keeps).now i left)) ∙ sym (same keeps) in e in
+    let e : i ≡ mid.disk.view = (k.durable keeps up).images i (d.crash_states_are_images k.device i keeps ((c.plan_commit.ensures.reads.device.no_new_crash_state keeps).now i left)) ∙ sym (same keeps) in e in
     let ready = λ (keeps : IsTrue old.honest).
     may_be_written old.disk.view mid.disk.view (states c.plan_commit.new.device) k.slot k.ledger c.plan_commit.new.ledger k.top c.in-Ok.plan (updated pairs batch) (held_by keeps) c.plan_commit.ensures.marks
     (c.in-Ok.ensures.planned keeps k.top pairs (held_by keeps) (first keeps) refl version).0 k.fitted.version (same keeps) (sure keeps) in
@@ -410,11 +410,11 @@ returns-clause-between g c = λ keeps usable.
     let version = version_is c.args.banner.version c.requires.version in
     let pairs = (found_under k.slot old.disk.view).pairs in
     let batch = c.args.batch.now in
-    let held_by = λ (keeps : IsTrue old.honest). is_held old.size k.slot old.disk k.ledger k.top k.fitted (k.there keeps) (k.settled keeps up) k.sealed in
+    let held_by = λ (keeps : IsTrue old.honest). is_held old.size k.slot old.disk k.ledger k.top k.fitted (k.there keeps) (k.durable keeps up) k.sealed in
     let first = λ (keeps : IsTrue old.honest). starts old.size k.slot old.disk.view k.ledger k.fitted (k.there keeps) in
     let same = λ (keeps : IsTrue old.honest). let e : mid.disk.view ≡ old.disk.view = ap (λ (x : Disk). x.view) (only.disk keeps) in e in
     let sure = λ (keeps : IsTrue old.honest) (i : Image) (left : may_crash_to (states c.plan_commit.new.device) i).
-    let e : i ≡ mid.disk.view = (k.settled keeps up).images i (d.crash_states_are_images k.device i keeps ((c.plan_commit.ensures.reads.device.no_new_crash_state keeps).now i left)) ∙ sym (same keeps) in e in
+    let e : i ≡ mid.disk.view = (k.durable keeps up).images i (d.crash_states_are_images k.device i keeps ((c.plan_commit.ensures.reads.device.no_new_crash_state keeps).now i left)) ∙ sym (same keeps) in e in
     let ready = λ (keeps : IsTrue old.honest).
     may_be_written old.disk.view mid.disk.view (states c.plan_commit.new.device) k.slot k.ledger c.plan_commit.new.ledger k.top c.in-Ok.plan (updated pairs batch) (held_by keeps) c.plan_commit.ensures.marks
     (c.in-Ok.ensures.planned keeps k.top pairs (held_by keeps) (first keeps) refl version).0 k.fitted.version (same keeps) (sure keeps) in
@@ -430,7 +430,7 @@ returns-in-Ok-write_plan-clause-fits g c = λ keeps.
     let old = g.D.Device.state k.device in
     let up = c.if-not-self.false in
     let pairs = (found_under k.slot old.disk.view).pairs in
-    let held_by = is_held old.size k.slot old.disk k.ledger k.top k.fitted (k.there keeps) (k.settled keeps up) k.sealed in
+    let held_by = is_held old.size k.slot old.disk k.ledger k.top k.fitted (k.there keeps) (k.durable keeps up) k.sealed in
     let first = starts old.size k.slot old.disk.view k.ledger k.fitted (k.there keeps) in
     let room = (c.in-Ok.ensures.planned keeps k.top pairs held_by first refl (version_is c.args.banner.version c.requires.version)).1 in
     (room.need, λ again. room.needs, room.fits)
@@ -442,7 +442,7 @@ returns-clause-tight g c = λ keeps usable shut.
     let old = g.D.Device.state k.device in
     let up = c.if-not-self.false in
     let pairs = (found_under k.slot old.disk.view).pairs in
-    let held_by = is_held old.size k.slot old.disk k.ledger k.top k.fitted (k.there keeps) (k.settled keeps up) k.sealed in
+    let held_by = is_held old.size k.slot old.disk k.ledger k.top k.fitted (k.there keeps) (k.durable keeps up) k.sealed in
     let first = starts old.size k.slot old.disk.view k.ledger k.fitted (k.there keeps) in
     let room = (c.in-Ok.ensures.planned keeps k.top pairs held_by first refl (version_is c.args.banner.version c.requires.version)).1 in
     (room.need, λ again. room.needs, room.fits)

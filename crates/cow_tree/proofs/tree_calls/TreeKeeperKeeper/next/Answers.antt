@@ -9,39 +9,39 @@ pub returns-in-Ok-clause-pair : goal.returns-in-Ok-clause-pair
 returns-in-Ok-clause-pair g c = λ keeps.
     let d = g.D.Device in
     let k = c.args.self.now in
-    c.in-Ok.ensures.pair keeps (found_under k.slot (d.state k.device).disk.view) (k.there keeps).found_is (k.leaf keeps)
+    c.in-Ok.ensures.next.pair keeps (found_under k.slot (d.state k.device).disk.view) ((k.there keeps).found_is, k.leaf keeps)
 
 pub returns-in-Err-clause-kept : goal.returns-in-Err-clause-kept
 returns-in-Err-clause-kept g c =
     let d = g.D.Device in
     let k = c.args.self.now in
-    let reads = c.in-Err.ensures.reads in
+    let reads = c.in-Err.ensures.next.reads in
     has_read (d.state k.device) (d.state c.find_next.new.device) k.slot k.ledger k.top k.usable k.pinned reads.device.only (counts_rise (Option (ℕ × ℕ)) c.in-Err.fault (d.state k.device).failed_reads (d.state c.find_next.new.device).failed_reads reads.reads)
 
 pub returns-in-Err-clause-fault : goal.returns-in-Err-clause-fault
 returns-in-Err-clause-fault g c =
     let d = g.D.Device in
     let k = c.args.self.now in
-    let reads = c.in-Err.ensures.reads in
+    let reads = c.in-Err.ensures.next.reads in
     subst (λ (e : KeeperFault). IsReadFault (tree_holding (d.state k.device) k.slot k.ledger k.top k.usable k.pinned) (tree_holding (d.state c.find_next.new.device) k.slot k.ledger k.top k.usable k.pinned) e) (sym c.from.ensures)
     (read_fault (d.state k.device) (d.state c.find_next.new.device) k.slot k.ledger k.top k.usable k.pinned reads.device.only (Option (ℕ × ℕ)) c.in-Err.fault _ reads.reads
-    (λ keeps. c.in-Err.ensures.pair keeps (found_under k.slot (d.state k.device).disk.view) (k.there keeps).found_is (k.leaf keeps)))
+    (λ keeps. c.in-Err.ensures.next.pair keeps (found_under k.slot (d.state k.device).disk.view) ((k.there keeps).found_is, k.leaf keeps)))
 
 pub returns-in-Ok-clause-need : goal.returns-in-Ok-clause-need
 returns-in-Ok-clause-need g c =
     let d = g.D.Device in
     let k = c.args.self.now in
-    needs_again (d.state k.device) (d.state c.find_next.new.device) k.slot c.in-Ok.ensures.reads.device.only
+    needs_again (d.state k.device) (d.state c.find_next.new.device) k.slot c.in-Ok.ensures.next.reads.device.only
 
 pub returns-in-Err-clause-need : goal.returns-in-Err-clause-need
 returns-in-Err-clause-need g c =
     let d = g.D.Device in
     let k = c.args.self.now in
-    needs_again (d.state k.device) (d.state c.find_next.new.device) k.slot c.in-Err.ensures.reads.device.only
+    needs_again (d.state k.device) (d.state c.find_next.new.device) k.slot c.in-Err.ensures.next.reads.device.only
 
 pub returns-in-Ok-clause-kept : goal.returns-in-Ok-clause-kept
 returns-in-Ok-clause-kept g c =
     let d = g.D.Device in
     let k = c.args.self.now in
-    let reads = c.in-Ok.ensures.reads in
+    let reads = c.in-Ok.ensures.next.reads in
     has_read (d.state k.device) (d.state c.find_next.new.device) k.slot k.ledger k.top k.usable k.pinned reads.device.only (let e = reads.reads in omega (arith, e))

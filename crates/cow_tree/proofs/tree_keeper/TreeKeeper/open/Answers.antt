@@ -6,7 +6,7 @@ use Rattle.cow_tree.specs.Opening.{AreWhole}
 use Rattle.cow_tree.specs.TreeState.{IsFitted, found_under}
 use Rattle.cow_tree.proofs.PinnedTrees.{no_tree}
 use Rattle.cow_tree.proofs.TreesAreMaps.{found_map}
-use Rattle.cow_tree.proofs.Openings.{tree_is, settled_content, under_now, has_content}
+use Rattle.cow_tree.proofs.Openings.{tree_is, durable_content, under_now, has_content}
 use Rattle.cow_tree.proofs.tree_keeper.TreeKeeper.open.Goals as goal
 
 pub invariant_of-result : goal.invariant_of-result
@@ -14,13 +14,13 @@ invariant_of-result g c =
     let d = g.met.D.Device in
     let opened = c.in-Ok.ensures.opened in
     record {
-      fitted = subst (λ (n : ℕ). IsFitted n c.in-Ok.slot c.in-Ok.ledger) (sym c.open_parts.ensures.device.same.size) c.in-Ok.ensures.fitted;
+      fitted = subst (λ (n : ℕ). IsFitted n c.in-Ok.slot c.in-Ok.ledger) (sym c.open_parts.ensures.opens.device.same.size) c.in-Ok.ensures.fitted;
       there = λ keeps1.
-          let keeps : IsTrue (g.D.Device.state c.args.device).honest = subst IsTrue c.open_parts.ensures.device.same.honest keeps1 in
+          let keeps : IsTrue (g.D.Device.state c.args.device).honest = subst IsTrue c.open_parts.ensures.opens.device.same.honest keeps1 in
           let holds = opened.holds keeps in
           let version = c.in-Ok.ensures.fitted.version in
           let view = (g.D.Device.state c.open_parts.new.device).disk.view in
-          let tree = (tree_is view c.in-Ok.slot (found_under c.in-Ok.slot view) (settled_content view _ c.in-Ok.slot c.in-Ok.ledger (opened.view keeps) version holds) version).1 in
+          let tree = (tree_is view c.in-Ok.slot (found_under c.in-Ok.slot view) (durable_content view _ c.in-Ok.slot c.in-Ok.ledger (opened.view keeps) version holds) version).1 in
           record {
             found_is = tree;
             map = found_map c.in-Ok.slot (page_of view) (found_under c.in-Ok.slot view) tree;
@@ -35,14 +35,14 @@ invariant_of-result g c =
       };
       pins_there = λ keeps1 number tree is. absurd (no_tree 32 number tree is);
       leaf = λ keeps1. ∣ inl c.none.ensures ∣₁;
-      settled = λ keeps1 up.
-          let keeps : IsTrue (g.D.Device.state c.args.device).honest = subst IsTrue c.open_parts.ensures.device.same.honest keeps1 in
+      durable = λ keeps1 up.
+          let keeps : IsTrue (g.D.Device.state c.args.device).honest = subst IsTrue c.open_parts.ensures.opens.device.same.honest keeps1 in
           let holds = opened.holds keeps in
           let version = c.in-Ok.ensures.fitted.version in
           let view = (g.D.Device.state c.open_parts.new.device).disk.view in
           record {
             images = λ i image. opened.all keeps i (d.each_image_is_a_crash_state c.open_parts.new.device i keeps1 image);
-            current_is = (tree_is view c.in-Ok.slot (found_under c.in-Ok.slot view) (settled_content view _ c.in-Ok.slot c.in-Ok.ledger (opened.view keeps) version holds) version).0;
+            current_is = (tree_is view c.in-Ok.slot (found_under c.in-Ok.slot view) (durable_content view _ c.in-Ok.slot c.in-Ok.ledger (opened.view keeps) version holds) version).0;
             seals = let e : greatest_seal view 16 ≡ c.in-Ok.top = ap (λ (i : Image). greatest_seal i 16) (opened.view keeps) ∙ opened.top_is keeps in omega (arith, e);
           };
     }

@@ -10,9 +10,9 @@ invariant_of-result g c =
     let d = g.met.D.Device in
     let opened = c.in-Ok.ensures.opened in
     record {
-      fitted = subst (λ n. IsFitted n c.in-Ok.slot c.in-Ok.pairs.items) (sym c.open_parts.ensures.device.same.size) c.in-Ok.ensures.fitted;
+      fitted = subst (λ n. IsFitted n c.in-Ok.slot c.in-Ok.pairs.items) (sym c.open_parts.ensures.opens.device.same.size) c.in-Ok.ensures.fitted;
       crash_states_represent = λ keeps1 up.
-          let keeps : IsTrue (g.D.Device.state c.args.device).honest = subst IsTrue c.open_parts.ensures.device.same.honest keeps1 in
+          let keeps : IsTrue (g.D.Device.state c.args.device).honest = subst IsTrue c.open_parts.ensures.opens.device.same.honest keeps1 in
           record {
             images = λ i image. opened.all keeps i (d.each_image_is_a_crash_state c.open_parts.new.device i keeps1 image);
             content = ap content (opened.view keeps) ∙ opened.content_is keeps;

@@ -1,4 +1,4 @@
-use Rattle.std.proofs.Common.{◌≡◌, true, false, length, set, refl, sym, ap, subst, ◌∙◌, rules, arith, inl}
+use Rattle.std.proofs.Common.{◌≡◌, true, false, refl, sym, ap, subst, ◌∙◌, rules, arith, inl}
 use Rattle.std.specs.Prelude.{◌==◌, not, IsTrue}
 use Rattle.std.specs.List.{position}
 use Rattle.session_core.specs.Step.{listens, with_change}
@@ -91,14 +91,14 @@ invariant_of-self-2 g c =
     let x = c.index_mut-session.result.now in
     let found = ap (position (λ (x : Session g.row.S-Pin.Denot). x.id == c.args.id)) (sym c.deref.ensures.value) ∙ sym c.in-Some.ensures.place in
     let read = c.index_mut-session.ensures.value in
-    let moved = session_moves s.pinned k l items c.args.id c.in-Some.at x c.hear.new.phase found read c.args.self.now.held c.hear.ensures.pins in
+    let moved = session_moves s.pinned k l items c.args.id c.in-Some.at x c.hear.new.phase found read c.args.self.now.held c.hear.ensures.hears.pins in
     record {
       room = search rules;
       few = search rules;
       held = moved.held;
       sound = λ honest.
-          let before = subst IsTrue c.hear.ensures.worked.honest honest in
-          moved.sound (c.args.self.now.sound before) (c.hear.ensures.sound before (sound_at s.pinned k items c.in-Some.at x (seat_below s.pinned items c.args.id c.in-Some.at found) read (c.args.self.now.sound before)));
+          let before = subst IsTrue c.hear.ensures.site.worked.honest honest in
+          moved.sound (c.args.self.now.sound before) (c.hear.ensures.hears.sound before (sound_at s.pinned k items c.in-Some.at x (seat_below s.pinned items c.args.id c.in-Some.at found) read (c.args.self.now.sound before)));
     }
 
 pub returns : goal.returns
@@ -114,35 +114,35 @@ returns g c =
     let found = ap (position (λ (x : Session g.row.S-Pin.Denot). x.id == c.args.id)) (sym c.deref.ensures.value) ∙ sym c.in-Some.ensures.place in
     let read = c.index_mut-session.ensures.value in
     let place = seat pinned k items c.args.id c.in-Some.at session found read in
-    let moved = session_moves pinned k l items c.args.id c.in-Some.at session c.hear.new.phase found read c.args.self.now.held c.hear.ensures.pins in
+    let moved = session_moves pinned k l items c.args.id c.in-Some.at session c.hear.new.phase found read c.args.self.now.held c.hear.ensures.hears.pins in
     let old = sessions_of pinned k items in
     let phase = phase_of pinned k session.phase in
     let next = phase_of pinned l c.hear.new.phase in
     let post = post_is old c.args.id phase (listens k.site c.args.now c.args.piece.now) place.there in
-    let kept = seats_stay old _ c.args.id phase next c.hear.result moved.seen place.stays c.hear.ensures.err in
-    let cause = heard_cause k l lacking c.args.now phase _ _ c.hear.result usable post c.hear.ensures.fault in
+    let kept = seats_stay old _ c.args.id phase next c.hear.result moved.seen place.stays c.hear.ensures.hears.err in
+    let cause = heard_cause k l lacking c.args.now _ _ c.hear.result usable post c.hear.ensures.site.fault in
     let step = λ (honest : IsTrue k.honest). hears k l lacking c.args.self.now.next old _ c.args.id c.args.now phase next (Bytes c.args.id c.args.piece.now c.args.now) (listens k.site c.args.now c.args.piece.now) c.hear.result
     (only_changes (g.S.SiteKeeper.lacks c.args.self.now.site) c.args.now) honest usable place.there moved.seen place.stays
-    refl refl refl refl (c.hear.ensures.gives honest) (c.hear.ensures.phase honest) (c.hear.ensures.done honest) c.hear.ensures.still_usable c.hear.ensures.err c.hear.ensures.fault in
-    let at_crash = λ (honest : IsTrue k.honest). heard_at_crash _ _ g.S.SiteKeeper.represents k l lacking w (record w { site = l.site }) (Bytes c.args.id c.args.piece.now c.args.now) c.args.now phase _ c.hear.result (ap not usable) usable
-    (ap (with_change k.site c.args.now) post) refl (c.hear.ensures.done honest) (c.hear.ensures.at_crash honest) (c.hear.ensures.unchanged honest) c.hear.ensures.fault in
+    refl refl refl refl (c.hear.ensures.hears.gives honest) (c.hear.ensures.hears.phase honest) (c.hear.ensures.site.done honest) c.hear.ensures.site.still_usable c.hear.ensures.hears.err c.hear.ensures.hears.hearing c.hear.ensures.site.fault in
+    let at_crash = λ (honest : IsTrue k.honest). heard_at_crash _ _ g.S.SiteKeeper.represents k l lacking w (record w { site = l.site }) (Bytes c.args.id c.args.piece.now c.args.now) c.args.now _ c.hear.result (ap not usable) usable
+    (ap (with_change k.site c.args.now) post) refl (c.hear.ensures.site.done honest) (c.hear.ensures.site.at_crash honest) (c.hear.ensures.site.unchanged honest) c.hear.ensures.site.fault in
     record {
       step = step;
       as_before = λ honest. as_before _ _ _ bytes_outcome (λ fault. refl) c.hear.result (step honest);
       cause = cause;
       kept = kept;
-      honest = c.hear.ensures.worked.honest;
+      honest = c.hear.ensures.site.worked.honest;
       at_crash = at_crash;
       closed = λ off. (let no : true ≡ false = sym usable ∙ off in absurd (cc no));
       call = record {
         step = step;
         cause = heard_fault c.hear.result _ cause;
-        honest = c.hear.ensures.worked.honest;
+        honest = c.hear.ensures.site.worked.honest;
         site = refl;
         flag = refl;
-        steady = heard_steady g.S.SiteKeeper.site_state _ _ (Bytes c.args.id c.args.piece.now c.args.now) _ c.hear.new.site lacking phase _ c.args.now c.hear.result (ap not usable) usable refl refl kept c.hear.ensures.still_usable c.hear.ensures.fault;
-        acknowledged = λ honest. acknowledged_of g.S.SiteKeeper.site_state g.S.SiteKeeper.crash_states g.S.SiteKeeper.represents _ _ c.hear.new.site (g.met.S.SiteKeeper.crash_states_represent c.hear.new.site) (subst IsTrue (sym c.hear.ensures.worked.honest) honest) refl refl;
+        steady = heard_steady g.S.SiteKeeper.site_state _ _ (Bytes c.args.id c.args.piece.now c.args.now) _ c.hear.new.site lacking _ c.args.now c.hear.result (ap not usable) usable refl refl kept c.hear.ensures.site.still_usable c.hear.ensures.site.fault;
+        acknowledged = λ honest. acknowledged_of g.S.SiteKeeper.site_state g.S.SiteKeeper.crash_states g.S.SiteKeeper.represents _ _ c.hear.new.site (g.met.S.SiteKeeper.crash_states_represent c.hear.new.site) (subst IsTrue (sym c.hear.ensures.site.worked.honest) honest) refl refl;
         leaves = at_crash;
       };
-      acknowledged = λ honest. heard_acknowledged l.usable _ c.hear.result c.hear.ensures.still_usable (λ unchanged left may. g.met.S.SiteKeeper.crash_states_represent c.hear.new.site left (subst IsTrue (sym c.hear.ensures.worked.honest) honest) unchanged may);
+      acknowledged = λ honest. heard_acknowledged l.usable _ c.hear.result c.hear.ensures.site.still_usable (λ unchanged left may. g.met.S.SiteKeeper.crash_states_represent c.hear.new.site left (subst IsTrue (sym c.hear.ensures.site.worked.honest) honest) unchanged may);
     }

@@ -1,4 +1,4 @@
-use Rattle.std.proofs.Common.{◌≡◌, true, false, length, set, refl, sym, ap, subst, ◌∙◌, rules, arith, inl}
+use Rattle.std.proofs.Common.{◌≡◌, true, false, refl, sym, ap, subst, ◌∙◌, rules, arith, inl}
 use Rattle.std.specs.Prelude.{◌==◌, not, IsTrue}
 use Rattle.std.specs.List.{position}
 use Rattle.session_core.specs.Step.{ends, with_change}
@@ -91,14 +91,14 @@ invariant_of-self-2 g c =
     let x = c.index_mut-session.result.now in
     let found = ap (position (λ (x : Session g.row.S-Pin.Denot). x.id == c.args.id)) (sym c.deref.ensures.value) ∙ sym c.in-Some.ensures.place in
     let read = c.index_mut-session.ensures.value in
-    let moved = session_moves s.pinned k l items c.args.id c.in-Some.at x c.hear_end.new.phase found read c.args.self.now.held c.hear_end.ensures.pins in
+    let moved = session_moves s.pinned k l items c.args.id c.in-Some.at x c.hear_end.new.phase found read c.args.self.now.held c.hear_end.ensures.hears.pins in
     record {
       room = search rules;
       few = search rules;
       held = moved.held;
       sound = λ honest.
-          let before = subst IsTrue c.hear_end.ensures.worked.honest honest in
-          moved.sound (c.args.self.now.sound before) (c.hear_end.ensures.sound before (sound_at s.pinned k items c.in-Some.at x (seat_below s.pinned items c.args.id c.in-Some.at found) read (c.args.self.now.sound before)));
+          let before = subst IsTrue c.hear_end.ensures.site.worked.honest honest in
+          moved.sound (c.args.self.now.sound before) (c.hear_end.ensures.hears.sound before (sound_at s.pinned k items c.in-Some.at x (seat_below s.pinned items c.args.id c.in-Some.at found) read (c.args.self.now.sound before)));
     }
 
 pub returns : goal.returns
@@ -114,35 +114,35 @@ returns g c =
     let found = ap (position (λ (x : Session g.row.S-Pin.Denot). x.id == c.args.id)) (sym c.deref.ensures.value) ∙ sym c.in-Some.ensures.place in
     let read = c.index_mut-session.ensures.value in
     let place = seat pinned k items c.args.id c.in-Some.at session found read in
-    let moved = session_moves pinned k l items c.args.id c.in-Some.at session c.hear_end.new.phase found read c.args.self.now.held c.hear_end.ensures.pins in
+    let moved = session_moves pinned k l items c.args.id c.in-Some.at session c.hear_end.new.phase found read c.args.self.now.held c.hear_end.ensures.hears.pins in
     let old = sessions_of pinned k items in
     let phase = phase_of pinned k session.phase in
     let next = phase_of pinned l c.hear_end.new.phase in
     let post = post_is old c.args.id phase (ends k.site c.args.now) place.there in
-    let kept = seats_stay old _ c.args.id phase next c.hear_end.result moved.seen place.stays c.hear_end.ensures.err in
-    let cause = heard_cause k l lacking c.args.now phase _ _ c.hear_end.result usable post c.hear_end.ensures.fault in
+    let kept = seats_stay old _ c.args.id phase next c.hear_end.result moved.seen place.stays c.hear_end.ensures.hears.err in
+    let cause = heard_cause k l lacking c.args.now _ _ c.hear_end.result usable post c.hear_end.ensures.site.fault in
     let step = λ (honest : IsTrue k.honest). hears k l lacking c.args.self.now.next old _ c.args.id c.args.now phase next (End c.args.id c.args.now) (ends k.site c.args.now) c.hear_end.result
     (only_changes (g.S.SiteKeeper.lacks c.args.self.now.site) c.args.now) honest usable place.there moved.seen place.stays
-    refl refl refl refl (c.hear_end.ensures.gives honest) (c.hear_end.ensures.phase honest) (c.hear_end.ensures.done honest) c.hear_end.ensures.still_usable c.hear_end.ensures.err c.hear_end.ensures.fault in
-    let at_crash = λ (honest : IsTrue k.honest). heard_at_crash _ _ g.S.SiteKeeper.represents k l lacking w (record w { site = l.site }) (End c.args.id c.args.now) c.args.now phase _ c.hear_end.result (ap not usable) usable
-    (ap (with_change k.site c.args.now) post) refl (c.hear_end.ensures.done honest) (c.hear_end.ensures.at_crash honest) (c.hear_end.ensures.unchanged honest) c.hear_end.ensures.fault in
+    refl refl refl refl (c.hear_end.ensures.hears.gives honest) (c.hear_end.ensures.hears.phase honest) (c.hear_end.ensures.site.done honest) c.hear_end.ensures.site.still_usable c.hear_end.ensures.hears.err c.hear_end.ensures.hears.hearing c.hear_end.ensures.site.fault in
+    let at_crash = λ (honest : IsTrue k.honest). heard_at_crash _ _ g.S.SiteKeeper.represents k l lacking w (record w { site = l.site }) (End c.args.id c.args.now) c.args.now _ c.hear_end.result (ap not usable) usable
+    (ap (with_change k.site c.args.now) post) refl (c.hear_end.ensures.site.done honest) (c.hear_end.ensures.site.at_crash honest) (c.hear_end.ensures.site.unchanged honest) c.hear_end.ensures.site.fault in
     record {
       step = step;
       as_before = λ honest. as_before _ _ _ bytes_outcome (λ fault. refl) c.hear_end.result (step honest);
       cause = cause;
       kept = kept;
-      honest = c.hear_end.ensures.worked.honest;
+      honest = c.hear_end.ensures.site.worked.honest;
       at_crash = at_crash;
       closed = λ off. (let no : true ≡ false = sym usable ∙ off in absurd (cc no));
       call = record {
         step = step;
         cause = heard_fault c.hear_end.result _ cause;
-        honest = c.hear_end.ensures.worked.honest;
+        honest = c.hear_end.ensures.site.worked.honest;
         site = refl;
         flag = refl;
-        steady = heard_steady g.S.SiteKeeper.site_state _ _ (End c.args.id c.args.now) _ c.hear_end.new.site lacking phase _ c.args.now c.hear_end.result (ap not usable) usable refl refl kept c.hear_end.ensures.still_usable c.hear_end.ensures.fault;
-        acknowledged = λ honest. acknowledged_of g.S.SiteKeeper.site_state g.S.SiteKeeper.crash_states g.S.SiteKeeper.represents _ _ c.hear_end.new.site (g.met.S.SiteKeeper.crash_states_represent c.hear_end.new.site) (subst IsTrue (sym c.hear_end.ensures.worked.honest) honest) refl refl;
+        steady = heard_steady g.S.SiteKeeper.site_state _ _ (End c.args.id c.args.now) _ c.hear_end.new.site lacking _ c.args.now c.hear_end.result (ap not usable) usable refl refl kept c.hear_end.ensures.site.still_usable c.hear_end.ensures.site.fault;
+        acknowledged = λ honest. acknowledged_of g.S.SiteKeeper.site_state g.S.SiteKeeper.crash_states g.S.SiteKeeper.represents _ _ c.hear_end.new.site (g.met.S.SiteKeeper.crash_states_represent c.hear_end.new.site) (subst IsTrue (sym c.hear_end.ensures.site.worked.honest) honest) refl refl;
         leaves = at_crash;
       };
-      acknowledged = λ honest. heard_acknowledged l.usable _ c.hear_end.result c.hear_end.ensures.still_usable (λ unchanged left may. g.met.S.SiteKeeper.crash_states_represent c.hear_end.new.site left (subst IsTrue (sym c.hear_end.ensures.worked.honest) honest) unchanged may);
+      acknowledged = λ honest. heard_acknowledged l.usable _ c.hear_end.result c.hear_end.ensures.site.still_usable (λ unchanged left may. g.met.S.SiteKeeper.crash_states_represent c.hear_end.new.site left (subst IsTrue (sym c.hear_end.ensures.site.worked.honest) honest) unchanged may);
     }

@@ -1,4 +1,4 @@
-use Rattle.site_store.proofs.SitesCompacted.{stays, same_site_kept, content_represents}
+use Rattle.site_store.proofs.SitesCompacted.{stays, same_site_kept, pins_as_before, content_represents}
 use Rattle.site_store.proofs.disk_site.DiskSite.compact.Goals as goal
 
 pub returns-in-Ok-clause-site : goal.returns-in-Ok-clause-site
@@ -6,6 +6,12 @@ returns-in-Ok-clause-site g c = λ honest.
     let h0 = g.K.Keeper.store_state c.args.self.now.keeper in
     let h1 = g.K.Keeper.store_state c.compact.new.self in
     same_site_kept h0 h1 c.compact.ensures.tried.honest (stays c.compact.result h0 h1 _ c.compact.ensures.done c.compact.ensures.fault) c.args.self.now.kept c.self-1.given.0 honest
+
+pub returns-in-Ok-clause-pins : goal.returns-in-Ok-clause-pins
+returns-in-Ok-clause-pins g c =
+    let h0 = g.K.Keeper.store_state c.args.self.now.keeper in
+    let h1 = g.K.Keeper.store_state c.compact.new.self in
+    pins_as_before h0 h1 c.compact.ensures.tried.honest (stays c.compact.result h0 h1 _ c.compact.ensures.done c.compact.ensures.fault) c.args.self.now.kept c.self-1.given.0
 
 pub returns-in-Ok-clause-at_crash : goal.returns-in-Ok-clause-at_crash
 returns-in-Ok-clause-at_crash g c = λ honest up.
@@ -17,6 +23,12 @@ returns-in-Err-clause-site g c = λ honest.
     let h0 = g.K.Keeper.store_state c.args.self.now.keeper in
     let h1 = g.K.Keeper.store_state c.compact.new.self in
     same_site_kept h0 h1 c.compact.ensures.tried.honest (stays c.compact.result h0 h1 _ c.compact.ensures.done c.compact.ensures.fault) c.args.self.now.kept c.self-1.given.0 honest
+
+pub returns-in-Err-clause-pins : goal.returns-in-Err-clause-pins
+returns-in-Err-clause-pins g c =
+    let h0 = g.K.Keeper.store_state c.args.self.now.keeper in
+    let h1 = g.K.Keeper.store_state c.compact.new.self in
+    pins_as_before h0 h1 c.compact.ensures.tried.honest (stays c.compact.result h0 h1 _ c.compact.ensures.done c.compact.ensures.fault) c.args.self.now.kept c.self-1.given.0
 
 pub returns-in-Err-clause-at_crash : goal.returns-in-Err-clause-at_crash
 returns-in-Err-clause-at_crash g c = λ honest up.

@@ -1,0 +1,69 @@
+// How far a command is, on a terminal.
+ghost use Rattle.std.specs.Prelude.{◌≡◌};
+
+use change_file::Progress;
+use std::io::Write;
+use std::time::Instant;
+
+/// Standard error among the files of a process.
+const STANDARD_ERROR: i32 = 2;
+
+/// How many changes of a file are made. Where standard error is a terminal, it shows that once a second, in one line that is written over.
+#[derive(Drop)]
+pub struct Shown<'a> {
+    rt: &'a HostRuntime,
+    start: Option<Instant>,
+    is_terminal: bool,
+    /// The second in which the line was written last; 0 where it never was.
+    second: u64,
+    number: u64,
+    count: u64,
+}
+
+impl<'a> Shown<'a> {
+    pub fn new(rt: &'a HostRuntime) -> Shown<'a> {
+        Shown {
+            rt,
+            start: Instant::now(rt).ok(),
+            is_terminal: libc::isatty(STANDARD_ERROR) == 1,
+            second: 0,
+            number: 0,
+            count: 0,
+        }
+    }
+
+    /// The whole seconds since it was made; 0 where the clock can't be read.
+    fn seconds(&self) -> u64 {
+        let Some(start) = self.start else {
+            return 0;
+        };
+        match start.elapsed(self.rt) {
+            Ok(since) => since.as_secs(),
+            Err(_) => 0,
+        }
+    }
+
+    /// Ends the line, where there is one.
+    pub fn end(&self) {
+        if self.second > 0 {
+            let _ = eprintln!(self.rt);
+        }
+    }
+}
+
+impl Progress for Shown<'_> {
+    ghost seen = { λ shown. (shown.number, shown.count) };
+
+    fn made(&mut self, number: u64, count: u64) {
+        self.number = number;
+        self.count = count;
+        if !self.is_terminal {
+            return;
+        }
+        let second = self.seconds();
+        if second > self.second {
+            self.second = second;
+            let _ = write!(self.rt.stderr(), "\r{number} of {count} changes");
+        }
+    }
+}

@@ -1,0 +1,35 @@
+// Who has a turn again after a wait.
+ghost use Rattle.std.specs.Prelude.{◌≡◌, false, option_map};
+ghost use Rattle.std.specs.Duration.{as_nanos};
+ghost use Rattle.mio.specs.Events.{items};
+ghost use Rattle.ready_sockets.specs.Visits.{is_called, woken_by, was_in_vain};
+
+use crate::visit::Visit;
+use mio::{Events, Token};
+use std::time::Duration;
+
+/// Whether an event is one of what has this token.
+pub(crate) fn is_called(events: &Events, token: Token) -> bool
+    ensures { result ≡ is_called (items events.now) token }
+{
+    events.iter().any(|event| event.token() == token)
+}
+
+/// Whether a wait that had patience ended with no event.
+pub(crate) fn was_in_vain(events: &Events, patience: Option<Duration>) -> bool
+    ensures { result ≡ was_in_vain (option_map as_nanos patience) (items events.now) }
+{
+    match patience {
+        Some(time) => events.is_empty() && !time.is_zero(),
+        None => events.is_empty(),
+    }
+}
+
+/// A client has its turn again where an event is one of its socket.
+pub(crate) fn wake_if_called(visit: &mut Visit, events: &Events)
+    ensures { visit.new ≡ woken_by false (items events.now) visit.old }
+{
+    if is_called(events, visit.token) {
+        visit.wake();
+    }
+}
