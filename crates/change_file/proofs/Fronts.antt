@@ -1,14 +1,16 @@
 -- The changes of a file, made on a site one after another.
-use Rattle.std.proofs.Common.{◌≡◌, ◌∙◌, ℕ, zero, suc, ◌+◌, ◌-◌, true, false, List, [], ◌∷◌, ◌++◌, length, take, Result, Ok, Err, refl, ap, sym, arith, append_assoc, ⊎_elim}
+use Rattle.std.proofs.Common.{◌≡◌, ◌∙◌, ℕ, zero, suc, ◌+◌, ◌-◌, Bool, true, false, List, [], ◌∷◌, ◌++◌, length, take, Result, Ok, Err, refl, ap, sym, arith, append_assoc, ⊎_elim}
 use Rattle.std.specs.Prelude.{IsTrue}
 use Rattle.common_types.specs.CrashStates.{CrashStates, AddsOnly, AddsNone, may_crash_to, no_new_crash_state, adds_both, adds_none_again}
 use Rattle.common_types.specs.declared.refused.Refused.{Refused as Refusal}
 use Rattle.host_types.specs.Site.{Site}
 use Rattle.host_types.specs.SiteState.{SiteState, HasTried}
+use Rattle.common_types.specs.Counts.{counted}
+use Rattle.host_types.specs.Counting.{IsReadCounted, writes_after, CountsFault, CountsNothing}
 use Rattle.host_types.specs.declared.change.Change.{Change as SiteChange}
 use Rattle.host_types.specs.declared.site_fault.SiteFault.{SiteFault}
 use Rattle.host_types.specs.declared.site_fault.SiteFault.TheVariants as faults
-use Rattle.change_file.specs.Applied.{apply_one, and_then, apply_all, last_seen, RepresentsFront, RepresentsEither, IsStop, IsStopped}
+use Rattle.change_file.specs.Applied.{apply_one, and_then, apply_all, numbered, RepresentsFront, RepresentsEither, IsStop, IsStopped}
 use Rattle.change_file.specs.declared.fault.FileChange.{FileChange}
 use Rattle.change_file.specs.declared.fault.FileChange.TheVariants.{Change, Refused}
 
@@ -43,6 +45,7 @@ pub record Between {S L : Type 0} (state : S → SiteState) (crash_states : S �
   pub none_before : front ≡ [] → made ≡ old
   pub at_crash : IsTrue (state old).honest → (state old).usable ≡ true → AddsOnly (crash_states old) (crash_states made) (RepresentsFront represents (state old).site front now)
   pub closed : IsTrue (state old).honest → (state old).usable ≡ false → AddsNone (crash_states old) (crash_states made)
+  pub counts : CountsNothing (state old) (state made)
 
 -- what a front of the changes leaves, a longer front may leave
 longer : {L : Type 0} (represents : L → Site → Type 0) (old : Site) (front more : List FileChange) (now : ℕ) (c : L) → RepresentsFront represents old front now c → RepresentsFront represents old (front ++ more) now c
@@ -67,6 +70,7 @@ starts state crash_states represents law k now = record {
       (λ c left. record { front = []; rest = []; site = (state k).site; parts = refl; applied = refl; stands = law k c honest usable left })
       (λ c left. record { front = []; rest = []; site = (state k).site; parts = refl; applied = refl; stands = law k c honest usable left });
   closed = λ honest usable. no_new_crash_state (crash_states k);
+  counts = record { reads = refl; writes = refl };
 }
 
 -- what one change more may leave
@@ -111,15 +115,33 @@ module _ {S L : Type 0} (state : S → SiteState) (lacks : S → SiteChange → 
       → HasTried (state made) (state new)
       → (IsTrue (state made).honest → (state made).usable ≡ true → AddsOnly (crash_states made) (crash_states new) (RepresentsEither represents (state made).site change now))
       → (IsTrue (state made).honest → (state made).usable ≡ false → AddsNone (crash_states made) (crash_states new))
+      → CountsNothing (state made) (state new)
       → Between state crash_states represents old new (front ++ change ∷ []) now
-  goes_on old made new front change now so_far done usable tried at_crash closed = record {
+  goes_on old made new front change now so_far done usable tried at_crash closed counts = record {
     applied = λ honest. apply_all_last (state old).site front change now (state made).site (so_far.applied honest) ∙ done (honest_still old made so_far.tried honest);
     usable = usable ∙ so_far.usable;
     tried = both_tried (state old) (state made) (state new) so_far.tried tried;
     none_before = λ is. absurd (no_last front change is);
     at_crash = crash_more old made new front change [] now so_far at_crash;
     closed = closed_more old made new front now so_far closed;
+    counts = record { reads = counts.reads ∙ so_far.counts.reads; writes = counts.writes ∙ so_far.counts.writes };
   }
+
+  -- what the change counts that was not made, behind others that were
+  pub counts_stop : (old made new : S) (front : List FileChange) (now : ℕ) (fault : SiteFault) → Between state crash_states represents old made front now → CountsFault fault (state made) (state new) → CountsFault fault (state old) (state new)
+  counts_stop old made new front now fault so_far counts = record {
+    reads = later fault so_far.tried.honest so_far.counts.reads counts.reads;
+    writes = counts.writes ∙ ap (λ (u : Bool). writes_after u fault (state made).failed_writes) so_far.usable ∙ ap (writes_after (state old).usable fault) so_far.counts.writes;
+  }
+    where
+      later : (fault : SiteFault) → (state made).honest ≡ (state old).honest → (state made).failed_reads ≡ (state old).failed_reads → IsReadCounted (state made).honest fault (state made).failed_reads (state new).failed_reads → IsReadCounted (state old).honest fault (state old).failed_reads (state new).failed_reads
+      later (faults.Refused r) honest same is = is ∙ same
+      later faults.Read honest same is = λ h. is (honest ∙ h) ∙ ap counted same
+      later (faults.Full need free) honest same is = is ∙ same
+      later faults.Spent honest same is = is ∙ same
+      later faults.Deep honest same is = is ∙ same
+      later faults.Failed honest same is = is ∙ same
+      later faults.Memory honest same is = is ∙ same
 
   keeps : (change : FileChange) (now : ℕ) (made new : S) (fault : SiteFault) → IsStop state lacks change now made new fault → IsTrue (state made).honest → (state new).site ≡ (state made).site
   keeps (Change change) now made new (faults.Refused r) stop honest = stop.0.0.site honest
@@ -153,7 +175,23 @@ module _ {S L : Type 0} (state : S → SiteState) (lacks : S → SiteChange → 
       let cut : take (number - 1) changes ≡ is.front = ap (take (number - 1)) is.parts ∙ take_front is.front (is.change ∷ is.rest) (number - 1) place in
       ap (λ (l : List FileChange). apply_all (state old).site l now) cut ∙ is.applied honest ∙ ap (λ (s : Site). Ok s) (sym (keeps is.change now is.made new fault is.stop (honest_still old is.made is.tried honest)))
 
+-- a refused name counts nothing
+pub refused_counts : (refused : Refusal) (k : SiteState) → CountsFault (faults.Refused refused) k k
+refused_counts refused k = record { reads = refl; writes = none k.usable }
+  where
+    none : (usable : Bool) → k.failed_writes ≡ writes_after usable (faults.Refused refused) k.failed_writes
+    none true = refl
+    none false = refl
+
 -- one more change is seen
-pub seen_more : (before : ℕ × ℕ) (n number count m : ℕ) → number ≡ n + 1 → m ≡ n + 1 → (number, count) ≡ last_seen before m count
+seen_more : (before : List (ℕ × ℕ)) (n number count m : ℕ) → number ≡ n + 1 → m ≡ n + 1 → (before ++ numbered n count) ++ (number, count) ∷ [] ≡ before ++ numbered m count
 seen_more before n number count zero e l = absurd (omega (arith, l))
-seen_more before n number count (suc m) e l = ap (λ (x : ℕ). (x, count)) (omega (arith, e, l))
+seen_more before n number count (suc m) e l =
+    let so_far : n ≡ m = omega (arith, l) in
+    let last : number ≡ suc m = omega (arith, e, l) in
+    append_assoc before (numbered n count) ((number, count) ∷ [])
+    ∙ ap (λ (x : ℕ). before ++ (numbered x count ++ (number, count) ∷ [])) so_far
+    ∙ ap (λ (x : ℕ). before ++ (numbered m count ++ (x, count) ∷ [])) last
+
+pub seen_on : (before so_far new : List (ℕ × ℕ)) (n number count m : ℕ) → so_far ≡ before ++ numbered n count → new ≡ so_far ++ (number, count) ∷ [] → number ≡ n + 1 → m ≡ n + 1 → new ≡ before ++ numbered m count
+seen_on before so_far new n number count m is more e l = more ∙ ap (λ (x : List (ℕ × ℕ)). x ++ (number, count) ∷ []) is ∙ seen_more before n number count m e l

@@ -38,10 +38,10 @@ pub record RepresentsFront {L : Type 0} (represents : L → Site → Type 0) (ol
 abbrev pub RepresentsEither : {L : Type 0} → (L → Site → Type 0) → Site → FileChange → ℕ → L → Type 0
 RepresentsEither represents s change now c = represents c s ⊎ ((t : Site) × (apply_one s change now ≡ Ok t) × represents c t)
 
--- what was seen last, once so many of some changes are made
-abbrev pub last_seen : ℕ × ℕ → ℕ → ℕ → ℕ × ℕ
-last_seen before zero count = before
-last_seen before (suc n) count = (suc n, count)
+-- the numbers of the first changes, from 1, each with how many there are in all
+abbrev pub numbered : ℕ → ℕ → List (ℕ × ℕ)
+numbered zero count = []
+numbered (suc n) count = numbered n count ++ (suc n, count) ∷ []
 
 -- What every attempt leaves, whatever it answers: the site is as honest as before, no count falls, and a closed site gets no new crash state.
 pub record Tries {S L : Type 0} (state : S → SiteState) (crash_states : S → CrashStates L) (old new : S) : Type 0 where

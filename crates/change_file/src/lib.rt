@@ -9,12 +9,14 @@ mod fault;
 mod laws;
 mod named;
 mod printed;
+mod progress;
 mod questions;
 mod tables;
 mod views;
 
-pub use applying::{Progress, apply_changes};
+pub use applying::apply_changes;
 pub use changes::read_changes;
 pub use fault::{ApplyFault, ChangeFileFault, FileChange};
 pub use laws::worked_examples;
 pub use printed::{applied_line, file_line};
+pub use progress::{Progress, SeenLog};

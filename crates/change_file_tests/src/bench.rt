@@ -2,7 +2,7 @@
 ghost use Rattle.std.specs.Prelude.{◌≡◌};
 
 use crate::shown::Shown;
-use change_file::{FileChange, Progress, apply_changes, read_changes};
+use change_file::{FileChange, Progress, SeenLog, apply_changes, read_changes};
 use host_types::{Admin, Host, Refused, Stamp, Title};
 use mem_site::MemSite;
 use std::alloc::{AllocError, Global};
@@ -12,12 +12,14 @@ use std::alloc::{AllocError, Global};
 struct Seen {
     number: u64,
     count: u64,
+    log: SeenLog,
 }
 
 impl Progress for Seen {
-    ghost seen = { λ seen. (seen.number, seen.count) };
+    ghost seen = { λ seen. seen.log.changes };
 
     fn made(&mut self, number: u64, count: u64) {
+        self.log.note(number, count);
         self.number = number;
         self.count = count;
     }
@@ -106,6 +108,7 @@ impl Bench {
         let mut seen = Seen {
             number: 0,
             count: 0,
+            log: SeenLog::new(),
         };
         let ended = match apply_changes(&mut site, changes, now, &mut seen) {
             Ok(count) => format!(in self.alloc; "applied {count}")?,

@@ -1,7 +1,7 @@
 // How far a command is, on a terminal.
-ghost use Rattle.std.specs.Prelude.{◌≡◌};
+ghost use Rattle.std.specs.Prelude.{◌≡◌, []};
 
-use change_file::Progress;
+use change_file::{Progress, SeenLog};
 use std::io::Write;
 use std::time::Instant;
 
@@ -16,19 +16,20 @@ pub struct Shown<'a> {
     is_terminal: bool,
     /// The second in which the line was written last; 0 where it never was.
     second: u64,
-    number: u64,
-    count: u64,
+    seen: SeenLog,
 }
 
 impl<'a> Shown<'a> {
-    pub fn new(rt: &'a HostRuntime) -> Shown<'a> {
+    /// Nothing is seen yet.
+    pub fn new(rt: &'a HostRuntime) -> Shown<'a>
+        ensures { result.seen.changes ≡ [] }
+    {
         Shown {
             rt,
             start: Instant::now(rt).ok(),
             is_terminal: libc::isatty(STANDARD_ERROR) == 1,
             second: 0,
-            number: 0,
-            count: 0,
+            seen: SeenLog::new(),
         }
     }
 
@@ -52,11 +53,10 @@ impl<'a> Shown<'a> {
 }
 
 impl Progress for Shown<'_> {
-    ghost seen = { λ shown. (shown.number, shown.count) };
+    ghost seen = { λ shown. shown.seen.changes };
 
     fn made(&mut self, number: u64, count: u64) {
-        self.number = number;
-        self.count = count;
+        self.seen.note(number, count);
         if !self.is_terminal {
             return;
         }

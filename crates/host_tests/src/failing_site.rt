@@ -1,5 +1,5 @@
 // A site in memory whose reads and changes can be made to fail, or be refused. It promises nothing of its contents.
-ghost use Rattle.std.specs.Prelude.{◌≡◌, ℕ, true, false, []};
+ghost use Rattle.std.specs.Prelude.{◌≡◌, ℕ, true, false, if◌then◌else◌, []};
 ghost use Rattle.host_types.specs.CrashStates.{nothing, no_crash_state};
 ghost use Rattle.host_types.specs.Pins.{Copied};
 
@@ -57,7 +57,7 @@ impl FailingSite {
 }
 
 impl SiteKeeper for FailingSite {
-    ghost site_state = { λ m. record { site = m.site; honest = false; usable = m.usable; free = 0; failed_reads = 0; failed_writes = 0; pins = [] } };
+    ghost site_state = { λ m. record { site = m.site; honest = false; usable = m.usable; free = 0; failed_reads = 0; failed_writes = if m.usable then 0 else 1; pins = [] } };
 
     ghost lacks = { λ m change now fault. ⊥ };
 

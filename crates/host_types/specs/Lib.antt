@@ -10,6 +10,7 @@ pub mod Card
 pub mod Words
 pub use Rattle.common_types.specs.CrashStates
 pub mod SiteState
+pub mod Counting
 pub mod Pins
 pub mod Lines
 pub mod SiteExamples

@@ -4,6 +4,7 @@ ghost use Rattle.host_types.specs.Site.{Site};
 ghost use Rattle.host_types.specs.Change.{apply};
 ghost use Rattle.host_types.specs.Card.{card_at, chunk_of};
 ghost use Rattle.common_types.specs.CrashStates.{CrashStates, AddsOnly, AddsNone, may_crash_to};
+ghost use Rattle.host_types.specs.Counting.{CountsReads, CountsWrites};
 ghost use Rattle.host_types.specs.SiteState.{SiteState, HasRead, LacksTheSame, IsUnchangedBehind, HasTried, HasNotChanged, IsReadFault, IsChangeFault};
 ghost use Rattle.host_types.specs.Pins.{Pinned, is_out, pinned_items, viewed_among, IsPinned, IsPinFault, IsUnpinned};
 ghost use Rattle.host_types.specs.Address.{address};
@@ -72,6 +73,7 @@ pub trait SiteKeeper {
         ensures card { IsTrue (site_state self.old).honest → IfOk result (λ card. card ≡ card_at (site_state self.old).site selector.now) }
         ensures kept { HasRead (site_state self.old) (site_state self.new) }
         ensures fault { IfErr result (IsReadFault true (site_state self.old) (site_state self.new)) }
+        ensures reads { CountsReads result (site_state self.old) (site_state self.new) }
         ensures closed { (site_state self.old).usable ≡ false → IsErrOf result Failed }
         ensures lacking { LacksTheSame (lacks self.old) (lacks self.new) }
         ensures at_crash { IsTrue (site_state self.old).honest → AddsNone (crash_states self.old) (crash_states self.new) };
@@ -108,6 +110,7 @@ pub trait SiteKeeper {
         ensures untouched { IfErr result (λ e. buffer.new ≡ buffer.old) }
         ensures kept { HasRead (site_state self.old) (site_state self.new) }
         ensures fault { IfErr result (IsReadFault false (site_state self.old) (site_state self.new)) }
+        ensures reads { CountsReads result (site_state self.old) (site_state self.new) }
         ensures closed { (site_state self.old).usable ≡ false → IsErrOf result Failed }
         ensures lacking { LacksTheSame (lacks self.old) (lacks self.new) }
         ensures at_crash { IsTrue (site_state self.old).honest → AddsNone (crash_states self.old) (crash_states self.new) };
@@ -119,6 +122,8 @@ pub trait SiteKeeper {
         ensures fault { IfErr result (IsChangeFault (lacks self.old change now) (site_state self.old) (site_state self.new) (apply (site_state self.old).site change now)) }
         ensures closed { (site_state self.old).usable ≡ false → IsErrOf result Failed }
         ensures tried { HasTried (site_state self.old) (site_state self.new) }
+        ensures reads { CountsReads result (site_state self.old) (site_state self.new) }
+        ensures writes { CountsWrites result (site_state self.old) (site_state self.new) }
 
         // A crash within the call leaves what represents the site before it, or the changed one.
         ensures at_crash { IsTrue (site_state self.old).honest → (site_state self.old).usable ≡ true →

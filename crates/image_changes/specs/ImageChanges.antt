@@ -1,12 +1,12 @@
 -- Changes that are made on a site and on the site of an image, and what a crash leaves of them.
-use Rattle.std.specs.Prelude.{◌≡◌, ◌≢◌, ℕ, ◌-◌, List, take, Result, Ok, Err, OnOk, IfErr, length}
+use Rattle.std.specs.Prelude.{◌≡◌, ◌≢◌, ℕ, ◌-◌, List, ◌++◌, take, Result, Ok, Err, OnOk, IfErr, length}
 use Rattle.host_types.specs.Site.{Site}
 use Rattle.host_types.specs.SiteState.{SiteState}
 use Rattle.host_types.specs.declared.site_fault.SiteFault.TheVariants.{Failed}
 use Rattle.host_types.specs.CrashStates.{CrashStates, AddsOnly, AddsNone, may_crash_to}
 use Rattle.sector_device.specs.Device.{State}
 use Rattle.page_store.specs.Sectors.{Image}
-use Rattle.change_file.specs.Applied.{apply_all, last_seen, RepresentsFront}
+use Rattle.change_file.specs.Applied.{apply_all, numbered, RepresentsFront}
 use Rattle.change_file.specs.declared.fault.FileChange.{FileChange}
 use Rattle.change_file.specs.declared.fault.ApplyFault.{ApplyFault}
 use Rattle.host_on_disk.specs.ImageSites.{ImageRepresents}
@@ -32,7 +32,7 @@ pub record AppliesToImage {D : Type 0} (state : D → State) (crash_states : D �
   pub before : (e : ApplyFault) → result ≡ Err e → e.fault ≢ Failed → HasMade ImageRepresents (crash_states new) site (take (e.number - 1) changes) now
   pub at_crash : AddsOnly (crash_states opened) (crash_states new) (RepresentsFront ImageRepresents site changes now)
 
--- The change that the progress saw last is the last that was made; where none was made it saw none.
-pub record HasSeen {P : Type 0} (seen : P → ℕ × ℕ) (changes : List FileChange) (old new : P) (result : Result ℕ ApplyFault) : Type 0 where
-  pub all : OnOk result (seen new ≡ last_seen (seen old) (length changes) (length changes))
-  pub before : IfErr result (λ e. seen new ≡ last_seen (seen old) (e.number - 1) (length changes))
+-- The progress saw each change that was made, in order, and no other.
+pub record HasSeen {P : Type 0} (seen : P → List (ℕ × ℕ)) (changes : List FileChange) (old new : P) (result : Result ℕ ApplyFault) : Type 0 where
+  pub all : OnOk result (seen new ≡ seen old ++ numbered (length changes) (length changes))
+  pub before : IfErr result (λ e. seen new ≡ seen old ++ numbered (e.number - 1) (length changes))

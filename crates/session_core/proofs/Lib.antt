@@ -11,6 +11,7 @@ pub mod RequestTexts
 pub mod StepOutcomes
 pub mod MoreEvents
 pub mod Hearings
+pub mod CountedCalls
 pub mod Runs
 pub mod CallsMade
 pub mod CallLaws

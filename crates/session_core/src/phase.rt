@@ -8,6 +8,8 @@ ghost use Rattle.session_core.specs.Step.{listens, ends};
 ghost use Rattle.session_core.specs.HeldPins.{MovesPins};
 ghost use Rattle.session_core.specs.Understood.{reply_by, answered, post_of, HasWorked, HasRoomFor};
 ghost use Rattle.session_core.specs.Hears.{MakesPost, GetsNext, HearsOn, Hears};
+ghost use Rattle.session_core.specs.Counting.{CountsCall};
+ghost use Rattle.host_types.specs.Counting.{CountsReads};
 ghost use Rattle.site_replies.specs.PostReply.{IsRight};
 ghost use Rattle.site_replies.specs.Replies.{answer_of, IsSized, PostsNoView, reply_bytes};
 ghost use Rattle.session_core.specs.Outcomes.{heard_outcome};
@@ -52,6 +54,7 @@ fn reply_to<S: SearchKeeper>(
     ensures lacking { LacksTheSame (S.lacks site.old) (S.lacks site.new) }
     ensures no_new_crash_state { IsTrue (S.site_state site.old).honest → AddsNone (S.crash_states site.old) (S.crash_states site.new) }
     ensures fault { IfErr result (IsReadFault true (S.site_state site.old) (S.site_state site.new)) }
+    ensures reads { CountsReads result (S.site_state site.old) (S.site_state site.new) }
 {
     match answer {
         Answer::Whole(request) => Ok(Some(reply(alloc, site, request, now)?)),
@@ -72,6 +75,7 @@ fn store<S: SearchKeeper>(site: &mut S, post: Option<Change>, now: Stamp) -> Res
     requires right { IsTrue (S.site_state site.old).honest → IsRight (S.site_state site.old).site now post }
     ensures pins { (S.site_state site.new).pins ≡ (S.site_state site.old).pins }
     ensures site { MakesPost S.site_state S.lacks S.crash_states S.represents post now site.old site.new result }
+    ensures counts { CountsCall result (S.site_state site.old) (S.site_state site.new) }
 {
     let Some(change) = post else {
         return Ok(());
@@ -96,6 +100,7 @@ fn pin_view<S: SearchKeeper>(site: &mut S, reply: ViewReply) -> Result<Phase<S::
     ensures usable { (S.site_state site.new).usable ≡ true }
     ensures worked { HasWorked (S.site_state site.old) (S.site_state site.new) }
     ensures fault { IfErr result (λ e. (e ≡ OutOfMemory) × ((S.site_state site.new) ≡ (S.site_state site.old))) }
+    ensures counts { CountsCall result (S.site_state site.old) (S.site_state site.new) }
     ensures at_crash { IsTrue (S.site_state site.old).honest → AddsNone (S.crash_states site.old) (S.crash_states site.new) }
 {
     let ViewReply {
@@ -129,6 +134,7 @@ fn settle<S: SearchKeeper>(
     ensures heard { IfOk result (λ r. heard_outcome r.0 ≡ (answered (option_map (answer_of (S.site_state site.old).site) made)).outcome) }
     ensures next { GetsNext S.pinned (answered (option_map (answer_of (S.site_state site.old).site) made)) (S.site_state site.old) (S.site_state site.new) result }
     ensures site { MakesPost S.site_state S.lacks S.crash_states S.represents (post_of (option_map (answer_of (S.site_state site.old).site) made)) now site.old site.new result }
+    ensures counts { CountsCall result (S.site_state site.old) (S.site_state site.new) }
 {
     let Some(Answered { reply, post }) = made else {
         return Ok((InputStatus::Finished, Phase::Early));
@@ -160,6 +166,7 @@ fn conclude<S: SearchKeeper>(
     ensures heard { IsTrue (S.site_state site.old).honest → IfOk result (λ r. heard_outcome r.0 ≡ (answered (reply_by (S.site_state site.old).site now (seen answer.entry))).outcome) }
     ensures next { GetsNext S.pinned (answered (reply_by (S.site_state site.old).site now (seen answer.entry))) (S.site_state site.old) (S.site_state site.new) result }
     ensures site { MakesPost S.site_state S.lacks S.crash_states S.represents (answered (reply_by (S.site_state site.old).site now (seen answer.entry))).post now site.old site.new result }
+    ensures counts { CountsCall result (S.site_state site.old) (S.site_state site.new) }
 {
     match reply_to(alloc, site, answer, now) {
         Ok(made) => settle(site, made, now),
@@ -179,6 +186,7 @@ fn hear_piece<S: SearchKeeper>(
     requires room { length (S.site_state site.old).pins < most_pins }
     ensures hears { HearsOn S.pinned (listens (S.site_state site.old).site now piece.now (world.Heard hearing.old.reader.input.bytes)) hearing.old.reader.input.bytes hearing.new.reader.input.bytes (S.site_state site.old) (S.site_state site.new) result }
     ensures site { MakesPost S.site_state S.lacks S.crash_states S.represents (listens (S.site_state site.old).site now piece.now (world.Heard hearing.old.reader.input.bytes)).post now site.old site.new result }
+    ensures counts { CountsCall result (S.site_state site.old) (S.site_state site.new) }
 {
     let Ok(answer) = hearing.reader.feed(piece) else {
         return Err(HubFault::Memory);
@@ -205,6 +213,7 @@ fn hear_last<S: SearchKeeper>(
     requires room { length (S.site_state site.old).pins < most_pins }
     ensures hears { HearsOn S.pinned (ends (S.site_state site.old).site now (world.Heard hearing.old.reader.input.bytes)) hearing.old.reader.input.bytes hearing.new.reader.input.bytes (S.site_state site.old) (S.site_state site.new) result }
     ensures site { MakesPost S.site_state S.lacks S.crash_states S.represents (ends (S.site_state site.old).site now (world.Heard hearing.old.reader.input.bytes)).post now site.old site.new result }
+    ensures counts { CountsCall result (S.site_state site.old) (S.site_state site.new) }
 {
     let answer = hearing.reader.finish();
     if let Answer::More = answer {
@@ -241,6 +250,7 @@ pub fn hear<S: SearchKeeper>(
     requires room { HasRoomFor (S.site_state site.old) (phase_of S.pinned (S.site_state site.old) phase.old) }
     ensures hears { Hears S.pinned (listens (S.site_state site.old).site now piece.now (phase_of S.pinned (S.site_state site.old) phase.old)) phase.old phase.new (S.site_state site.old) (S.site_state site.new) result }
     ensures site { MakesPost S.site_state S.lacks S.crash_states S.represents (listens (S.site_state site.old).site now piece.now (phase_of S.pinned (S.site_state site.old) phase.old)).post now site.old site.new result }
+    ensures counts { CountsCall result (S.site_state site.old) (S.site_state site.new) }
 {
     let heard = match phase {
         Phase::Hearing(hearing) => hear_piece(alloc, site, hearing, piece, now)?,
@@ -265,6 +275,7 @@ pub fn hear_end<S: SearchKeeper>(
     requires room { HasRoomFor (S.site_state site.old) (phase_of S.pinned (S.site_state site.old) phase.old) }
     ensures hears { Hears S.pinned (ends (S.site_state site.old).site now (phase_of S.pinned (S.site_state site.old) phase.old)) phase.old phase.new (S.site_state site.old) (S.site_state site.new) result }
     ensures site { MakesPost S.site_state S.lacks S.crash_states S.represents (ends (S.site_state site.old).site now (phase_of S.pinned (S.site_state site.old) phase.old)).post now site.old site.new result }
+    ensures counts { CountsCall result (S.site_state site.old) (S.site_state site.new) }
 {
     let heard = match phase {
         Phase::Hearing(hearing) => hear_last(alloc, site, hearing, now)?,

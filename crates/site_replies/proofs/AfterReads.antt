@@ -4,6 +4,7 @@ use Rattle.std.specs.Prelude.{IsTrue}
 use Rattle.std.proofs.lemmas.Bool.{cases_lt}
 use Rattle.host_types.specs.Address.{Address, address}
 use Rattle.host_types.specs.SiteState.{SiteState, HasRead, LacksTheSame, IsReadFault, Rose}
+use Rattle.host_types.specs.Counting.{IsReadCounted, CountsReads}
 use Rattle.host_types.specs.CrashStates.{CrashStates, AddsNone, no_new_crash_state, adds_none_again}
 use Rattle.host_types.specs.declared.change.Change.{Change}
 use Rattle.site_replies.specs.Reads.{ReadsOnly, Reads}
@@ -82,3 +83,8 @@ ok_gives {site_state = site_state} {old = old} {answer = answer} value reads is 
 pub faults_since : {T : Type 0} (result : Result T SiteFault) (a b c : SiteState) → HasRead a b → HasRead b c → IfErr result (IsReadFault true b c) → IfErr result (IsReadFault true a c)
 faults_since (Ok value) a b c first second fault = tt
 faults_since (Err e) a b c first second fault = fault_since true a b c e first second fault
+
+-- a call after one of which no read failed counts as both together
+pub counts_since : {T : Type 0} (result : Result T SiteFault) (a b c : SiteState) → b.honest ≡ a.honest → b.failed_reads ≡ a.failed_reads → CountsReads result b c → CountsReads result a c
+counts_since (Ok value) a b c honest none is = is ∙ none
+counts_since (Err fault) a b c honest none is = subst (λ (h : Bool). IsReadCounted h fault a.failed_reads c.failed_reads) honest (subst (λ (n : ℕ). IsReadCounted b.honest fault n c.failed_reads) none is)

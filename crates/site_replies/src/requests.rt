@@ -2,6 +2,7 @@
 ghost use Rattle.std.specs.Prelude.{◌≡◌, true, Some, IfOk, IfErr, IsTrue};
 ghost use Rattle.std.specs.Option.{option_map};
 ghost use Rattle.host_types.specs.Card.{viewed_at};
+ghost use Rattle.host_types.specs.Counting.{CountsReads};
 ghost use Rattle.host_types.specs.SiteState.{HasRead, LacksTheSame, IsReadFault};
 ghost use Rattle.host_types.specs.CrashStates.{AddsNone};
 ghost use Rattle.request_reader.specs.Seen.{request_of, plus_of};
@@ -78,6 +79,7 @@ fn card_reply<S: SearchKeeper>(
     ensures lacking { LacksTheSame (S.lacks site.old) (S.lacks site.new) }
     ensures no_new_crash_state { IsTrue (S.site_state site.old).honest → AddsNone (S.crash_states site.old) (S.crash_states site.new) }
     ensures fault { IfErr result (IsReadFault true (S.site_state site.old) (S.site_state site.new)) }
+    ensures reads { CountsReads result (S.site_state site.old) (S.site_state site.new) }
 {
     let is_plus = request.plus.is_some();
     let bytes = match (&card.body, request.plus) {
@@ -124,6 +126,7 @@ pub fn reply<S: SearchKeeper>(
     ensures lacking { LacksTheSame (S.lacks site.old) (S.lacks site.new) }
     ensures no_new_crash_state { IsTrue (S.site_state site.old).honest → AddsNone (S.crash_states site.old) (S.crash_states site.new) }
     ensures fault { IfErr result (IsReadFault true (S.site_state site.old) (S.site_state site.new)) }
+    ensures reads { CountsReads result (S.site_state site.old) (S.site_state site.new) }
 {
     if request.selector.starts_with(b"URL:") {
         let bytes = url_reply(alloc, request.plus, &request.selector[4..])?;

@@ -26,3 +26,4 @@ pub mod SitesCompacted
 pub mod ShortSites
 pub mod PairsFound
 pub mod LayoutsCounted
+pub mod SiteCounts

@@ -6,6 +6,7 @@ use Rattle.std.proofs.Props.{props}
 use mathlib.Core.Logic.{∥∥₁_elim, ∥∥₁_prop}
 use Rattle.host_types.specs.Site.{Site, Items}
 use Rattle.host_types.specs.Card.{chunk_of, viewed_at}
+use Rattle.host_types.specs.Counting.{IsReadCounted}
 use Rattle.host_types.specs.SiteState.{SiteState}
 use Rattle.host_types.specs.SiteState as sites
 use Rattle.host_types.specs.Pins.{Numbered, HasNumbered, HasGivenBack, items_or_none, items_under_number, pinned_items, viewed_among}
@@ -25,6 +26,7 @@ use Rattle.site_store.specs.StoreFault.{site_fault_of, site_pin_fault_of}
 use Rattle.site_store.specs.declared.fault.SiteOpenFault.{SiteOpenFault}
 use Rattle.site_store.specs.declared.fault.SiteOpenFault.TheVariants.{BadRecord, Keeper, Memory}
 use Rattle.site_store.proofs.PinsKept.{length_of, out_of, found_of, none_kept_under, some_kept_under, are_laid_out, same_items_at}
+use Rattle.site_store.proofs.SiteCounts.{store_read_counted}
 use Rattle.site_store.proofs.StoreAsSite.{site_still, lacks_still, read_fault_of}
 
 -- ---- a keeper of which the pins and what is free have changed
@@ -192,4 +194,12 @@ pinned_fault_comes a b ka kb number fault to_site_fault out is h = subst (sites.
     by : (fault : SiteOpenFault) → IsPinnedFault number a b fault → sites.IsReadFault false (site_state_of a ka) (site_state_of b kb) (site_fault_of fault)
     by BadRecord h = λ honest. absurd (let none : IsProp ⊥ = hlevel props in ∥∥₁_elim (stood a ka number honest out) none (λ s. h.1 honest s.0 s.1))
     by (Keeper fault) h = read_fault_of false a b ka kb fault h.0
+    by Memory h = absurd h
+
+pub pinned_counted : (a b : StoreState) (ka : HasSite a) (number : ℕ) (fault : SiteOpenFault) (to_site_fault : SiteFault) → IsTrue (is_out a number) → to_site_fault ≡ site_fault_of fault → IsPinnedFault number a b fault → IsReadCounted a.honest to_site_fault a.failed_reads b.failed_reads
+pinned_counted a b ka number fault to_site_fault out is h = subst (λ (f : SiteFault). IsReadCounted a.honest f a.failed_reads b.failed_reads) (sym is) (by fault h)
+  where
+    by : (fault : SiteOpenFault) → IsPinnedFault number a b fault → IsReadCounted a.honest (site_fault_of fault) a.failed_reads b.failed_reads
+    by BadRecord h = λ honest. absurd (let none : IsProp ⊥ = hlevel props in ∥∥₁_elim (stood a ka number honest out) none (λ s. h.1 honest s.0 s.1))
+    by (Keeper fault) h = store_read_counted a b fault h.0 h.1
     by Memory h = absurd h

@@ -1,12 +1,12 @@
 // How much a site over a keeper holds.
-ghost use Rattle.std.specs.Prelude.{◌≡◌, true, false, length, IfOk, OnOk, IfErr, IsErrOf, IsTrue};
+ghost use Rattle.std.specs.Prelude.{◌≡◌, true, false, length, IfOk, IfErr, IsErrOf, IsTrue};
+ghost use Rattle.host_types.specs.Counting.{CountsReads};
 ghost use Rattle.host_types.specs.SiteState.{HasRead, LacksTheSame, IsReadFault};
 ghost use Rattle.host_types.specs.CrashStates.{AddsNone};
 ghost use Rattle.host_types.specs.declared.site_fault.SiteFault.TheVariants.{Failed};
 ghost use Rattle.page_store.specs.StoreState.{IsFigures};
 ghost use Rattle.site_store.specs.Represented.{RepresentedBy, site_state_of, site_of};
 ghost use Rattle.site_store.specs.Lacking.{IsLacking};
-ghost use Rattle.site_store.specs.StoreReads.{NoneFailed};
 ghost use Rattle.site_store.specs.Reads.{ReadsKnown};
 
 use crate::to_site_fault::to_site_fault;
@@ -45,7 +45,7 @@ impl<K: Keeper> DiskSite<K> {
     pub fn figures(&mut self) -> Result<SiteFigures, SiteFault>
         ensures items { IsTrue (K.store_state self.old.keeper).honest → IfOk result (λ figures. figures.items ≡ length (site_state_of (K.store_state self.old.keeper) self.old.kept).site.items) }
         ensures store { IfOk result (λ figures. IsFigures (K.store_state self.old.keeper) figures.store) }
-        ensures reads { OnOk result (NoneFailed (K.store_state self.old.keeper) (K.store_state self.new.keeper)) }
+        ensures reads { CountsReads result (site_state_of (K.store_state self.old.keeper) self.old.kept) (site_state_of (K.store_state self.new.keeper) self.new.kept) }
         ensures lacking { LacksTheSame (IsLacking K.store_state K.may_need self.old.keeper (site_of (K.store_state self.old.keeper) self.old.kept)) (IsLacking K.store_state K.may_need self.new.keeper (site_of (K.store_state self.new.keeper) self.new.kept)) }
         ensures kept { HasRead (site_state_of (K.store_state self.old.keeper) self.old.kept) (site_state_of (K.store_state self.new.keeper) self.new.kept) }
         ensures fault { IfErr result (IsReadFault true (site_state_of (K.store_state self.old.keeper) self.old.kept) (site_state_of (K.store_state self.new.keeper) self.new.kept)) }

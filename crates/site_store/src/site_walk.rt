@@ -1,11 +1,11 @@
 // The items of a site over a keeper, one after another.
-ghost use Rattle.std.specs.Prelude.{◌≡◌, true, false, IfOk, OnOk, IfErr, IsErrOf, IsTrue, option_map};
+ghost use Rattle.std.specs.Prelude.{◌≡◌, true, false, IfOk, IfErr, IsErrOf, IsTrue, option_map};
+ghost use Rattle.host_types.specs.Counting.{CountsReads};
 ghost use Rattle.host_types.specs.SiteState.{HasRead, LacksTheSame, IsReadFault};
 ghost use Rattle.host_types.specs.CrashStates.{AddsNone};
 ghost use Rattle.host_types.specs.declared.site_fault.SiteFault.TheVariants.{Failed};
 ghost use Rattle.site_store.specs.Represented.{site_state_of, site_of};
 ghost use Rattle.site_store.specs.Lacking.{IsLacking};
-ghost use Rattle.site_store.specs.StoreReads.{NoneFailed};
 ghost use Rattle.site_store.specs.Walking.{card_after};
 
 use crate::DiskSite;
@@ -21,7 +21,7 @@ impl<K: Keeper> DiskSite<K> {
         after: Option<&Selector>,
     ) -> Result<Option<(Selector, Card)>, SiteFault>
         ensures next { IsTrue (K.store_state self.old.keeper).honest → IfOk result (λ next. next ≡ card_after (site_state_of (K.store_state self.old.keeper) self.old.kept).site (option_map (λ selector. selector.now) after.entry)) }
-        ensures reads { OnOk result (NoneFailed (K.store_state self.old.keeper) (K.store_state self.new.keeper)) }
+        ensures reads { CountsReads result (site_state_of (K.store_state self.old.keeper) self.old.kept) (site_state_of (K.store_state self.new.keeper) self.new.kept) }
         ensures lacking { LacksTheSame (IsLacking K.store_state K.may_need self.old.keeper (site_of (K.store_state self.old.keeper) self.old.kept)) (IsLacking K.store_state K.may_need self.new.keeper (site_of (K.store_state self.new.keeper) self.new.kept)) }
         ensures kept { HasRead (site_state_of (K.store_state self.old.keeper) self.old.kept) (site_state_of (K.store_state self.new.keeper) self.new.kept) }
         ensures fault { IfErr result (IsReadFault true (site_state_of (K.store_state self.old.keeper) self.old.kept) (site_state_of (K.store_state self.new.keeper) self.new.kept)) }

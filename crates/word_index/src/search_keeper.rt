@@ -1,5 +1,6 @@
 // A site that is searched.
 ghost use Rattle.std.specs.Prelude.{◌≡◌, true, false, IfOk, IfErr, IsErrOf, IsTrue};
+ghost use Rattle.host_types.specs.Counting.{CountsReads};
 ghost use Rattle.host_types.specs.SiteState.{HasRead, LacksTheSame, IsReadFault};
 ghost use Rattle.host_types.specs.CrashStates.{AddsNone};
 ghost use Rattle.host_types.specs.declared.site_fault.SiteFault.TheVariants.{Failed};
@@ -15,6 +16,7 @@ pub trait SearchKeeper: SiteKeeper {
         ensures found { IsTrue (Self.site_state self.old).honest → IfOk result (λ found. found ≡ search_of (Self.site_state self.old).site scope.now query.now) }
         ensures kept { HasRead (Self.site_state self.old) (Self.site_state self.new) }
         ensures fault { IfErr result (IsReadFault true (Self.site_state self.old) (Self.site_state self.new)) }
+        ensures reads { CountsReads result (Self.site_state self.old) (Self.site_state self.new) }
         ensures closed { (Self.site_state self.old).usable ≡ false → IsErrOf result Failed }
         ensures lacking { LacksTheSame (Self.lacks self.old) (Self.lacks self.new) }
         ensures at_crash { IsTrue (Self.site_state self.old).honest → AddsNone (Self.crash_states self.old) (Self.crash_states self.new) };

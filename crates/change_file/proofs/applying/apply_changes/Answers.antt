@@ -7,7 +7,7 @@ use Rattle.common_types.specs.CrashStates.{AddsOnly}
 use Rattle.change_file.specs.declared.fault.FileChange.{FileChange}
 use Rattle.change_file.specs.Applied.{RepresentsFront}
 use Rattle.change_file.proofs.Lists.{parts_at}
-use Rattle.change_file.proofs.Fronts.{take_front, stopped, earlier_stay, crash_more, crash_refused, goes_on, seen_more}
+use Rattle.change_file.proofs.Fronts.{take_front, stopped, earlier_stay, crash_more, crash_refused, goes_on, counts_stop, seen_on}
 use Rattle.change_file.proofs.applying.apply_changes.Goals as goal
 
 -- the changes are those that were made, the one in hand, and those behind it
@@ -40,10 +40,13 @@ returns-in-Err-clause-at_crash_when_refused g c = λ honest usable still.
     (crash_refused g.S.SiteKeeper.site_state g.S.SiteKeeper.lacks g.S.SiteKeeper.crash_states g.S.SiteKeeper.represents c.args.site.now c.loop-change.site c.apply_one.new.site c.loop-change.yielded c.args.now c.loop-change.invariant.so_far
     (λ h. c.in-Err.ensures.no_new_crash_state h still) honest usable)
 
+pub returns-in-Err-clause-counts_fault : goal.returns-in-Err-clause-counts_fault
+returns-in-Err-clause-counts_fault g c = counts_stop g.S.SiteKeeper.site_state g.S.SiteKeeper.lacks g.S.SiteKeeper.crash_states g.S.SiteKeeper.represents c.args.site.now c.loop-change.site c.apply_one.new.site c.loop-change.yielded c.args.now c.in-Err.fault c.loop-change.invariant.so_far c.in-Err.ensures.counts_fault
+
 pub loop-change-preserved : goal.loop-change-preserved
 loop-change-preserved g c = record {
   so_far = goes_on g.S.SiteKeeper.site_state g.S.SiteKeeper.lacks g.S.SiteKeeper.crash_states g.S.SiteKeeper.represents c.args.site.now c.loop-change.site c.apply_one.new.site c.loop-change.yielded c.in-Some.change c.args.now c.loop-change.invariant.so_far
-      (λ honest. search (rules, c.apply_one.ensures.done honest)) (search rules) c.apply_one.ensures.tried.tried c.apply_one.ensures.at_crash c.apply_one.ensures.tried.no_new_crash_state_when_closed;
+      (λ honest. search (rules, c.apply_one.ensures.done honest)) (search rules) c.apply_one.ensures.tried.tried c.apply_one.ensures.at_crash c.apply_one.ensures.tried.no_new_crash_state_when_closed (search (rules, c.apply_one.ensures.counts));
   counted = omega (arith, c.loop-change.invariant.counted, length-append c.loop-change.yielded (c.in-Some.change ∷ []));
-  seen = c.made.ensures ∙ seen_more _ (length c.loop-change.yielded) _ _ _ (omega (arith, c.loop-change.invariant.counted)) (length-append c.loop-change.yielded (c.in-Some.change ∷ []));
+  seen = seen_on _ _ _ (length c.loop-change.yielded) _ _ _ c.loop-change.invariant.seen c.made.ensures (omega (arith, c.loop-change.invariant.counted)) (length-append c.loop-change.yielded (c.in-Some.change ∷ []));
 }

@@ -19,4 +19,5 @@ returns-clause-line g c =
           ∙ ap (λ (n : ℕ). figures_line (length s.items) (length (layout s)) h.free n) store.generation;
       only = record { kept = c.in_ok-figures.ensures.kept; lacking = c.in_ok-figures.ensures.lacking; no_new_crash_state = c.in_ok-figures.ensures.at_crash };
       fault = tt;
+      counts = c.in_ok-figures.ensures.reads;
     }

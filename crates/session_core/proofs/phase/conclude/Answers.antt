@@ -1,6 +1,7 @@
 use Rattle.std.proofs.Common.{rules}
 use Rattle.request_reader.specs.Seen.{seen}
 use Rattle.session_core.proofs.StoredPosts.{right_now}
+use Rattle.session_core.proofs.CountedCalls.{call_since, read_fault_counts}
 use Rattle.session_core.proofs.phase.conclude.Goals as goal
 
 pub settle-requires-clause-right : goal.settle-requires-clause-right
@@ -16,3 +17,13 @@ returns-in-Ok-clause-site g c = record {
   unchanged = search rules;
   at_crash = search rules;
 }
+
+pub returns-in-Ok-clause-counts : goal.returns-in-Ok-clause-counts
+returns-in-Ok-clause-counts g c =
+    let s = g.S.SiteKeeper in
+    call_since c.settle.result (s.site_state c.args.site.now) (s.site_state c.reply_to.new.site) (s.site_state c.settle.new.site) c.reply_to.ensures.kept c.in-Ok.ensures.reads c.settle.ensures.counts
+
+pub returns-in-Err-clause-counts : goal.returns-in-Err-clause-counts
+returns-in-Err-clause-counts g c =
+    let s = g.S.SiteKeeper in
+    read_fault_counts c.in-Err.fault c.of_site.result (s.site_state c.args.site.now) (s.site_state c.reply_to.new.site) c.requires.usable c.of_site.ensures c.reply_to.ensures.kept c.in-Err.ensures.fault c.in-Err.ensures.reads

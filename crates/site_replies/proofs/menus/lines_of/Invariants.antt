@@ -4,11 +4,12 @@ use Rattle.site_replies.specs.Reads.{ReadsOnly}
 use Rattle.text_writer.specs.Menu.{entry_line}
 use Rattle.site_replies.proofs.menus.lines_of.Given as goal
 
--- the lines so far, and nothing of the site has changed
+-- the lines so far, nothing of the site has changed, and no read has failed
 abbrev pub invariant-loop-entry : goal.invariant-loop-entry
 invariant-loop-entry g l =
     let site_state = g.S.SiteKeeper.site_state in
     record {
       only : ReadsOnly site_state g.S.SiteKeeper.lacks g.S.SiteKeeper.crash_states l.fn.site l.site;
+      none_failed : (site_state l.site).failed_reads ≡ (site_state l.fn.site).failed_reads;
       lines : IsTrue (site_state l.fn.site).honest → l.lines ≡ filter_map (entry_line (site_state l.fn.site).site) (take l.entry-index l.entries);
     }

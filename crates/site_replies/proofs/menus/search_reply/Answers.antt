@@ -3,7 +3,7 @@ use Rattle.std.specs.Prelude.{IfOk}
 use Rattle.std.proofs.lemmas.Grind.{common_steps}
 use Rattle.word_index.specs.Search.{search_of}
 use Rattle.site_replies.specs.Reply.{menu_reply, locals}
-use Rattle.site_replies.proofs.AfterReads.{only_on, faults_since}
+use Rattle.site_replies.proofs.AfterReads.{only_on, faults_since, counts_since}
 use Rattle.site_replies.proofs.Cards.{searched}
 use Rattle.site_replies.proofs.menus.search_reply.Goals as goal
 
@@ -20,5 +20,6 @@ returns g c =
         only = only_on site_state g.S.SiteKeeper.lacks g.S.SiteKeeper.crash_states c.args.site.now c.search.new.self c.menu_reply.new.site
             (record { kept = c.search.ensures.kept; lacking = c.search.ensures.lacking; no_new_crash_state = c.search.ensures.at_crash }) c.menu_reply.ensures.reply.only;
         fault = faults_since c.menu_reply.result k (site_state c.search.new.self) (site_state c.menu_reply.new.site) c.search.ensures.kept c.menu_reply.ensures.reply.only.kept c.menu_reply.ensures.reply.fault;
+        counts = counts_since c.menu_reply.result k (site_state c.search.new.self) (site_state c.menu_reply.new.site) c.search.ensures.kept.honest c.in_ok-found.ensures.reads c.menu_reply.ensures.reply.counts;
       };
     }

@@ -12,6 +12,7 @@ use Rattle.session_core.proofs.SeatsMoved.{sessions_stay}
 use Rattle.session_core.specs.World.{Phase}
 use Rattle.session_core.proofs.CallsMade.{stays_none_added, shut_answer, steady}
 use Rattle.session_core.proofs.RefusedChanges.{not_made_call}
+use Rattle.session_core.proofs.CountedCalls.{shut_counts, change_fault_counts}
 use Rattle.session_core.proofs.hub.Hub.admin.Goals as goal
 
 pub returns-then-not-is_usable : goal.returns-then-not-is_usable
@@ -28,6 +29,7 @@ returns-then-not-is_usable g c =
       honest = refl;
       at_crash = λ honest. stays_none_added _ _;
       closed = λ off. refl;
+      counts = shut_counts k shut;
       call = record {
         step = λ honest. answered_by w.failed w _ _ _ answers;
         cause = λ honest. inl shut;
@@ -64,3 +66,8 @@ returns-in-Err-clause-call g c =
     (subst (λ (fault : HubFault). Call s.site_state s.lacks s.crash_states s.represents (world_of s.site_state hub) hub.site (Admin c.args.change c.args.now) (Fault fault) (world_at (s.site_state made) hub.next seats) made) (sym c.of_site.ensures)
     (not_made_call s.site_state s.lacks s.crash_states s.represents hub.site made hub.next seats c.args.change c.args.now c.in-Err.fault usable c.change.ensures.tried.honest
     (λ honest. c.change.ensures.at_crash honest usable) (λ honest. c.in-Err.ensures.no_new_crash_state honest) c.in-Err.ensures.fault))
+
+pub returns-in-Err-clause-counts : goal.returns-in-Err-clause-counts
+returns-in-Err-clause-counts g c =
+    let s = g.S.SiteKeeper in
+    change_fault_counts c.in-Err.fault c.of_site.result (s.site_state c.args.self.now.site) (s.site_state c.change.new.self) c.of_site.ensures c.in-Err.ensures.reads c.in-Err.ensures.writes

@@ -10,6 +10,7 @@ use Rattle.session_core.specs.Sessions.{phase_of, sessions_of}
 use Rattle.session_core.specs.Outcomes.{draw_outcome}
 use Rattle.session_core.specs.declared.fault.HubFault.TheVariants.{Unknown}
 use Rattle.session_core.proofs.FaultsKeep.{as_before}
+use Rattle.session_core.proofs.CountedCalls.{draw_writes}
 use Rattle.session_core.proofs.SeatPlaces.{seat, seat_below, nobody}
 use Rattle.session_core.proofs.SeatsMoved.{session_moves}
 use Rattle.session_core.proofs.SeatsHeld.{own_is_out, sound_at}
@@ -132,3 +133,9 @@ returns-clause-call g c =
     let usable : k.usable ≡ true = search rules in
     drawn_call s.site_state s.lacks s.crash_states s.represents _ c.args.self.now.site c.args.id (length c.args.out.now) _ c.draw.new.site (phase_of s.pinned k c.index_mut-session.result.now.phase) c.draw.result c.draw.new.out (g.met.S.SiteKeeper.crash_states_represent c.draw.new.site)
     (returns-clause-step g c) usable c.draw.ensures.kept.honest c.draw.ensures.kept.usable refl (returns-clause-kept g c) c.draw.ensures.fault c.draw.ensures.at_crash refl refl refl
+
+pub returns-clause-writes : goal.returns-clause-writes
+returns-clause-writes g c =
+    let s = g.S.SiteKeeper in
+    let k = s.site_state c.args.self.now.site in
+    draw_writes c.draw.result k (s.site_state c.draw.new.site) (phase_of s.pinned k c.index_mut-session.result.now.phase) c.draw.ensures.kept c.draw.ensures.fault

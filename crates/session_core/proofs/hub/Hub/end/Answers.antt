@@ -13,6 +13,7 @@ use Rattle.session_core.proofs.SeatsMoved.{session_moves}
 use Rattle.session_core.proofs.SeatsHeld.{sound_at, room_at}
 use Rattle.session_core.proofs.Hearings.{post_is, heard_cause, heard_at_crash}
 use Rattle.session_core.proofs.FaultsKeep.{as_before}
+use Rattle.session_core.proofs.CountedCalls.{shut_counts}
 use Rattle.session_core.proofs.Steps.{answered_by, hears, unheard, only_changes, seats_stay}
 use Rattle.session_core.specs.Causes.{IsLacking}
 use Rattle.session_core.specs.declared.fault.HubFault.TheVariants.{Unknown, Failed}
@@ -33,6 +34,7 @@ returns-then-not-is_usable g c =
       honest = refl;
       at_crash = λ honest. stays_none_added _ _;
       closed = λ off. refl;
+      counts = shut_counts k shut;
       call = record {
         step = λ honest. answered_by w.failed w _ _ _ answers;
         cause = λ honest. inl shut;
@@ -62,6 +64,7 @@ returns-in_default g c =
       honest = refl;
       at_crash = λ honest. stays_none_added _ _;
       closed = λ off. refl;
+      counts = record { reads = refl; writes = refl };
       call = record {
         step = λ honest. step;
         cause = usable;
@@ -134,6 +137,7 @@ returns g c =
       honest = c.hear_end.ensures.site.worked.honest;
       at_crash = at_crash;
       closed = λ off. (let no : true ≡ false = sym usable ∙ off in absurd (cc no));
+      counts = c.hear_end.ensures.counts;
       call = record {
         step = step;
         cause = heard_fault c.hear_end.result _ cause;

@@ -1,4 +1,5 @@
 use Rattle.site_store.specs.Represented.{site_of, site_kept}
+use Rattle.site_store.proofs.SiteCounts.{read_counted}
 use Rattle.site_store.proofs.StoreAsSite.{has_read, lacks_same, read_fault_comes}
 use Rattle.site_store.proofs.site_calls.DiskSiteSiteKeeper.card.Goals as goal
 
@@ -21,3 +22,6 @@ returns-in-Err-clause-lacking g c = lacks_same g.K.Keeper.store_state g.K.Keeper
 
 pub returns-in-Err-clause-fault : goal.returns-in-Err-clause-fault
 returns-in-Err-clause-fault g c = read_fault_comes (g.K.Keeper.store_state c.args.self.now.keeper) (g.K.Keeper.store_state c.card_in.new.keeper) c.args.self.now.kept c.self-1.given.0 c.in-Err.fault c.to_site_fault.result c.to_site_fault.ensures c.in-Err.ensures.card.reads.fault
+
+pub returns-in-Err-clause-reads : goal.returns-in-Err-clause-reads
+returns-in-Err-clause-reads g c = read_counted (g.K.Keeper.store_state c.args.self.now.keeper) (g.K.Keeper.store_state c.card_in.new.keeper) c.args.self.now.kept c.in-Err.fault c.to_site_fault.result c.to_site_fault.ensures c.in-Err.ensures.card.reads.fault

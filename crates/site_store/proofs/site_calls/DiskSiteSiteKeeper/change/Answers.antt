@@ -1,4 +1,4 @@
-use Rattle.std.proofs.Common.{length, ◌≡◌, ◌≤◌, ◌<◌, ℕ, sym, ap, subst, ◌∙◌}
+use Rattle.std.proofs.Common.{length, ◌≡◌, ◌≤◌, ◌<◌, ℕ, true, sym, ap, subst, ◌∙◌}
 use Rattle.std.proofs.lemmas.Result.{err_from_is_err_and}
 use Rattle.host_types.specs.SiteState.{IsChangeFault}
 use Rattle.host_types.specs.Change.{apply}
@@ -8,7 +8,10 @@ use Rattle.site_store.specs.Lacking.{MayNeed, IsLacking}
 use Rattle.site_store.specs.Planned.{banner_after}
 use Rattle.site_store.specs.Represented.{site_of, site_state_of}
 use Rattle.site_store.proofs.StoreAsSite.{not_changed, none_at_crash, plan_reads_only, plan_fault_comes, plan_makes, done_made, crash_states_made, commit_fault_comes, keeps_written, port_written, after_port, has_tried, has_tried_reading}
+use Rattle.host_types.specs.Counting.{IsReadCounted, writes_after}
+use Rattle.host_types.specs.declared.site_fault.SiteFault.{SiteFault}
 use Rattle.site_store.proofs.PinsKept.{pins_stay_written}
+use Rattle.site_store.proofs.SiteCounts.{plan_counted, plan_writes, commit_reads, commit_writes}
 use Rattle.site_store.proofs.site_calls.DiskSiteSiteKeeper.change.Goals as goal
 
 pub returns-in-Err-clause-fault : goal.returns-in-Err-clause-fault
@@ -182,3 +185,54 @@ returns-clause-tried g c =
     let batch = batch_of (edits_of c.deref.result.now) in
     let stay = pins_stay_written c.write_replacements.result h1 h2 (length batch) (MayNeed g.K.Keeper.may_need c.plan_change.new.lookup.keeper batch) c.write_replacements.ensures.out c.write_replacements.ensures.pins c.write_replacements.ensures.fault in
     has_tried (store_state d.keeper) h1 h2 d.kept c.self-1.given.0 c.in-Ok.ensures.reads_only.reads_only.read c.write_replacements.ensures.tried stay
+
+pub returns-in-Err-clause-reads : goal.returns-in-Err-clause-reads
+returns-in-Err-clause-reads g c =
+    let store_state = g.K.Keeper.store_state in
+    let d = c.args.self.now in
+    let d1 = c.plan_change.new.lookup in
+    plan_counted (λ d. d.keeper) store_state g.K.Keeper.may_need g.K.Keeper.crash_states d d1 d.kept (λ s. apply s c.args.change c.args.now) c.in-Err.fault (sym c.is_usable.ensures ∙ c.if-not-is_usable.false) c.in-Err.ensures.fault c.in-Err.ensures.reads_only
+
+pub returns-in-Err-clause-writes : goal.returns-in-Err-clause-writes
+returns-in-Err-clause-writes g c =
+    let store_state = g.K.Keeper.store_state in
+    let d = c.args.self.now in
+    let d1 = c.plan_change.new.lookup in
+    let reads_only = plan_reads_only (λ d. d.keeper) store_state g.K.Keeper.may_need g.K.Keeper.crash_states d d1 (λ s. apply s c.args.change c.args.now) c.in-Err.fault c.in-Err.ensures.fault c.in-Err.ensures.reads_only in
+    plan_writes (λ d. d.keeper) store_state g.K.Keeper.may_need g.K.Keeper.crash_states d d1 (λ s. apply s c.args.change c.args.now) c.in-Err.fault (sym c.is_usable.ensures ∙ c.if-not-is_usable.false) c.in-Err.ensures.fault reads_only.read.writes
+
+pub returns-in_err-banner-clause-reads : goal.returns-in_err-banner-clause-reads
+returns-in_err-banner-clause-reads g c =
+    let p = err_from_is_err_and c.from_residual.result c.from_residual.ensures.1 in
+    rw (p.1, p.2) c.in-Ok.ensures.reads_only.none
+
+pub returns-in_err-banner-clause-writes : goal.returns-in_err-banner-clause-writes
+returns-in_err-banner-clause-writes g c =
+    let p = err_from_is_err_and c.from_residual.result c.from_residual.ensures.1 in
+    let up : (g.K.Keeper.store_state c.args.self.now.keeper).usable ≡ true = sym c.is_usable.ensures ∙ c.if-not-is_usable.false in
+    rw (p.1, p.2, up) c.in-Ok.ensures.reads_only.reads_only.read.writes
+
+pub returns-in-Ok-write_replacements-clause-reads : goal.returns-in-Ok-write_replacements-clause-reads
+returns-in-Ok-write_replacements-clause-reads g c = c.in-Ok-write_replacements.ensures.reads ∙ c.in-Ok.ensures.reads_only.none
+
+pub returns-in-Ok-write_replacements-clause-writes : goal.returns-in-Ok-write_replacements-clause-writes
+returns-in-Ok-write_replacements-clause-writes g c = c.in-Ok-write_replacements.ensures.writes ∙ c.in-Ok.ensures.reads_only.reads_only.read.writes
+
+pub returns-clause-reads : goal.returns-clause-reads
+returns-clause-reads g c =
+    let store_state = g.K.Keeper.store_state in
+    let h0 = store_state c.args.self.now.keeper in
+    let h1 = store_state c.plan_change.new.lookup.keeper in
+    let h2 = store_state c.write_replacements.new.keeper in
+    let batch = batch_of (edits_of c.deref.result.now) in
+    subst (λ (f : SiteFault). IsReadCounted h0.honest f h0.failed_reads h2.failed_reads) (sym c.store_fault_comes.ensures)
+    (commit_reads h0 h1 h2 (length batch) (MayNeed g.K.Keeper.may_need c.plan_change.new.lookup.keeper batch) c.in-Err-write_replacements.fault c.in-Ok.ensures.reads_only.reads_only.read c.in-Ok.ensures.reads_only.none c.in-Err-write_replacements.ensures.fault c.in-Err-write_replacements.ensures.reads)
+
+pub returns-clause-writes : goal.returns-clause-writes
+returns-clause-writes g c =
+    let store_state = g.K.Keeper.store_state in
+    let h0 = store_state c.args.self.now.keeper in
+    let h1 = store_state c.plan_change.new.lookup.keeper in
+    let h2 = store_state c.write_replacements.new.keeper in
+    subst (λ (f : SiteFault). h2.failed_writes ≡ writes_after h0.usable f h0.failed_writes) (sym c.store_fault_comes.ensures)
+    (commit_writes h0 h1 h2 c.in-Err-write_replacements.fault c.in-Ok.ensures.reads_only.reads_only.read (sym c.is_usable.ensures ∙ c.if-not-is_usable.false) c.in-Err-write_replacements.ensures.writes)

@@ -1,5 +1,5 @@
 use Rattle.std.proofs.Common.{take}
-use Rattle.site_store.proofs.PinsMade.{out_there, pinned_chunk, pinned_fault_comes}
+use Rattle.site_store.proofs.PinsMade.{out_there, pinned_chunk, pinned_fault_comes, pinned_counted}
 use Rattle.site_store.proofs.StoreAsSite.{has_read, lacks_same}
 use Rattle.site_store.proofs.site_calls.DiskSiteSiteKeeper.chunk.Goals as goal
 
@@ -29,3 +29,9 @@ returns-in-Err-clause-fault g c =
     let h = g.K.Keeper.store_state c.args.self.now.keeper in
     let number = g.K.PinKeeper.number c.args.pin.now in
     pinned_fault_comes h (g.K.Keeper.store_state c.chunk_in_at.new.keeper) c.args.self.now.kept c.self-1.given.0 number c.in-Err.fault c.to_site_fault.result (out_there h c.args.self.now.kept number c.requires.out) c.to_site_fault.ensures c.in-Err.ensures.chunk.reads.fault
+
+pub returns-in-Err-clause-reads : goal.returns-in-Err-clause-reads
+returns-in-Err-clause-reads g c =
+    let h = g.K.Keeper.store_state c.args.self.now.keeper in
+    let number = g.K.PinKeeper.number c.args.pin.now in
+    pinned_counted h (g.K.Keeper.store_state c.chunk_in_at.new.keeper) c.args.self.now.kept number c.in-Err.fault c.to_site_fault.result (out_there h c.args.self.now.kept number c.requires.out) c.to_site_fault.ensures c.in-Err.ensures.chunk.reads.fault

@@ -1,0 +1,102 @@
+-- What calls of the site that a session makes count, as its hub tells it.
+use Rattle.std.proofs.Common.{◌≡◌, ℕ, Bool, true, false, refl, sym, subst, ap, ◌∙◌}
+use Rattle.std.specs.Prelude.{Result, Ok, Err, IfErr}
+use Rattle.host_types.specs.SiteState.{SiteState, HasRead, IsReadFault}
+use Rattle.host_types.specs.Counting as site
+use Rattle.host_types.specs.declared.site_fault.SiteFault.{SiteFault}
+use Rattle.host_types.specs.declared.site_fault.SiteFault.TheVariants as faults
+use Rattle.session_core.specs.Counting.{IsReadCounted, CountsReads, writes_after, CountsWrites, CountsCall}
+use Rattle.session_core.specs.Outcomes.{fault_of}
+use Rattle.session_core.specs.Understood.{IsDrawFault, KeepsSite}
+use Rattle.session_core.specs.World.{Phase}
+use Rattle.session_core.specs.declared.fault.HubFault.{HubFault}
+use Rattle.session_core.specs.declared.fault.HubFault.TheVariants as hub
+
+reads_are : (honest : Bool) (fault : SiteFault) (before now : ℕ) → site.IsReadCounted honest fault before now → IsReadCounted honest (fault_of fault) before now
+reads_are honest (faults.Refused r) before now is = is
+reads_are honest faults.Read before now is = is
+reads_are honest (faults.Full need free) before now is = is
+reads_are honest faults.Spent before now is = is
+reads_are honest faults.Deep before now is = is
+reads_are honest faults.Failed before now is = is
+reads_are honest faults.Memory before now is = is
+
+writes_are : (usable : Bool) (fault : SiteFault) (count : ℕ) → site.writes_after usable fault count ≡ writes_after usable (fault_of fault) count
+writes_are true (faults.Refused r) count = refl
+writes_are true faults.Read count = refl
+writes_are true (faults.Full need free) count = refl
+writes_are true faults.Spent count = refl
+writes_are true faults.Deep count = refl
+writes_are true faults.Failed count = refl
+writes_are true faults.Memory count = refl
+writes_are false (faults.Refused r) count = refl
+writes_are false faults.Read count = refl
+writes_are false (faults.Full need free) count = refl
+writes_are false faults.Spent count = refl
+writes_are false faults.Deep count = refl
+writes_are false faults.Failed count = refl
+writes_are false faults.Memory count = refl
+
+-- a fault of a change, as it is told
+pub change_fault_counts : {T : Type 0} (fault : SiteFault) (answer : HubFault) (a b : SiteState) → answer ≡ fault_of fault
+    → site.IsReadCounted a.honest fault a.failed_reads b.failed_reads → b.failed_writes ≡ site.writes_after a.usable fault a.failed_writes → CountsCall {T = T} (Err answer) a b
+change_fault_counts {T = T} fault answer a b told reads writes =
+    subst (λ (e : HubFault). CountsCall {T = T} (Err e) a b) (sym told) (record {
+      reads = reads_are a.honest fault a.failed_reads b.failed_reads reads;
+      writes = writes ∙ writes_are a.usable fault a.failed_writes;
+    })
+
+-- a read of a usable site that fails counts no write
+no_write : (fault : SiteFault) (a b : SiteState) → a.usable ≡ true → IsReadFault true a b fault → a.failed_writes ≡ writes_after a.usable (fault_of fault) a.failed_writes
+no_write (faults.Refused r) a b usable is = absurd is
+no_write faults.Read a b usable is = refl
+no_write (faults.Full need free) a b usable is = absurd is
+no_write faults.Spent a b usable is = absurd is
+no_write faults.Deep a b usable is = absurd is
+no_write faults.Failed a b usable is = absurd (let no : true ≡ false = sym usable ∙ is in cc no)
+no_write faults.Memory a b usable is = refl
+
+-- a fault of what only reads a usable site, as it is told
+pub read_fault_counts : {T : Type 0} (fault : SiteFault) (answer : HubFault) (a b : SiteState) → a.usable ≡ true → answer ≡ fault_of fault → HasRead a b → IsReadFault true a b fault
+    → site.IsReadCounted a.honest fault a.failed_reads b.failed_reads → CountsCall {T = T} (Err answer) a b
+read_fault_counts {T = T} fault answer a b usable told kept is reads =
+    subst (λ (e : HubFault). CountsCall {T = T} (Err e) a b) (sym told) (record {
+      reads = reads_are a.honest fault a.failed_reads b.failed_reads reads;
+      writes = kept.writes ∙ no_write fault a b usable is;
+    })
+
+reads_since : {T : Type 0} (result : Result T HubFault) (a b c : SiteState) → b.honest ≡ a.honest → b.failed_reads ≡ a.failed_reads → CountsReads result b c → CountsReads result a c
+reads_since (Ok value) a b c honest none is = is ∙ none
+reads_since (Err fault) a b c honest none is = subst (λ (h : Bool). IsReadCounted h fault a.failed_reads c.failed_reads) honest (subst (λ (n : ℕ). IsReadCounted b.honest fault n c.failed_reads) none is)
+
+writes_since : {T : Type 0} (result : Result T HubFault) (a b c : SiteState) → b.usable ≡ a.usable → b.failed_writes ≡ a.failed_writes → CountsWrites result b c → CountsWrites result a c
+writes_since (Ok value) a b c usable none is = is ∙ none
+writes_since (Err fault) a b c usable none is = is ∙ ap (λ (u : Bool). writes_after u fault b.failed_writes) usable ∙ ap (λ (n : ℕ). writes_after a.usable fault n) none
+
+-- a call after reads of which none failed counts as both together
+pub call_since : {T : Type 0} (result : Result T HubFault) (a b c : SiteState) → HasRead a b → b.failed_reads ≡ a.failed_reads → CountsCall result b c → CountsCall result a c
+call_since result a b c kept none call = record {
+  reads = reads_since result a b c kept.honest none call.reads;
+  writes = writes_since result a b c kept.usable kept.writes call.writes;
+}
+
+-- a keeper that has failed counts nothing more
+pub shut_counts : {T : Type 0} (a : SiteState) → a.usable ≡ false → CountsCall {T = T} (Err hub.Failed) a a
+shut_counts a shut = record { reads = refl; writes = sym (ap (λ (u : Bool). writes_after u hub.Failed a.failed_writes) shut) }
+
+draw_fault_writes : (a b : SiteState) (phase : Phase) (fault : HubFault) → IsDrawFault a b phase fault → a.failed_writes ≡ writes_after a.usable fault a.failed_writes
+draw_fault_writes a b phase hub.NotReady is = refl
+draw_fault_writes a b phase hub.Broken is = refl
+draw_fault_writes a b phase hub.Unknown is = absurd is
+draw_fault_writes a b phase hub.Crowded is = absurd is
+draw_fault_writes a b phase hub.Spent is = absurd is
+draw_fault_writes a b phase hub.Deep is = absurd is
+draw_fault_writes a b phase (hub.Refused r) is = absurd is
+draw_fault_writes a b phase (hub.Full need free) is = absurd is
+draw_fault_writes a b phase hub.Failed is = absurd is
+draw_fault_writes a b phase hub.Memory is = absurd is
+
+-- a draw counts no write
+pub draw_writes : {T : Type 0} (result : Result T HubFault) (a b : SiteState) (phase : Phase) → KeepsSite a b → IfErr result (IsDrawFault a b phase) → CountsWrites result a b
+draw_writes (Ok value) a b phase kept is = kept.writes
+draw_writes (Err fault) a b phase kept is = kept.writes ∙ draw_fault_writes a b phase fault is
