@@ -1,8 +1,8 @@
 // The commands, over an image in a file or a site in memory.
 use crate::fault::Fault;
 use crate::progress::Shown;
-use crate::words::NewSite;
 use change_file::{ChangeFileFault, FileChange, applied_line, read_changes};
+use command_words::NewSite;
 use file_device::FileDevice;
 use host_script::small_site;
 use host_types::{Refused, Stamp};

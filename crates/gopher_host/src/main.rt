@@ -1,16 +1,14 @@
 //! A host of a Gopher site, as a program.
 #![tactic(auto)]
 
-mod command_line;
 mod commands;
 mod fault;
 mod progress;
-mod words;
 
+use command_words::{Task, given, read};
 use fault::Fault;
 use std::io;
 use std::process::ExitCode;
-use words::Task;
 
 fn run(rt: &HostRuntime, task: Task<'_>) -> Result<(), Fault> {
     match task {
@@ -39,11 +37,11 @@ fn run(rt: &HostRuntime, task: Task<'_>) -> Result<(), Fault> {
 }
 
 fn main(rt: HostRuntime) -> io::Result<ExitCode> {
-    let words = match words::given(&rt) {
+    let words = match given(&rt) {
         Ok(words) => words,
         Err(misread) => return misread.tell(&rt),
     };
-    let task = match words::read(rt.alloc(), &words) {
+    let task = match read(rt.alloc(), &words) {
         Ok(task) => task,
         Err(misread) => return misread.tell(&rt),
     };

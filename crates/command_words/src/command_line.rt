@@ -1,4 +1,9 @@
 // The words of the command line, with their help texts.
+ghost use Rattle.std.specs.Prelude.{◌≡◌, IfOk, [], ◌∷◌, codes};
+ghost use Rattle.clap.specs.declared.builder.arg.ArgPredicate.TheVariants.{IsPresent};
+ghost use Rattle.command_words.specs.CommandLine as spec;
+ghost use Rattle.command_words.specs.CommandLine.{IsApp, IsArg, IsCommand};
+
 use clap::builder::ValueParser;
 use clap::{Arg, ArgAction, Command};
 use std::alloc::{AllocError, Global};
@@ -6,15 +11,21 @@ use std::alloc::{AllocError, Global};
 /// The last second of the year 9999: the greatest moment.
 const GREATEST_MOMENT: u64 = 253_402_300_799;
 
-fn path<'a>(alloc: Global, name: &'a str, help: &'a str) -> Arg<'a> {
+fn path<'a>(alloc: Global, name: &'a str, help: &'a str) -> Arg<'a>
+    ensures { IsArg (spec.path_rule name.entry.now) result }
+{
     Arg::new(alloc, name).help(help).action(ArgAction::Set)
 }
 
-fn image<'a>(alloc: Global) -> Arg<'a> {
+fn image<'a>(alloc: Global) -> Arg<'a>
+    ensures { IsArg spec.image_rule result }
+{
     path(alloc, "IMAGE", "The file of the image").required(true)
 }
 
-fn text<'a>(alloc: Global, name: &'a str, value: &'a str, help: &'a str) -> Arg<'a> {
+fn text<'a>(alloc: Global, name: &'a str, value: &'a str, help: &'a str) -> Arg<'a>
+    ensures { IsArg (spec.text_rule name.entry.now) result }
+{
     Arg::new(alloc, name)
         .long(name)
         .value_name(value)
@@ -30,16 +41,22 @@ fn number<'a>(
     help: &'a str,
     least: u64,
     most: u64,
-) -> Arg<'a> {
+) -> Arg<'a>
+    ensures { IsArg (spec.number_rule name.entry.now least most) result }
+{
     text(alloc, name, value, help).value_parser(ValueParser::unsigned(least, most))
 }
 
-fn now<'a>(alloc: Global) -> Arg<'a> {
+fn now<'a>(alloc: Global) -> Arg<'a>
+    ensures { IsArg spec.now_rule result }
+{
     let help = "The moment of the change, in seconds since 1970-01-01; `date +%s` prints this one";
     number(alloc, "now", "SECONDS", help, 0, GREATEST_MOMENT)
 }
 
-fn format<'a>(alloc: Global) -> Result<Command<'a>, AllocError> {
+fn format<'a>(alloc: Global) -> Result<Command<'a>, AllocError>
+    ensures { IfOk result (IsCommand spec.format_command) }
+{
     let pages =
         "How many pages of 4,096 bytes the image has, 16 to 65,536; half of them hold the site, half its next version";
     let host = "The name of the host, as menus give it to clients";
@@ -60,7 +77,9 @@ fn format<'a>(alloc: Global) -> Result<Command<'a>, AllocError> {
         .arg(now(alloc))
 }
 
-fn apply<'a>(alloc: Global) -> Result<Command<'a>, AllocError> {
+fn apply<'a>(alloc: Global) -> Result<Command<'a>, AllocError>
+    ensures { IfOk result (IsCommand spec.apply_command) }
+{
     let file = path(alloc, "FILE", "The file of changes, in TOML").required(true);
     Command::new(alloc, "apply")
         .about(
@@ -72,7 +91,9 @@ fn apply<'a>(alloc: Global) -> Result<Command<'a>, AllocError> {
         .arg(now(alloc))
 }
 
-fn show<'a>(alloc: Global) -> Result<Command<'a>, AllocError> {
+fn show<'a>(alloc: Global) -> Result<Command<'a>, AllocError>
+    ensures { IfOk result (IsCommand (spec.image_command (codes "show"))) }
+{
     Command::new(alloc, "show")
         .about(
             "Prints a line for each item: its type, its selector and its title, with spaces in them as `\\x20`; `>` is a moved item",
@@ -81,7 +102,9 @@ fn show<'a>(alloc: Global) -> Result<Command<'a>, AllocError> {
         .arg(image(alloc))
 }
 
-fn check<'a>(alloc: Global) -> Result<Command<'a>, AllocError> {
+fn check<'a>(alloc: Global) -> Result<Command<'a>, AllocError>
+    ensures { IfOk result (IsCommand (spec.image_command (codes "check"))) }
+{
     Command::new(alloc, "check")
         .about(
             "Reads the whole image, and prints how many items, keys and free pages it has, and its generation",
@@ -90,7 +113,9 @@ fn check<'a>(alloc: Global) -> Result<Command<'a>, AllocError> {
         .arg(image(alloc))
 }
 
-fn compact<'a>(alloc: Global) -> Result<Command<'a>, AllocError> {
+fn compact<'a>(alloc: Global) -> Result<Command<'a>, AllocError>
+    ensures { IfOk result (IsCommand (spec.image_command (codes "compact"))) }
+{
     Command::new(alloc, "compact")
         .about(
             "Writes the whole site anew in as few pages as it takes, in one step that a crash can't halve, and prints how many pages are free then; it needs free pages for all of it",
@@ -99,7 +124,9 @@ fn compact<'a>(alloc: Global) -> Result<Command<'a>, AllocError> {
         .arg(image(alloc))
 }
 
-fn replay<'a>(alloc: Global) -> Result<Command<'a>, AllocError> {
+fn replay<'a>(alloc: Global) -> Result<Command<'a>, AllocError>
+    ensures { IfOk result (IsCommand spec.replay_command) }
+{
     let image = path(
         alloc,
         "IMAGE",
@@ -122,13 +149,18 @@ fn in_rounds<'a>(
     least: u64,
     most: u64,
     other: &'a str,
-) -> Result<Arg<'a>, AllocError> {
+) -> Result<Arg<'a>, AllocError>
+    ensures rule { IfOk result (IsArg (spec.bound_rule (spec.number_rule name.entry.now least most))) }
+    ensures other { IfOk result (λ a. a.needs.items ≡ (IsPresent, other.entry) ∷ []) }
+{
     number(alloc, name, value, help, least, most)
         .required(false)
         .requires_arg(other)
 }
 
-fn serve<'a>(alloc: Global) -> Result<Command<'a>, AllocError> {
+fn serve<'a>(alloc: Global) -> Result<Command<'a>, AllocError>
+    ensures { IfOk result (IsCommand spec.serve_command) }
+{
     let together = "How many connections a round takes, which are served in turns, 1 to 32";
     let rounds = "How many rounds are served, after which the server ends";
     let listen = "Where to listen, in place of 127.0.0.1 and the site's own port";
@@ -158,7 +190,9 @@ fn serve<'a>(alloc: Global) -> Result<Command<'a>, AllocError> {
 }
 
 /// The whole command line.
-pub fn command_line<'a>(alloc: Global) -> Result<Command<'a>, AllocError> {
+pub fn command_line<'a>(alloc: Global) -> Result<Command<'a>, AllocError>
+    ensures { IfOk result (IsApp spec.gopher_host) }
+{
     Command::new(alloc, "gopher_host")
         .version("0.1.0")
         .about("A Gopher server whose site lies on one disk image")

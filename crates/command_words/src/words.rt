@@ -1,8 +1,12 @@
 // What the words of the command line ask for.
-ghost use Rattle.std.specs.Prelude.{◌≡◌, ◌≤◌, ◌↔◌};
-ghost use Rattle.clap.specs.Values.{kind_of};
-ghost use Rattle.clap.specs.declared.error.kind.ErrorKind.TheVariants.{OutOfMemory};
-ghost use Rattle.gopher_host.specs.declared.words.Misread.TheVariants.{Memory};
+ghost use Rattle.std.specs.Prelude.{◌≡◌, ◌≤◌, ◌↔◌, ◌⊎◌, IfOk, IfErr, map};
+ghost use Rattle.std.specs.String.{string_bytes};
+ghost use Rattle.std.specs.Process.{exit_status};
+ghost use Rattle.clap.specs.Words.{found_of, rows_of};
+ghost use Rattle.command_words.specs.Misreads.{misread_of, status_of};
+ghost use Rattle.command_words.specs.Reading.{IsReadAs};
+ghost use Rattle.command_words.specs.Tasks.{AsksFor, AsksToServe, Gives, IsSiteIn};
+ghost use Rattle.command_words.specs.declared.words.Misread.TheVariants.{Memory};
 
 use crate::command_line::command_line;
 use clap::error::ErrorKind;
@@ -84,6 +88,7 @@ impl Misread {
     pub fn status(&self) -> u8
         ensures known { result ≤ 2 }
         ensures memory { (result ≡ 1) ↔ (self.now ≡ Misread.Memory) }
+        ensures value { result ≡ status_of self.now }
     {
         match self {
             Misread::Words(error) => { if error.exit_code() == 0 { 0 } else { 2 } }
@@ -93,7 +98,9 @@ impl Misread {
     }
 
     /// Prints the text for the user, and gives the status.
-    pub fn tell(&self, rt: &HostRuntime) -> io::Result<ExitCode> {
+    pub fn tell(&self, rt: &HostRuntime) -> io::Result<ExitCode>
+        ensures { IfOk result (λ code. exit_status code ≡ status_of self.now) }
+    {
         match self {
             Misread::Words(error) => error.print(rt)?,
             Misread::NotUnicode => eprintln!(rt; "error: a word of the command line is not UTF-8")?,
@@ -107,7 +114,7 @@ impl Misread {
 }
 
 impl From<Error> for Misread {
-    ghost from_gives = { λ error misread. kind_of error ≡ OutOfMemory → misread ≡ Memory };
+    ghost from_gives = { λ error misread. misread ≡ misread_of error };
 
     fn from(error: Error) -> Self {
         if error.kind() == ErrorKind::OutOfMemory {
@@ -126,7 +133,9 @@ impl From<AllocError> for Misread {
 }
 
 /// The words that the program was given.
-pub fn given(rt: &HostRuntime) -> Result<Vec<String>, Misread> {
+pub fn given(rt: &HostRuntime) -> Result<Vec<String>, Misread>
+    ensures { IfErr result (λ why. (why ≡ Misread.NotUnicode) ⊎ (why ≡ Misread.Memory)) }
+{
     let words = match std::env::args(rt) {
         Ok(words) => words,
         Err(error) if error.kind() == io::ErrorKind::InvalidData => return Err(Misread::NotUnicode),
@@ -135,7 +144,9 @@ pub fn given(rt: &HostRuntime) -> Result<Vec<String>, Misread> {
     Ok(words.collect(rt.alloc())?)
 }
 
-fn new_site<'a>(matches: &ArgMatches<'a>) -> Option<NewSite<'a>> {
+fn new_site<'a>(matches: &ArgMatches<'a>) -> Option<NewSite<'a>>
+    ensures { Gives (IsSiteIn (rows_of (found_of matches.now))) result }
+{
     Some(NewSite {
         host: matches.get_str("host")?,
         port: matches.get_one::<u16>("port")?,
@@ -145,7 +156,9 @@ fn new_site<'a>(matches: &ArgMatches<'a>) -> Option<NewSite<'a>> {
 }
 
 /// How an image is to be served.
-fn serving<'a>(image: &'a str, matches: &ArgMatches<'a>) -> Option<Task<'a>> {
+fn serving<'a>(image: &'a str, matches: &ArgMatches<'a>) -> Option<Task<'a>>
+    ensures { Gives (AsksToServe image.entry.now (rows_of (found_of matches.now))) result }
+{
     let Some(rounds) = matches.get_one::<u32>("rounds") else {
         let listen = match matches.get_str("listen") {
             Some(address) => Some(address.parse::<SocketAddr>().ok()?),
@@ -166,7 +179,9 @@ fn serving<'a>(image: &'a str, matches: &ArgMatches<'a>) -> Option<Task<'a>> {
 }
 
 /// What the words behind a command ask for.
-fn task_of<'a>(name: &str, matches: &ArgMatches<'a>) -> Option<Task<'a>> {
+fn task_of<'a>(name: &str, matches: &ArgMatches<'a>) -> Option<Task<'a>>
+    ensures { Gives (AsksFor name.now (rows_of (found_of matches.now))) result }
+{
     let image = matches.get_str("IMAGE");
     match name {
         "format" => Some(Task::Format {
@@ -190,7 +205,9 @@ fn task_of<'a>(name: &str, matches: &ArgMatches<'a>) -> Option<Task<'a>> {
 }
 
 /// What the words ask for, the first of which is the program's name.
-pub fn read<'a>(alloc: Global, words: &'a [String]) -> Result<Task<'a>, Misread> {
+pub fn read<'a>(alloc: Global, words: &'a [String]) -> Result<Task<'a>, Misread>
+    ensures { IsReadAs (map string_bytes words.entry.now) result }
+{
     let matches = command_line(alloc)?.try_get_matches_from(words)?;
     let Some((name, matches)) = matches.subcommand() else {
         return Err(Misread::Incomplete);

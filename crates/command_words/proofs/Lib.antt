@@ -1,0 +1,4 @@
+pub mod BuilderLemmas
+pub mod FoundLemmas
+pub mod ReadLemmas
+pub mod TaskLemmas

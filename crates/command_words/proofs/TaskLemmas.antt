@@ -1,0 +1,130 @@
+-- What a command and the values behind it ask for, where one of them is missing.
+use Rattle.std.proofs.Common.{◌≡◌, ◌∙◌, refl, sym, subst, codes, ℕ, true, false, List, Option, Some, None, option_map}
+use Rattle.std.specs.Borrow.{Bor}
+use Rattle.std.specs.Str.{bytes_eq}
+use Rattle.std.proofs.lemmas.Slice.Eq.{bytes_eq-Decides}
+use Rattle.std.specs.declared.net.SocketAddr.{SocketAddr}
+use Rattle.clap.specs.Words.{Row, Text, first_of, first_value, rows_of}
+use Rattle.clap.specs.declared.parser.matches.Found.{Found}
+use Rattle.command_words.specs.Tasks.{AsksFor, AsksToServe, Gives, HasAddress, HasNumber, IsSiteIn}
+use Rattle.command_words.specs.declared.words.NewSite.{NewSite}
+use Rattle.command_words.specs.declared.words.Task.{Task}
+use Rattle.command_words.specs.declared.words.Task.TheVariants as task
+use Rattle.command_words.proofs.FoundLemmas.{found_text, no_text, not_both}
+
+-- one name is not two words
+pub two_words : (name a b : Text) → bytes_eq a b ≡ false → name ≡ a → name ≡ b → ⊥
+two_words name a b differ is_a is_b =
+    let same : bytes_eq a b ≡ true = (bytes_eq-Decides a b).1 (sym is_a ∙ is_b) in
+    let bad : false ≡ true = sym differ ∙ same in
+    cc
+
+-- without an image only a script is run
+pub no_image : (name : Text) (rows : List Row) → first_of (codes "IMAGE") rows ≡ None → (name ≡ codes "replay" → ⊥) → (t : Task) → AsksFor name rows t → ⊥
+no_image name rows none other (task.Format image site pages now) h = not_both _ _ none h.1
+no_image name rows none other (task.Apply image file now) h = not_both _ _ none h.1
+no_image name rows none other (task.Show image) h = not_both _ _ none h.1
+no_image name rows none other (task.Check image) h = not_both _ _ none h.1
+no_image name rows none other (task.Compact image) h = not_both _ _ none h.1
+no_image name rows none other (task.Replay (Some image)) h = other h.0
+no_image name rows none other (task.Replay None) h = other h.0
+no_image name rows none other (task.ServeRounds image together rounds) h = not_both _ _ none h.1.1
+no_image name rows none other (task.ServeClients image listen quiet) h = not_both _ _ none h.1.1
+
+-- what `format` wants beside an image
+pub record FormatNeeds (rows : List Row) : Type 0 where
+  pub site : NewSite
+  pub is_site : IsSiteIn rows site
+  pub pages : ℕ
+  pub has_pages : HasNumber rows (codes "pages") 32 pages
+  pub now : ℕ
+  pub has_now : HasNumber rows (codes "now") 64 now
+
+pub format_needs : (name : Text) (rows : List Row) → name ≡ codes "format" → (t : Task) → AsksFor name rows t → FormatNeeds rows
+format_needs name rows is (task.Format image site pages now) h =
+    record { site = site; is_site = h.2; pages = pages; has_pages = h.3; now = now; has_now = h.4 }
+format_needs name rows is (task.Apply image file now) h = absurd (two_words name _ _ refl is h.0)
+format_needs name rows is (task.Show image) h = absurd (two_words name _ _ refl is h.0)
+format_needs name rows is (task.Check image) h = absurd (two_words name _ _ refl is h.0)
+format_needs name rows is (task.Compact image) h = absurd (two_words name _ _ refl is h.0)
+format_needs name rows is (task.Replay (Some image)) h = absurd (two_words name _ _ refl is h.0)
+format_needs name rows is (task.Replay None) h = absurd (two_words name _ _ refl is h.0)
+format_needs name rows is (task.ServeRounds image together rounds) h = absurd (two_words name _ _ refl is h.0)
+format_needs name rows is (task.ServeClients image listen quiet) h = absurd (two_words name _ _ refl is h.0)
+
+-- what `apply` wants beside an image
+pub record ApplyNeeds (rows : List Row) : Type 0 where
+  pub file : Text
+  pub has_file : first_of (codes "FILE") rows ≡ Some file
+  pub now : ℕ
+  pub has_now : HasNumber rows (codes "now") 64 now
+
+pub apply_needs : (name : Text) (rows : List Row) → name ≡ codes "apply" → (t : Task) → AsksFor name rows t → ApplyNeeds rows
+apply_needs name rows is (task.Format image site pages now) h = absurd (two_words name _ _ refl is h.0)
+apply_needs name rows is (task.Apply image file now) h = record { file = file.now; has_file = h.2; now = now; has_now = h.3 }
+apply_needs name rows is (task.Show image) h = absurd (two_words name _ _ refl is h.0)
+apply_needs name rows is (task.Check image) h = absurd (two_words name _ _ refl is h.0)
+apply_needs name rows is (task.Compact image) h = absurd (two_words name _ _ refl is h.0)
+apply_needs name rows is (task.Replay (Some image)) h = absurd (two_words name _ _ refl is h.0)
+apply_needs name rows is (task.Replay None) h = absurd (two_words name _ _ refl is h.0)
+apply_needs name rows is (task.ServeRounds image together rounds) h = absurd (two_words name _ _ refl is h.0)
+apply_needs name rows is (task.ServeClients image listen quiet) h = absurd (two_words name _ _ refl is h.0)
+
+-- what `serve` wants
+pub serve_needs : (name : Text) (rows : List Row) → name ≡ codes "serve" → (t : Task) → AsksFor name rows t
+    → (image : Text) × (first_of (codes "IMAGE") rows ≡ Some image) × AsksToServe image rows t
+serve_needs name rows is (task.Format image site pages now) h = absurd (two_words name _ _ refl is h.0)
+serve_needs name rows is (task.Apply image file now) h = absurd (two_words name _ _ refl is h.0)
+serve_needs name rows is (task.Show image) h = absurd (two_words name _ _ refl is h.0)
+serve_needs name rows is (task.Check image) h = absurd (two_words name _ _ refl is h.0)
+serve_needs name rows is (task.Compact image) h = absurd (two_words name _ _ refl is h.0)
+serve_needs name rows is (task.Replay (Some image)) h = absurd (two_words name _ _ refl is h.0)
+serve_needs name rows is (task.Replay None) h = absurd (two_words name _ _ refl is h.0)
+serve_needs name rows is (task.ServeRounds image together rounds) h = h.1
+serve_needs name rows is (task.ServeClients image listen quiet) h = h.1
+
+-- rounds are served where there is their number, and then there is how many connections a round takes
+pub rounds_need : (image : Text) (rows : List Row) (n : ℕ) → HasNumber rows (codes "rounds") 32 n → (t : Task) → AsksToServe image rows t → (k : ℕ) × HasNumber rows (codes "together") 32 k
+rounds_need image rows n has (task.Format i site pages now) h = absurd h
+rounds_need image rows n has (task.Apply i file now) h = absurd h
+rounds_need image rows n has (task.Show i) h = absurd h
+rounds_need image rows n has (task.Check i) h = absurd h
+rounds_need image rows n has (task.Compact i) h = absurd h
+rounds_need image rows n has (task.Replay i) h = absurd h
+rounds_need image rows n has (task.ServeRounds i together rounds) h = (together, h.1)
+rounds_need image rows n has (task.ServeClients i listen quiet) h = absurd (h.1 n has)
+
+-- and else clients, at an address if there is one
+pub clients_need : (image : Text) (rows : List Row) → ((n : ℕ) → HasNumber rows (codes "rounds") 32 n → ⊥) → (t : Task) → AsksToServe image rows t → (listen : Option SocketAddr) × HasAddress rows (codes "listen") listen
+clients_need image rows none (task.Format i site pages now) h = absurd h
+clients_need image rows none (task.Apply i file now) h = absurd h
+clients_need image rows none (task.Show i) h = absurd h
+clients_need image rows none (task.Check i) h = absurd h
+clients_need image rows none (task.Compact i) h = absurd h
+clients_need image rows none (task.Replay i) h = absurd h
+clients_need image rows none (task.ServeRounds i together rounds) h = absurd (none rounds h.2)
+clients_need image rows none (task.ServeClients i listen quiet) h = (listen, h.2)
+
+-- a script over the site of an image, or over one in memory
+pub replayed : (name : Text) (f : Found) (r : Option (Bor Text)) → name ≡ codes "replay" → option_map (λ x. x.now) r ≡ first_value f (codes "IMAGE") → AsksFor name (rows_of f) (task.Replay r)
+replayed name f None is e = (is, no_text f (codes "IMAGE") None e refl)
+replayed name f (Some image) is e = (is, found_text f (codes "IMAGE") (Some image) image e refl)
+
+-- the command serves what `serving` answers
+pub served : (name : Text) (rows : List Row) (image : Text) (r : Option Task) → name ≡ codes "serve" → first_of (codes "IMAGE") rows ≡ Some image → Gives (AsksToServe image rows) r → Gives (AsksFor name rows) r
+served name rows image (Some t) is found asks = serves t asks
+  where
+    serves : (t : Task) → AsksToServe image rows t → AsksFor name rows t
+    serves (task.Format i site pages now) h = absurd h
+    serves (task.Apply i file now) h = absurd h
+    serves (task.Show i) h = absurd h
+    serves (task.Check i) h = absurd h
+    serves (task.Compact i) h = absurd h
+    serves (task.Replay i) h = absurd h
+    serves (task.ServeRounds i together rounds) h = (is, (image, found, h))
+    serves (task.ServeClients i listen quiet) h = (is, (image, found, h))
+served name rows image None is found never = λ t asks.
+    let needs = serve_needs name rows is t asks in
+    let same : Some needs.0 ≡ Some image = sym needs.1 ∙ found in
+    let one : needs.0 ≡ image = cc in
+    never t (subst (λ x. AsksToServe x rows t) one needs.2)

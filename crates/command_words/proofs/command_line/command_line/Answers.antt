@@ -1,0 +1,15 @@
+use Rattle.std.proofs.Common.{codes}
+use Rattle.std.proofs.lemmas.Result.{IfOk-weaker}
+use Rattle.command_words.proofs.BuilderLemmas.{headed, with_command}
+use Rattle.command_words.proofs.command_line.command_line.Goals as goal
+
+pub returns : goal.returns
+returns c =
+    let start = headed (codes "gopher_host") c.new.result c.version.result c.about.result c.subcommand_required.result _ _ (c.new.ensures.app, c.new.ensures.local) c.version.ensures c.about.ensures c.subcommand_required.ensures in
+    let one = with_command _ _ c.subcommand_required.result c.in_ok-subcommand.field-0 c.in_ok-format.field-0 start c.in_ok-format.ensures c.in_ok-subcommand.ensures in
+    let two = with_command _ _ c.in_ok-subcommand.field-0 c.in_ok-subcommand-2.field-0 c.in_ok-apply.field-0 one c.in_ok-apply.ensures c.in_ok-subcommand-2.ensures in
+    let three = with_command _ _ c.in_ok-subcommand-2.field-0 c.in_ok-subcommand-3.field-0 c.in_ok-show.field-0 two c.in_ok-show.ensures c.in_ok-subcommand-3.ensures in
+    let four = with_command _ _ c.in_ok-subcommand-3.field-0 c.in_ok-subcommand-4.field-0 c.in_ok-check.field-0 three c.in_ok-check.ensures c.in_ok-subcommand-4.ensures in
+    let five = with_command _ _ c.in_ok-subcommand-4.field-0 c.in_ok-subcommand-5.field-0 c.in_ok-compact.field-0 four c.in_ok-compact.ensures c.in_ok-subcommand-5.ensures in
+    let six = with_command _ _ c.in_ok-subcommand-5.field-0 c.in_ok-subcommand-6.field-0 c.in_ok-replay.field-0 five c.in_ok-replay.ensures c.in_ok-subcommand-6.ensures in
+    IfOk-weaker c.subcommand-7.result _ _ (λ r adds. with_command _ _ c.in_ok-subcommand-6.field-0 r c.in_ok-serve.field-0 six c.in_ok-serve.ensures adds) c.subcommand-7.ensures

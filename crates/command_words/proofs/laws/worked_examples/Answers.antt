@@ -1,0 +1,26 @@
+use Rattle.std.proofs.Common.{refl}
+use Rattle.clap.proofs.OnLiterals.{clap_on_literals}
+use Rattle.command_words.proofs.laws.worked_examples.Goals as goal
+
+pub returns : goal.returns
+unfolding clap_on_literals
+returns c = record {
+  shows = refl;
+  its_image = refl;
+  it_is_taken = refl;
+  no_image = refl;
+  no_command = refl;
+  replays = refl;
+  over_no_image = refl;
+  formats = refl;
+  host = refl;
+  port = refl;
+  title = refl;
+  all_is_there = refl;
+  no_port_is_0 = refl;
+  rounds = refl;
+  together = refl;
+  loud_rounds = refl;
+  is_quiet = refl;
+  anywhere = refl;
+}

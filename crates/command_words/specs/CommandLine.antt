@@ -1,0 +1,99 @@
+-- The command line: what clap reads of each command and of its arguments.
+use Rattle.std.specs.Prelude.{◌≡◌, ℕ, true, false, List, [], ◌∷◌, Some, codes}
+use Rattle.clap.specs.Words.{App, Rule, Shape, Text, app_of, new_rule, rule_of}
+use Rattle.clap.specs.Simple.{new_shape}
+use Rattle.clap.specs.declared.builder.action.ArgAction.TheVariants.{Set, SetTrue}
+use Rattle.clap.specs.declared.builder.arg.Arg.{Arg}
+use Rattle.clap.specs.declared.builder.command.Command.{Command}
+use Rattle.clap.specs.declared.builder.command.Command.TheViews.{out-Command}
+use Rattle.clap.specs.declared.builder.value_parser.ValueParser.TheVariants as parser
+
+-- a file, by its place among the words
+abbrev pub path_rule : Text → Rule
+path_rule name = record (new_rule name) { action = Some Set }
+
+abbrev pub required_path : Text → Rule
+required_path name = record (path_rule name) { required = true }
+
+-- a text behind its name
+abbrev pub text_rule : Text → Rule
+text_rule name = record (new_rule name) {
+  long = Some name;
+  value_names = 1;
+  required = true;
+  action = Some Set;
+}
+
+abbrev pub number_rule : Text → ℕ → ℕ → Rule
+number_rule name least most =
+    record (text_rule name) { parser = Some (parser.Unsigned least most) }
+
+-- a moment up to the end of the year 9999
+abbrev pub now_rule : Rule
+now_rule = number_rule (codes "now") 0 253402300799
+
+-- the same where it may be left out, and can't stand beside or without another
+abbrev pub bound_rule : Rule → Rule
+bound_rule rule = record rule { required = false; is_free = false }
+
+abbrev pub quiet_rule : Rule
+quiet_rule = record (new_rule (codes "quiet")) {
+  long = Some (codes "quiet");
+  action = Some SetTrue;
+  is_free = false;
+}
+
+abbrev pub command : Text → List Rule → Shape
+command name rules = record (new_shape name) { rules = rules }
+
+abbrev pub image_rule : Rule
+image_rule = required_path (codes "IMAGE")
+
+abbrev pub format_command : Shape
+format_command = command (codes "format")
+    (image_rule ∷ number_rule (codes "pages") 0 4294967295 ∷ text_rule (codes "host")
+    ∷ number_rule (codes "port") 1 65535 ∷ text_rule (codes "admin")
+    ∷ text_rule (codes "title") ∷ now_rule ∷ [])
+
+abbrev pub apply_command : Shape
+apply_command = command (codes "apply") (image_rule ∷ required_path (codes "FILE") ∷ now_rule ∷ [])
+
+-- a command that takes an image alone
+abbrev pub image_command : Text → Shape
+image_command name = command name (image_rule ∷ [])
+
+abbrev pub replay_command : Shape
+replay_command = command (codes "replay") (path_rule (codes "IMAGE") ∷ [])
+
+abbrev pub serve_command : Shape
+serve_command = command (codes "serve")
+    (image_rule ∷ bound_rule (number_rule (codes "together") 1 32)
+    ∷ bound_rule (number_rule (codes "rounds") 0 4294967295)
+    ∷ bound_rule (text_rule (codes "listen")) ∷ quiet_rule ∷ [])
+
+abbrev pub commands : List Shape
+commands = format_command ∷ apply_command ∷ image_command (codes "show")
+    ∷ image_command (codes "check") ∷ image_command (codes "compact") ∷ replay_command
+    ∷ serve_command ∷ []
+
+-- the whole of it
+abbrev pub gopher_host : App
+gopher_host = record {
+  top = record (new_shape (codes "gopher_host")) {
+    is_leaf = false;
+    has_version = true;
+    subcommand_required = true;
+  };
+  subs = commands;
+}
+
+-- the argument is read by this rule, at its own command alone
+abbrev pub IsArg : Rule → Arg → Type 0
+IsArg rule a = (rule_of a ≡ rule) × (a.global ≡ false)
+
+-- the command is read so
+abbrev pub IsApp : App → Command → Type 0
+IsApp app c = (app_of c ≡ app) × ((out-Command c).has_globals ≡ false)
+
+abbrev pub IsCommand : Shape → Command → Type 0
+IsCommand shape = IsApp (record { top = shape; subs = [] })

@@ -1,0 +1,5 @@
+pub mod CommandLine
+pub mod Misreads
+pub mod Reading
+pub mod Tasks
+pub mod WordExamples

@@ -1,0 +1,74 @@
+-- What the values found behind a command ask for.
+use Rattle.std.specs.Prelude.{◌≡◌, ◌<◌, ◌^◌, ℕ, Bool, true, false, List, Option, Some, None, codes}
+use Rattle.std.specs.Borrow.{Bor}
+use Rattle.std.specs.Net.Grammar.{IsSocketText}
+use Rattle.std.specs.Str.Parse.{IsNumeral, digits_value, without_leading_plus}
+use Rattle.std.specs.declared.net.SocketAddr.{SocketAddr}
+use Rattle.clap.specs.Words.{Row, Text, first_of, one_of}
+use Rattle.command_words.specs.declared.words.NewSite.{NewSite}
+use Rattle.command_words.specs.declared.words.Task.{Task}
+use Rattle.command_words.specs.declared.words.Task.TheVariants as task
+
+-- one value that is as it should be, or none where no value is
+abbrev pub Gives : {A : Type 0} → (A → Type 0) → Option A → Type 0
+Gives Is (Some a) = Is a
+Gives Is None = (a : _) → ¬ (Is a)
+
+-- the text found for an id
+abbrev pub HasText : List Row → Text → Bor Text → Type 0
+HasText rows id text = first_of id rows ≡ Some text.now
+
+-- the number found for an id, which its type of so many bits holds
+abbrev pub HasNumber : List Row → Text → ℕ → ℕ → Type 0
+HasNumber rows id bits n =
+    (text : Text) × (one_of id rows ≡ Some text) × IsNumeral 10 (without_leading_plus text)
+    × (digits_value 10 (without_leading_plus text) ≡ n) × (n < 2 ^ bits)
+
+-- the address found for an id, or that there is nothing
+abbrev pub HasAddress : List Row → Text → Option SocketAddr → Type 0
+HasAddress rows id (Some address) =
+    (text : Text) × (first_of id rows ≡ Some text) × IsSocketText text address
+HasAddress rows id None = first_of id rows ≡ None
+
+-- whether a flag was found; of a value that is neither `true` nor `false` nothing is said
+abbrev pub HasFlag : List Row → Text → Bool → Type 0
+HasFlag rows id flag =
+    (one_of id rows ≡ None → flag ≡ false) × (one_of id rows ≡ Some (codes "true") → flag ≡ true)
+    × (one_of id rows ≡ Some (codes "false") → flag ≡ false)
+
+-- what a new site is given
+pub record IsSiteIn (rows : List Row) (site : NewSite) : Type 0 where
+  pub host : HasText rows (codes "host") site.host
+  pub port : HasNumber rows (codes "port") 16 site.port
+  pub admin : HasText rows (codes "admin") site.admin
+  pub title : HasText rows (codes "title") site.title
+
+-- rounds where there is their number, and else clients
+abbrev pub AsksToServe : Text → List Row → Task → Type 0
+AsksToServe image rows (task.ServeRounds i together rounds) =
+    (i.now ≡ image) × HasNumber rows (codes "together") 32 together
+    × HasNumber rows (codes "rounds") 32 rounds
+AsksToServe image rows (task.ServeClients i listen quiet) =
+    (i.now ≡ image) × ((n : ℕ) → ¬ (HasNumber rows (codes "rounds") 32 n))
+    × HasAddress rows (codes "listen") listen × HasFlag rows (codes "quiet") quiet
+AsksToServe image rows _ = ⊥
+
+-- the command of this name, with what was found behind it, asks for the task
+abbrev pub AsksFor : Text → List Row → Task → Type 0
+AsksFor name rows (task.Format image site pages now) =
+    (name ≡ codes "format") × HasText rows (codes "IMAGE") image × IsSiteIn rows site
+    × HasNumber rows (codes "pages") 32 pages × HasNumber rows (codes "now") 64 now
+AsksFor name rows (task.Apply image file now) =
+    (name ≡ codes "apply") × HasText rows (codes "IMAGE") image
+    × HasText rows (codes "FILE") file × HasNumber rows (codes "now") 64 now
+AsksFor name rows (task.Show image) = (name ≡ codes "show") × HasText rows (codes "IMAGE") image
+AsksFor name rows (task.Check image) = (name ≡ codes "check") × HasText rows (codes "IMAGE") image
+AsksFor name rows (task.Compact image) =
+    (name ≡ codes "compact") × HasText rows (codes "IMAGE") image
+AsksFor name rows (task.Replay (Some image)) =
+    (name ≡ codes "replay") × HasText rows (codes "IMAGE") image
+AsksFor name rows (task.Replay None) =
+    (name ≡ codes "replay") × (first_of (codes "IMAGE") rows ≡ None)
+AsksFor name rows serving =
+    (name ≡ codes "serve")
+    × ((image : Text) × (first_of (codes "IMAGE") rows ≡ Some image) × AsksToServe image rows serving)

@@ -1,0 +1,56 @@
+-- Worked examples: what the command line finds in words.
+use Rattle.std.specs.Prelude.{◌≡◌, Bool, true, false, List, [], ◌∷◌, Option, Some, None, codes, option_and_then, option_map}
+use Rattle.clap.specs.Words.{Text, one_of, takes}
+use Rattle.command_words.specs.CommandLine.{gopher_host}
+use Rattle.command_words.specs.Reading.{command_in}
+
+-- behind the program's name
+abbrev pub named : List Text → Option Text
+named words = option_map (λ found. found.0) (command_in (codes "gopher_host" ∷ words))
+
+abbrev pub value_of : Text → List Text → Option Text
+value_of id words =
+    option_and_then (λ found. one_of id found.1) (command_in (codes "gopher_host" ∷ words))
+
+abbrev pub is_taken : List Text → Bool
+is_taken words = takes gopher_host (codes "gopher_host" ∷ words)
+
+abbrev pub show_words : List Text
+show_words = codes "show" ∷ codes "site.img" ∷ []
+
+abbrev pub format_words : List Text
+format_words = codes "format" ∷ codes "site.img" ∷ codes "--pages" ∷ codes "4096"
+    ∷ codes "--host=localhost" ∷ codes "--port" ∷ codes "7070" ∷ codes "--admin" ∷ codes "Ada"
+    ∷ codes "--title" ∷ codes "Top" ∷ codes "--now" ∷ codes "743878921" ∷ []
+
+abbrev pub port_zero : List Text
+port_zero = codes "format" ∷ codes "site.img" ∷ codes "--pages" ∷ codes "4096"
+    ∷ codes "--host=localhost" ∷ codes "--port" ∷ codes "0" ∷ codes "--admin" ∷ codes "Ada"
+    ∷ codes "--title" ∷ codes "Top" ∷ codes "--now" ∷ codes "743878921" ∷ []
+
+abbrev pub rounds_words : List Text
+rounds_words = codes "serve" ∷ codes "site.img" ∷ codes "--together" ∷ codes "2"
+    ∷ codes "--rounds" ∷ codes "100" ∷ []
+
+abbrev pub quiet_words : List Text
+quiet_words = codes "serve" ∷ codes "--quiet" ∷ codes "site.img" ∷ []
+
+pub record WordExamples : Type 0 where
+  pub shows : named show_words ≡ Some (codes "show")
+  pub its_image : value_of (codes "IMAGE") show_words ≡ Some (codes "site.img")
+  pub it_is_taken : is_taken show_words ≡ true
+  pub no_image : is_taken (codes "show" ∷ []) ≡ false
+  pub no_command : is_taken [] ≡ false
+  pub replays : is_taken (codes "replay" ∷ []) ≡ true
+  pub over_no_image : value_of (codes "IMAGE") (codes "replay" ∷ []) ≡ None
+  pub formats : named format_words ≡ Some (codes "format")
+  pub host : value_of (codes "host") format_words ≡ Some (codes "localhost")
+  pub port : value_of (codes "port") format_words ≡ Some (codes "7070")
+  pub title : value_of (codes "title") format_words ≡ Some (codes "Top")
+  pub all_is_there : is_taken format_words ≡ true
+  pub no_port_is_0 : is_taken port_zero ≡ false
+  pub rounds : value_of (codes "rounds") rounds_words ≡ Some (codes "100")
+  pub together : value_of (codes "together") rounds_words ≡ Some (codes "2")
+  pub loud_rounds : value_of (codes "quiet") rounds_words ≡ Some (codes "false")
+  pub is_quiet : value_of (codes "quiet") quiet_words ≡ Some (codes "true")
+  pub anywhere : value_of (codes "listen") quiet_words ≡ None
