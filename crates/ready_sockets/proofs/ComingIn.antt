@@ -1,33 +1,122 @@
--- Who comes in behind those who are in.
-use Rattle.std.proofs.Common.{◌≡◌, ◌⊎◌, ℕ, ◌<◌, zero, suc, inl, inr, List, [], ◌∷◌, ◌++◌, length, length-append, sym, ap, ◌∙◌, append_assoc, arith}
-use Rattle.std.proofs.lemmas.List.{append-nil}
+-- Who comes in behind those who are in, and what was asked of the door meanwhile.
+use Rattle.std.proofs.Common.{◌≡◌, ℕ, ◌+◌, ◌<◌, ◌≤◌, zero, suc, Bool, true, false, ◌&&◌, nat_lt, Some, None, List, [], ◌∷◌, ◌++◌, map, length, length-append, refl, sym, ap, ◌∙◌, append_assoc, arith}
+use Rattle.std.proofs.lemmas.List.{append-nil, map-append}
 use Rattle.std.proofs.lemmas.List.Elements.{All-nil, All-append}
+use Rattle.std.proofs.lemmas.Bool.Decides.{nat_tests}
 use Rattle.std.specs.List.{All}
 use Rattle.std.specs.declared.net.ip_addr.IpAddr.{IpAddr}
+use Rattle.mio.specs.declared.net.stream.TcpStream.{TcpStream}
 use Rattle.mio.specs.declared.token.Token.{Token}
-use Rattle.ready_sockets.specs.Visits.{ComesIn, IsNew, HasLetIn}
+use Rattle.ready_sockets.specs.DoorCalls.{Came, NoneCame, NotHad}
+use Rattle.ready_sockets.specs.Rounds.{came_call, may_not, none_came, not_had, HasLetIn}
+use Rattle.ready_sockets.specs.Visits.{asks, asked_calls, ComesIn, IsNew}
+use Rattle.ready_sockets.specs.declared.room.Room.{Room}
 use Rattle.ready_sockets.specs.declared.visit.Visit.{Visit}
 
-pub none_came : (now : ℕ) (visits : List Visit) → HasLetIn now visits visits
-none_came now visits = record { came = []; is = sym (append-nil visits); new_ones = All-nil (IsNew now); few = λ h. h }
+-- So many came so far, and no one else was asked for.
+pub record IsLettingIn (now count : ℕ) (old mid : Room) : Type 0 where
+  pub came : List Visit
+  pub made : mid.door.made.calls ≡ old.door.made.calls ++ map came_call came
+  pub count_is : length came ≡ count
+  pub may_accept : mid.may_accept ≡ old.may_accept
+  pub unasked : asks old ≡ false → mid ≡ old
+  pub is : mid.visits.items ≡ old.visits.items ++ came
+  pub new_ones : All (IsNew now) came
+  pub few : length old.visits.items ≤ 32 → length mid.visits.items ≤ 32
+
+pub none_yet : (now : ℕ) (room : Room) → IsLettingIn now 0 room room
+none_yet now room = record {
+  came = [];
+  made = sym (append-nil room.door.made.calls);
+  count_is = refl;
+  may_accept = refl;
+  unasked = λ h. refl;
+  is = sym (append-nil room.visits.items);
+  new_ones = All-nil (IsNew now);
+  few = λ h. h;
+}
 
 one_new : (now : ℕ) (visit : Visit) → IsNew now visit → All (IsNew now) (visit ∷ [])
 one_new now visit is zero d within = is
 one_new now visit is (suc k) d within = absurd (omega arith)
 
-one_came : (now : ℕ) (old mid new : List Visit) (from : IpAddr) (token : Token) → HasLetIn now old mid → length mid < 32 → ComesIn from token now mid new → HasLetIn now old new
-one_came now old mid new from token before room one = record {
+asks_if : (may : Bool) (count : ℕ) → may ≡ true → count < 32 → (may && nat_lt count 32) ≡ true
+asks_if may count is few = grind (arith, nat_tests)
+
+full_up : (may : Bool) (count : ℕ) → 32 ≤ count → (may && nat_lt count 32) ≡ false
+full_up may count full = grind (arith, nat_tests)
+
+not_both : {X : Type 0} (b : Bool) → b ≡ true → b ≡ false → X
+not_both b is is_not = absurd cc
+
+-- one more came
+pub one_more : (now count : ℕ) (old mid asked new : Room) (next : TcpStream × IpAddr × Token) → IsLettingIn now count old mid → asked.visits ≡ mid.visits → length mid.visits.items < 32 → (mid.may_accept ≡ true) × (asked.may_accept ≡ true) → asked.door.made.calls ≡ mid.door.made.calls ++ asked_calls (asks mid) asked.may_accept (Some next) → ComesIn next.1 next.2 now asked.visits.items new.visits.items → new.door ≡ asked.door → new.may_accept ≡ asked.may_accept → IsLettingIn now (count + 1) old new
+one_more now count old mid asked new next before same room may calls one door kept = record {
   came = before.came ++ one.visit ∷ [];
-  is = one.is ∙ ap (λ (l : List Visit). l ++ one.visit ∷ []) before.is ∙ append_assoc old before.came (one.visit ∷ []);
+  made =
+      let asked_is : asks mid ≡ true = asks_if mid.may_accept (length mid.visits.items) may.0 room in
+      let calls_are : asked.door.made.calls ≡ mid.door.made.calls ++ Came next.1 next.2 ∷ [] = calls ∙ ap (λ b. mid.door.made.calls ++ asked_calls b asked.may_accept (Some next)) asked_is in
+      let call_is : Came next.1 next.2 ≡ came_call one.visit = cc (one.from_is, one.token_is) in
+      ap (λ d. d.made.calls) door ∙ calls_are ∙ ap (λ l. l ++ Came next.1 next.2 ∷ []) before.made ∙ append_assoc old.door.made.calls (map came_call before.came) (Came next.1 next.2 ∷ [])
+      ∙ ap (λ call. old.door.made.calls ++ (map came_call before.came ++ call ∷ [])) call_is ∙ ap (λ l. old.door.made.calls ++ l) (sym (map-append came_call before.came (one.visit ∷ [])));
+  count_is = omega (arith, before.count_is, length-append before.came (one.visit ∷ []));
+  may_accept = cc (may.0, may.1, before.may_accept);
+  unasked = λ h.
+      not_both (asks mid) (asks_if mid.may_accept (length mid.visits.items) may.0 room) (ap asks (before.unasked h) ∙ h);
+  is = one.is ∙ ap (λ v. v.items ++ one.visit ∷ []) same ∙ ap (λ (l : List Visit). l ++ one.visit ∷ []) before.is ∙ append_assoc old.visits.items before.came (one.visit ∷ []);
   new_ones = All-append (IsNew now) before.came (one.visit ∷ []) before.new_ones (one_new now one.visit (one.came_is, one.moved_is, one.turn));
-  few = λ h. omega (arith, ap length one.is, length-append mid (one.visit ∷ []));
+  few = λ h. omega (arith, ap length one.is, ap (λ v. length v.items) same, length-append asked.visits.items (one.visit ∷ []));
 }
 
-pub more_came : (now : ℕ) (old mid new : List Visit) (from : IpAddr) (token : Token) → HasLetIn now old mid → length mid < 32 → (ComesIn from token now mid new ⊎ (new ≡ mid)) → HasLetIn now old new
-more_came now old mid new from token before room (inl one) = one_came now old mid new from token before room one
-more_came now old mid new from token before room (inr same) = record {
+nobody_more : (now count : ℕ) (old mid new : Room) (asked may : Bool) → asks mid ≡ asked → new.may_accept ≡ may → IsLettingIn now count old mid → count < 32 → new.visits ≡ mid.visits → new.door.made.calls ≡ mid.door.made.calls ++ asked_calls {W = TcpStream} asked may None → (asks mid ≡ false → new ≡ mid) → HasLetIn now old new
+nobody_more now count old mid new false may asked_is may_is before few same calls unasked = record {
   came = before.came;
-  is = same ∙ before.is;
+  last = [];
+  made = calls ∙ append-nil mid.door.made.calls ∙ before.made ∙ ap (λ l. old.door.made.calls ++ l) (sym (append-nil (map came_call before.came)));
+  most = omega (arith, before.count_is);
+  ends = may_not (ap asks (unasked asked_is) ∙ asked_is) (ap (λ r. r.may_accept) (unasked asked_is) ∙ before.may_accept);
+  unasked = λ h. unasked asked_is ∙ before.unasked h;
+  is = ap (λ v. v.items) same ∙ before.is;
   new_ones = before.new_ones;
-  few = λ h. omega (arith, before.few h, ap length same);
+  few = λ h. omega (arith, before.few h, ap (λ v. length v.items) same);
+}
+nobody_more now count old mid new true false asked_is may_is before few same calls unasked = record {
+  came = before.came;
+  last = NoneCame ∷ [];
+  made = calls ∙ ap (λ l. l ++ NoneCame ∷ []) before.made ∙ append_assoc old.door.made.calls (map came_call before.came) (NoneCame ∷ []);
+  most = omega (arith, before.count_is);
+  ends = none_came may_is;
+  unasked = λ h. not_both (asks mid) asked_is (ap asks (before.unasked h) ∙ h);
+  is = ap (λ v. v.items) same ∙ before.is;
+  new_ones = before.new_ones;
+  few = λ h. omega (arith, before.few h, ap (λ v. length v.items) same);
+}
+nobody_more now count old mid new true true asked_is may_is before few same calls unasked = record {
+  came = before.came;
+  last = NotHad ∷ [];
+  made = calls ∙ ap (λ l. l ++ NotHad ∷ []) before.made ∙ append_assoc old.door.made.calls (map came_call before.came) (NotHad ∷ []);
+  most = omega (arith, before.count_is);
+  ends = not_had may_is;
+  unasked = λ h. not_both (asks mid) asked_is (ap asks (before.unasked h) ∙ h);
+  is = ap (λ v. v.items) same ∙ before.is;
+  new_ones = before.new_ones;
+  few = λ h. omega (arith, before.few h, ap (λ v. length v.items) same);
+}
+
+-- nobody more came
+pub no_more : (now count : ℕ) (old mid new : Room) → IsLettingIn now count old mid → count < 32 → new.visits ≡ mid.visits → new.door.made.calls ≡ mid.door.made.calls ++ asked_calls {W = TcpStream} (asks mid) new.may_accept None → (asks mid ≡ false → new ≡ mid) → HasLetIn now old new
+no_more now count old mid new = nobody_more now count old mid new (asks mid) new.may_accept refl refl
+
+-- as many came as are in at most
+pub all_came : (now : ℕ) (old new : Room) → IsLettingIn now 32 old new → HasLetIn now old new
+all_came now old new before = record {
+  came = before.came;
+  last = [];
+  made = before.made ∙ ap (λ l. old.door.made.calls ++ l) (sym (append-nil (map came_call before.came)));
+  most = omega (arith, before.count_is);
+  ends = may_not (full_up new.may_accept (length new.visits.items) (omega (arith, before.count_is, ap length before.is, length-append old.visits.items before.came))) before.may_accept;
+  unasked = before.unasked;
+  is = before.is;
+  new_ones = before.new_ones;
+  few = before.few;
 }

@@ -1,2 +1,4 @@
 pub mod ComingIn
 pub mod HeadsKept
+pub mod Rounds
+pub mod SameClients

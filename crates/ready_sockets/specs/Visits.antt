@@ -1,6 +1,6 @@
 -- What is done for clients that are in.
-use Rattle.std.specs.Prelude.{◌≡◌, ◌==◌, ℕ, Bool, true, false, not, ◌&&◌, ◌||◌, is_some, if◌then◌else◌, Option, Some, None, List, [], ◌∷◌, ◌++◌, ◌≤◌, map, length}
-use Rattle.std.specs.List.{All, list_all, list_any}
+use Rattle.std.specs.Prelude.{◌≡◌, ◌==◌, ℕ, Bool, true, false, not, ◌&&◌, ◌||◌, is_some, if◌then◌else◌, Option, Some, None, List, [], ◌∷◌, ◌++◌, nat_lt, map, length}
+use Rattle.std.specs.List.{list_all, list_any}
 use Rattle.std.specs.declared.net.ip_addr.IpAddr.{IpAddr}
 use Rattle.mio.specs.Event.{event_token}
 use Rattle.mio.specs.declared.event.event.Event.{Event as SocketEvent}
@@ -8,6 +8,8 @@ use Rattle.mio.specs.declared.token.Token.{Token}
 use Rattle.session_core.specs.declared.event.Event.{Event}
 use Rattle.session_core.specs.declared.event.Outcome.{Outcome}
 use Rattle.ready_turns.specs.Seats.{For, Turn, Dismissed, ending_of}
+use Rattle.ready_sockets.specs.DoorCalls.{DoorCall, Waited, WaitFailed, Came, NoneCame, NotHad}
+use Rattle.ready_sockets.specs.Doors.{listener_token, HasSameListener}
 use Rattle.ready_sockets.specs.Limits.{is_over}
 use Rattle.ready_sockets.specs.declared.ready_socket.ReadySocket.{ReadySocket}
 use Rattle.ready_sockets.specs.declared.visit.Visit.{Visit}
@@ -68,25 +70,10 @@ pub record IsSameClient (old new : Visit) : Type 0 where
   pub moved : new.moved ≡ old.moved
   pub turn : has_turn old ≡ true → has_turn new ≡ true
 
--- the token of the listener
-abbrev pub listener_token : Token
-listener_token = record { 0 = 0 }
-
 -- Each visit, in order, has its turn again or is as it was. Somebody may be at the door where the listener is called too.
 pub record HasWoken (all : Bool) (events : List SocketEvent) (old new : Room) : Type 0 where
   pub visits : new.visits.items ≡ map (woken_by all events) old.visits.items
-  pub door : new.may_accept ≡ (old.may_accept || (all || is_called events listener_token))
-
--- Where it listens, and under which token the next client comes, is as it was.
-pub record HasSameListener (old new : Room) : Type 0 where
-  pub listener : new.listener ≡ old.listener
-  pub next_token : new.next_token ≡ old.next_token
-
--- All but the visits, and whether somebody may be at the door, is as it was.
-pub record HasSameRest (old new : Room) : Type 0 where
-  pub poll : new.poll ≡ old.poll
-  pub events : new.events ≡ old.events
-  pub listener : HasSameListener old new
+  pub may_accept : new.may_accept ≡ (old.may_accept || (all || is_called events listener_token))
 
 -- ---- a wait
 
@@ -102,16 +89,18 @@ abbrev pub was_in_vain : Option ℕ → List SocketEvent → Bool
 was_in_vain (Some nanos) events = length events == 0 && not (nanos == 0)
 was_in_vain None events = length events == 0
 
--- A wait that ended with these events: who is called has a turn again, and all where it was in vain.
+-- One wait of that patience ended with these events: who is called has a turn again, and all where it was in vain.
 pub record HasWaited (events : List SocketEvent) (old new : Room) : Type 0 where
+  pub made : new.door.made.calls ≡ old.door.made.calls ++ Waited (patience old) events ∷ []
   pub woken : HasWoken (was_in_vain (patience old) events) events old new
-  pub listener : HasSameListener old new
+  pub listener : HasSameListener old.door new.door
 
--- A wait that failed: who is in stays as it was.
+-- One wait of that patience failed: who is in stays as it was.
 pub record HasNotWaited (old new : Room) : Type 0 where
+  pub made : new.door.made.calls ≡ old.door.made.calls ++ WaitFailed (patience old) ∷ []
   pub visits : new.visits ≡ old.visits
-  pub door : new.may_accept ≡ old.may_accept
-  pub listener : HasSameListener old new
+  pub may_accept : new.may_accept ≡ old.may_accept
+  pub listener : HasSameListener old.door new.door
 
 -- ---- who comes in
 
@@ -129,9 +118,13 @@ pub record ComesIn (from : IpAddr) (token : Token) (now : ℕ) (old new : List V
 abbrev pub IsNew : ℕ → Visit → Type 0
 IsNew now visit = (visit.came ≡ now) × (visit.moved ≡ now) × (has_turn visit ≡ true)
 
--- Who was in is in, in front and as before; behind them those who came; and no more than 32, where there were no more.
-pub record HasLetIn (now : ℕ) (old new : List Visit) : Type 0 where
-  pub came : List Visit
-  pub is : new ≡ old ++ came
-  pub new_ones : All (IsNew now) came
-  pub few : length old ≤ 32 → length new ≤ 32
+-- the next client is asked for: fewer than 32 are in, and somebody may be at the door
+abbrev pub asks : Room → Bool
+asks room = room.may_accept && nat_lt (length room.visits.items) 32
+
+-- the call by which it was asked for, if any: a client came; or none did, and whether somebody may be at the door afterwards tells nobody there from one that can't be had
+abbrev pub asked_calls : {W : Type 0} → Bool → Bool → Option (W × IpAddr × Token) → List DoorCall
+asked_calls false may_accept next = []
+asked_calls true may_accept (Some next) = Came next.1 next.2 ∷ []
+asked_calls true false None = NoneCame ∷ []
+asked_calls true true None = NotHad ∷ []

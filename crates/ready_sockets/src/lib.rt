@@ -1,6 +1,8 @@
 //! Visits over sockets that never wait: whoever is ready has a turn, up to 32 clients at a time.
 #![tactic(auto)]
 
+mod door;
+mod door_log;
 mod head;
 mod laws;
 mod limits;

@@ -1,12 +1,12 @@
-// The listener, the clients that are in, and the wait for whoever is ready.
-ghost use Rattle.std.specs.Prelude.{◌<◌, ◌≤◌, vec_len, vec_capacity};
+// The door, and the clients that are in.
+ghost use Rattle.std.specs.Prelude.{◌≤◌, vec_len, vec_capacity};
 
+use crate::door::{Door, LISTENER};
 use crate::visit::Visit;
-use crate::waking::{is_called, wake_if_called, was_in_vain};
-use mio::net::{TcpListener, TcpStream};
-use mio::{Events, Interest, Poll, Token};
+use crate::waking::{is_called, wake_called, was_in_vain};
+use mio::Token;
+use mio::net::TcpStream;
 use std::alloc::Global;
-use std::io::{self, ErrorKind};
 use std::net::{IpAddr, Net, SocketAddr};
 use std::time::Duration;
 use thiserror::Error;
@@ -16,8 +16,6 @@ pub const MOST_VISITS: usize = 32;
 
 /// How many seconds a wait lasts while somebody is in or may be at the door, at most.
 const TICK: u64 = 1;
-
-const LISTENER: Token = Token(0);
 
 /// Why serving can't begin, or ends.
 #[derive(Clone, Copy, Debug, PartialEq, Eq, Error)]
@@ -32,53 +30,39 @@ pub enum VisitFault {
     Memory,
 }
 
-/// The listener, the clients that are in, and the wait for whoever is ready.
+/// The door, whether somebody may be at it, and the clients that are in.
 #[derive(Drop)]
 pub struct Room {
-    poll: Poll,
-    events: Events,
-    listener: TcpListener,
+    door: Door,
     may_accept: bool,
-    next_token: usize,
     pub(crate) visits: Vec<Visit>,
     ghost few: { vec_len visits ≤ 32 },
     ghost space: { 32 ≤ vec_capacity visits },
-    ghost named: { 0 < next_token },
 }
 
 impl Room {
-    ghost use Rattle.std.specs.Prelude.{◌≡◌, ◌≢◌, ◌⊎◌, true, false, not, [], length, filter, map, option_map, IfOk, IfSome, OnErr};
+    ghost use Rattle.std.specs.Prelude.{◌≡◌, ◌≢◌, ◌⊎◌, ◌++◌, ◌<◌, true, false, not, [], length, filter, map, option_map, IfOk, IfErr, IfSome, OnErr};
     ghost use Rattle.std.specs.List.{list_all, list_any};
     ghost use Rattle.std.specs.Duration.{as_nanos};
     ghost use Rattle.mio.specs.Events.{items};
-    ghost use Rattle.ready_sockets.specs.Visits.{has_gone, has_turn, woken, patience, listener_token, HasWoken, HasSameRest, HasWaited, HasNotWaited};
+    ghost use Rattle.ready_sockets.specs.Doors.{listener_token};
+    ghost use Rattle.ready_sockets.specs.Visits.{has_gone, has_turn, woken, patience, asks, asked_calls, HasWoken, HasWaited, HasNotWaited};
+    ghost use Rattle.ready_sockets.specs.declared.room.VisitFault.TheVariants as faults;
 
     /// Listens at an address, with nobody in.
     pub fn open<R: Net>(alloc: Global, rt: &R, address: SocketAddr) -> Result<Room, VisitFault>
         ensures nobody { IfOk result (λ room. room.visits.items ≡ []) }
-        ensures door { IfOk result (λ room. room.may_accept ≡ true) }
+        ensures may_accept { IfOk result (λ room. room.may_accept ≡ true) }
+        ensures made { IfOk result (λ room. room.door.made.calls ≡ []) }
+        ensures fault { IfErr result (λ fault. (fault ≡ faults.Memory) ⊎ (fault ≡ faults.Net)) }
     {
-        let Ok(events) = Events::with_capacity(alloc, MOST_VISITS + 1) else {
-            return Err(VisitFault::Memory);
-        };
         let Ok(visits) = Vec::with_capacity(alloc, MOST_VISITS) else {
             return Err(VisitFault::Memory);
         };
-        let (Ok(poll), Ok(mut listener)) = (Poll::new(rt), TcpListener::bind(rt, address)) else {
-            return Err(VisitFault::Net);
-        };
-        let registered = poll
-            .registry()
-            .register(&mut listener, LISTENER, Interest::READABLE);
-        if registered.is_err() {
-            return Err(VisitFault::Net);
-        }
+        let door = Door::open(alloc, rt, address, MOST_VISITS + 1)?;
         Ok(Room {
-            poll,
-            events,
-            listener,
+            door,
             may_accept: true,
-            next_token: 1,
             visits,
         })
     }
@@ -98,20 +82,18 @@ impl Room {
 
     /// Who is ready has a turn again.
     fn wake(&mut self)
-        ensures woken { HasWoken false (items self.old.events) self.old self.new }
-        ensures rest { HasSameRest self.old self.new }
+        ensures woken { HasWoken false (items self.old.door.events) self.old self.new }
+        ensures door { self.new.door ≡ self.old.door }
     {
-        self.may_accept |= is_called(&self.events, LISTENER);
-        for visit in self.visits.iter_mut() {
-            wake_if_called(visit, &self.events);
-        }
+        self.may_accept |= is_called(self.door.events(), LISTENER);
+        wake_called(&mut self.visits, self.door.events());
     }
 
     /// All have a turn again.
     fn wake_all(&mut self)
         ensures visits { self.new.visits.items ≡ map woken self.old.visits.items }
-        ensures door { self.new.may_accept ≡ true }
-        ensures rest { HasSameRest self.old self.new }
+        ensures may_accept { self.new.may_accept ≡ true }
+        ensures door { self.new.door ≡ self.old.door }
     {
         self.may_accept = true;
         for visit in self.visits.iter_mut() {
@@ -121,34 +103,18 @@ impl Room {
 
     /// Waits until somebody is ready, or a second has passed.
     pub(crate) fn wait(&mut self) -> Result<(), VisitFault>
-        ensures woken { IfOk result (λ _. HasWaited (items self.new.events) self.old self.new) }
-        ensures fault { OnErr result (HasNotWaited self.old self.new) }
+        ensures woken { IfOk result (λ _. HasWaited (items self.new.door.events) self.old self.new) }
+        ensures not_waited { OnErr result (HasNotWaited self.old self.new) }
+        ensures fault { IfErr result (λ fault. fault ≡ faults.Net) }
     {
         let patience = self.patience();
-        if self.poll.poll(&mut self.events, patience).is_err() {
-            return Err(VisitFault::Net);
-        }
-        if was_in_vain(&self.events, patience) {
+        self.door.wait(patience)?;
+        if was_in_vain(self.door.events(), patience) {
             self.wake_all();
             return Ok(());
         }
         self.wake();
         Ok(())
-    }
-
-    /// The next connection, with its client's address and its token.
-    fn accept(&mut self) -> io::Result<(TcpStream, IpAddr, Token)>
-        ensures visits { self.new.visits ≡ self.old.visits }
-        ensures door { self.new.may_accept ≡ self.old.may_accept }
-        ensures token { IfOk result (λ next. next.2 ≢ listener_token) }
-    {
-        let (mut stream, address) = self.listener.accept()?;
-        stream.set_nodelay(true)?;
-        let token = Token(self.next_token);
-        self.next_token = self.next_token.wrapping_add(1).max(1);
-        let both = Interest::READABLE | Interest::WRITABLE;
-        self.poll.registry().register(&mut stream, token, both)?;
-        Ok((stream, address.ip(), token))
     }
 
     /// The next connection, where there is room for it. Where none comes, none is asked for until the listener is ready; where one can't be had, the next is asked for
@@ -157,20 +123,21 @@ impl Room {
         ensures visits { self.new.visits ≡ self.old.visits }
         ensures room { IfSome result (λ _. length self.old.visits.items < 32) }
         ensures token { IfSome result (λ next. next.2 ≢ listener_token) }
-        ensures door { IfSome result (λ _. (self.old.may_accept ≡ true) × (self.new.may_accept ≡ true)) }
+        ensures may_accept { IfSome result (λ _. (self.old.may_accept ≡ true) × (self.new.may_accept ≡ true)) }
         ensures shut { (self.new.may_accept ≡ self.old.may_accept) ⊎ (self.new.may_accept ≡ false) }
+        ensures asked { self.new.door.made.calls ≡ self.old.door.made.calls ++ asked_calls (asks self.old) self.new.may_accept result }
+        ensures unasked { asks self.old ≡ false → self.new ≡ self.old }
     {
         if !self.may_accept || self.visits.len() >= MOST_VISITS {
             return None;
         }
-        match self.accept() {
-            Ok(next) => Some(next),
-            Err(error) => {
-                if error.kind() == ErrorKind::WouldBlock {
-                    self.may_accept = false;
-                }
+        match self.door.accept() {
+            Ok(Some(next)) => Some(next),
+            Ok(None) => {
+                self.may_accept = false;
                 None
             }
+            Err(_) => None,
         }
     }
 
@@ -190,7 +157,9 @@ impl Room {
 
     /// Those that have gone are in no more.
     pub(crate) fn sweep(&mut self)
-        ensures { self.new.visits.items ≡ filter (λ visit. not (has_gone visit)) self.old.visits.items }
+        ensures visits { self.new.visits.items ≡ filter (λ visit. not (has_gone visit)) self.old.visits.items }
+        ensures door { self.new.door ≡ self.old.door }
+        ensures may_accept { self.new.may_accept ≡ self.old.may_accept }
     {
         self.visits.retain(|visit| !visit.is_closed());
     }

@@ -1,9 +1,11 @@
 // Serves whoever comes.
-ghost use Rattle.std.specs.Prelude.{◌≡◌, ◌⊎◌, ◌<◌, ◌≤◌, [], vec_len, vec_capacity};
+ghost use Rattle.std.specs.Prelude.{◌≡◌, ◌⊎◌, ◌<◌, ◌≤◌, [], map, vec_len, vec_capacity};
 ghost use Rattle.session_core.specs.Calls.{HubRun};
 ghost use Rattle.turns.specs.Runs.{HasRun};
 ghost use Rattle.turns.specs.Turns.{InOrder};
-ghost use Rattle.ready_sockets.specs.Visits.{HadTurn, WasDismissed, ComesIn, HasLetIn};
+ghost use Rattle.session_core.specs.Hub.{keeper_of};
+ghost use Rattle.ready_sockets.specs.Rounds.{who, HasLetIn, HasHadTurns, HasSeenOff, HasServed};
+ghost use Rattle.ready_sockets.specs.Visits.{HadTurn, WasDismissed, ComesIn};
 
 use crate::ReadySocket;
 use crate::room::{MOST_VISITS, Room, VisitFault};
@@ -52,10 +54,10 @@ fn enter<S: SearchKeeper>(
 
 /// A session joins for each client that comes, as long as there is room.
 fn admit<S: SearchKeeper>(room: &mut Room, hub: &mut Hub<S>, now: u64)
-    ensures visits { HasLetIn now room.old.visits.items room.new.visits.items }
+    ensures let_in { HasLetIn now room.old room.new }
     ensures run { HasRun (HubRun S.site_state S.lacks S.crash_states S.represents) hub.old hub.new [] [] (λ es os. Unit {0}) }
 {
-    for _ in 0..MOST_VISITS {
+    for _client in 0..MOST_VISITS {
         let Some(next) = room.next() else {
             return;
         };
@@ -70,7 +72,8 @@ fn take_turn_of<S: SearchKeeper, C: Clock>(
     clock: &mut C,
     now: u64,
 )
-    ensures { HasRun (HubRun S.site_state S.lacks S.crash_states S.represents) hub.old hub.new (C.given clock.old) (C.given clock.new) (λ es os. HadTurn visit.old es os visit.new) }
+    ensures run { HasRun (HubRun S.site_state S.lacks S.crash_states S.represents) hub.old hub.new (C.given clock.old) (C.given clock.new) (λ es os. HadTurn visit.old es os visit.new) }
+    ensures who { who visit.new ≡ who visit.old }
 {
     take_turn(hub, &mut visit.seat, clock);
     visit.note_move(now);
@@ -78,7 +81,8 @@ fn take_turn_of<S: SearchKeeper, C: Clock>(
 
 /// One turn for each client, in order.
 fn pass<S: SearchKeeper, C: Clock>(visits: &mut [Visit], hub: &mut Hub<S>, clock: &mut C, now: u64)
-    ensures { HasRun (HubRun S.site_state S.lacks S.crash_states S.represents) hub.old hub.new (C.given clock.old) (C.given clock.new) (λ es os. InOrder HadTurn visits.old es os visits.new) }
+    ensures run { HasRun (HubRun S.site_state S.lacks S.crash_states S.represents) hub.old hub.new (C.given clock.old) (C.given clock.new) (λ es os. InOrder HadTurn visits.old es os visits.new) }
+    ensures clients { map who visits.new ≡ map who visits.old }
 {
     for visit in visits.iter_mut() {
         take_turn_of(visit, hub, clock, now);
@@ -87,7 +91,8 @@ fn pass<S: SearchKeeper, C: Clock>(visits: &mut [Visit], hub: &mut Hub<S>, clock
 
 /// A client goes whose time is over.
 fn dismiss_if_over<S: SearchKeeper>(visit: &mut Visit, hub: &mut Hub<S>, now: u64)
-    ensures { HasRun (HubRun S.site_state S.lacks S.crash_states S.represents) hub.old hub.new [] [] (λ es os. WasDismissed now visit.old es os visit.new) }
+    ensures run { HasRun (HubRun S.site_state S.lacks S.crash_states S.represents) hub.old hub.new [] [] (λ es os. WasDismissed now visit.old es os visit.new) }
+    ensures who { who visit.new ≡ who visit.old }
 {
     if visit.is_over(now) {
         dismiss(hub, &mut visit.seat);
@@ -96,7 +101,8 @@ fn dismiss_if_over<S: SearchKeeper>(visit: &mut Visit, hub: &mut Hub<S>, now: u6
 
 /// Whose time is over goes.
 fn dismiss_late<S: SearchKeeper>(visits: &mut [Visit], hub: &mut Hub<S>, now: u64)
-    ensures { HasRun (HubRun S.site_state S.lacks S.crash_states S.represents) hub.old hub.new [] [] (λ es os. InOrder (WasDismissed now) visits.old es os visits.new) }
+    ensures run { HasRun (HubRun S.site_state S.lacks S.crash_states S.represents) hub.old hub.new [] [] (λ es os. InOrder (WasDismissed now) visits.old es os visits.new) }
+    ensures clients { map who visits.new ≡ map who visits.old }
 {
     for visit in visits.iter_mut() {
         dismiss_if_over(visit, hub, now);
@@ -117,9 +123,25 @@ fn tell_gone<L: Write>(alloc: Global, visits: &[Visit], moment: Stamp, log: &mut
     }
 }
 
+/// A line of the log for each client that has gone, and then it is in no more.
+fn see_off<R: Time, L: Write>(
+    alloc: Global,
+    room: &mut Room,
+    moments: &mut SystemClock<'_, R>,
+    log: &mut L,
+)
+    ensures { HasSeenOff room.old room.new }
+{
+    if room.has_closed() {
+        tell_gone(alloc, &room.visits, moments.now(), log);
+        room.sweep();
+    }
+}
+
 /// Who is ready comes in, and has turns; whose time is over goes.
 fn round<S: SearchKeeper, C: Clock>(room: &mut Room, hub: &mut Hub<S>, clock: &mut C, now: u64)
-    ensures { HasRun (HubRun S.site_state S.lacks S.crash_states S.represents) hub.old hub.new (C.given clock.old) (C.given clock.new) (λ es os. Unit {0}) }
+    ensures turns { HasHadTurns now room.old room.new }
+    ensures run { HasRun (HubRun S.site_state S.lacks S.crash_states S.represents) hub.old hub.new (C.given clock.old) (C.given clock.new) (λ es os. Unit {0}) }
 {
     admit(room, hub, now);
     for _turn in 0..TURNS {
@@ -152,7 +174,8 @@ pub fn serve_visits<S: SearchKeeper, C: Clock, R: Time, L: Write>(
     clock: &mut C,
     log: &mut L,
 ) -> Result<(), VisitFault>
-    ensures { HasRun (HubRun S.site_state S.lacks S.crash_states S.represents) hub.old hub.new (C.given clock.old) (C.given clock.new) (λ es os. Unit {0}) }
+    ensures served { HasServed result (S.site_state (keeper_of hub.new)).usable room.old room.new }
+    ensures run { HasRun (HubRun S.site_state S.lacks S.crash_states S.represents) hub.old hub.new (C.given clock.old) (C.given clock.new) (λ es os. Unit {0}) }
 {
     let start = Instant::now(rt).ok();
     let mut moments = SystemClock::new(rt);
@@ -162,10 +185,7 @@ pub fn serve_visits<S: SearchKeeper, C: Clock, R: Time, L: Write>(
         }
         room.wait()?;
         round(room, hub, clock, seconds_since(rt, &start));
-        if room.has_closed() {
-            tell_gone(alloc, &room.visits, moments.now(), log);
-            room.sweep();
-        }
+        see_off(alloc, room, &mut moments, log);
     }
     Ok(())
 }

@@ -1,6 +1,7 @@
 // A client that came, and what the log will say of it.
 ghost use Rattle.std.specs.Prelude.{◌≡◌, if◌then◌else◌};
 ghost use Rattle.ready_sockets.specs.Limits as spec;
+ghost use Rattle.ready_sockets.specs.Rounds.{who};
 ghost use Rattle.ready_sockets.specs.Visits.{has_gone, has_turn, woken};
 
 use crate::ReadySocket;
@@ -36,7 +37,7 @@ impl Visit {
     pub(crate) fn note_move(&mut self, now: u64)
         ensures seat { self.new.seat ≡ self.old.seat }
         ensures moved { self.new.moved ≡ (if self.old.seat.waits then self.old.moved else now) }
-        ensures came { self.new.came ≡ self.old.came }
+        ensures who { who self.new ≡ who self.old }
     {
         if !self.seat.waits() {
             self.moved = now;

@@ -1,5 +1,5 @@
 // Who has a turn again after a wait.
-ghost use Rattle.std.specs.Prelude.{◌≡◌, false, option_map};
+ghost use Rattle.std.specs.Prelude.{◌≡◌, false, map, option_map};
 ghost use Rattle.std.specs.Duration.{as_nanos};
 ghost use Rattle.mio.specs.Events.{items};
 ghost use Rattle.ready_sockets.specs.Visits.{is_called, woken_by, was_in_vain};
@@ -31,5 +31,14 @@ pub(crate) fn wake_if_called(visit: &mut Visit, events: &Events)
 {
     if is_called(events, visit.token) {
         visit.wake();
+    }
+}
+
+/// Each client has its turn again where an event is one of its socket.
+pub(crate) fn wake_called(visits: &mut [Visit], events: &Events)
+    ensures { visits.new ≡ map (woken_by false (items events.now)) visits.old }
+{
+    for visit in visits.iter_mut() {
+        wake_if_called(visit, events);
     }
 }

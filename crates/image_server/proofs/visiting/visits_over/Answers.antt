@@ -25,4 +25,4 @@ returns-clause-ran g c =
           (calls_run s.site_state s.lacks s.crash_states s.represents first last held left events outcomes honest1 run.calls) (run.at_crash honest1 usable);
       honest = closed_honest s.site_state s.crash_states left c.close.result c.close.ensures.closed ∙ calls_honest s.site_state s.lacks s.crash_states s.represents first last held left events outcomes run.calls ∙ ap (λ x. (s.site_state x).honest) is;
     })
-    _ _ _ c.serve_visits-ended.ensures
+    _ _ _ c.serve_visits-ended.ensures.run

@@ -1,14 +1,14 @@
 use Rattle.std.proofs.Common.{[]}
 use Rattle.session_core.specs.Calls.{HubRun}
 use Rattle.turns.specs.Runs.{HasRun}
-use Rattle.ready_sockets.specs.Visits.{HasLetIn}
+use Rattle.ready_sockets.proofs.ComingIn.{IsLettingIn}
 use Rattle.ready_sockets.proofs.serving.admit.Given as goal
 
--- what was done so far is a run, and who came so far is in
-abbrev pub invariant-loop : goal.invariant-loop
-invariant-loop g l =
+-- what was done so far is a run, and so many came and are in
+abbrev pub invariant-loop-client : goal.invariant-loop-client
+invariant-loop-client g l =
     let s = g.S.SiteKeeper in
     record {
       run : HasRun (HubRun s.site_state s.lacks s.crash_states s.represents) l.fn.hub l.hub [] [] (λ es os. Unit {0});
-      visits : HasLetIn l.now l.fn.room.visits.items l.room.visits.items;
+      let_in : IsLettingIn l.now l._client l.fn.room l.room;
     }

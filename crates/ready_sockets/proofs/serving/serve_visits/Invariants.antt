@@ -1,9 +1,13 @@
 use Rattle.session_core.specs.Calls.{HubRun}
 use Rattle.turns.specs.Runs.{HasRun}
+use Rattle.ready_sockets.specs.Rounds.{HasHadRounds}
 use Rattle.ready_sockets.proofs.serving.serve_visits.Given as goal
 
--- what was done so far is a run
+-- what was done so far is a run, in so many rounds
 abbrev pub invariant-loop-round : goal.invariant-loop-round
 invariant-loop-round g l =
     let s = g.S.SiteKeeper in
-    HasRun (HubRun s.site_state s.lacks s.crash_states s.represents) l.fn.hub l.hub (g.C.Clock.given l.fn.clock) (g.C.Clock.given l.clock) (λ es os. Unit {0})
+    record {
+      run : HasRun (HubRun s.site_state s.lacks s.crash_states s.represents) l.fn.hub l.hub (g.C.Clock.given l.fn.clock) (g.C.Clock.given l.clock) (λ es os. Unit {0});
+      rounds : HasHadRounds l._round l.fn.room l.room;
+    }

@@ -3,5 +3,5 @@ use Rattle.std.proofs.lemmas.List.Elements.{filter_from_retain}
 use Rattle.ready_sockets.specs.Visits.{has_gone}
 use Rattle.ready_sockets.proofs.room.Room.sweep.Goals as goal
 
-pub returns : goal.returns
-returns c = filter_from_retain _ (λ visit. not (has_gone visit)) (λ p x b q called. search rules) _ _ _ c.retain.ensures.filtered
+pub returns-clause-visits : goal.returns-clause-visits
+returns-clause-visits c = filter_from_retain _ (λ visit. not (has_gone visit)) (λ p x b q called. search rules) _ _ _ c.retain.ensures.filtered

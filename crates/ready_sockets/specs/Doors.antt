@@ -1,0 +1,13 @@
+-- What stays the same of a door.
+use Rattle.std.specs.Prelude.{◌≡◌}
+use Rattle.mio.specs.declared.token.Token.{Token}
+use Rattle.ready_sockets.specs.declared.door.Door.{Door}
+
+-- the token of the listener
+abbrev pub listener_token : Token
+listener_token = record { 0 = 0 }
+
+-- Where it listens, and under which token the next client comes, is as it was.
+pub record HasSameListener (old new : Door) : Type 0 where
+  pub listener : new.listener ≡ old.listener
+  pub next_token : new.next_token ≡ old.next_token

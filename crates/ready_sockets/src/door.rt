@@ -1,0 +1,131 @@
+// The calls of the system at the door: waits, and connections that are taken. `wait` and `accept` note each of their calls. That they make the call which they note, no
+// clause can say: so each is short, and tests on real connections hold it.
+ghost use Rattle.std.specs.Prelude.{◌<◌};
+
+use crate::door_log::{DoorKind, DoorLog};
+use crate::room::VisitFault;
+use mio::net::{TcpListener, TcpStream};
+use mio::{Events, Interest, Poll, Token};
+use std::alloc::Global;
+use std::io::{self, ErrorKind};
+use std::net::{IpAddr, Net, SocketAddr};
+use std::time::Duration;
+
+/// The token of the listener.
+pub(crate) const LISTENER: Token = Token(0);
+
+/// The listener, the wait for whoever is ready, and the calls that were made of both.
+#[derive(Drop)]
+pub(crate) struct Door {
+    poll: Poll,
+    events: Events,
+    listener: TcpListener,
+    next_token: usize,
+    made: DoorLog,
+    ghost named: { 0 < next_token },
+}
+
+impl Door {
+    ghost use Rattle.std.specs.Prelude.{◌≡◌, ◌≢◌, ◌⊎◌, [], ◌∷◌, ◌++◌, option_map, IfOk, IfErr};
+    ghost use Rattle.std.specs.Option.{ForSome};
+    ghost use Rattle.std.specs.Duration.{as_nanos};
+    ghost use Rattle.mio.specs.Events.{items};
+    ghost use Rattle.ready_sockets.specs.DoorCalls.{wait_call, accept_call};
+    ghost use Rattle.ready_sockets.specs.Doors.{listener_token, HasSameListener};
+    ghost use Rattle.ready_sockets.specs.declared.room.VisitFault.TheVariants as faults;
+
+    /// Listens at an address. No call was made of it.
+    pub(crate) fn open<R: Net>(
+        alloc: Global,
+        rt: &R,
+        address: SocketAddr,
+        most: usize,
+    ) -> Result<Door, VisitFault>
+        ensures made { IfOk result (λ door. door.made.calls ≡ []) }
+        ensures fault { IfErr result (λ fault. (fault ≡ faults.Memory) ⊎ (fault ≡ faults.Net)) }
+    {
+        let Ok(events) = Events::with_capacity(alloc, most) else {
+            return Err(VisitFault::Memory);
+        };
+        let (Ok(poll), Ok(mut listener)) = (Poll::new(rt), TcpListener::bind(rt, address)) else {
+            return Err(VisitFault::Net);
+        };
+        let registered = poll
+            .registry()
+            .register(&mut listener, LISTENER, Interest::READABLE);
+        if registered.is_err() {
+            return Err(VisitFault::Net);
+        }
+        Ok(Door {
+            poll,
+            events,
+            listener,
+            next_token: 1,
+            made: DoorLog::new(),
+        })
+    }
+
+    /// The events of the last wait.
+    pub(crate) fn events(&self) -> &Events
+        ensures { result.now ≡ self.now.events }
+    {
+        &self.events
+    }
+
+    /// Waits until somebody is ready, as long as there is patience.
+    pub(crate) fn wait(&mut self, patience: Option<Duration>) -> Result<(), VisitFault>
+        ensures made { self.new.made.calls ≡ self.old.made.calls ++ wait_call (option_map as_nanos patience) result (items self.new.events) ∷ [] }
+        ensures fault { IfErr result (λ fault. fault ≡ faults.Net) }
+        ensures listener { HasSameListener self.old self.new }
+    {
+        if self.poll.poll(&mut self.events, patience).is_err() {
+            self.made.note(DoorKind::WaitFailed(patience), &self.events);
+            return Err(VisitFault::Net);
+        }
+        self.made.note(DoorKind::Waited(patience), &self.events);
+        Ok(())
+    }
+
+    /// Has waits tell of a connection under the next token.
+    fn name(&mut self, stream: &mut TcpStream) -> io::Result<Token>
+        ensures made { self.new.made ≡ self.old.made }
+        ensures token { IfOk result (λ token. token.0 ≡ self.old.next_token) }
+    {
+        stream.set_nodelay(true)?;
+        let token = Token(self.next_token);
+        self.next_token = self.next_token.wrapping_add(1).max(1);
+        let both = Interest::READABLE | Interest::WRITABLE;
+        self.poll.registry().register(stream, token, both)?;
+        Ok(token)
+    }
+
+    /// The next connection, with its client's address and its token, or none where nobody is at the door.
+    pub(crate) fn accept(&mut self) -> io::Result<Option<(TcpStream, IpAddr, Token)>>
+        ensures made { self.new.made.calls ≡ self.old.made.calls ++ accept_call result ∷ [] }
+        ensures token { IfOk result (λ came. ForSome came (λ next. next.2 ≢ listener_token)) }
+    {
+        match self.listener.accept() {
+            Ok((mut stream, address)) => {
+                let from = address.ip();
+                match self.name(&mut stream) {
+                    Ok(token) => {
+                        self.made.note(DoorKind::Came(from, token), &self.events);
+                        Ok(Some((stream, from, token)))
+                    }
+                    Err(error) => {
+                        self.made.note(DoorKind::NotHad, &self.events);
+                        Err(error)
+                    }
+                }
+            }
+            Err(error) if error.kind() == ErrorKind::WouldBlock => {
+                self.made.note(DoorKind::NoneCame, &self.events);
+                Ok(None)
+            }
+            Err(error) => {
+                self.made.note(DoorKind::NotHad, &self.events);
+                Err(error)
+            }
+        }
+    }
+}
