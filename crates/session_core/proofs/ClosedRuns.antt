@@ -1,5 +1,5 @@
 -- A run, and the end of its hub after it.
-use Rattle.std.proofs.Common.{◌≡◌, ◌⊎◌, ⊎_elim, ◌≤◌, ℕ, List, length, refl, sym, subst, ap, ◌∙◌, arith, inl, inr}
+use Rattle.std.proofs.Common.{◌≡◌, ⊎_elim, ◌≤◌, ℕ, List, length, sym, subst, ◌∙◌, arith, inl, inr}
 use Rattle.host_types.specs.Site.{Site}
 use Rattle.host_types.specs.CrashStates.{CrashStates, AddsNone, may_crash_to}
 use Rattle.session_core.specs.World.{World}

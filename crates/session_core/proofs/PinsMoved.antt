@@ -1,11 +1,10 @@
 -- One session's pin comes or goes, and all others keep theirs.
-use Rattle.std.proofs.Common.{◌≡◌, ◌≤◌, ◌+◌, ◌<◌, ℕ, zero, suc, Bool, true, false, not, List, [], ◌∷◌, ◌++◌, length, refl, sym, ap, subst, ◌∙◌, arith, inl, inr, set, remove, eqb-true, eq-eqb, if◌then◌else◌}
+use Rattle.std.proofs.Common.{◌≡◌, ◌≤◌, ◌+◌, ℕ, Bool, true, false, not, List, [], ◌∷◌, ◌++◌, length, refl, sym, ap, subst, ◌∙◌, arith, eqb-true, eq-eqb}
 use Rattle.std.specs.Prelude.{◌==◌, ◌||◌, ◌&&◌, Option, Some, None, IsTrue}
 use Rattle.std.specs.Map.{lookup}
-use Rattle.std.proofs.lemmas.Bool.{cases_Bool, ne_eqb}
 use Rattle.host_types.specs.Site.{Items}
 use Rattle.host_types.specs.SiteState.{SiteState, numbers_out}
-use Rattle.host_types.specs.Pins.{Pinned, Copied, Numbered, is_among, is_out, items_or_none, items_under_number, pinned_items, IsPinned, IsUnpinned}
+use Rattle.host_types.specs.Pins.{Pinned, Copied, Numbered, is_among, is_out, items_or_none, pinned_items, IsPinned, IsUnpinned}
 use Rattle.session_core.specs.HeldPins.{one_if, times, count_numbered, HoldsAll, listed, AreApart, MovesPins, MayGiveBack}
 
 -- ---- a keeper whose pins stay

@@ -1,18 +1,14 @@
 -- Places of sessions, as a world sees them.
-use Rattle.std.proofs.Common.{◌≡◌, ℕ, zero, suc, ◌+◌, ◌<◌, ◌≤◌, Bool, true, false, List, [], ◌∷◌, ◌++◌, length, get_or, set, remove, refl, ap, sym, ◌∙◌, arith, nat_lt, inl, inr, subst, eqb-true}
-use Rattle.std.specs.Prelude.{◌==◌, Option, Some, None, IsTrue}
+use Rattle.std.proofs.Common.{◌≡◌, ℕ, zero, suc, ◌+◌, ◌<◌, ◌≤◌, Bool, true, false, List, [], ◌∷◌, length, get_or, set, remove, refl, ap, sym, ◌∙◌, arith, nat_lt, inl, inr, subst, eqb-true}
+use Rattle.std.specs.Prelude.{◌==◌, Some, None}
 use Rattle.std.specs.List.{position, position_or_len}
 use Rattle.std.proofs.lemmas.Bool.{cases_Bool, ltb-true, ltb-false}
 use Rattle.host_types.specs.SiteState.{SiteState}
-use Rattle.host_types.specs.Pins.{Pinned, is_out, pinned_items}
+use Rattle.host_types.specs.Pins.{Pinned}
 use Rattle.session_core.specs.World as world
 use Rattle.session_core.specs.World.{phase_in, moved_in, others_in}
-use Rattle.session_core.specs.HeldPins.{times, count_numbered, listed, HoldsAll, AreApart, MovesPins}
-use Rattle.session_core.specs.Sessions.{phase_of, session_of, sessions_of, pin_of, pins_of, IsSound, AreSound}
+use Rattle.session_core.specs.Sessions.{phase_of, session_of, sessions_of}
 use Rattle.session_core.specs.declared.session.Session.{Session}
-use Rattle.session_core.specs.declared.session.Phase.{Phase}
-use Rattle.session_core.specs.declared.session.Phase.TheVariants as phases
-use Rattle.session_core.proofs.PinsMoved.{EachIs, each_on, others_are_apart}
 
 position_is : {P : Type 0} (p : Session P → Bool) (xs : List (Session P)) (k : ℕ) → position p xs ≡ Some k → (position_or_len p xs ≡ k) × (position_or_len p xs < length xs)
 position_is p xs k h =

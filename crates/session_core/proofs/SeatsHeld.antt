@@ -1,14 +1,13 @@
 -- Sessions that come, and the pins that all of them hold.
-use Rattle.std.proofs.Common.{◌≡◌, ℕ, zero, suc, ◌+◌, ◌<◌, ◌≤◌, Bool, true, List, [], ◌∷◌, ◌++◌, length, get_or, remove, refl, ap, sym, ◌∙◌, arith, subst, append_assoc}
-use Rattle.std.specs.Prelude.{◌==◌, Option, Some, None, IsTrue, IfSome, map}
+use Rattle.std.proofs.Common.{◌≡◌, ℕ, zero, suc, ◌+◌, ◌<◌, ◌≤◌, true, List, [], ◌∷◌, ◌++◌, length, get_or, remove, refl, ap, sym, ◌∙◌, arith, subst}
+use Rattle.std.specs.Prelude.{◌==◌, Option, Some, None, IsTrue, IfSome}
 use Rattle.std.specs.List.{position}
 use Rattle.std.proofs.lemmas.List.{map-append, length-map}
 use Rattle.host_types.specs.SiteState.{SiteState}
-use Rattle.host_types.specs.Pins.{Pinned, Copied, Numbered, is_out, most_pins}
-use Rattle.view_draws.specs.ViewDraw.{rest_of, body_at}
+use Rattle.host_types.specs.Pins.{Pinned, Copied, Numbered, is_out}
 use Rattle.session_core.specs.World as world
 use Rattle.session_core.specs.Run.{is_hearing}
-use Rattle.session_core.specs.HeldPins.{one_if, count_numbered, count_replying, has_more, listed, HoldsAll, HoldsForReplies, MovesPins}
+use Rattle.session_core.specs.HeldPins.{one_if, count_numbered, count_replying, has_more, listed, HoldsAll, HoldsForReplies}
 use Rattle.session_core.specs.Sessions.{phase_of, session_of, sessions_of, pin_of, pins_of, IsSound, AreSound}
 use Rattle.session_core.specs.Understood.{HasRoomFor}
 use Rattle.session_core.specs.declared.session.Session.{Session}

@@ -1,13 +1,13 @@
 -- All sessions where one of them moves, or goes, and its pin with it.
-use Rattle.std.proofs.Common.{◌≡◌, ℕ, zero, suc, ◌+◌, ◌<◌, ◌≤◌, true, List, [], ◌∷◌, ◌++◌, length, get_or, set, remove, refl, ap, sym, ◌∙◌, arith, subst}
-use Rattle.std.specs.Prelude.{◌==◌, Option, Some, None, IsTrue}
+use Rattle.std.proofs.Common.{◌≡◌, ℕ, zero, suc, ◌+◌, ◌<◌, List, [], ◌∷◌, ◌++◌, length, get_or, set, remove, refl, ap, sym, ◌∙◌, arith, subst}
+use Rattle.std.specs.Prelude.{◌==◌, Option, Some, None}
 use Rattle.std.specs.List.{position}
 use Rattle.host_types.specs.SiteState.{SiteState}
-use Rattle.host_types.specs.Pins.{Pinned, Copied, Numbered, is_out, pinned_items, viewed_among}
+use Rattle.host_types.specs.Pins.{Pinned, Copied, Numbered, pinned_items, viewed_among}
 use Rattle.view_draws.specs.ViewDraw.{rest_of, IsOf}
 use Rattle.session_core.specs.World as world
 use Rattle.session_core.specs.World.{moved_in, others_in}
-use Rattle.session_core.specs.HeldPins.{one_if, times, count_numbered, listed, HoldsAll, AreApart, MovesPins}
+use Rattle.session_core.specs.HeldPins.{times, count_numbered, listed, HoldsAll, MovesPins}
 use Rattle.session_core.specs.Sessions.{phase_of, session_of, sessions_of, pin_of, pins_of, IsSound, AreSound}
 use Rattle.session_core.specs.declared.session.Session.{Session}
 use Rattle.session_core.specs.declared.session.Phase.{Phase}

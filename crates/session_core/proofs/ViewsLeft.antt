@@ -1,7 +1,7 @@
 -- A view that has bytes leaves some to be drawn.
-use Rattle.std.proofs.Common.{◌≡◌, ◌<◌, ℕ, Bool, true, false, List, [], ◌∷◌, ◌++◌, length, refl, ap, sym, ◌∙◌, arith}
+use Rattle.std.proofs.Common.{◌≡◌, ◌<◌, ℕ, Bool, true, false, List, [], ◌++◌, length, ap, arith}
 use Rattle.std.proofs.lemmas.List.{length-append}
-use Rattle.text_writer.specs.Text.{text, text_end}
+use Rattle.text_writer.specs.Text.{text}
 use Rattle.text_writer.specs.Text.{sent_as}
 
 text_some : (body : List ℕ) → 0 < length (text body)

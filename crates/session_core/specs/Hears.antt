@@ -10,6 +10,7 @@ use Rattle.session_core.specs.World as world
 use Rattle.session_core.specs.Step.{StepResult, with_change}
 use Rattle.session_core.specs.Run.{is_hearing}
 use Rattle.session_core.specs.Causes.{IsLacking}
+use Rattle.session_core.specs.Counting.{CountsCall}
 use Rattle.session_core.specs.HeldPins.{MovesPins}
 use Rattle.session_core.specs.Understood.{IsPostFault, HasWorked, next_outcome}
 use Rattle.session_core.specs.Outcomes.{heard_outcome}
@@ -18,12 +19,13 @@ use Rattle.session_core.specs.declared.answer.InputStatus.{InputStatus}
 use Rattle.session_core.specs.declared.fault.HubFault.{HubFault}
 use Rattle.session_core.specs.declared.session.Phase.{Phase}
 
--- What a call that makes a post, where there is one, does to a site: where it succeeds the site has the post and is still usable, a fault has its reason, and one that leaves the site usable adds no crash state; a crash within the call leaves what represents the site from before it, or with the post.
+-- What a call that makes a post, where there is one, does to a site: where it succeeds the site has the post and is still usable, a fault has its reason, and one that leaves the site usable adds no crash state; the answer says what was counted; a crash within the call leaves what represents the site from before it, or with the post.
 pub record MakesPost {T K L : Type 0} (site_state : K → SiteState) (lacks : K → Change → ℕ → SiteFault → Type 0) (crash_states : K → CrashStates L) (represents : L → Site → Type 0) (post : Option Change) (now : ℕ) (old new : K) (result : Result T HubFault) : Type 0 where
   pub done : IsTrue (site_state old).honest → OnOk result ((site_state new).site ≡ with_change (site_state old).site now post)
   pub still_usable : OnOk result ((site_state new).usable ≡ true)
   pub fault : IfErr result (IsPostFault (IsLacking (lacks old)) post now (site_state old) (site_state new))
   pub worked : HasWorked (site_state old) (site_state new)
+  pub counts : CountsCall result (site_state old) (site_state new)
   pub unchanged : IsTrue (site_state old).honest → IfErr result (λ e. (site_state new).usable ≡ true → AddsNone (crash_states old) (crash_states new))
   pub at_crash : IsTrue (site_state old).honest → AddsOnly (crash_states old) (crash_states new) (λ c. represents c (site_state old).site ⊎ represents c (with_change (site_state old).site now post))
 

@@ -1,5 +1,5 @@
 -- The pins that sessions hold, and those that are out.
-use Rattle.std.specs.Prelude.{◌≡◌, ◌≤◌, ◌+◌, ◌==◌, ℕ, zero, Bool, true, false, List, [], ◌∷◌, ◌++◌, length, Option, None, Some, IsTrue, if◌then◌else◌}
+use Rattle.std.specs.Prelude.{◌≡◌, ◌≤◌, ◌+◌, ◌==◌, ℕ, Bool, true, false, List, [], ◌∷◌, ◌++◌, length, Option, None, Some, IsTrue, if◌then◌else◌}
 use Rattle.std.proofs.Props.{props}
 use Rattle.host_types.specs.SiteState.{SiteState, numbers_out}
 use Rattle.host_types.specs.Pins.{Pinned, Copied, Numbered, is_among, is_out, pinned_items}

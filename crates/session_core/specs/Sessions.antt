@@ -3,7 +3,7 @@ use Rattle.std.specs.Prelude.{◌≡◌, ℕ, List, [], ◌∷◌, ◌++◌, dro
 use Rattle.std.specs.Coded.{Π_prop}
 use Rattle.std.proofs.Props.{props}
 use Rattle.host_types.specs.Card.{chunk_of}
-use Rattle.view_draws.specs.Source.{IsViewOf, HasChunk}
+use Rattle.view_draws.specs.Source.{IsViewOf}
 use Rattle.view_draws.specs.declared.source.ViewSource.{ViewSource}
 use Rattle.host_types.specs.SiteState.{SiteState}
 use Rattle.host_types.specs.Pins.{Pinned}

@@ -75,7 +75,6 @@ fn store<S: SearchKeeper>(site: &mut S, post: Option<Change>, now: Stamp) -> Res
     requires right { IsTrue (S.site_state site.old).honest → IsRight (S.site_state site.old).site now post }
     ensures pins { (S.site_state site.new).pins ≡ (S.site_state site.old).pins }
     ensures site { MakesPost S.site_state S.lacks S.crash_states S.represents post now site.old site.new result }
-    ensures counts { CountsCall result (S.site_state site.old) (S.site_state site.new) }
 {
     let Some(change) = post else {
         return Ok(());
@@ -134,7 +133,6 @@ fn settle<S: SearchKeeper>(
     ensures heard { IfOk result (λ r. heard_outcome r.0 ≡ (answered (option_map (answer_of (S.site_state site.old).site) made)).outcome) }
     ensures next { GetsNext S.pinned (answered (option_map (answer_of (S.site_state site.old).site) made)) (S.site_state site.old) (S.site_state site.new) result }
     ensures site { MakesPost S.site_state S.lacks S.crash_states S.represents (post_of (option_map (answer_of (S.site_state site.old).site) made)) now site.old site.new result }
-    ensures counts { CountsCall result (S.site_state site.old) (S.site_state site.new) }
 {
     let Some(Answered { reply, post }) = made else {
         return Ok((InputStatus::Finished, Phase::Early));
@@ -166,7 +164,6 @@ fn conclude<S: SearchKeeper>(
     ensures heard { IsTrue (S.site_state site.old).honest → IfOk result (λ r. heard_outcome r.0 ≡ (answered (reply_by (S.site_state site.old).site now (seen answer.entry))).outcome) }
     ensures next { GetsNext S.pinned (answered (reply_by (S.site_state site.old).site now (seen answer.entry))) (S.site_state site.old) (S.site_state site.new) result }
     ensures site { MakesPost S.site_state S.lacks S.crash_states S.represents (answered (reply_by (S.site_state site.old).site now (seen answer.entry))).post now site.old site.new result }
-    ensures counts { CountsCall result (S.site_state site.old) (S.site_state site.new) }
 {
     match reply_to(alloc, site, answer, now) {
         Ok(made) => settle(site, made, now),
@@ -186,7 +183,6 @@ fn hear_piece<S: SearchKeeper>(
     requires room { length (S.site_state site.old).pins < most_pins }
     ensures hears { HearsOn S.pinned (listens (S.site_state site.old).site now piece.now (world.Heard hearing.old.reader.input.bytes)) hearing.old.reader.input.bytes hearing.new.reader.input.bytes (S.site_state site.old) (S.site_state site.new) result }
     ensures site { MakesPost S.site_state S.lacks S.crash_states S.represents (listens (S.site_state site.old).site now piece.now (world.Heard hearing.old.reader.input.bytes)).post now site.old site.new result }
-    ensures counts { CountsCall result (S.site_state site.old) (S.site_state site.new) }
 {
     let Ok(answer) = hearing.reader.feed(piece) else {
         return Err(HubFault::Memory);
@@ -213,7 +209,6 @@ fn hear_last<S: SearchKeeper>(
     requires room { length (S.site_state site.old).pins < most_pins }
     ensures hears { HearsOn S.pinned (ends (S.site_state site.old).site now (world.Heard hearing.old.reader.input.bytes)) hearing.old.reader.input.bytes hearing.new.reader.input.bytes (S.site_state site.old) (S.site_state site.new) result }
     ensures site { MakesPost S.site_state S.lacks S.crash_states S.represents (ends (S.site_state site.old).site now (world.Heard hearing.old.reader.input.bytes)).post now site.old site.new result }
-    ensures counts { CountsCall result (S.site_state site.old) (S.site_state site.new) }
 {
     let answer = hearing.reader.finish();
     if let Answer::More = answer {
@@ -250,7 +245,6 @@ pub fn hear<S: SearchKeeper>(
     requires room { HasRoomFor (S.site_state site.old) (phase_of S.pinned (S.site_state site.old) phase.old) }
     ensures hears { Hears S.pinned (listens (S.site_state site.old).site now piece.now (phase_of S.pinned (S.site_state site.old) phase.old)) phase.old phase.new (S.site_state site.old) (S.site_state site.new) result }
     ensures site { MakesPost S.site_state S.lacks S.crash_states S.represents (listens (S.site_state site.old).site now piece.now (phase_of S.pinned (S.site_state site.old) phase.old)).post now site.old site.new result }
-    ensures counts { CountsCall result (S.site_state site.old) (S.site_state site.new) }
 {
     let heard = match phase {
         Phase::Hearing(hearing) => hear_piece(alloc, site, hearing, piece, now)?,
@@ -275,7 +269,6 @@ pub fn hear_end<S: SearchKeeper>(
     requires room { HasRoomFor (S.site_state site.old) (phase_of S.pinned (S.site_state site.old) phase.old) }
     ensures hears { Hears S.pinned (ends (S.site_state site.old).site now (phase_of S.pinned (S.site_state site.old) phase.old)) phase.old phase.new (S.site_state site.old) (S.site_state site.new) result }
     ensures site { MakesPost S.site_state S.lacks S.crash_states S.represents (ends (S.site_state site.old).site now (phase_of S.pinned (S.site_state site.old) phase.old)).post now site.old site.new result }
-    ensures counts { CountsCall result (S.site_state site.old) (S.site_state site.new) }
 {
     let heard = match phase {
         Phase::Hearing(hearing) => hear_last(alloc, site, hearing, now)?,

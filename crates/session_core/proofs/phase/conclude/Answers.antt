@@ -9,21 +9,27 @@ settle-requires-clause-right g c =
     right_now (g.S.SiteKeeper.site_state c.args.site.now) (g.S.SiteKeeper.site_state c.reply_to.new.site) c.args.now (seen c.args.answer) c.in-Ok.made c.reply_to.ensures.kept c.in-Ok.ensures.reply
 
 pub returns-in-Ok-clause-site : goal.returns-in-Ok-clause-site
-returns-in-Ok-clause-site g c = record {
-  done = search rules;
-  still_usable = search rules;
-  fault = search rules;
-  worked = search rules;
-  unchanged = search rules;
-  at_crash = search rules;
-}
-
-pub returns-in-Ok-clause-counts : goal.returns-in-Ok-clause-counts
-returns-in-Ok-clause-counts g c =
+returns-in-Ok-clause-site g c =
     let s = g.S.SiteKeeper in
-    call_since c.settle.result (s.site_state c.args.site.now) (s.site_state c.reply_to.new.site) (s.site_state c.settle.new.site) c.reply_to.ensures.kept c.in-Ok.ensures.reads c.settle.ensures.counts
+    record {
+      done = search rules;
+      still_usable = search rules;
+      fault = search rules;
+      worked = search rules;
+      counts = call_since c.settle.result (s.site_state c.args.site.now) (s.site_state c.reply_to.new.site) (s.site_state c.settle.new.site) c.reply_to.ensures.kept c.in-Ok.ensures.reads c.settle.ensures.site.counts;
+      unchanged = search rules;
+      at_crash = search rules;
+    }
 
-pub returns-in-Err-clause-counts : goal.returns-in-Err-clause-counts
-returns-in-Err-clause-counts g c =
+pub returns-in-Err-clause-site : goal.returns-in-Err-clause-site
+returns-in-Err-clause-site g c =
     let s = g.S.SiteKeeper in
-    read_fault_counts c.in-Err.fault c.of_site.result (s.site_state c.args.site.now) (s.site_state c.reply_to.new.site) c.requires.usable c.of_site.ensures c.reply_to.ensures.kept c.in-Err.ensures.fault c.in-Err.ensures.reads
+    record {
+      done = search rules;
+      still_usable = search rules;
+      fault = search rules;
+      worked = search rules;
+      counts = read_fault_counts c.in-Err.fault c.of_site.result (s.site_state c.args.site.now) (s.site_state c.reply_to.new.site) c.requires.usable c.of_site.ensures c.reply_to.ensures.kept c.in-Err.ensures.fault c.in-Err.ensures.reads;
+      unchanged = search rules;
+      at_crash = search rules;
+    }

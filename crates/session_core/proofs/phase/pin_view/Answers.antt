@@ -1,4 +1,4 @@
-use Rattle.std.proofs.Common.{◌≡◌, ◌<◌, ℕ, List, [], length, refl, sym, ap, subst, ◌∙◌, arith}
+use Rattle.std.proofs.Common.{◌≡◌, ◌<◌, ℕ, List, [], sym, ap, subst, ◌∙◌}
 use Rattle.host_types.specs.Site.{Items}
 use Rattle.host_types.specs.Pins.{pinned_items, viewed_among}
 use Rattle.view_draws.specs.ViewDraw.{rest_of, IsOf}

@@ -137,7 +137,7 @@ returns g c =
       honest = c.hear.ensures.site.worked.honest;
       at_crash = at_crash;
       closed = λ off. (let no : true ≡ false = sym usable ∙ off in absurd (cc no));
-      counts = c.hear.ensures.counts;
+      counts = c.hear.ensures.site.counts;
       call = record {
         step = step;
         cause = heard_fault c.hear.result _ cause;

@@ -1,5 +1,5 @@
-use Rattle.std.proofs.Common.{◌≡◌, ℕ, List, true, length, set, refl, sym, ap, subst, ◌∙◌, rules}
-use Rattle.std.specs.Prelude.{◌==◌, not, IsTrue, Some, None, IfErr}
+use Rattle.std.proofs.Common.{◌≡◌, true, length, refl, sym, ap, subst, ◌∙◌, rules}
+use Rattle.std.specs.Prelude.{◌==◌, IsTrue, Some, None, IfErr}
 use Rattle.std.specs.List.{position}
 use Rattle.session_core.specs.World as world
 use Rattle.session_core.specs.Run.{has_bytes_left}

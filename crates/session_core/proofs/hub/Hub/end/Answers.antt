@@ -137,7 +137,7 @@ returns g c =
       honest = c.hear_end.ensures.site.worked.honest;
       at_crash = at_crash;
       closed = λ off. (let no : true ≡ false = sym usable ∙ off in absurd (cc no));
-      counts = c.hear_end.ensures.counts;
+      counts = c.hear_end.ensures.site.counts;
       call = record {
         step = step;
         cause = heard_fault c.hear_end.result _ cause;

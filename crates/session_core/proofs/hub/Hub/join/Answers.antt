@@ -1,6 +1,5 @@
-use Rattle.std.proofs.Common.{◌≡◌, ◌<◌, ℕ, true, [], ◌∷◌, ◌++◌, length, refl, sym, ap, subst, ◌∙◌, arith, rules}
-use Rattle.std.specs.Prelude.{List, IsTrue}
-use Rattle.session_core.specs.World.{Heard}
+use Rattle.std.proofs.Common.{◌≡◌, true, [], ◌∷◌, ◌++◌, refl, sym, ap, subst, ◌∙◌, arith, rules}
+use Rattle.std.specs.Prelude.{List}
 use Rattle.session_core.specs.HeldPins.{HoldsAll}
 use Rattle.session_core.specs.Sessions.{sessions_of, pins_of, AreSound}
 use Rattle.session_core.specs.declared.session.Session.{Session}
