@@ -5,6 +5,7 @@ use Rattle.std.specs.List.Sorted.{IsSearchInRange, IsBinarySearchResult, IsNonDe
 use Rattle.std.specs.FinMap.Entries.{below_all, is_sorted}
 use Rattle.std.specs.Ordering.{is_lt, is_eq, ordering_index, ordering_reverse}
 use Rattle.std.specs.declared.cmp.Ordering.TheVariants.{Less, Equal, Greater}
+use Rattle.std.proofs.lemmas.List.{get_or_default}
 use Rattle.std.proofs.lemmas.Bool.{and_parts, cases_lt}
 use Rattle.std.proofs.lemmas.Slice.Eq.{bytes_eq-Decides}
 use Rattle.std.proofs.lemmas.Cmp.{nat_list_cmp_total}
@@ -13,6 +14,7 @@ use Rattle.page_store.specs.Batch.{value_at}
 use Rattle.page_store.specs.Keys.{precedes, rises}
 use Rattle.page_store.specs.Pages.{Pair, key_of}
 use Rattle.site_records.specs.LayoutLaws.{is_at-Decides, at_itself, not_at}
+use Rattle.site_store.specs.Opening.{IsPlaceOf}
 use Rattle.site_store.proofs.RisingKeys.{is_below, less, below_trans, below_later_all, not_itself, clash}
 
 -- ---- keys that rise, by neighbours and by all later ones
@@ -110,6 +112,19 @@ module _ (key : List ℕ) where
         | inr behind ↦ ap is_eq (sides.1 k d (omega (arith, behind)) less)
       ])
 
+-- ---- the place of a key
+
+pub found_place : (key : List ℕ) (ps : List Pair) (r : Result ℕ ℕ) (n : ℕ) → r ≡ Ok n → IsSearchInRange r (length ps) → IsFound key ps r → IsPlaceOf ps key (Some n)
+found_place key ps r n is room found = (subst (λ x. IsSearchInRange x (length ps)) is room, subst (IsFound key ps) is found)
+
+pub no_place : (key : List ℕ) (ps : List Pair) (r : Result ℕ ℕ) (n : ℕ) → r ≡ Err n → IsFound key ps r → IsPlaceOf ps key None
+no_place key ps r n is found = subst (IsFound key ps) is found
+
+pub likely_place : (key : List ℕ) (ps : List Pair) (n : ℕ) (p : Pair) → rises (map key_of ps) ≡ true → n < length ps → p ≡ slice_index_or ps n p → p.0 ≡ key → IsPlaceOf ps key (Some n)
+likely_place key ps n p rise room here same =
+    let at : (d : Pair) → slice_index_or ps n d ≡ p = λ d. get_or_default ps n d p room ∙ sym here in
+    (room, λ d. subst (λ k. value_at ps k ≡ Some (slice_index_or ps n d).1) (ap key_of (at d) ∙ same) (at_place ps n d (rises_sorted ps rise) room))
+
 -- ---- what is answered
 
 some_same : (v w : List ℕ) → Some v ≡ Some w → v ≡ w
@@ -118,16 +133,14 @@ some_same v w e = cc e
 some_none : (v : List ℕ) → Some v ≡ None → ⊥
 some_none v e = cc e
 
-pub found_value : (key : List ℕ) (ps : List Pair) (r : Result ℕ ℕ) (n : ℕ) (p : Pair) (value : List ℕ) (b : Bool) → r ≡ Ok n → IsFound key ps r → p ≡ slice_index_or ps n p → b ≡ bytes_eq p.1 value → Decides b (value_at ps key ≡ Some value)
-found_value key ps r n p value b is found here same =
-    let at : (d : Pair) → value_at ps key ≡ Some (slice_index_or ps n d).1 = subst (IsFound key ps) is found in
-    let value_is : value_at ps key ≡ Some p.1 = at p ∙ ap (λ (q : Pair). Some q.1) (sym here) in
+pub placed_value : (key : List ℕ) (ps : List Pair) (n : ℕ) (p : Pair) (value : List ℕ) (b : Bool) → IsPlaceOf ps key (Some n) → p ≡ slice_index_or ps n p → b ≡ bytes_eq p.1 value → Decides b (value_at ps key ≡ Some value)
+placed_value key ps n p value b place here same =
+    let value_is : value_at ps key ≡ Some p.1 = place.1 p ∙ ap (λ (q : Pair). Some q.1) (sym here) in
     let decides = bytes_eq-Decides p.1 value in (
       λ t. value_is ∙ ap (λ (x : List ℕ). Some x) (decides.0 (sym same ∙ t)),
       λ e. same ∙ decides.1 (some_same p.1 value (sym value_is ∙ e)),
     )
 
-pub no_value : (key : List ℕ) (ps : List Pair) (r : Result ℕ ℕ) (n : ℕ) (value : List ℕ) → r ≡ Err n → IsFound key ps r → Decides false (value_at ps key ≡ Some value)
-no_value key ps r n value is found =
-    let none : value_at ps key ≡ None = subst (IsFound key ps) is found in
+pub no_value : (key : List ℕ) (ps : List Pair) (value : List ℕ) → IsPlaceOf ps key None → Decides false (value_at ps key ≡ Some value)
+no_value key ps value none =
     (λ t. absurd (let e : false ≡ true = t in cc e), λ e. absurd (some_none value (sym e ∙ none)))

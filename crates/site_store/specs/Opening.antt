@@ -1,5 +1,5 @@
 -- Reading a whole site from its pairs.
-use Rattle.std.specs.Prelude.{◌≡◌, ℕ, ◌==◌, true, false, length, flat_map, List, [], ◌∷◌, Option, Some, None, IsTrue, if◌then◌else◌}
+use Rattle.std.specs.Prelude.{◌≡◌, ◌<◌, ℕ, ◌==◌, slice_index_or, true, false, length, flat_map, List, [], ◌∷◌, Option, Some, None, IsTrue, if◌then◌else◌}
 use Rattle.std.specs.List.{AllByRecursion}
 use Rattle.common_types.specs.Counts.{counted}
 use Rattle.host_types.specs.Site.{Site, IsSite, item_at, with_item}
@@ -63,6 +63,11 @@ AreShort es = AllByRecursion (λ e. IsTrue (is_short e.1)) es
 -- the pairs of some items, one item after the other
 abbrev pub pairs_in : List (List ℕ × Item) → List Pair
 pairs_in es = flat_map (λ e. item_pairs e.0 e.1) es
+
+-- the place of a key among some pairs, or none where nothing stands at it
+abbrev pub IsPlaceOf : List Pair → List ℕ → Option ℕ → Type 0
+IsPlaceOf ps key None = value_at ps key ≡ None
+IsPlaceOf ps key (Some n) = (n < length ps) × ((d : Pair) → value_at ps key ≡ Some (slice_index_or ps n d).1)
 
 -- each of some pairs stands among all
 abbrev pub StandAmong : List Pair → List Pair → Type 0

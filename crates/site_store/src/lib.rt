@@ -8,6 +8,7 @@ mod fault;
 mod figures;
 mod filter_search;
 mod items;
+mod likely;
 mod longest;
 mod looking;
 mod lookup;

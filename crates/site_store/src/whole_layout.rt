@@ -5,6 +5,7 @@ ghost use Rattle.page_store.specs.Keys.{rises};
 ghost use Rattle.page_store.specs.Pages.{key_of};
 ghost use Rattle.site_store.specs.Opening.{AreCounted, AreShort, IsLayoutOf};
 
+use crate::likely::LikelyPlaces;
 use host_types::{Item, Selector};
 use mem_site::MemSite;
 use page_store::Pair;
@@ -27,23 +28,23 @@ fn keys_rise(pairs: &[Pair]) -> bool
 }
 
 /// Whether this value stands at this key.
-fn is_among(pairs: &[Pair], key: &Key, value: &Piece) -> bool
+fn is_among(pairs: &[Pair], likely: &mut LikelyPlaces, key: &Key, value: &Piece) -> bool
     requires { IsTrue (rises (map key_of pairs.now)) }
     ensures { Decides result (value_at pairs.now key.now ≡ Some value.now) }
 {
-    match pairs.binary_search_by(|pair| pair.key().cmp(key.as_bytes())) {
-        Ok(place) => pairs[place].value() == value.as_slice(),
-        Err(_) => false,
+    match likely.place_of(pairs, key.as_bytes()) {
+        Some(place) => pairs[place].value() == value.as_slice(),
+        None => false,
     }
 }
 
 /// Whether each of these entries is one of the pairs.
-fn are_among(pairs: &[Pair], entries: &[(Key, Piece)]) -> bool
+fn are_among(pairs: &[Pair], likely: &mut LikelyPlaces, entries: &[(Key, Piece)]) -> bool
     requires { IsTrue (rises (map key_of pairs.now)) }
     ensures { Decides result (All (λ p. value_at pairs.now p.0 ≡ Some p.1) entries.now) }
 {
     for entry in entries {
-        if !is_among(pairs, &entry.0, &entry.1) {
+        if !is_among(pairs, likely, &entry.0, &entry.1) {
             return false;
         }
     }
@@ -60,12 +61,13 @@ fn are_counted(
     requires short { AreShort (map (λ e. (e.0.now, e.1.now)) items.now) }
     ensures { IfOk result (λ yes. Decides yes (AreCounted pairs.now (length pairs.now) (map (λ e. (e.0.now, e.1.now)) items.now))) }
 {
+    let mut likely = LikelyPlaces::new(alloc, pairs.len())?;
     let mut rest = items;
     let mut left = pairs.len();
     while let [item, others @ ..] = rest {
         let mut entries = Vec::new(alloc);
         put_item(alloc, &mut entries, item.0, item.1)?;
-        if !are_among(pairs, &entries) {
+        if !are_among(pairs, &mut likely, &entries) {
             return Ok(false);
         }
         let Some(fewer) = left.checked_sub(entries.len()) else {

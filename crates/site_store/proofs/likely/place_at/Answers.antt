@@ -1,0 +1,25 @@
+use Rattle.std.proofs.Common.{rules, ◌≡◌}
+use Rattle.std.proofs.lemmas.Fn.{always_returns_same}
+use Rattle.host_types.specs.Site.{byte_cmp}
+use Rattle.site_store.proofs.PairsFound.{searched, found_place, no_place, likely_place}
+use Rattle.site_store.proofs.likely.place_at.Goals as goal
+
+pub returns-in-Ok : goal.returns-in-Ok
+returns-in-Ok c =
+    let pairs = c.args.pairs.now in
+    let key = c.args.key.now in
+    let by_key = c.binary_search_by.ensures.position (λ p. byte_cmp p.0 key) (always_returns_same _ _ _ (λ a r g called. search rules)) in
+    found_place key pairs c.binary_search_by.result c.in-Ok.place c.in-Ok.is c.binary_search_by.ensures.bound (searched key pairs c.binary_search_by.result c.requires c.binary_search_by.ensures.bound by_key)
+
+pub returns-in-Err : goal.returns-in-Err
+returns-in-Err c =
+    let pairs = c.args.pairs.now in
+    let key = c.args.key.now in
+    let by_key = c.binary_search_by.ensures.position (λ p. byte_cmp p.0 key) (always_returns_same _ _ _ (λ a r g called. search rules)) in
+    no_place key pairs c.binary_search_by.result c.in-Err.field-0 c.in-Err.is (searched key pairs c.binary_search_by.result c.requires c.binary_search_by.ensures.bound by_key)
+
+pub returns-then-eq : goal.returns-then-eq
+returns-then-eq c =
+    let pair = c.index-pairs-likely.result in
+    let same : pair.0 ≡ c.args.key.now = search rules in
+    likely_place c.args.key.now c.args.pairs.now c.args.likely pair c.requires c.if-likely-pairs.true c.index-pairs-likely.is same
