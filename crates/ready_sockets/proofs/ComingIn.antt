@@ -1,5 +1,5 @@
 -- Who comes in behind those who are in, and what was asked of the door meanwhile.
-use Rattle.std.proofs.Common.{◌≡◌, ℕ, ◌+◌, ◌<◌, ◌≤◌, zero, suc, Bool, true, false, ◌&&◌, nat_lt, Some, None, List, [], ◌∷◌, ◌++◌, map, length, length-append, refl, sym, ap, ◌∙◌, append_assoc, arith}
+use Rattle.std.proofs.Common.{◌≡◌, ℕ, ◌+◌, ◌<◌, ◌≤◌, zero, suc, Bool, true, false, not, is_some, ◌&&◌, nat_lt, Some, None, List, [], ◌∷◌, ◌++◌, map, length, length-append, refl, sym, ap, ◌∙◌, append_assoc, arith}
 use Rattle.std.proofs.lemmas.List.{append-nil, map-append}
 use Rattle.std.proofs.lemmas.List.Elements.{All-nil, All-append}
 use Rattle.std.proofs.lemmas.Bool.Decides.{nat_tests}
@@ -7,11 +7,33 @@ use Rattle.std.specs.List.{All}
 use Rattle.std.specs.declared.net.ip_addr.IpAddr.{IpAddr}
 use Rattle.mio.specs.declared.net.stream.TcpStream.{TcpStream}
 use Rattle.mio.specs.declared.token.Token.{Token}
+use Rattle.session_core.specs.declared.event.Event.{Event}
+use Rattle.session_core.specs.declared.event.Outcome.{Outcome}
+use Rattle.session_core.specs.declared.event.Outcome.TheVariants as outcomes
+use Rattle.ready_turns.specs.Seats.{SeatState, IsSeated, joined_state, ending_of}
+use Rattle.ready_turns.specs.declared.seat.Seat.{Seat}
+use Rattle.ready_sockets.specs.declared.ready_socket.ReadySocket.{ReadySocket}
 use Rattle.ready_sockets.specs.DoorCalls.{Came, NoneCame, NotHad}
 use Rattle.ready_sockets.specs.Rounds.{came_call, may_not, none_came, not_had, HasLetIn}
 use Rattle.ready_sockets.specs.Visits.{asks, asked_calls, ComesIn, IsNew}
 use Rattle.ready_sockets.specs.declared.room.Room.{Room}
 use Rattle.ready_sockets.specs.declared.visit.Visit.{Visit}
+
+-- a session that has joined or could not has a turn
+joined_turn : (outcome : Outcome) → (not (joined_state outcome).waits && not (is_some (ending_of (joined_state outcome).stage))) ≡ true
+joined_turn (outcomes.Joined id) = refl
+joined_turn outcome = refl
+
+pub comes_in : (from : IpAddr) (token : Token) (now : ℕ) (wire : ReadySocket) (seat : Seat ReadySocket) (es : List Event) (os : List Outcome) (old new : List Visit) → IsSeated wire es os seat → new ≡ old ++ record { seat = seat; from = from; token = token; came = now; moved = now } ∷ [] → ComesIn from token now old new
+comes_in from token now wire seat es os old new seated is = record {
+  visit = record { seat = seat; from = from; token = token; came = now; moved = now };
+  is = is;
+  from_is = refl;
+  token_is = refl;
+  came_is = refl;
+  moved_is = refl;
+  turn = ap (λ (s : SeatState). not s.waits && not (is_some (ending_of s.stage))) seated.state_is ∙ joined_turn seated.outcome;
+}
 
 -- So many came so far, and no one else was asked for.
 pub record IsLettingIn (now count : ℕ) (old mid : Room) : Type 0 where

@@ -1,4 +1,7 @@
 pub mod ComingIn
 pub mod HeadsKept
+pub mod Passes
 pub mod Rounds
 pub mod SameClients
+pub mod SocketCalls
+pub mod ToldOnes

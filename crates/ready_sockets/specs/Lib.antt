@@ -1,8 +1,10 @@
 pub mod DoorCalls
 pub mod Doors
 pub mod Heads
+pub mod Sent
 pub mod Limits
 pub mod Lines
 pub mod Visits
+pub mod Logged
 pub mod Rounds
 pub mod Examples

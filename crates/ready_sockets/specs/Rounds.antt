@@ -4,8 +4,10 @@ use Rattle.std.specs.List.{All}
 use Rattle.std.specs.declared.net.ip_addr.IpAddr.{IpAddr}
 use Rattle.mio.specs.declared.event.event.Event.{Event as SocketEvent}
 use Rattle.mio.specs.declared.token.Token.{Token}
+use Rattle.session_core.specs.declared.event.Event.{Event}
+use Rattle.session_core.specs.declared.event.Outcome.{Outcome}
 use Rattle.ready_sockets.specs.DoorCalls.{DoorCall, Came, NoneCame, NotHad}
-use Rattle.ready_sockets.specs.Visits.{has_gone, asks, IsNew, HasWaited, HasNotWaited}
+use Rattle.ready_sockets.specs.Visits.{has_gone, asks, IsNew, HasWaited, HasNotWaited, WereServed}
 use Rattle.ready_sockets.specs.declared.room.Room.{Room}
 use Rattle.ready_sockets.specs.declared.room.VisitFault.{VisitFault}
 use Rattle.ready_sockets.specs.declared.room.VisitFault.TheVariants.{Net, Failed, Memory}
@@ -42,10 +44,17 @@ pub record HasLetIn (now : ℕ) (old new : Room) : Type 0 where
 abbrev pub who : Visit → IpAddr × Token × ℕ
 who visit = (visit.from, visit.token, visit.came)
 
--- Whoever is at the door was let in. Then nobody else came or went, and no more was asked of the door.
-pub record HasHadTurns (now : ℕ) (old new : Room) : Type 0 where
+-- Whoever is at the door was let in, and their sessions joined. Then all who are in were served, nobody else came or went, and no more was asked of the door.
+pub record HasHadTurns (now : ℕ) (old : Room) (es : List Event) (os : List Outcome) (new : Room) : Type 0 where
   pub full : Room
+  pub join_events : List Event
+  pub join_outcomes : List Outcome
+  pub turn_events : List Event
+  pub turn_outcomes : List Outcome
   pub let_in : HasLetIn now old full
+  pub served : WereServed now full.visits.items turn_events turn_outcomes new.visits.items
+  pub events_are : es ≡ join_events ++ turn_events
+  pub outcomes_are : os ≡ join_outcomes ++ turn_outcomes
   pub door : new.door ≡ full.door
   pub may_accept : new.may_accept ≡ full.may_accept
   pub clients : map who new.visits.items ≡ map who full.visits.items
@@ -58,12 +67,14 @@ pub record HasSeenOff (old new : Room) : Type 0 where
 
 -- A round: one wait, then turns with whoever is at the door, then those go out who have gone.
 pub record HasHadRound (old new : Room) : Type 0 where
-  pub events : List SocketEvent
+  pub called : List SocketEvent
   pub now : ℕ
+  pub events : List Event
+  pub outcomes : List Outcome
   pub waited : Room
   pub turned : Room
-  pub wait : HasWaited events old waited
-  pub turns : HasHadTurns now waited turned
+  pub wait : HasWaited called old waited
+  pub turns : HasHadTurns now waited events outcomes turned
   pub seen_off : HasSeenOff turned new
 
 -- so many rounds, one after another

@@ -1,5 +1,5 @@
 -- What is done for clients that are in.
-use Rattle.std.specs.Prelude.{◌≡◌, ◌==◌, ℕ, Bool, true, false, not, ◌&&◌, ◌||◌, is_some, if◌then◌else◌, Option, Some, None, List, [], ◌∷◌, ◌++◌, nat_lt, map, length}
+use Rattle.std.specs.Prelude.{◌≡◌, ◌≤◌, ◌<◌, ◌==◌, ℕ, Bool, true, false, not, ◌&&◌, ◌||◌, is_some, if◌then◌else◌, Option, Some, None, List, [], ◌∷◌, ◌++◌, nat_lt, map, length}
 use Rattle.std.specs.List.{list_all, list_any}
 use Rattle.std.specs.declared.net.ip_addr.IpAddr.{IpAddr}
 use Rattle.mio.specs.Event.{event_token}
@@ -7,6 +7,7 @@ use Rattle.mio.specs.declared.event.event.Event.{Event as SocketEvent}
 use Rattle.mio.specs.declared.token.Token.{Token}
 use Rattle.session_core.specs.declared.event.Event.{Event}
 use Rattle.session_core.specs.declared.event.Outcome.{Outcome}
+use Rattle.turns.specs.Turns.{Both, InOrder, Times}
 use Rattle.ready_turns.specs.Seats.{For, Turn, Dismissed, ending_of}
 use Rattle.ready_sockets.specs.DoorCalls.{DoorCall, Waited, WaitFailed, Came, NoneCame, NotHad}
 use Rattle.ready_sockets.specs.Doors.{listener_token, HasSameListener}
@@ -77,6 +78,7 @@ pub record HasWoken (all : Bool) (events : List SocketEvent) (old new : Room) : 
 
 -- ---- a wait
 
+-- nobody has a turn
 abbrev pub all_wait : List Visit → Bool
 all_wait visits = list_all (λ visit. not (has_turn visit)) visits
 
@@ -101,6 +103,19 @@ pub record HasNotWaited (old new : Room) : Type 0 where
   pub visits : new.visits ≡ old.visits
   pub may_accept : new.may_accept ≡ old.may_accept
   pub listener : HasSameListener old.door new.door
+
+-- ---- turns for all
+
+-- Passes over all, in each of which each has one turn, in order. They end where nobody has a turn, or after 16.
+pub record HadPasses (old : List Visit) (es : List Event) (os : List Outcome) (new : List Visit) : Type 0 where
+  pub count : ℕ
+  pub few : count ≤ 16
+  pub passes : Times count (InOrder HadTurn) old es os new
+  pub until : count < 16 → all_wait new ≡ true
+
+-- Passes were made over all, and then those were dismissed whose time is over.
+abbrev pub WereServed : ℕ → List Visit → List Event → List Outcome → List Visit → Type 0
+WereServed now old es os new = Both HadPasses (InOrder (WasDismissed now)) old es os new
 
 -- ---- who comes in
 

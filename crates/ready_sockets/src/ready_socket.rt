@@ -1,7 +1,7 @@
 // The calls of the system on a connection. Each function here makes one of them and notes it. That it makes the call which it notes, no clause can say: so
 // each is short, and tests on real connections hold it.
 ghost use Rattle.std.specs.Prelude.{◌≡◌, [], IfOk};
-ghost use Rattle.ready_sockets.specs.Heads.{selector_in};
+ghost use Rattle.ready_sockets.specs.Sent.{head_of, asked_by, taken_by};
 
 use crate::Head;
 use mio::net::TcpStream;
@@ -17,6 +17,8 @@ pub struct ReadySocket {
     made: CallLog,
     head: Head,
     taken: u64,
+    ghost head_is: { head.bytes.items ≡ head_of made.calls },
+    ghost taken_is: { taken ≡ taken_by made.calls },
 }
 
 /// A call that a signal ended, or that would have to wait, can be made again once the connection is ready.
@@ -27,9 +29,7 @@ fn is_for_later(kind: ErrorKind) -> bool {
 impl ReadySocket {
     /// A connection of which no call was made.
     pub fn new(stream: TcpStream) -> ReadySocket
-        ensures calls { result.made.calls ≡ [] }
-        ensures head { result.head.bytes.items ≡ [] }
-        ensures taken { result.taken ≡ 0 }
+        ensures { result.made.calls ≡ [] }
     {
         ReadySocket {
             stream,
@@ -41,14 +41,14 @@ impl ReadySocket {
 
     /// The selector that was asked for, as far as the log looks at it.
     pub fn selector(&self) -> &[u8]
-        ensures { result.now ≡ selector_in self.now.head.bytes.items }
+        ensures { result.now ≡ asked_by self.now.made.calls }
     {
         self.head.selector()
     }
 
     /// How many bytes the client took, at most the greatest u64.
     pub fn taken(&self) -> u64
-        ensures { result ≡ self.now.taken }
+        ensures { result ≡ taken_by self.now.made.calls }
     {
         self.taken
     }

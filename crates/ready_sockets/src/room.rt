@@ -3,7 +3,7 @@ ghost use Rattle.std.specs.Prelude.{◌≤◌, vec_len, vec_capacity};
 
 use crate::door::{Door, LISTENER};
 use crate::visit::Visit;
-use crate::waking::{is_called, wake_called, was_in_vain};
+use crate::waking::{all_wait, is_called, wake_called, was_in_vain};
 use mio::Token;
 use mio::net::TcpStream;
 use std::alloc::Global;
@@ -42,11 +42,11 @@ pub struct Room {
 
 impl Room {
     ghost use Rattle.std.specs.Prelude.{◌≡◌, ◌≢◌, ◌⊎◌, ◌++◌, ◌<◌, true, false, not, [], length, filter, map, option_map, IfOk, IfErr, IfSome, OnErr};
-    ghost use Rattle.std.specs.List.{list_all, list_any};
+    ghost use Rattle.std.specs.List.{list_any};
     ghost use Rattle.std.specs.Duration.{as_nanos};
     ghost use Rattle.mio.specs.Events.{items};
     ghost use Rattle.ready_sockets.specs.Doors.{listener_token};
-    ghost use Rattle.ready_sockets.specs.Visits.{has_gone, has_turn, woken, patience, asks, asked_calls, HasWoken, HasWaited, HasNotWaited};
+    ghost use Rattle.ready_sockets.specs.Visits.{has_gone, woken, patience, asks, asked_calls, HasWoken, HasWaited, HasNotWaited};
     ghost use Rattle.ready_sockets.specs.declared.room.VisitFault.TheVariants as faults;
 
     /// Listens at an address, with nobody in.
@@ -71,7 +71,7 @@ impl Room {
     fn patience(&self) -> Option<Duration>
         ensures { option_map as_nanos result ≡ patience self.now }
     {
-        if !self.all_wait() {
+        if !all_wait(&self.visits) {
             Some(Duration::ZERO)
         } else if self.visits.is_empty() && !self.may_accept {
             None
@@ -139,13 +139,6 @@ impl Room {
             }
             Err(_) => None,
         }
-    }
-
-    /// Whether nobody has a turn.
-    pub(crate) fn all_wait(&self) -> bool
-        ensures { result ≡ list_all (λ visit. not (has_turn visit)) self.now.visits.items }
-    {
-        self.visits.iter().all(|visit| !visit.has_turn())
     }
 
     /// Whether somebody has gone.

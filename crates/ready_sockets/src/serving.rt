@@ -1,19 +1,22 @@
 // Serves whoever comes.
-ghost use Rattle.std.specs.Prelude.{◌≡◌, ◌⊎◌, ◌<◌, ◌≤◌, [], map, vec_len, vec_capacity};
+ghost use Rattle.std.specs.Prelude.{◌≡◌, ◌⊎◌, ◌<◌, ◌≤◌, true, [], ◌∷◌, ◌++◌, map, vec_len, vec_capacity};
+ghost use Rattle.std.specs.Io.KnownBytes.{Appends};
 ghost use Rattle.session_core.specs.Calls.{HubRun};
 ghost use Rattle.turns.specs.Runs.{HasRun};
 ghost use Rattle.turns.specs.Turns.{InOrder};
 ghost use Rattle.session_core.specs.Hub.{keeper_of};
 ghost use Rattle.ready_sockets.specs.Rounds.{who, HasLetIn, HasHadTurns, HasSeenOff, HasServed};
-ghost use Rattle.ready_sockets.specs.Visits.{HadTurn, WasDismissed, ComesIn};
+ghost use Rattle.ready_sockets.specs.Visits.{HadTurn, WasDismissed, HadPasses, WereServed, ComesIn};
+ghost use Rattle.ready_sockets.specs.Logged.{line_of, IsTold, AreTold, IsLogged};
 
 use crate::ReadySocket;
 use crate::room::{MOST_VISITS, Room, VisitFault};
 use crate::visit::Visit;
+use crate::waking::all_wait;
 use host_types::Stamp;
 use mio::Token;
 use mio::net::TcpStream;
-use ready_turns::{dismiss, join, take_turn};
+use ready_turns::{Ending, dismiss, join, take_turn};
 use session_core::Hub;
 use socket_wires::SystemClock;
 use std::alloc::Global;
@@ -89,6 +92,24 @@ fn pass<S: SearchKeeper, C: Clock>(visits: &mut [Visit], hub: &mut Hub<S>, clock
     }
 }
 
+/// Passes over the clients, until nobody has a turn.
+fn give_turns<S: SearchKeeper, C: Clock>(
+    visits: &mut [Visit],
+    hub: &mut Hub<S>,
+    clock: &mut C,
+    now: u64,
+)
+    ensures run { HasRun (HubRun S.site_state S.lacks S.crash_states S.represents) hub.old hub.new (C.given clock.old) (C.given clock.new) (λ es os. HadPasses visits.old es os visits.new) }
+    ensures clients { map who visits.new ≡ map who visits.old }
+{
+    for _pass in 0..TURNS {
+        if all_wait(visits) {
+            return;
+        }
+        pass(visits, hub, clock, now);
+    }
+}
+
 /// A client goes whose time is over.
 fn dismiss_if_over<S: SearchKeeper>(visit: &mut Visit, hub: &mut Hub<S>, now: u64)
     ensures run { HasRun (HubRun S.site_state S.lacks S.crash_states S.represents) hub.old hub.new [] [] (λ es os. WasDismissed now visit.old es os visit.new) }
@@ -109,17 +130,45 @@ fn dismiss_late<S: SearchKeeper>(visits: &mut [Visit], hub: &mut Hub<S>, now: u6
     }
 }
 
-/// A line of the log for each client that has gone. One that can't be written is not.
-fn tell_gone<L: Write>(alloc: Global, visits: &[Visit], moment: Stamp, log: &mut L) {
+/// Turns for all clients, and then whose time is over goes.
+fn serve_all<S: SearchKeeper, C: Clock>(
+    visits: &mut [Visit],
+    hub: &mut Hub<S>,
+    clock: &mut C,
+    now: u64,
+)
+    ensures run { HasRun (HubRun S.site_state S.lacks S.crash_states S.represents) hub.old hub.new (C.given clock.old) (C.given clock.new) (λ es os. WereServed now visits.old es os visits.new) }
+    ensures clients { map who visits.new ≡ map who visits.old }
+{
+    give_turns(visits, hub, clock, now);
+    dismiss_late(visits, hub, now);
+}
+
+/// Whether the log got the line of a client whose session ended so, and an LF.
+fn tell<L: Write>(alloc: Global, visit: &Visit, ending: Ending, moment: Stamp, log: &mut L) -> bool
+    ensures { result ≡ true → Appends (L.contents log.old) (L.contents log.new) (line_of moment visit.now ending ++ 10 ∷ []) }
+{
+    let Ok(mut line) = visit.line(alloc, moment, ending) else {
+        return false;
+    };
+    line.push('\n').is_ok() && log.write_all(line.as_bytes()).is_ok()
+}
+
+/// A line of the log for a client that has gone. One that can't be written is not.
+fn tell_if_gone<L: Write>(alloc: Global, visit: &Visit, moment: Stamp, log: &mut L)
+    ensures { IsTold L.contents moment visit.now log.old log.new }
+{
+    if let Some(ending) = visit.seat.stage().ending() {
+        tell(alloc, visit, ending, moment, log);
+    }
+}
+
+/// A line of the log for each client that has gone.
+fn tell_gone<L: Write>(alloc: Global, visits: &[Visit], moment: Stamp, log: &mut L)
+    ensures { AreTold L.contents moment visits.now log.old log.new }
+{
     for visit in visits.iter() {
-        let Some(ending) = visit.seat.stage().ending() else {
-            continue;
-        };
-        if let Ok(mut line) = visit.line(alloc, moment, ending) {
-            if line.push('\n').is_ok() {
-                let _ = log.write_all(line.as_bytes());
-            }
-        }
+        tell_if_gone(alloc, visit, moment, log);
     }
 }
 
@@ -130,7 +179,8 @@ fn see_off<R: Time, L: Write>(
     moments: &mut SystemClock<'_, R>,
     log: &mut L,
 )
-    ensures { HasSeenOff room.old room.new }
+    ensures gone { HasSeenOff room.old room.new }
+    ensures logged { IsLogged L.contents moments.old.given.moments moments.new.given.moments room.old.visits.items log.old log.new }
 {
     if room.has_closed() {
         tell_gone(alloc, &room.visits, moments.now(), log);
@@ -140,17 +190,10 @@ fn see_off<R: Time, L: Write>(
 
 /// Who is ready comes in, and has turns; whose time is over goes.
 fn round<S: SearchKeeper, C: Clock>(room: &mut Room, hub: &mut Hub<S>, clock: &mut C, now: u64)
-    ensures turns { HasHadTurns now room.old room.new }
-    ensures run { HasRun (HubRun S.site_state S.lacks S.crash_states S.represents) hub.old hub.new (C.given clock.old) (C.given clock.new) (λ es os. Unit {0}) }
+    ensures { HasRun (HubRun S.site_state S.lacks S.crash_states S.represents) hub.old hub.new (C.given clock.old) (C.given clock.new) (λ es os. HasHadTurns now room.old es os room.new) }
 {
     admit(room, hub, now);
-    for _turn in 0..TURNS {
-        if room.all_wait() {
-            break;
-        }
-        pass(&mut room.visits, hub, clock, now);
-    }
-    dismiss_late(&mut room.visits, hub, now);
+    serve_all(&mut room.visits, hub, clock, now);
 }
 
 /// The seconds since a moment, on a clock that only goes forward; 0 where it can't be read.

@@ -1,5 +1,7 @@
 // A client that came, and what the log will say of it.
-ghost use Rattle.std.specs.Prelude.{◌≡◌, if◌then◌else◌};
+ghost use Rattle.std.specs.Prelude.{◌≡◌, IfOk, if◌then◌else◌};
+ghost use Rattle.std.specs.String.{string_bytes};
+ghost use Rattle.ready_sockets.specs.Logged.{line_of};
 ghost use Rattle.ready_sockets.specs.Limits as spec;
 ghost use Rattle.ready_sockets.specs.Rounds.{who};
 ghost use Rattle.ready_sockets.specs.Visits.{has_gone, has_turn, woken};
@@ -71,7 +73,9 @@ impl Visit {
         alloc: Global,
         moment: Stamp,
         ending: Ending,
-    ) -> Result<String, AllocError> {
+    ) -> Result<String, AllocError>
+        ensures { IfOk result (λ text. string_bytes text ≡ line_of moment self.now ending) }
+    {
         let from = self.from.to_string(alloc)?;
         let socket = self.seat.wire();
         log_line(

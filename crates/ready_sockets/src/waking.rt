@@ -2,11 +2,18 @@
 ghost use Rattle.std.specs.Prelude.{◌≡◌, false, map, option_map};
 ghost use Rattle.std.specs.Duration.{as_nanos};
 ghost use Rattle.mio.specs.Events.{items};
-ghost use Rattle.ready_sockets.specs.Visits.{is_called, woken_by, was_in_vain};
+ghost use Rattle.ready_sockets.specs.Visits.{all_wait, is_called, woken_by, was_in_vain};
 
 use crate::visit::Visit;
 use mio::{Events, Token};
 use std::time::Duration;
+
+/// Whether nobody has a turn.
+pub(crate) fn all_wait(visits: &[Visit]) -> bool
+    ensures { result ≡ all_wait visits.now }
+{
+    visits.iter().all(|visit| !visit.has_turn())
+}
 
 /// Whether an event is one of what has this token.
 pub(crate) fn is_called(events: &Events, token: Token) -> bool

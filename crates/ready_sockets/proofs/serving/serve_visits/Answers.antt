@@ -13,9 +13,9 @@ loop-round-init g c = record {
 
 pub loop-round-preserved : goal.loop-round-preserved
 loop-round-preserved g c = record {
-  run = run_both _ _ _ _ g.met.S.SiteKeeper.crash_states_represent _ _ _ _ _ _ _ _ _ c.loop-round.invariant.run c.round.ensures.run (λ es fs os ps p q. tt);
+  run = run_both _ _ _ _ g.met.S.SiteKeeper.crash_states_represent _ _ _ _ _ _ _ _ _ c.loop-round.invariant.run c.round.ensures (λ es fs os ps p q. tt);
   rounds = more _ _ _ _ c.loop-round.invariant.rounds
-      (record { events = items c.wait.new.self.door.events; now = _; waited = c.wait.new.self; turned = c.round.new.room; wait = c.in_ok-wait.ensures.woken; turns = c.round.ensures.turns; seen_off = c.see_off.ensures });
+      (record { called = items c.wait.new.self.door.events; now = _; events = c.round.ensures.events; outcomes = c.round.ensures.outcomes; waited = c.wait.new.self; turned = c.round.new.room; wait = c.in_ok-wait.ensures.woken; turns = c.round.ensures.holds; seen_off = c.see_off.ensures.gone });
 }
 
 pub returns-then-not-is_usable-clause-served : goal.returns-then-not-is_usable-clause-served

@@ -1,0 +1,19 @@
+use Rattle.std.proofs.Common.{refl, ◌∙◌}
+use Rattle.turns.specs.Turns.{InOrder}
+use Rattle.turns.proofs.Runnings.{run_none, run_both}
+use Rattle.turns.proofs.TurnsMade.{times_next}
+use Rattle.ready_sockets.specs.Visits.{HadTurn}
+use Rattle.ready_sockets.proofs.serving.give_turns.Goals as goal
+
+pub loop-pass-init : goal.loop-pass-init
+loop-pass-init g c = record {
+  run = run_none _ _ _ _ g.met.S.SiteKeeper.crash_states_represent _ _ _ (refl, refl, refl);
+  clients = refl;
+}
+
+pub loop-pass-preserved : goal.loop-pass-preserved
+loop-pass-preserved g c = record {
+  run = run_both _ _ _ _ g.met.S.SiteKeeper.crash_states_represent _ _ _ _ _ _ _ _ _ c.loop-pass.invariant.run c.pass.ensures.run
+      (λ es fs os ps p q. times_next c.loop-pass._pass (InOrder HadTurn) _ c.loop-pass.visits c.pass.new.visits es fs os ps p q);
+  clients = c.pass.ensures.clients ∙ c.loop-pass.invariant.clients;
+}
