@@ -14,6 +14,7 @@ use Rattle.session_core.specs.RunCrashStates.{RepresentsBy}
 use Rattle.session_core.specs.Calls.{IfFault, IsCause, StaysClosed, IsSteady, IsAcknowledged, Call}
 use Rattle.session_core.specs.Understood.{IsPostFault, IsDrawFault}
 use Rattle.session_core.specs.Causes.{IsDrawCause}
+use Rattle.session_core.specs.Counting.{CountsCall, result_of}
 use Rattle.session_core.specs.HeldPins.{MayGiveBack}
 use Rattle.session_core.specs.Outcomes.{heard_outcome, bytes_outcome, drawn_outcome, draw_outcome}
 use Rattle.session_core.specs.declared.answer.InputStatus.{InputStatus}
@@ -28,6 +29,7 @@ use Rattle.session_core.specs.declared.event.Outcome.TheVariants as outcomes
 use Rattle.session_core.specs.declared.fault.HubFault.{HubFault}
 use Rattle.session_core.specs.declared.fault.HubFault.TheVariants as hub
 use Rattle.session_core.proofs.FaultsKeep.{by_keeps}
+use Rattle.session_core.proofs.CountedCalls.{drawn_counts}
 use Rattle.session_core.proofs.StepOutcomes.{answer_so}
 use Rattle.session_core.proofs.Steps.{no_fault, answered_by}
 use Rattle.session_core.proofs.Hearings.{weaker}
@@ -104,10 +106,11 @@ stays_none_added s P = weaker s s (may_crash_to s) (λ c. may_crash_to s c ⊎ P
 -- a call that asks no keeper
 pub unasked : {S L : Type 0} (site_state : S → SiteState) (lacks : S → Change → ℕ → SiteFault → Type 0) (crash_states : S → CrashStates L) (stands : L → Site → Type 0) (w : World) (k : S) (e : Event) (o : Outcome) (v : World) →
     ((c : L) → IsTrue (site_state k).honest → (site_state k).usable ≡ true → may_crash_to (crash_states k) c → stands c (site_state k).site)
-    → IsAnswer w e o v → Step w e o v → IsCause site_state lacks w k e o k → v.site ≡ (site_state k).site → v.failed ≡ not (site_state k).usable → w.failed ≡ not (site_state k).usable → Call site_state lacks crash_states stands w k e o v k
-unasked site_state lacks crash_states stands w k e o v crash_states_represent answers is cause site flag was = record {
+    → IsAnswer w e o v → Step w e o v → IsCause site_state lacks w k e o k → CountsCall (result_of o) (site_state k) (site_state k) → v.site ≡ (site_state k).site → v.failed ≡ not (site_state k).usable → w.failed ≡ not (site_state k).usable → Call site_state lacks crash_states stands w k e o v k
+unasked site_state lacks crash_states stands w k e o v crash_states_represent answers is cause counts site flag was = record {
   step = λ honest. is;
   cause = cause;
+  counts = counts;
   honest = refl;
   site = site;
   flag = flag;
@@ -190,6 +193,7 @@ left_call site_state lacks crash_states stands w k id v l crash_states_represent
     record {
       step = λ honest. answered_by w.failed w (Leave id) outcomes.Gone v answers;
       cause = (answers.0, gives);
+      counts = record { reads = ap (λ (h : SiteState). h.failed_reads) gives.same; writes = ap (λ (h : SiteState). h.failed_writes) gives.same };
       honest = honest_is;
       site = site;
       flag = flag;
@@ -248,11 +252,12 @@ drawn_steady site_state w k id room v l phase (Err fault) out off flags next sea
 pub drawn_call : {S L : Type 0} (site_state : S → SiteState) (lacks : S → Change → ℕ → SiteFault → Type 0) (crash_states : S → CrashStates L) (stands : L → Site → Type 0) (w : World) (k : S) (id room : ℕ) (v : World) (l : S) (phase : Phase) (result : Result Drawn HubFault) (out : List ℕ) →
     ((c : L) → IsTrue (site_state l).honest → (site_state l).usable ≡ true → may_crash_to (crash_states l) c → stands c (site_state l).site)
     → (IsTrue (site_state k).honest → Step w (Draw id room) (draw_outcome result out) v) → (site_state k).usable ≡ true → (site_state l).honest ≡ (site_state k).honest → (site_state l).usable ≡ (site_state k).usable
-    → v.next ≡ w.next → OnErr result (v.sessions ≡ w.sessions) → IfErr result (IsDrawFault (site_state k) (site_state l) phase) → (IsTrue (site_state k).honest → AddsNone (crash_states k) (crash_states l))
+    → v.next ≡ w.next → OnErr result (v.sessions ≡ w.sessions) → IfErr result (IsDrawFault (site_state k) (site_state l) phase) → CountsCall result (site_state k) (site_state l) → (IsTrue (site_state k).honest → AddsNone (crash_states k) (crash_states l))
     → v.site ≡ (site_state l).site → v.failed ≡ not (site_state l).usable → w.failed ≡ not (site_state k).usable → Call site_state lacks crash_states stands w k (Draw id room) (draw_outcome result out) v l
-drawn_call site_state lacks crash_states stands w k id room v l phase result out crash_states_represent step usable honest_is usable_is next seats is only site flag was = record {
+drawn_call site_state lacks crash_states stands w k id room v l phase result out crash_states_represent step usable honest_is usable_is next seats is counts only site flag was = record {
   step = step;
   cause = drawn_cause (site_state k) (site_state l) phase result out usable is;
+  counts = drawn_counts result out (site_state k) (site_state l) counts;
   honest = honest_is;
   site = site;
   flag = flag;
@@ -263,10 +268,11 @@ drawn_call site_state lacks crash_states stands w k id room v l phase result out
 
 -- a hub that has failed, or has no such session, draws nothing
 pub undrawn : {S L : Type 0} (site_state : S → SiteState) (lacks : S → Change → ℕ → SiteFault → Type 0) (crash_states : S → CrashStates L) (stands : L → Site → Type 0) (w : World) (k : S) (id room : ℕ) (fault : HubFault) →
-    IsAnswer w (Draw id room) (Fault fault) w → IsDrawCause (site_state k) (site_state k) fault → w.site ≡ (site_state k).site → w.failed ≡ not (site_state k).usable → Call site_state lacks crash_states stands w k (Draw id room) (Fault fault) w k
-undrawn site_state lacks crash_states stands w k id room fault answers cause site flag = record {
+    IsAnswer w (Draw id room) (Fault fault) w → IsDrawCause (site_state k) (site_state k) fault → CountsCall (result_of (Fault fault)) (site_state k) (site_state k) → w.site ≡ (site_state k).site → w.failed ≡ not (site_state k).usable → Call site_state lacks crash_states stands w k (Draw id room) (Fault fault) w k
+undrawn site_state lacks crash_states stands w k id room fault answers cause counts site flag = record {
   step = λ honest. answered_by w.failed w (Draw id room) (Fault fault) w answers;
   cause = cause;
+  counts = counts;
   honest = refl;
   site = site;
   flag = flag;

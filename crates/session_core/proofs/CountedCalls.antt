@@ -1,14 +1,17 @@
 -- What calls of the site that a session makes count, as its hub tells it.
-use Rattle.std.proofs.Common.{◌≡◌, ℕ, Bool, true, false, refl, sym, subst, ap, ◌∙◌}
-use Rattle.std.specs.Prelude.{Result, Ok, Err, IfErr}
+use Rattle.std.proofs.Common.{◌≡◌, ◌⊎◌, inl, inr, ℕ, Bool, true, false, refl, sym, subst, ap, ◌∙◌}
+use Rattle.std.specs.Prelude.{List, Result, Ok, Err, IsTrue}
 use Rattle.host_types.specs.SiteState.{SiteState, HasRead, IsReadFault}
 use Rattle.host_types.specs.Counting as site
+use Rattle.view_draws.specs.Counting as views
 use Rattle.host_types.specs.declared.site_fault.SiteFault.{SiteFault}
 use Rattle.host_types.specs.declared.site_fault.SiteFault.TheVariants as faults
-use Rattle.session_core.specs.Counting.{IsReadCounted, CountsReads, writes_after, CountsWrites, CountsCall}
-use Rattle.session_core.specs.Outcomes.{fault_of}
-use Rattle.session_core.specs.Understood.{IsDrawFault, KeepsSite}
-use Rattle.session_core.specs.World.{Phase}
+use Rattle.session_core.specs.Counting.{IsReadCounted, CountsReads, writes_after, CountsWrites, CountsCall, result_of}
+use Rattle.session_core.specs.Outcomes.{fault_of, bytes_outcome, draw_outcome}
+use Rattle.session_core.specs.declared.answer.InputStatus.{InputStatus}
+use Rattle.session_core.specs.declared.answer.InputStatus.TheVariants as heard
+use Rattle.session_core.specs.declared.answer.Drawn.{Drawn}
+use Rattle.session_core.specs.declared.answer.Drawn.TheVariants as drawn
 use Rattle.session_core.specs.declared.fault.HubFault.{HubFault}
 use Rattle.session_core.specs.declared.fault.HubFault.TheVariants as hub
 
@@ -47,22 +50,22 @@ change_fault_counts {T = T} fault answer a b told reads writes =
     })
 
 -- a read of a usable site that fails counts no write
-no_write : (fault : SiteFault) (a b : SiteState) → a.usable ≡ true → IsReadFault true a b fault → a.failed_writes ≡ writes_after a.usable (fault_of fault) a.failed_writes
-no_write (faults.Refused r) a b usable is = absurd is
-no_write faults.Read a b usable is = refl
-no_write (faults.Full need free) a b usable is = absurd is
-no_write faults.Spent a b usable is = absurd is
-no_write faults.Deep a b usable is = absurd is
-no_write faults.Failed a b usable is = absurd (let no : true ≡ false = sym usable ∙ is in cc no)
-no_write faults.Memory a b usable is = refl
+no_write : (may_lack_memory : Bool) (fault : SiteFault) (a b : SiteState) → a.usable ≡ true → IsReadFault may_lack_memory a b fault → a.failed_writes ≡ writes_after a.usable (fault_of fault) a.failed_writes
+no_write may_lack_memory (faults.Refused r) a b usable is = absurd is
+no_write may_lack_memory faults.Read a b usable is = refl
+no_write may_lack_memory (faults.Full need free) a b usable is = absurd is
+no_write may_lack_memory faults.Spent a b usable is = absurd is
+no_write may_lack_memory faults.Deep a b usable is = absurd is
+no_write may_lack_memory faults.Failed a b usable is = absurd (let no : true ≡ false = sym usable ∙ is in cc no)
+no_write may_lack_memory faults.Memory a b usable is = refl
 
 -- a fault of what only reads a usable site, as it is told
-pub read_fault_counts : {T : Type 0} (fault : SiteFault) (answer : HubFault) (a b : SiteState) → a.usable ≡ true → answer ≡ fault_of fault → HasRead a b → IsReadFault true a b fault
+pub read_fault_counts : {T : Type 0} (may_lack_memory : Bool) (fault : SiteFault) (answer : HubFault) (a b : SiteState) → a.usable ≡ true → answer ≡ fault_of fault → HasRead a b → IsReadFault may_lack_memory a b fault
     → site.IsReadCounted a.honest fault a.failed_reads b.failed_reads → CountsCall {T = T} (Err answer) a b
-read_fault_counts {T = T} fault answer a b usable told kept is reads =
+read_fault_counts {T = T} may_lack_memory fault answer a b usable told kept is reads =
     subst (λ (e : HubFault). CountsCall {T = T} (Err e) a b) (sym told) (record {
       reads = reads_are a.honest fault a.failed_reads b.failed_reads reads;
-      writes = kept.writes ∙ no_write fault a b usable is;
+      writes = kept.writes ∙ no_write may_lack_memory fault a b usable is;
     })
 
 reads_since : {T : Type 0} (result : Result T HubFault) (a b c : SiteState) → b.honest ≡ a.honest → b.failed_reads ≡ a.failed_reads → CountsReads result b c → CountsReads result a c
@@ -84,19 +87,29 @@ call_since result a b c kept none call = record {
 pub shut_counts : {T : Type 0} (a : SiteState) → a.usable ≡ false → CountsCall {T = T} (Err hub.Failed) a a
 shut_counts a shut = record { reads = refl; writes = sym (ap (λ (u : Bool). writes_after u hub.Failed a.failed_writes) shut) }
 
-draw_fault_writes : (a b : SiteState) (phase : Phase) (fault : HubFault) → IsDrawFault a b phase fault → a.failed_writes ≡ writes_after a.usable fault a.failed_writes
-draw_fault_writes a b phase hub.NotReady is = refl
-draw_fault_writes a b phase hub.Broken is = refl
-draw_fault_writes a b phase hub.Unknown is = absurd is
-draw_fault_writes a b phase hub.Crowded is = absurd is
-draw_fault_writes a b phase hub.Spent is = absurd is
-draw_fault_writes a b phase hub.Deep is = absurd is
-draw_fault_writes a b phase (hub.Refused r) is = absurd is
-draw_fault_writes a b phase (hub.Full need free) is = absurd is
-draw_fault_writes a b phase hub.Failed is = absurd is
-draw_fault_writes a b phase hub.Memory is = absurd is
+once : {Once Sized None : Type 0} → Sized → Once ⊎ ((Sized → ⊥) × None) → Once
+once sized (inl is) = is
+once sized (inr other) = absurd (other.0 sized)
 
--- a draw counts no write
-pub draw_writes : {T : Type 0} (result : Result T HubFault) (a b : SiteState) (phase : Phase) → KeepsSite a b → IfErr result (IsDrawFault a b phase) → CountsWrites result a b
-draw_writes (Ok value) a b phase kept is = kept.writes
-draw_writes (Err fault) a b phase kept is = kept.writes ∙ draw_fault_writes a b phase fault is
+-- a fault of a draw that knows the size of its view
+pub drawn_counted : (honest : Bool) (Sized : Type 0) (fault : SiteFault) (before now : ℕ) → (IsTrue honest → Sized) → views.IsReadCounted honest Sized fault before now → site.IsReadCounted honest fault before now
+drawn_counted honest Sized (faults.Refused r) before now sized is = is
+drawn_counted honest Sized faults.Read before now sized is = λ kept. once (sized kept) (is kept)
+drawn_counted honest Sized (faults.Full need free) before now sized is = is
+drawn_counted honest Sized faults.Spent before now sized is = is
+drawn_counted honest Sized faults.Deep before now sized is = is
+drawn_counted honest Sized faults.Failed before now sized is = is
+drawn_counted honest Sized faults.Memory before now sized is = is
+
+-- ---- as outcomes of events
+
+pub heard_counts : (result : Result InputStatus HubFault) (a b : SiteState) → CountsCall result a b → CountsCall (result_of (bytes_outcome result)) a b
+heard_counts (Ok heard.More) a b is = record { reads = is.reads; writes = is.writes }
+heard_counts (Ok heard.Ready) a b is = record { reads = is.reads; writes = is.writes }
+heard_counts (Ok heard.Finished) a b is = record { reads = is.reads; writes = is.writes }
+heard_counts (Err fault) a b is = record { reads = is.reads; writes = is.writes }
+
+pub drawn_counts : (result : Result Drawn HubFault) (out : List ℕ) (a b : SiteState) → CountsCall result a b → CountsCall (result_of (draw_outcome result out)) a b
+drawn_counts (Ok (drawn.Bytes n)) out a b is = record { reads = is.reads; writes = is.writes }
+drawn_counts (Ok drawn.Finished) out a b is = record { reads = is.reads; writes = is.writes }
+drawn_counts (Err fault) out a b is = record { reads = is.reads; writes = is.writes }

@@ -15,5 +15,6 @@ pub mod CountedCalls
 pub mod Runs
 pub mod CallsMade
 pub mod CallLaws
+pub mod CountedRuns
 pub mod ClosedRuns
 pub mod RefusedChanges

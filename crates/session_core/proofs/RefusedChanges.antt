@@ -15,9 +15,11 @@ use Rattle.session_core.specs.Run.{valid_one}
 use Rattle.session_core.specs.RunCrashStates.{RepresentsBy}
 use Rattle.session_core.specs.Calls.{Call}
 use Rattle.session_core.specs.Causes.{IsLacking, IsAdminCause}
+use Rattle.session_core.specs.Counting.{CountsCall}
 use Rattle.session_core.specs.Understood.{IsPostFault}
 use Rattle.session_core.specs.Outcomes.{fault_of}
 use Rattle.session_core.specs.declared.event.Event.TheVariants.{Admin}
+use Rattle.session_core.specs.declared.event.Outcome.{Outcome}
 use Rattle.session_core.specs.declared.event.Outcome.TheVariants.{Fault}
 use Rattle.session_core.specs.declared.fault.HubFault.{HubFault}
 use Rattle.session_core.specs.declared.fault.HubFault.TheVariants as hub
@@ -56,10 +58,10 @@ module _ {S L : Type 0} (site_state : S → SiteState) (lacks : S → Change →
   WritesNothing = IsTrue (site_state k).honest → (site_state l).usable ≡ true → AddsNone (crash_states k) (crash_states l)
 
   -- a fault of the keeper, of a change that may be valid
-  failed_call : (fault : HubFault) → (site_state k).usable ≡ true → (site_state l).honest ≡ (site_state k).honest → Crashes → WritesNothing
+  failed_call : (fault : HubFault) → CountsCall {T = Outcome} (Err fault) (site_state k) (site_state l) → (site_state k).usable ≡ true → (site_state l).honest ≡ (site_state k).honest → Crashes → WritesNothing
       → IsAdminCause (IsLacking (lacks k)) (valid_one change (apply (site_state k).site change now)) now (site_state k) (site_state l) fault
       → IsPostFault (IsLacking (lacks k)) (valid_one change (apply (site_state k).site change now)) now (site_state k) (site_state l) fault → Answers fault
-  failed_call fault usable same crashes none cause post_cause =
+  failed_call fault counts usable same crashes none cause post_cause =
       let a = site_state k in
       let b = site_state l in
       let w = world_at a next sessions in
@@ -70,6 +72,7 @@ module _ {S L : Type 0} (site_state : S → SiteState) (lacks : S → Change →
       record {
         step = λ honest. faulty_by w.failed w e (Fault fault) v off (post_fault a b (IsLacking (lacks k)) next sessions sessions now e post fault (only_changes (lacks k) now) honest usable refl refl refl refl post_cause);
         cause = cause;
+        counts = counts;
         honest = same;
         site = refl;
         flag = refl;
@@ -81,9 +84,9 @@ module _ {S L : Type 0} (site_state : S → SiteState) (lacks : S → Change →
       }
 
   -- a change that is not valid
-  refused_call : (refused : Refused) → (site_state k).usable ≡ true → (site_state l).honest ≡ (site_state k).honest → WritesNothing → HasNotChanged (site_state k) (site_state l)
+  refused_call : (refused : Refused) → CountsCall {T = Outcome} (Err (hub.Refused refused)) (site_state k) (site_state l) → (site_state k).usable ≡ true → (site_state l).honest ≡ (site_state k).honest → WritesNothing → HasNotChanged (site_state k) (site_state l)
       → (IsTrue (site_state k).honest → apply (site_state k).site change now ≡ Err refused) → Answers (hub.Refused refused)
-  refused_call refused usable same none stays is =
+  refused_call refused counts usable same none stays is =
       let a = site_state k in
       let b = site_state l in
       let w = world_at a next sessions in
@@ -95,6 +98,7 @@ module _ {S L : Type 0} (site_state : S → SiteState) (lacks : S → Change →
             let steps : step w e ≡ then_is (Fault (hub.Refused refused)) w = ap (λ (m : Bool). if m then failed_answer w e else answer w e) off ∙ ap (changed w) (is honest) in
             answered_by w.failed w e (Fault (hub.Refused refused)) v (ap (λ (n : Next). n.outcome) (sym steps), same_world a b next sessions (stays.site honest) stays.usable ∙ ap (λ (n : Next). n.world) (sym steps));
         cause = usable;
+        counts = counts;
         honest = same;
         site = refl;
         flag = refl;
@@ -109,20 +113,20 @@ module _ {S L : Type 0} (site_state : S → SiteState) (lacks : S → Change →
         leaves = λ honest. weaker (crash_states k) (crash_states l) (may_crash_to (crash_states k)) (λ c. may_crash_to (crash_states k) c ⊎ RepresentsBy stands w e (Fault (hub.Refused refused)) v c) (none honest (stays.usable ∙ usable)) (λ c left. inl left);
       }
 
-  pub not_made_call : (fault : SiteFault) → (site_state k).usable ≡ true → (site_state l).honest ≡ (site_state k).honest → Crashes → WritesNothing
+  pub not_made_call : (fault : SiteFault) → CountsCall {T = Outcome} (Err (fault_of fault)) (site_state k) (site_state l) → (site_state k).usable ≡ true → (site_state l).honest ≡ (site_state k).honest → Crashes → WritesNothing
       → IsChangeFault (lacks k change now) (site_state k) (site_state l) (apply (site_state k).site change now) fault → Answers (fault_of fault)
-  not_made_call (faults.Refused refused) usable same crashes none h = refused_call refused usable same none h.0 h.1
-  not_made_call faults.Read usable same crashes none h = failed_call hub.Broken usable same crashes none (usable, h.1) (h.0, h.1)
-  not_made_call (faults.Full need free) usable same crashes none h =
+  not_made_call (faults.Refused refused) counts usable same crashes none h = refused_call refused counts usable same none h.0 h.1
+  not_made_call faults.Read counts usable same crashes none h = failed_call hub.Broken counts usable same crashes none (usable, h.1) (h.0, h.1)
+  not_made_call (faults.Full need free) counts usable same crashes none h =
       let lack : IsTrue (site_state k).honest → (free ≡ (site_state k).free) × IsLacking (lacks k) (valid_one change (apply (site_state k).site change now)) now (faults.Full need free) = λ honest. ((h.2 honest).0, lacking (lacks k) change now (apply (site_state k).site change now) (faults.Full need free) (h.2 honest).1 (h.2 honest).2) in
-      failed_call (hub.Full need free) usable same crashes none (usable, h.1, lack) (h.0, h.1, lack)
-  not_made_call faults.Spent usable same crashes none h =
+      failed_call (hub.Full need free) counts usable same crashes none (usable, h.1, lack) (h.0, h.1, lack)
+  not_made_call faults.Spent counts usable same crashes none h =
       let lack : IsTrue (site_state k).honest → IsLacking (lacks k) (valid_one change (apply (site_state k).site change now)) now faults.Spent = λ honest. lacking (lacks k) change now (apply (site_state k).site change now) faults.Spent (h.1 honest).0 (h.1 honest).1 in
-      failed_call hub.Spent usable same crashes none (usable, lack) (h.0, lack)
-  not_made_call faults.Deep usable same crashes none h =
+      failed_call hub.Spent counts usable same crashes none (usable, lack) (h.0, lack)
+  not_made_call faults.Deep counts usable same crashes none h =
       let lack : IsTrue (site_state k).honest → IsLacking (lacks k) (valid_one change (apply (site_state k).site change now)) now faults.Deep = λ honest. lacking (lacks k) change now (apply (site_state k).site change now) faults.Deep (h.1 honest).0 (h.1 honest).1 in
-      failed_call hub.Deep usable same crashes none (usable, lack) (h.0, lack)
-  not_made_call faults.Failed usable same crashes none h =
-      failed_call hub.Failed usable same crashes none (λ honest. inr (h.cause honest usable))
+      failed_call hub.Deep counts usable same crashes none (usable, lack) (h.0, lack)
+  not_made_call faults.Failed counts usable same crashes none h =
+      failed_call hub.Failed counts usable same crashes none (λ honest. inr (h.cause honest usable))
       (record { site = h.site; shut = h.shut; cause = λ honest. h.cause honest usable; change = λ honest. ap is_some (valid_change change (apply (site_state k).site change now) (h.right honest usable)) })
-  not_made_call faults.Memory usable same crashes none h = failed_call hub.Memory usable same crashes none usable h
+  not_made_call faults.Memory counts usable same crashes none h = failed_call hub.Memory counts usable same crashes none usable h

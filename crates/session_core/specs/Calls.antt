@@ -1,5 +1,5 @@
 -- Calls of a hub and whole runs of them: the world and the keeper before and after.
-use Rattle.std.specs.Prelude.{◌≡◌, ◌⊎◌, ℕ, true, false, not, List, [], ◌∷◌, ◌++◌, length, IsTrue}
+use Rattle.std.specs.Prelude.{◌≡◌, ◌⊎◌, ℕ, true, false, not, List, [], ◌∷◌, ◌++◌, length, IsTrue, if◌then◌else◌}
 use Rattle.host_types.specs.Site.{Site}
 use Rattle.host_types.specs.SiteState.{SiteState}
 use Rattle.host_types.specs.CrashStates.{CrashStates, AddsOnly, AddsNone, may_crash_to}
@@ -9,6 +9,7 @@ use Rattle.session_core.specs.World.{World}
 use Rattle.session_core.specs.Step.{step}
 use Rattle.session_core.specs.Run.{Step, IsAnswer, change_in}
 use Rattle.session_core.specs.RunCrashStates.{RepresentsBy, RepresentsFrom, HasCrashStates}
+use Rattle.session_core.specs.Counting.{CountsCall, result_of, reads_in, writes_in}
 use Rattle.session_core.specs.Causes.{IsLacking, IsHeardCause, IsDrawCause, IsAdminCause}
 use Rattle.session_core.specs.HeldPins.{MayGiveBack}
 use Rattle.session_core.specs.Hub.{keeper_of, world_of}
@@ -56,6 +57,7 @@ IsAcknowledged {L = L} crash_states stands o v l = v.failed ≡ false → (c : L
 pub record Call {S L : Type 0} (site_state : S → SiteState) (lacks : S → Change → ℕ → SiteFault → Type 0) (crash_states : S → CrashStates L) (stands : L → Site → Type 0) (w : World) (k : S) (e : Event) (o : Outcome) (v : World) (l : S) : Type 0 where
   pub step : IsTrue (site_state k).honest → Step w e o v
   pub cause : IsCause site_state lacks w k e o l
+  pub counts : CountsCall (result_of o) (site_state k) (site_state l)
   pub honest : (site_state l).honest ≡ (site_state k).honest
   pub site : v.site ≡ (site_state l).site
   pub flag : v.failed ≡ not (site_state l).usable
@@ -109,3 +111,13 @@ CallsMoments {S = S} {L = L} site_state lacks crash_states stands = (w m v : Wor
 abbrev pub CallsCrash : {S L : Type 0} → (S → SiteState) → (S → Change → ℕ → SiteFault → Type 0) → (S → CrashStates L) → (L → Site → Type 0) → Type 0
 CallsCrash {S = S} site_state lacks crash_states stands = (w v : World) (k l : S) (events : List Event) (outcomes : List Outcome) →
     IsTrue (site_state k).honest → (site_state k).usable ≡ true → w.site ≡ (site_state k).site → Calls site_state lacks crash_states stands w k events outcomes v l → HasCrashStates stands w v (crash_states k) (crash_states l) events outcomes
+
+-- The outcomes of a run tell what it has counted: each read that failed, of an honest site.
+abbrev pub CallsCountReads : {S L : Type 0} → (S → SiteState) → (S → Change → ℕ → SiteFault → Type 0) → (S → CrashStates L) → (L → Site → Type 0) → Type 0
+CallsCountReads {S = S} site_state lacks crash_states stands = (w v : World) (k l : S) (events : List Event) (outcomes : List Outcome) →
+    IsTrue (site_state k).honest → Calls site_state lacks crash_states stands w k events outcomes v l → (site_state l).failed_reads ≡ reads_in outcomes (site_state k).failed_reads
+
+-- And the write or the sync that failed, where the hub was usable; one that had failed before counts none.
+abbrev pub CallsCountWrites : {S L : Type 0} → (S → SiteState) → (S → Change → ℕ → SiteFault → Type 0) → (S → CrashStates L) → (L → Site → Type 0) → Type 0
+CallsCountWrites {S = S} site_state lacks crash_states stands = (w v : World) (k l : S) (events : List Event) (outcomes : List Outcome) →
+    w.failed ≡ not (site_state k).usable → Calls site_state lacks crash_states stands w k events outcomes v l → (site_state l).failed_writes ≡ (if w.failed then (site_state k).failed_writes else writes_in outcomes (site_state k).failed_writes)

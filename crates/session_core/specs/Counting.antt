@@ -1,7 +1,9 @@
--- What the calls of a hub, and of one session, count.
-use Rattle.std.specs.Prelude.{◌≡◌, ℕ, Bool, Result, Ok, Err, IsTrue, if◌then◌else◌}
+-- What the calls of a hub, and of one session, count, and what whole runs do.
+use Rattle.std.specs.Prelude.{◌≡◌, ℕ, Bool, true, false, List, [], ◌∷◌, Result, Ok, Err, IsTrue, if◌then◌else◌}
 use Rattle.common_types.specs.Counts.{counted}
 use Rattle.host_types.specs.SiteState.{SiteState}
+use Rattle.session_core.specs.declared.event.Outcome.{Outcome}
+use Rattle.session_core.specs.declared.event.Outcome.TheVariants.{Fault}
 use Rattle.session_core.specs.declared.fault.HubFault.{HubFault}
 use Rattle.session_core.specs.declared.fault.HubFault.TheVariants as hub
 
@@ -29,3 +31,28 @@ CountsWrites (Err fault) old new = new.failed_writes ≡ writes_after old.usable
 pub record CountsCall {T : Type 0} (result : Result T HubFault) (old new : SiteState) : Type 0 where
   pub reads : CountsReads result old new
   pub writes : CountsWrites result old new
+
+-- an event's outcome as the answer of a call
+abbrev pub result_of : Outcome → Result Outcome HubFault
+result_of (Fault fault) = Err fault
+result_of outcome = Ok outcome
+
+-- ---- of a whole run
+
+abbrev pub read_counted : Outcome → ℕ → ℕ
+read_counted (Fault hub.Broken) count = counted count
+read_counted outcome count = count
+
+-- the count of failed reads after these outcomes: each `Broken` is counted, and nothing else
+abbrev pub reads_in : List Outcome → ℕ → ℕ
+reads_in [] count = count
+reads_in (outcome ∷ outcomes) count = reads_in outcomes (read_counted outcome count)
+
+abbrev pub is_failed : Outcome → Bool
+is_failed (Fault hub.Failed) = true
+is_failed outcome = false
+
+-- the count of failed writes and syncs after these outcomes of a hub that was usable: the first `Failed` is counted, and nothing else
+abbrev pub writes_in : List Outcome → ℕ → ℕ
+writes_in [] count = count
+writes_in (outcome ∷ outcomes) count = if is_failed outcome then counted count else writes_in outcomes count

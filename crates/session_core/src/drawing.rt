@@ -5,6 +5,7 @@ ghost use Rattle.host_types.specs.SiteState.{HasRead, IsUnchangedBehind};
 ghost use Rattle.host_types.specs.CrashStates.{AddsNone};
 ghost use Rattle.session_core.specs.World as world;
 ghost use Rattle.session_core.specs.Step.{draws};
+ghost use Rattle.session_core.specs.Counting.{CountsCall};
 ghost use Rattle.session_core.specs.HeldPins.{MovesPins};
 ghost use Rattle.session_core.specs.Understood.{IsDrawFault, KeepsSite, HasBegun, WhereFinished};
 ghost use Rattle.session_core.specs.Outcomes.{drawn_outcome, drawn_length};
@@ -52,6 +53,7 @@ fn draw_view<S: SiteKeeper>(
     ensures pin { drawing.new.pin ≡ drawing.old.pin }
     ensures read { HasRead (S.site_state site.old) (S.site_state site.new) }
     ensures fault { IfErr result (IsDrawFault (S.site_state site.old) (S.site_state site.new) (phase_of S.pinned (S.site_state site.old) (phases.Drawing drawing.old))) }
+    ensures counts { CountsCall result (S.site_state site.old) (S.site_state site.new) }
     ensures at_crash { IsTrue (S.site_state site.old).honest → AddsNone (S.crash_states site.old) (S.crash_states site.new) }
     ensures behind { IfOk result (λ r. IsUnchangedBehind r.0 out.old out.new) }
     ensures begun { OnErr result (HasBegun (S.site_state site.old).honest (phase_of S.pinned (S.site_state site.old) (phases.Drawing drawing.old)) out.old out.new) }
@@ -78,6 +80,7 @@ pub fn draw<S: SiteKeeper>(
     ensures pins { MovesPins (S.site_state site.old) (S.site_state site.new) (pin_of S.pinned phase.old) (pin_of S.pinned phase.new) }
     ensures kept { KeepsSite (S.site_state site.old) (S.site_state site.new) }
     ensures fault { IfErr result (IsDrawFault (S.site_state site.old) (S.site_state site.new) (phase_of S.pinned (S.site_state site.old) phase.old)) }
+    ensures counts { CountsCall result (S.site_state site.old) (S.site_state site.new) }
     ensures at_crash { IsTrue (S.site_state site.old).honest → AddsNone (S.crash_states site.old) (S.crash_states site.new) }
     ensures behind { IfOk result (λ drawn. IsUnchangedBehind (drawn_length drawn) out.old out.new) }
     ensures begun { OnErr result (HasBegun (S.site_state site.old).honest (phase_of S.pinned (S.site_state site.old) phase.old) out.old out.new) }

@@ -53,7 +53,7 @@ impl<S: SearchKeeper> Hub<S> {
     ghost use Rattle.session_core.specs.Outcomes.{join_outcome, bytes_outcome, draw_outcome, drawn_length, leave_outcome, admin_outcome};
     ghost use Rattle.session_core.specs.Hub.{keeper_of, seats_of, world_of};
     ghost use Rattle.session_core.specs.Calls.{HubCall, IsClosed};
-    ghost use Rattle.session_core.specs.Counting.{CountsWrites, CountsCall};
+    ghost use Rattle.session_core.specs.Counting.{CountsCall};
     ghost use Rattle.session_core.specs.declared.event.Event.TheVariants.{Join, Bytes, End, Draw, Leave, Admin};
     ghost use Rattle.session_core.specs.Causes.{IsLacking, IsHeardCause, IsDrawCause, IsAdminCause, IsAsBefore};
     ghost use Rattle.session_core.specs.declared.fault.HubFault.TheVariants.{Memory, Broken};
@@ -82,7 +82,6 @@ impl<S: SearchKeeper> Hub<S> {
         ensures step { Step (world_of S.site_state self.old) Join (join_outcome result) (world_of S.site_state self.new) }
         ensures as_before { IfErr result (λ e. IsAsBefore e (world_of S.site_state self.old) (world_of S.site_state self.new)) }
         ensures keeper { keeper_of self.new ≡ keeper_of self.old }
-        ensures counts { CountsCall result (S.site_state (keeper_of self.old)) (S.site_state (keeper_of self.new)) }
         ensures call { HubCall S.site_state S.lacks S.crash_states S.represents self.old Join (join_outcome result) self.new }
     {
         if !self.site.is_usable() {
@@ -169,7 +168,7 @@ impl<S: SearchKeeper> Hub<S> {
         ensures untouched { IfErr result (λ e. (e ≡ Broken → ⊥) → out.new ≡ out.old) }
         ensures begun { OnErr result ((rest : List ℕ) → phase_of (world_of S.site_state self.old) id ≡ Some (Reply rest) → HasBegun (S.site_state (keeper_of self.old)).honest (Reply rest) out.old out.new) }
         ensures at_crash { IsTrue (S.site_state (keeper_of self.old)).honest → AddsNone (S.crash_states (keeper_of self.old)) (S.crash_states (keeper_of self.new)) }
-        ensures writes { CountsWrites result (S.site_state (keeper_of self.old)) (S.site_state (keeper_of self.new)) }
+        ensures counts { CountsCall result (S.site_state (keeper_of self.old)) (S.site_state (keeper_of self.new)) }
         ensures call { HubCall S.site_state S.lacks S.crash_states S.represents self.old (Draw id (length out.old)) (draw_outcome result out.new) self.new }
     {
         if !self.site.is_usable() {

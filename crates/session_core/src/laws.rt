@@ -1,7 +1,7 @@
 // What sessions rest on, as laws of the definitions.
 ghost use Rattle.session_core.specs.SessionExamples.{SessionExamples};
 ghost use Rattle.session_core.specs.Laws.{Continues, ContinuesWhatWasFound};
-ghost use Rattle.session_core.specs.Calls.{CallsJoin, CallsPart, CallsMoments, CallsCrash};
+ghost use Rattle.session_core.specs.Calls.{CallsJoin, CallsPart, CallsMoments, CallsCrash, CallsCountReads, CallsCountWrites};
 
 use word_index::SearchKeeper;
 
@@ -22,4 +22,10 @@ pub fn runs_join<S: SearchKeeper>()
     ensures part { CallsPart S.site_state S.lacks S.crash_states S.represents }
     ensures leave { CallsMoments S.site_state S.lacks S.crash_states S.represents }
     ensures at_crash { CallsCrash S.site_state S.lacks S.crash_states S.represents }
+{}
+
+/// The outcomes of a run over any site tell how many reads, writes and syncs of it have failed.
+pub fn runs_count<S: SearchKeeper>()
+    ensures reads { CallsCountReads S.site_state S.lacks S.crash_states S.represents }
+    ensures writes { CallsCountWrites S.site_state S.lacks S.crash_states S.represents }
 {}

@@ -1,6 +1,6 @@
 -- One step of drawing after another.
-use Rattle.std.proofs.Common.{◌≡◌, ◌+◌, ◌-◌, ◌≤◌, ◌++◌, ℕ, List, ap, sym, ◌∙◌, subst, refl, take, drop, length, arith}
-use Rattle.std.proofs.lemmas.List.{drop-drop, length-take}
+use Rattle.std.proofs.Common.{◌≡◌, ◌+◌, ◌-◌, ◌≤◌, ◌++◌, ℕ, List, ap, sym, ◌∙◌, subst, refl, drop, length, arith}
+use Rattle.std.proofs.lemmas.List.{drop-drop}
 use Rattle.host_types.specs.SiteState.{SiteState, HasRead, IsUnchangedBehind}
 use Rattle.host_types.specs.Pins.{Pinned, pinned_items, viewed_among}
 use Rattle.view_draws.specs.Drawing.{HasPassed}
@@ -9,7 +9,6 @@ use Rattle.view_draws.specs.Source.{viewed_by, IsSameView}
 use Rattle.view_draws.specs.declared.progress.Progress.{Progress}
 use Rattle.view_draws.specs.declared.source.ViewSource.{ViewSource}
 use Rattle.view_draws.proofs.LaterReads.{pinned_same}
-use Rattle.view_draws.proofs.Parts.{front_given}
 
 -- what stands behind a place stands behind each later one
 pub unchanged_on : (n m : ℕ) (xs ys : List ℕ) → n ≤ m → drop n xs ≡ drop n ys → drop m xs ≡ drop m ys

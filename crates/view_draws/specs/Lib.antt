@@ -1,5 +1,6 @@
 pub mod Reading
 pub mod Progress
 pub mod Source
+pub mod Counting
 pub mod Drawing
 pub mod ViewDraw

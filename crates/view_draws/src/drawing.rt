@@ -2,6 +2,7 @@
 ghost use Rattle.std.specs.Prelude.{◌≡◌, ◌<◌, ◌≤◌, ◌++◌, ◌⊎◌, [], false, IsTrue, IfOk, OnErr, IfErr, length, take};
 ghost use Rattle.host_types.specs.SiteState.{IsUnchangedBehind, IsReadFault};
 ghost use Rattle.host_types.specs.Pins.{is_out};
+ghost use Rattle.view_draws.specs.Counting.{CountsReads};
 ghost use Rattle.view_draws.specs.Reading.{ReadsOnly};
 ghost use Rattle.view_draws.specs.Source.{viewed_by, IsViewOf, IsSameView};
 ghost use Rattle.view_draws.specs.Progress.{body_left};
@@ -30,6 +31,7 @@ fn draw_chunk<S: SiteKeeper>(
     ensures same { IsSameView source.old source.new }
     ensures only { ReadsOnly S.site_state S.lacks S.crash_states site.old site.new }
     ensures fault { (IsTrue (S.site_state site.old).honest → length (viewed_by (S.site_state site.old) (S.pinned pin.now) source.old) ≡ source.old.size) → IfErr result (IsReadFault false (S.site_state site.old) (S.site_state site.new)) }
+    ensures reads { CountsReads (S.pinned pin.now) source.old result (S.site_state site.old) (S.site_state site.new) }
 {
     source.load(site, pin, progress.taken / CHUNK)?;
     Ok(progress.pass(source.from_place(progress.taken), out, at))
@@ -54,6 +56,7 @@ pub fn draw_body<S: SiteKeeper>(
     ensures same { IsSameView source.old source.new }
     ensures only { ReadsOnly S.site_state S.lacks S.crash_states site.old site.new }
     ensures fault { (IsTrue (S.site_state site.old).honest → length (viewed_by (S.site_state site.old) (S.pinned pin.now) source.old) ≡ source.old.size) → IfErr result (IsReadFault false (S.site_state site.old) (S.site_state site.new)) }
+    ensures reads { CountsReads (S.pinned pin.now) source.old result (S.site_state site.old) (S.site_state site.new) }
 {
     let mut end = at;
     while progress.taken < source.size && end < out.len() {

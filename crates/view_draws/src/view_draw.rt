@@ -21,6 +21,7 @@ pub struct ViewDraw {
 
 impl ViewDraw {
     ghost use Rattle.text_writer.specs.Text.{sent_as};
+    ghost use Rattle.view_draws.specs.Counting.{CountsReads};
     ghost use Rattle.view_draws.specs.ViewDraw.{rest_of, IsOf, body_at, IsSameReply, HasDrawn, HasBegun};
 
     /// The whole reply: a view of so many bytes, behind a head. It takes no memory.
@@ -76,6 +77,7 @@ impl ViewDraw {
         ensures none_lost { OnErr result ((body : List ℕ) → rest_of self.new body ≡ rest_of self.old body) }
         ensures begun { OnErr result (HasBegun (S.site_state site.old).honest (body_at (S.site_state site.old) (S.pinned pin.now) self.old) self.old out.old out.new) }
         ensures fault { (IsTrue (S.site_state site.old).honest → IsOf (body_at (S.site_state site.old) (S.pinned pin.now) self.old) self.old) → IfErr result (IsReadFault false (S.site_state site.old) (S.site_state site.new)) }
+        ensures reads { CountsReads (S.pinned pin.now) self.old.source result (S.site_state site.old) (S.site_state site.new) }
 
         ensures same { IsSameReply self.old self.new }
         ensures only { ReadsOnly S.site_state S.lacks S.crash_states site.old site.new }

@@ -1,4 +1,4 @@
-use Rattle.std.proofs.Common.{rules}
+use Rattle.std.proofs.Common.{true, rules}
 use Rattle.request_reader.specs.Seen.{seen}
 use Rattle.session_core.proofs.StoredPosts.{right_now}
 use Rattle.session_core.proofs.CountedCalls.{call_since, read_fault_counts}
@@ -29,7 +29,7 @@ returns-in-Err-clause-site g c =
       still_usable = search rules;
       fault = search rules;
       worked = search rules;
-      counts = read_fault_counts c.in-Err.fault c.of_site.result (s.site_state c.args.site.now) (s.site_state c.reply_to.new.site) c.requires.usable c.of_site.ensures c.reply_to.ensures.kept c.in-Err.ensures.fault c.in-Err.ensures.reads;
+      counts = read_fault_counts true c.in-Err.fault c.of_site.result (s.site_state c.args.site.now) (s.site_state c.reply_to.new.site) c.requires.usable c.of_site.ensures c.reply_to.ensures.kept c.in-Err.ensures.fault c.in-Err.ensures.reads;
       unchanged = search rules;
       at_crash = search rules;
     }

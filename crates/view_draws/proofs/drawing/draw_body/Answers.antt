@@ -1,4 +1,4 @@
-use Rattle.std.proofs.Common.{◌≡◌, take, sym, subst}
+use Rattle.std.proofs.Common.{◌≡◌, take, sym, subst, ◌∙◌}
 use Rattle.std.specs.Prelude.{IsTrue}
 use Rattle.view_draws.specs.Source.{viewed_by, IsViewOf}
 use Rattle.view_draws.proofs.LaterReads.{still_honest, only_on}
@@ -22,6 +22,7 @@ loop-progress-preserved g c =
       passed = passed_on c.args.source.now c.loop-progress.source c.args.progress.now c.loop-progress.progress new.progress c.args.out.now c.loop-progress.out new.out c.args.at c.loop-progress.end c.in_ok-end.end before.same before.passed step.passed;
       same = same_on c.args.source.now c.loop-progress.source new.source before.same step.same;
       only = only_on site_state g.S.SiteKeeper.lacks g.S.SiteKeeper.crash_states c.args.site.now c.loop-progress.site new.site before.only step.only;
+      none = step.reads ∙ before.none;
       of = λ honest of. subst (λ bytes. IsViewOf bytes new.source) same_body (step.given (still_honest a b before.only.kept honest) (of_now honest of)).0;
       given = λ honest of.
           given_on now body (take c.args.at c.args.out.now) (take c.loop-progress.end c.loop-progress.out) (take c.in_ok-end.end new.out) c.args.progress.now c.loop-progress.progress new.progress same_body

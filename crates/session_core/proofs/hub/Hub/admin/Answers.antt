@@ -2,9 +2,11 @@ use Rattle.std.proofs.Common.{◌≡◌, true, false, refl, sym, ap, subst, rule
 use Rattle.std.specs.Prelude.{ℕ, List, not, IsTrue}
 use Rattle.session_core.specs.Calls.{Call}
 use Rattle.session_core.specs.Hub.{world_of}
+use Rattle.session_core.specs.Outcomes.{fault_of}
 use Rattle.session_core.specs.Sessions.{sessions_of}
 use Rattle.session_core.specs.declared.fault.HubFault.{HubFault}
 use Rattle.session_core.specs.declared.event.Event.TheVariants.{Admin}
+use Rattle.session_core.specs.declared.event.Outcome.{Outcome}
 use Rattle.session_core.specs.declared.event.Outcome.TheVariants.{Fault}
 use Rattle.session_core.specs.declared.fault.HubFault.TheVariants.{Failed}
 use Rattle.session_core.proofs.Steps.{answered_by, world_at}
@@ -33,6 +35,7 @@ returns-then-not-is_usable g c =
       call = record {
         step = λ honest. answered_by w.failed w _ _ _ answers;
         cause = λ honest. inl shut;
+        counts = shut_counts k shut;
         honest = refl;
         site = refl;
         flag = refl;
@@ -64,7 +67,8 @@ returns-in-Err-clause-call g c =
     let stayed = sessions_stay s.pinned (s.site_state hub.site) (s.site_state made) hub.sessions.items c.change.ensures.tried.pins hub.held in
     subst (λ (sessions : List (ℕ × Phase)). Call s.site_state s.lacks s.crash_states s.represents (world_of s.site_state hub) hub.site (Admin c.args.change c.args.now) (Fault c.of_site.result) (world_at (s.site_state made) hub.next sessions) made) (sym stayed.seen)
     (subst (λ (fault : HubFault). Call s.site_state s.lacks s.crash_states s.represents (world_of s.site_state hub) hub.site (Admin c.args.change c.args.now) (Fault fault) (world_at (s.site_state made) hub.next seats) made) (sym c.of_site.ensures)
-    (not_made_call s.site_state s.lacks s.crash_states s.represents hub.site made hub.next seats c.args.change c.args.now c.in-Err.fault usable c.change.ensures.tried.honest
+    (not_made_call s.site_state s.lacks s.crash_states s.represents hub.site made hub.next seats c.args.change c.args.now c.in-Err.fault
+    (change_fault_counts {T = Outcome} c.in-Err.fault (fault_of c.in-Err.fault) (s.site_state hub.site) (s.site_state made) refl c.in-Err.ensures.reads c.in-Err.ensures.writes) usable c.change.ensures.tried.honest
     (λ honest. c.change.ensures.at_crash honest usable) (λ honest. c.in-Err.ensures.no_new_crash_state honest) c.in-Err.ensures.fault))
 
 pub returns-in-Err-clause-counts : goal.returns-in-Err-clause-counts

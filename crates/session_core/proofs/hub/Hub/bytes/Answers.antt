@@ -13,7 +13,7 @@ use Rattle.session_core.proofs.SeatsMoved.{session_moves}
 use Rattle.session_core.proofs.SeatsHeld.{sound_at, room_at}
 use Rattle.session_core.proofs.Hearings.{post_is, heard_cause, heard_at_crash}
 use Rattle.session_core.proofs.FaultsKeep.{as_before}
-use Rattle.session_core.proofs.CountedCalls.{shut_counts}
+use Rattle.session_core.proofs.CountedCalls.{shut_counts, heard_counts}
 use Rattle.session_core.proofs.Steps.{answered_by, hears, unheard, only_changes, seats_stay}
 use Rattle.session_core.specs.Causes.{IsLacking}
 use Rattle.session_core.specs.declared.fault.HubFault.TheVariants.{Unknown, Failed}
@@ -38,6 +38,7 @@ returns-then-not-is_usable g c =
       call = record {
         step = λ honest. answered_by w.failed w _ _ _ answers;
         cause = λ honest. inl shut;
+        counts = shut_counts k shut;
         honest = refl;
         site = refl;
         flag = refl;
@@ -68,6 +69,7 @@ returns-in_default g c =
       call = record {
         step = λ honest. step;
         cause = usable;
+        counts = record { reads = refl; writes = refl };
         honest = refl;
         site = refl;
         flag = refl;
@@ -141,6 +143,7 @@ returns g c =
       call = record {
         step = step;
         cause = heard_fault c.hear.result _ cause;
+        counts = heard_counts c.hear.result k l c.hear.ensures.site.counts;
         honest = c.hear.ensures.site.worked.honest;
         site = refl;
         flag = refl;

@@ -10,7 +10,6 @@ use Rattle.session_core.specs.Sessions.{phase_of, sessions_of}
 use Rattle.session_core.specs.Outcomes.{draw_outcome}
 use Rattle.session_core.specs.declared.fault.HubFault.TheVariants.{Unknown}
 use Rattle.session_core.proofs.FaultsKeep.{as_before}
-use Rattle.session_core.proofs.CountedCalls.{draw_writes}
 use Rattle.session_core.proofs.SeatPlaces.{seat, seat_below, nobody}
 use Rattle.session_core.proofs.SeatsMoved.{session_moves}
 use Rattle.session_core.proofs.SeatsHeld.{own_is_out, sound_at}
@@ -46,7 +45,7 @@ returns-in_default-clause-call g c =
     let found = ap (position (λ (x : Session g.row.S-Pin.Denot). x.id == c.args.id)) (sym c.deref.ensures.value) ∙ sym c.place_in.ensures.place ∙ c.in_default.is in
     let none = nobody s.pinned k items c.args.id found in
     let is = unknown k c.args.self.now.next (sessions_of s.pinned k items) c.args.id (Draw c.args.id (length c.args.out.now)) (draws (length c.args.out.now)) usable none refl in
-    undrawn s.site_state s.lacks s.crash_states s.represents _ c.args.self.now.site c.args.id (length c.args.out.now) Unknown (exact _ _ (Draw c.args.id (length c.args.out.now)) _ refl (ap has_bytes_left none) refl is) usable refl refl
+    undrawn s.site_state s.lacks s.crash_states s.represents _ c.args.self.now.site c.args.id (length c.args.out.now) Unknown (exact _ _ (Draw c.args.id (length c.args.out.now)) _ refl (ap has_bytes_left none) refl is) usable (record { reads = refl; writes = refl }) refl refl
 
 pub draw-requires-clause-out : goal.draw-requires-clause-out
 draw-requires-clause-out g c =
@@ -132,10 +131,4 @@ returns-clause-call g c =
     let k = s.site_state c.args.self.now.site in
     let usable : k.usable ≡ true = search rules in
     drawn_call s.site_state s.lacks s.crash_states s.represents _ c.args.self.now.site c.args.id (length c.args.out.now) _ c.draw.new.site (phase_of s.pinned k c.index_mut-session.result.now.phase) c.draw.result c.draw.new.out (g.met.S.SiteKeeper.crash_states_represent c.draw.new.site)
-    (returns-clause-step g c) usable c.draw.ensures.kept.honest c.draw.ensures.kept.usable refl (returns-clause-kept g c) c.draw.ensures.fault c.draw.ensures.at_crash refl refl refl
-
-pub returns-clause-writes : goal.returns-clause-writes
-returns-clause-writes g c =
-    let s = g.S.SiteKeeper in
-    let k = s.site_state c.args.self.now.site in
-    draw_writes c.draw.result k (s.site_state c.draw.new.site) (phase_of s.pinned k c.index_mut-session.result.now.phase) c.draw.ensures.kept c.draw.ensures.fault
+    (returns-clause-step g c) usable c.draw.ensures.kept.honest c.draw.ensures.kept.usable refl (returns-clause-kept g c) c.draw.ensures.fault c.draw.ensures.counts c.draw.ensures.at_crash refl refl refl

@@ -51,14 +51,14 @@ returns-clause-step g c =
 pub returns-then-len-ge-MOST_SESSIONS-clause-call : goal.returns-then-len-ge-MOST_SESSIONS-clause-call
 returns-then-len-ge-MOST_SESSIONS-clause-call g c =
     let is = returns-then-len-ge-MOST_SESSIONS-clause-step g c in let answers = exact _ _ Join _ refl refl refl is in
-    unasked _ _ _ _ _ c.args.self.now.site Join _ _ (g.met.S.SiteKeeper.crash_states_represent c.args.self.now.site) answers is (answers.0, refl) refl refl refl
+    unasked _ _ _ _ _ c.args.self.now.site Join _ _ (g.met.S.SiteKeeper.crash_states_represent c.args.self.now.site) answers is (answers.0, refl) (record { reads = refl; writes = refl }) refl refl refl
 
 pub returns-then-self-clause-call : goal.returns-then-self-clause-call
 returns-then-self-clause-call g c =
     let is = returns-then-self-clause-step g c in let answers = exact _ _ Join _ refl refl refl is in
-    unasked _ _ _ _ _ c.args.self.now.site Join _ _ (g.met.S.SiteKeeper.crash_states_represent c.args.self.now.site) answers is (answers.0, refl) refl refl refl
+    unasked _ _ _ _ _ c.args.self.now.site Join _ _ (g.met.S.SiteKeeper.crash_states_represent c.args.self.now.site) answers is (answers.0, refl) (record { reads = refl; writes = refl }) refl refl refl
 
 pub returns-clause-call : goal.returns-clause-call
 returns-clause-call g c =
     let is = returns-clause-step g c in let answers = exact _ _ Join _ refl refl refl is in
-    unasked _ _ _ _ _ c.args.self.now.site Join _ _ (g.met.S.SiteKeeper.crash_states_represent c.args.self.now.site) answers is (answers.0, refl) refl refl refl
+    unasked _ _ _ _ _ c.args.self.now.site Join _ _ (g.met.S.SiteKeeper.crash_states_represent c.args.self.now.site) answers is (answers.0, refl) (record { reads = refl; writes = refl }) refl refl refl

@@ -24,7 +24,7 @@ returns-in_default-clause-step g c =
 pub returns-in_default-clause-call : goal.returns-in_default-clause-call
 returns-in_default-clause-call g c =
     let is = returns-in_default-clause-step g c in let answers = exact _ _ (Leave c.args.id) _ refl refl refl is in
-    unasked _ _ _ _ _ c.args.self.now.site (Leave c.args.id) _ _ (g.met.S.SiteKeeper.crash_states_represent c.args.self.now.site) answers is (answers.0, record { same = refl; free = omega arith }) refl refl refl
+    unasked _ _ _ _ _ c.args.self.now.site (Leave c.args.id) _ _ (g.met.S.SiteKeeper.crash_states_represent c.args.self.now.site) answers is (answers.0, record { same = refl; free = omega arith }) (record { reads = refl; writes = refl }) refl refl refl
 
 pub give_back-requires : goal.give_back-requires
 give_back-requires g c =

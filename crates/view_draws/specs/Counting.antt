@@ -1,0 +1,23 @@
+-- What the reads of a draw count.
+use Rattle.std.specs.Prelude.{◌≡◌, ◌⊎◌, ℕ, Bool, Result, Ok, Err, IsTrue, length}
+use Rattle.host_types.specs.Counting.{counted}
+use Rattle.host_types.specs.SiteState.{SiteState}
+use Rattle.host_types.specs.Pins.{Pinned}
+use Rattle.host_types.specs.declared.site_fault.SiteFault.{SiteFault}
+use Rattle.host_types.specs.declared.site_fault.SiteFault.TheVariants as faults
+use Rattle.view_draws.specs.Source.{viewed_by}
+use Rattle.view_draws.specs.declared.source.ViewSource.{ViewSource}
+
+-- The view that the pin keeps has as many bytes as are known.
+abbrev pub HasKnownSize : SiteState → Pinned → ViewSource → Type 0
+HasKnownSize h pin source = length (viewed_by h pin source) ≡ source.size
+
+-- The count of failed reads after a fault: a read that failed is counted, once. A view of another size than is known is told so too, and then no read failed. No other fault counts any.
+abbrev pub IsReadCounted : Bool → Type 0 → SiteFault → ℕ → ℕ → Type 0
+IsReadCounted honest Sized faults.Read before now = IsTrue honest → (now ≡ counted before) ⊎ ((Sized → ⊥) × (now ≡ before))
+IsReadCounted honest Sized other before now = now ≡ before
+
+-- how a call that reads chunks of a view goes on with the count of failed reads
+abbrev pub CountsReads : {T : Type 0} → Pinned → ViewSource → Result T SiteFault → SiteState → SiteState → Type 0
+CountsReads pin source (Ok _) old new = new.failed_reads ≡ old.failed_reads
+CountsReads pin source (Err fault) old new = IsReadCounted old.honest (HasKnownSize old pin source) fault old.failed_reads new.failed_reads
