@@ -13,6 +13,7 @@ use image_commands::{
 };
 use image_server::{ServingFault, serve_clients, serve_image, served_line};
 use image_sessions::{replay_on, replay_over};
+use ready_sockets::DoorLog;
 use socket_wires::SystemClock;
 use std::io::{BufWriter, Write};
 use std::net::SocketAddr;
@@ -188,11 +189,14 @@ pub fn serve(
 ) -> Result<(), Fault> {
     let device = open(rt, image)?;
     let alloc = rt.alloc();
+    let mut asked = DoorLog::new();
     let mut clock = SystemClock::new(rt);
     let served = if quiet {
-        serve_clients(alloc, rt, device, listen, &mut clock, &mut io::sink())
+        let log = &mut io::sink();
+        serve_clients(alloc, rt, device, listen, &mut asked, &mut clock, log)
     } else {
-        serve_clients(alloc, rt, device, listen, &mut clock, &mut rt.stderr())
+        let log = &mut rt.stderr();
+        serve_clients(alloc, rt, device, listen, &mut asked, &mut clock, log)
     };
     match served {
         Ok((Ok(()), _)) => Ok(()),

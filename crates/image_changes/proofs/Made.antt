@@ -1,9 +1,10 @@
 -- From what changes answer to what a crash leaves of them.
-use Rattle.std.proofs.Common.{◌≡◌, ◌≢◌, ℕ, List, Ok, Err, refl, ap, ◌∙◌, subst, true, ◌-◌, take}
+use Rattle.std.proofs.Common.{◌≡◌, ◌≢◌, ℕ, Bool, List, Ok, Err, refl, sym, ap, ◌∙◌, subst, true, ◌-◌, take}
 use Rattle.std.specs.Prelude.{Result, OnOk, IfErr}
 use Rattle.host_types.specs.Site.{Site}
 use Rattle.host_types.specs.SiteState.{SiteState}
 use Rattle.host_types.specs.CrashStates.{CrashStates, may_crash_to}
+use Rattle.host_types.specs.Counting.{IsReadCounted}
 use Rattle.host_types.specs.declared.change.Change.{Change as SiteChange}
 use Rattle.host_types.specs.declared.site_fault.SiteFault.{SiteFault}
 use Rattle.host_types.specs.declared.site_fault.SiteFault.TheVariants as faults
@@ -44,3 +45,18 @@ before_made state lacks represents states old new changes now result usable stop
       at_err (λ e. apply_all (state old).site (take (e.number - 1) changes) now ≡ Ok (state new).site) result e is kept,
       sure (not_shut state lacks stop.change now stop.made new e.fault other stop.stop ∙ stop.usable ∙ usable),
     )
+
+-- ---- what follows of an answer
+
+pub on_ok_too : {T E : Type 0} {P Q : Type 0} (result : Result T E) → (P → Q) → OnOk result P → OnOk result Q
+on_ok_too (Ok t) f h = f h
+on_ok_too (Err e) f h = h
+
+pub err_too : {T E : Type 0} {P Q : E → Type 0} (result : Result T E) → ((e : E) → P e → Q e) → IfErr result P → IfErr result Q
+err_too (Ok t) f h = h
+err_too (Err e) f h = f e h
+
+-- the count of failed reads of a device that was opened with nothing counted, and handed back
+pub reads_on_device : (honest still : Bool) (fault : SiteFault) (before opened closed now : ℕ) → still ≡ honest → opened ≡ before → now ≡ closed → IsReadCounted still fault opened closed → IsReadCounted honest fault before now
+reads_on_device honest still fault before opened closed now same from to is =
+    subst (λ h. IsReadCounted h fault before now) same (subst (λ n. IsReadCounted still fault n now) from (subst (λ n. IsReadCounted still fault opened n) (sym to) is))

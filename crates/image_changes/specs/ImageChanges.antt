@@ -1,12 +1,15 @@
 -- Changes that are made on a site and on the site of an image, and what a crash leaves of them.
-use Rattle.std.specs.Prelude.{◌≡◌, ◌≢◌, ℕ, ◌-◌, List, ◌++◌, take, Result, Ok, Err, OnOk, IfErr, length}
+use Rattle.std.specs.Prelude.{◌≡◌, ◌≢◌, ℕ, ◌-◌, true, List, ◌++◌, take, Result, Ok, Err, OnOk, IfErr, IsTrue, length}
 use Rattle.host_types.specs.Site.{Site}
 use Rattle.host_types.specs.SiteState.{SiteState}
+use Rattle.host_types.specs.Counting.{IsReadCounted, writes_after}
+use Rattle.host_types.specs.declared.change.Change.{Change as SiteChange}
+use Rattle.host_types.specs.declared.site_fault.SiteFault.{SiteFault}
 use Rattle.host_types.specs.declared.site_fault.SiteFault.TheVariants.{Failed}
 use Rattle.host_types.specs.CrashStates.{CrashStates, AddsOnly, AddsNone, may_crash_to}
-use Rattle.sector_device.specs.Device.{State}
+use Rattle.sector_device.specs.Device.{State, NothingCounted}
 use Rattle.page_store.specs.Sectors.{Image}
-use Rattle.change_file.specs.Applied.{apply_all, numbered, RepresentsFront}
+use Rattle.change_file.specs.Applied.{apply_all, numbered, IsStopped, RepresentsFront}
 use Rattle.change_file.specs.declared.fault.FileChange.{FileChange}
 use Rattle.change_file.specs.declared.fault.ApplyFault.{ApplyFault}
 use Rattle.host_on_disk.specs.ImageSites.{ImageRepresents}
@@ -31,6 +34,21 @@ pub record AppliesToImage {D : Type 0} (state : D → State) (crash_states : D �
   pub all : OnOk result (HasMade ImageRepresents (crash_states new) site changes now)
   pub before : (e : ApplyFault) → result ≡ Err e → e.fault ≢ Failed → HasMade ImageRepresents (crash_states new) site (take (e.number - 1) changes) now
   pub at_crash : AddsOnly (crash_states opened) (crash_states new) (RepresentsFront ImageRepresents site changes now)
+
+-- What changes count on a device of which one was not made with this fault: a read that failed, or the first write or sync that did, and nothing else.
+pub record CountsOnDevice (fault : SiteFault) (old new : State) : Type 0 where
+  pub reads : IsReadCounted old.honest fault old.failed_reads new.failed_reads
+  pub writes : new.failed_writes ≡ writes_after true fault old.failed_writes
+
+-- A device was opened as the site that it shows, which counts nothing; the changes up to one were made on that, and that one was not, for its own cause; and the device was handed back.
+pub record StopsOnImage {D S : Type 0} (state : D → State) (device : S → D) (site_state : S → SiteState) (lacks : S → SiteChange → ℕ → SiteFault → Type 0) (old new : D) (changes : List FileChange) (now : ℕ) (stopped : ApplyFault) : Type 0 where
+  pub opened : S
+  pub closed : S
+  pub shows : IsTrue (state old).honest → ImageRepresents (state old).disk.view (site_state opened).site
+  pub counted : NothingCounted (state old) (state (device opened))
+  pub usable : (site_state opened).usable ≡ true
+  pub stops : IsStopped site_state lacks opened closed changes now stopped.number stopped.fault
+  pub handed : new ≡ device closed
 
 -- The progress saw each change that was made, in order, and no other.
 pub record HasSeen {P : Type 0} (seen : P → List (ℕ × ℕ)) (changes : List FileChange) (old new : P) (result : Result ℕ ApplyFault) : Type 0 where

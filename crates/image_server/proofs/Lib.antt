@@ -1,1 +1,2 @@
 pub mod OtherRuns
+pub mod Places

@@ -1,25 +1,27 @@
 // Serves whoever comes, over a site that is handed in, and over the site of an image.
-ghost use Rattle.std.specs.Prelude.{◌≡◌, true, [], IfOk, IfErr};
+ghost use Rattle.std.specs.Prelude.{◌≡◌, true, [], IfOk, IfErr, OnErr};
 ghost use Rattle.page_store.specs.Steps.{crash_states_of};
 ghost use Rattle.cow_tree.specs.TreeSeen.{device_of};
 ghost use Rattle.site_store.specs.Seen.{keeper_of};
 ghost use Rattle.host_on_disk.specs.OpenFaults.{HandsBack};
 ghost use Rattle.image_sessions.specs.ImageRuns.{OverSite, OnImage};
 ghost use Rattle.turns.specs.Runs.{HasRun};
+ghost use Rattle.ready_sockets.specs.Rounds.{HasServed};
 ghost use Rattle.image_server.specs.Serving.{IsServingFault, of_visits};
+ghost use Rattle.image_server.specs.Visiting.{IsGivenOrOwn, ServesClients, IsAskedInVain};
 
 use crate::ServingFault;
 use cow_tree::TreeKeeper;
 use host_on_disk::{OpenFault, open_site};
 use host_types::SiteKeeper;
 use page_store::KeeperFault;
-use ready_sockets::{Room, VisitFault, serve_visits};
+use ready_sockets::{DoorLog, Room, VisitFault, serve_visits};
 use sector_device::Device;
 use session_core::Hub;
 use site_store::DiskSite;
 use std::alloc::Global;
 use std::io::Write;
-use std::net::{Ipv4Addr, Net, SocketAddr};
+use std::net::{IpAddr, Ipv4Addr, Net, SocketAddr};
 use std::time::Clock as Time;
 use turns::Clock;
 use word_index::SearchKeeper;
@@ -36,7 +38,18 @@ impl From<VisitFault> for ServingFault {
     }
 }
 
-/// Serves whoever comes, over a site in one hub, whose sessions count from 1, and hands the site back once that has ended. `Memory` comes before the first client.
+/// Where clients are listened for: at an address that is given, or else at a site's own port on 127.0.0.1.
+fn given_or_own(address: Option<SocketAddr>, port: u16) -> SocketAddr
+    ensures { IsGivenOrOwn address port result }
+{
+    match address {
+        Some(address) => address,
+        None => SocketAddr::new(IpAddr::V4(Ipv4Addr::LOCALHOST), port),
+    }
+}
+
+/// Serves whoever comes, over a site in one hub, whose sessions count from 1, and hands the site back once that has ended. `Memory` comes before the first client, and
+/// before anything is asked of the room's door.
 pub fn visits_over<S: SearchKeeper, C: Clock, R: Time, L: Write>(
     alloc: Global,
     site: S,
@@ -47,6 +60,8 @@ pub fn visits_over<S: SearchKeeper, C: Clock, R: Time, L: Write>(
 ) -> Result<(Result<(), VisitFault>, S), (OpenFault, S)>
     requires usable { (S.site_state site).usable ≡ true }
     requires unpinned { (S.site_state site).pins ≡ [] }
+    ensures served { IfOk result (λ r. HasServed r.0 (S.site_state r.1).usable room.old room.new) }
+    ensures unasked { OnErr result (room.new ≡ room.old) }
     ensures ran { IfOk result (λ r. HasRun (OverSite S.site_state S.lacks S.crash_states S.represents) site r.1 (C.given clock.old) (C.given clock.new) (λ es os. Unit {0})) }
     ensures unpinned { IfOk result (λ r. (S.site_state r.1).pins ≡ []) }
     ensures err { IfErr result (λ e. (e.0 ≡ OpenFault.Memory) × (e.1 ≡ site)) }
@@ -64,15 +79,18 @@ pub fn visits_over<S: SearchKeeper, C: Clock, R: Time, L: Write>(
 /// failed, or no socket can be waited for. Then it hands the device back.
 ///
 /// What a crash at any moment leaves on the device represents the site after some of the events that the clients made, with each change that was acknowledged by
-/// then, or the one with the change in flight, unacknowledged.
+/// then, or the one with the change in flight, unacknowledged. What is asked of the system for a listener is noted.
 pub fn serve_clients<D: Device, R: Net + Time, C: Clock, L: Write>(
     alloc: Global,
     rt: &R,
     device: D,
     address: Option<SocketAddr>,
+    asked: &mut DoorLog,
     clock: &mut C,
     log: &mut L,
 ) -> Result<(Result<(), VisitFault>, D), (ServingFault, D)>
+    ensures served { IfOk result (λ r. ServesClients D.state (λ d. device_of (keeper_of d)) ⟦<DiskSite<TreeKeeper<D>> as SiteKeeper>⟧.site_state address device r.1 asked.old.calls asked.new.calls r.0) }
+    ensures asked { IfErr result (λ e. IsAskedInVain (D.state device) address asked.old.calls asked.new.calls e.0) }
     ensures ran { IfOk result (λ r. HasRun (OnImage D.state (λ d. device_of (keeper_of d)) ⟦<DiskSite<TreeKeeper<D>> as SiteKeeper>⟧.site_state ⟦<DiskSite<TreeKeeper<D>> as SiteKeeper>⟧.lacks ⟦<DiskSite<TreeKeeper<D>> as SiteKeeper>⟧.crash_states ⟦<DiskSite<TreeKeeper<D>> as SiteKeeper>⟧.represents (crash_states_of D.moment D.possible_since)) device r.1 (C.given clock.old) (C.given clock.new) (λ es os. Unit {0})) }
     ensures refused { IfErr result (λ e. HandsBack IsServingFault D.state (crash_states_of D.moment D.possible_since) device e.1 e.0) }
     ensures untold { IfErr result (λ e. clock.new ≡ clock.old) }
@@ -81,14 +99,15 @@ pub fn serve_clients<D: Device, R: Net + Time, C: Clock, L: Write>(
         Ok(site) => site,
         Err((fault, device)) => return Err((ServingFault::Image(fault), device)),
     };
-    let own = SocketAddr::from((Ipv4Addr::LOCALHOST, site.front().port));
-    let mut room = match Room::open(alloc, rt, address.unwrap_or(own)) {
+    let at = given_or_own(address, site.front().port);
+    let mut room = match Room::open(alloc, rt, at, asked) {
         Ok(room) => room,
         Err(VisitFault::Memory) => return Err((
             ServingFault::Image(OpenFault::Memory),
             site.into_keeper().into_device(),
         )),
-        Err(_) => return Err((ServingFault::Net, site.into_keeper().into_device())),
+        Err(VisitFault::Net) => return Err((ServingFault::Net, site.into_keeper().into_device())),
+        Err(VisitFault::Failed) => unreachable!(),
     };
     match visits_over(alloc, site, rt, &mut room, clock, log) {
         Ok((ended, site)) => Ok((ended, site.into_keeper().into_device())),

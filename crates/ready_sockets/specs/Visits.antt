@@ -76,6 +76,14 @@ pub record HasWoken (all : Bool) (events : List SocketEvent) (old new : Room) : 
   pub visits : new.visits.items ≡ map (woken_by all events) old.visits.items
   pub may_accept : new.may_accept ≡ (old.may_accept || (all || is_called events listener_token))
 
+-- ---- a room
+
+-- Nobody is in, somebody may be at the door, and nothing was asked of it since it was opened.
+pub record IsFresh (room : Room) : Type 0 where
+  pub nobody : room.visits.items ≡ []
+  pub may_accept : room.may_accept ≡ true
+  pub made : room.door.made.calls ≡ []
+
 -- ---- a wait
 
 -- nobody has a turn

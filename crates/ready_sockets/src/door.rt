@@ -1,6 +1,8 @@
-// The calls of the system at the door: waits, and connections that are taken. `wait` and `accept` note each of their calls. That they make the call which they note, no
-// clause can say: so each is short, and tests on real connections hold it.
-ghost use Rattle.std.specs.Prelude.{◌<◌};
+// The calls of the system at the door: a listener, waits, and connections that are taken. `listen`, `wait` and `accept` note each of their calls. That they make the call
+// which they note, no clause can say: so each is short, and tests on real connections hold it.
+ghost use Rattle.std.specs.Prelude.{◌≡◌, ◌++◌, ◌<◌, IfErr};
+ghost use Rattle.ready_sockets.specs.DoorCalls.{listen_calls};
+ghost use Rattle.ready_sockets.specs.declared.room.VisitFault.TheVariants.{Net as NoSocket};
 
 use crate::door_log::{DoorKind, DoorLog};
 use crate::room::VisitFault;
@@ -13,6 +15,40 @@ use std::time::Duration;
 
 /// The token of the listener.
 pub(crate) const LISTENER: Token = Token(0);
+
+/// A listener at an address, and the wait for whoever is ready, which tells of it.
+fn listener_at<R: Net>(rt: &R, address: SocketAddr) -> Option<(Poll, TcpListener)> {
+    let (Ok(poll), Ok(mut listener)) = (Poll::new(rt), TcpListener::bind(rt, address)) else {
+        return None;
+    };
+    let readable = Interest::READABLE;
+    match poll.registry().register(&mut listener, LISTENER, readable) {
+        Ok(()) => Some((poll, listener)),
+        Err(_) => None,
+    }
+}
+
+/// Asks for a listener at an address, and notes whether it was had.
+fn listen<R: Net>(
+    rt: &R,
+    address: SocketAddr,
+    events: &Events,
+    asked: &mut DoorLog,
+) -> Result<(Poll, TcpListener), VisitFault>
+    ensures asked { asked.new.calls ≡ asked.old.calls ++ listen_calls address result }
+    ensures fault { IfErr result (λ fault. fault ≡ NoSocket) }
+{
+    match listener_at(rt, address) {
+        Some(had) => {
+            asked.note(DoorKind::Listened(address), events);
+            Ok(had)
+        }
+        None => {
+            asked.note(DoorKind::NotListened(address), events);
+            Err(VisitFault::Net)
+        }
+    }
+}
 
 /// The listener, the wait for whoever is ready, and the calls that were made of both.
 #[derive(Drop)]
@@ -30,32 +66,26 @@ impl Door {
     ghost use Rattle.std.specs.Option.{ForSome};
     ghost use Rattle.std.specs.Duration.{as_nanos};
     ghost use Rattle.mio.specs.Events.{items};
-    ghost use Rattle.ready_sockets.specs.DoorCalls.{wait_call, accept_call};
+    ghost use Rattle.ready_sockets.specs.DoorCalls.{listen_calls, wait_call, accept_call};
     ghost use Rattle.ready_sockets.specs.Doors.{listener_token, HasSameListener};
     ghost use Rattle.ready_sockets.specs.declared.room.VisitFault.TheVariants as faults;
 
-    /// Listens at an address. No call was made of it.
+    /// Listens at an address, which is noted. No other call was made of it.
     pub(crate) fn open<R: Net>(
         alloc: Global,
         rt: &R,
         address: SocketAddr,
         most: usize,
+        asked: &mut DoorLog,
     ) -> Result<Door, VisitFault>
+        ensures asked { asked.new.calls ≡ asked.old.calls ++ listen_calls address result }
         ensures made { IfOk result (λ door. door.made.calls ≡ []) }
         ensures fault { IfErr result (λ fault. (fault ≡ faults.Memory) ⊎ (fault ≡ faults.Net)) }
     {
         let Ok(events) = Events::with_capacity(alloc, most) else {
             return Err(VisitFault::Memory);
         };
-        let (Ok(poll), Ok(mut listener)) = (Poll::new(rt), TcpListener::bind(rt, address)) else {
-            return Err(VisitFault::Net);
-        };
-        let registered = poll
-            .registry()
-            .register(&mut listener, LISTENER, Interest::READABLE);
-        if registered.is_err() {
-            return Err(VisitFault::Net);
-        }
+        let (poll, listener) = listen(rt, address, &events, asked)?;
         Ok(Door {
             poll,
             events,

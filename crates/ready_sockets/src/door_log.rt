@@ -6,12 +6,16 @@ ghost use Rattle.ready_sockets.specs.DoorCalls.{DoorCall, call_of};
 
 use mio::{Events, Token};
 use std::marker::Model;
-use std::net::IpAddr;
+use std::net::{IpAddr, SocketAddr};
 use std::time::Duration;
 
 /// Which call of the system it was, without the events of a wait.
 #[derive(Clone, Copy)]
 pub(crate) enum DoorKind {
+    /// A listener at this address was had, and waits tell of it.
+    Listened(SocketAddr),
+    /// A listener at this address was not had.
+    NotListened(SocketAddr),
     /// A wait with this patience ended.
     Waited(Option<Duration>),
     /// A wait with this patience failed.
@@ -26,8 +30,8 @@ pub(crate) enum DoorKind {
 
 /// The calls at the door, in order.
 #[derive(Drop)]
-pub(crate) struct DoorLog {
-    pub(crate) ghost calls: { List DoorCall },
+pub struct DoorLog {
+    pub ghost calls: { List DoorCall },
 }
 
 impl Model for DoorLog {
@@ -36,7 +40,7 @@ impl Model for DoorLog {
 
 impl DoorLog {
     /// No calls.
-    pub(crate) fn new() -> DoorLog
+    pub fn new() -> DoorLog
         ensures { result.calls ≡ [] }
     {
         DoorLog {}

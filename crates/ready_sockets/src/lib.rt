@@ -13,6 +13,7 @@ mod serving;
 mod visit;
 mod waking;
 
+pub use door_log::DoorLog;
 pub use head::Head;
 pub use laws::{head_of_pieces, wait_keeps_clients, worked_examples};
 pub use limits::{LONGEST_SILENCE, LONGEST_VISIT, is_over};

@@ -2,6 +2,7 @@
 ghost use Rattle.std.specs.Prelude.{◌≤◌, vec_len, vec_capacity};
 
 use crate::door::{Door, LISTENER};
+use crate::door_log::DoorLog;
 use crate::visit::Visit;
 use crate::waking::{all_wait, is_called, wake_called, was_in_vain};
 use mio::Token;
@@ -45,21 +46,26 @@ impl Room {
     ghost use Rattle.std.specs.List.{list_any};
     ghost use Rattle.std.specs.Duration.{as_nanos};
     ghost use Rattle.mio.specs.Events.{items};
+    ghost use Rattle.ready_sockets.specs.DoorCalls.{listen_calls};
     ghost use Rattle.ready_sockets.specs.Doors.{listener_token};
-    ghost use Rattle.ready_sockets.specs.Visits.{has_gone, woken, patience, asks, asked_calls, HasWoken, HasWaited, HasNotWaited};
+    ghost use Rattle.ready_sockets.specs.Visits.{has_gone, woken, patience, asks, asked_calls, IsFresh, HasWoken, HasWaited, HasNotWaited};
     ghost use Rattle.ready_sockets.specs.declared.room.VisitFault.TheVariants as faults;
 
-    /// Listens at an address, with nobody in.
-    pub fn open<R: Net>(alloc: Global, rt: &R, address: SocketAddr) -> Result<Room, VisitFault>
-        ensures nobody { IfOk result (λ room. room.visits.items ≡ []) }
-        ensures may_accept { IfOk result (λ room. room.may_accept ≡ true) }
-        ensures made { IfOk result (λ room. room.door.made.calls ≡ []) }
+    /// Listens at an address, with nobody in. Whether a listener was had there is noted.
+    pub fn open<R: Net>(
+        alloc: Global,
+        rt: &R,
+        address: SocketAddr,
+        asked: &mut DoorLog,
+    ) -> Result<Room, VisitFault>
+        ensures asked { asked.new.calls ≡ asked.old.calls ++ listen_calls address result }
+        ensures fresh { IfOk result (λ room. IsFresh room) }
         ensures fault { IfErr result (λ fault. (fault ≡ faults.Memory) ⊎ (fault ≡ faults.Net)) }
     {
         let Ok(visits) = Vec::with_capacity(alloc, MOST_VISITS) else {
             return Err(VisitFault::Memory);
         };
-        let door = Door::open(alloc, rt, address, MOST_VISITS + 1)?;
+        let door = Door::open(alloc, rt, address, MOST_VISITS + 1, asked)?;
         Ok(Room {
             door,
             may_accept: true,

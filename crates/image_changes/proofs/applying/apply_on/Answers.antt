@@ -1,12 +1,14 @@
-use Rattle.std.proofs.Common.{sym, subst, ap, ◌∙◌, ◌-◌, take}
+use Rattle.std.proofs.Common.{true, sym, subst, ap, ◌∙◌, ◌-◌, take}
 use Rattle.std.specs.Prelude.{IsTrue, OnOk}
 use Rattle.host_types.specs.CrashStates.{AddsOnly}
+use Rattle.host_types.specs.Counting.{writes_after}
 use Rattle.cow_tree.specs.TreeSeen.{device_of}
 use Rattle.page_store.specs.Steps.{crash_states_of}
 use Rattle.site_store.specs.Seen.{seen_site}
 use Rattle.change_file.specs.Applied.{RepresentsFront}
 use Rattle.host_on_disk.specs.ImageSites.{ImageRepresents}
 use Rattle.image_changes.specs.ImageChanges.{HasMade}
+use Rattle.image_changes.proofs.Made.{on_ok_too, err_too, reads_on_device}
 use Rattle.image_changes.proofs.applying.apply_on.Goals as goal
 
 pub returns-clause-applied : goal.returns-clause-applied
@@ -28,3 +30,40 @@ returns-clause-applied g c = λ honest.
       before = λ e is other. subst (λ d. HasMade ImageRepresents (states d) first (take (e.number - 1) changes) c.args.now) (sym back) (over.before e is other);
       at_crash = subst (λ d. AddsOnly (states c.in-Ok.site.keeper.device) (states d) (RepresentsFront ImageRepresents first changes c.args.now)) (sym back) over.at_crash;
     }
+
+pub returns-clause-stopped : goal.returns-clause-stopped
+returns-clause-stopped g c = err_too c.apply_over-applied.result.0
+    (λ e is. record {
+      opened = c.in-Ok.site;
+      closed = c.apply_over-applied.result.1;
+      shows = c.in-Ok.ensures.site;
+      counted = c.in-Ok.ensures.counts;
+      usable = c.in-Ok.ensures.usable;
+      stops = is;
+      handed = c.into_device.ensures ∙ ap (λ k. device_of k) c.into_keeper.ensures;
+    })
+    c.apply_over-applied.ensures.stopped
+
+pub returns-clause-counts : goal.returns-clause-counts
+returns-clause-counts g c =
+    let state = g.D.Device.state in
+    let opened = c.in-Ok.ensures.counts in
+    let back = c.into_device.ensures ∙ ap (λ k. device_of k) c.into_keeper.ensures in
+    on_ok_too c.apply_over-applied.result.0
+    (λ is. record {
+      reads = ap (λ d. (state d).failed_reads) back ∙ is.reads ∙ opened.reads;
+      writes = ap (λ d. (state d).failed_writes) back ∙ is.writes ∙ opened.writes;
+    })
+    c.apply_over-applied.ensures.counts
+
+pub returns-clause-counts_fault : goal.returns-clause-counts_fault
+returns-clause-counts_fault g c =
+    let state = g.D.Device.state in
+    let opened = c.in-Ok.ensures in
+    let back = c.into_device.ensures ∙ ap (λ k. device_of k) c.into_keeper.ensures in
+    err_too c.apply_over-applied.result.0
+    (λ e is. record {
+      reads = reads_on_device _ _ e.fault _ _ _ _ opened.honest opened.counts.reads (ap (λ d. (state d).failed_reads) back) is.reads;
+      writes = ap (λ d. (state d).failed_writes) back ∙ is.writes ∙ ap (λ usable. writes_after usable e.fault (state c.in-Ok.site.keeper.device).failed_writes) opened.usable ∙ ap (λ count. writes_after true e.fault count) opened.counts.writes;
+    })
+    c.apply_over-applied.ensures.counts_fault

@@ -1,10 +1,12 @@
-use Rattle.std.proofs.Common.{sym, subst, ap, ◌∙◌, IsTrue}
+use Rattle.std.proofs.Common.{inl, inr, sym, subst, ap, ◌∙◌, IsTrue}
+use Rattle.std.proofs.lemmas.List.{append-nil}
 use Rattle.cow_tree.specs.TreeSeen.{device_of}
 use Rattle.page_store.specs.Steps.{crash_states_of}
 use Rattle.site_store.specs.Seen.{keeper_of, seen_site}
 use Rattle.host_on_disk.proofs.Openings.{no_memory}
 use Rattle.host_on_disk.proofs.Runs.{survives}
 use Rattle.image_server.proofs.OtherRuns.{run_too}
+use Rattle.image_server.proofs.Places.{place_of}
 use Rattle.image_server.proofs.visiting.serve_clients.Goals as goal
 
 pub returns-in-Ok-visits_over-clause-ran : goal.returns-in-Ok-visits_over-clause-ran
@@ -51,3 +53,39 @@ returns-in-Err-Memory-clause-refused g c =
       honest = rw back opened.honest;
       no_new_crash_state = rw back opened.at_crash;
     }
+
+pub returns-in-Err-Net-clause-asked : goal.returns-in-Err-Net-clause-asked
+returns-in-Err-Net-clause-asked g c =
+    let opened = c.in-Ok.ensures in
+    let place = place_of (g.D.Device.state c.args.device) c.args.address c.given_or_own-at.result c.given_or_own.inside.port (seen_site c.in-Ok.site) c.given_or_own-at.ensures opened.site
+    (λ honest. ap (λ a. a.port) (c.given_or_own.view_is) ∙ ap (λ a. a.port) (c.front.ensures (subst IsTrue (sym opened.honest) honest))) in
+    (c.given_or_own-at.result, place, rw c.in-Err-Net.field-0-is at c.in-Err-Net.ensures.asked)
+
+pub returns-in-Err-Memory-clause-asked : goal.returns-in-Err-Memory-clause-asked
+returns-in-Err-Memory-clause-asked g c = inl ((rw c.in-Err-Memory.field-0-is at c.in-Err-Memory.ensures.asked) ∙ append-nil c.args.asked.now.calls)
+
+pub returns-in-Ok-visits_over-clause-served : goal.returns-in-Ok-visits_over-clause-served
+returns-in-Ok-visits_over-clause-served g c =
+    let opened = c.in-Ok.ensures in
+    let place = place_of (g.D.Device.state c.args.device) c.args.address c.given_or_own-at.result c.given_or_own.inside.port (seen_site c.in-Ok.site) c.given_or_own-at.ensures opened.site
+    (λ honest. ap (λ a. a.port) (c.given_or_own.view_is) ∙ ap (λ a. a.port) (c.front.ensures (subst IsTrue (sym opened.honest) honest))) in
+    record {
+      opened = c.in-Ok.site;
+      closed = c.in-Ok-visits_over.site;
+      shows = opened.site;
+      at = c.given_or_own-at.result;
+      place = place;
+      listened = c.in-Ok-open.ensures.asked;
+      first = c.in-Ok-open.room;
+      last = c.visits_over.new.room;
+      fresh = c.in-Ok-open.ensures.fresh;
+      served = c.in-Ok-visits_over.ensures.served;
+      handed = c.into_device-in-Ok-visits_over.ensures ∙ ap (λ k. device_of k) c.into_keeper-in-Ok-visits_over.ensures;
+    }
+
+pub returns-clause-asked : goal.returns-clause-asked
+returns-clause-asked g c =
+    let opened = c.in-Ok.ensures in
+    let place = place_of (g.D.Device.state c.args.device) c.args.address c.given_or_own-at.result c.given_or_own.inside.port (seen_site c.in-Ok.site) c.given_or_own-at.ensures opened.site
+    (λ honest. ap (λ a. a.port) (c.given_or_own.view_is) ∙ ap (λ a. a.port) (c.front.ensures (subst IsTrue (sym opened.honest) honest))) in
+    rw c.in-Err-visits_over.ensures.err.0 (inr (c.given_or_own-at.result, place, c.in-Ok-open.ensures.asked))

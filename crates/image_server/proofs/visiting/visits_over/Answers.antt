@@ -4,6 +4,8 @@ use Rattle.session_core.specs.Hub.{world_of}
 use Rattle.session_core.proofs.CallLaws.{calls_run, calls_honest}
 use Rattle.host_on_disk.proofs.Runs.{handed_over, handed_on, closed_honest}
 use Rattle.image_sessions.specs.ImageRuns.{OverSite}
+use Rattle.host_types.specs.SiteState.{SiteState}
+use Rattle.ready_sockets.specs.Rounds.{HasServed}
 use Rattle.image_server.proofs.OtherRuns.{run_too}
 use Rattle.image_server.proofs.visiting.visits_over.Goals as goal
 
@@ -26,3 +28,7 @@ returns-clause-ran g c =
       honest = closed_honest s.site_state s.crash_states left c.close.result c.close.ensures.closed ∙ calls_honest s.site_state s.lacks s.crash_states s.represents first last held left events outcomes run.calls ∙ ap (λ x. (s.site_state x).honest) is;
     })
     _ _ _ c.serve_visits-ended.ensures.run
+
+-- to end the hub leaves whether its site is usable
+pub returns-clause-served : goal.returns-clause-served
+returns-clause-served g c = subst (λ usable. HasServed c.serve_visits-ended.result usable c.args.room.now c.serve_visits-ended.new.room) (sym (ap (λ (h : SiteState). h.usable) c.close.ensures.closed.keeper.same)) c.serve_visits-ended.ensures.served
