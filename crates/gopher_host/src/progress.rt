@@ -1,12 +1,22 @@
 // How far a command is, on a terminal.
-ghost use Rattle.std.specs.Prelude.{◌≡◌, []};
+ghost use Rattle.std.specs.Prelude.{◌≡◌, [], OnOk};
+ghost use Rattle.std.specs.Io.KnownBytes.{Appends};
+ghost use Rattle.gopher_host.specs.ProgressTexts.{progress_text};
 
 use change_file::{Progress, SeenLog};
+use std::io;
 use std::io::Write;
 use std::time::Instant;
 
 /// Standard error among the files of a process.
 const STANDARD_ERROR: i32 = 2;
+
+/// Writes how many changes are made, over what stood in the line.
+fn write_over<W: Write>(writer: &mut W, number: u64, count: u64) -> io::Result<()>
+    ensures { OnOk result (Appends (W.contents writer.old) (W.contents writer.new) (progress_text number count)) }
+{
+    write!(writer, "\r{number} of {count} changes")
+}
 
 /// How many changes of a file are made. Where standard error is a terminal, it shows that once a second, in one line that is written over.
 #[derive(Drop)]
@@ -63,7 +73,7 @@ impl Progress for Shown<'_> {
         let second = self.seconds();
         if second > self.second {
             self.second = second;
-            let _ = write!(self.rt.stderr(), "\r{number} of {count} changes");
+            let _ = write_over(&mut self.rt.stderr(), number, count);
         }
     }
 }

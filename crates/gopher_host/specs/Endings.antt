@@ -1,0 +1,53 @@
+-- How a command ends, by what the function gave that did its work.
+use Rattle.std.specs.Prelude.{◌≡◌, ◌⊎◌, ℕ, List, Option, Result, Ok, Err}
+use Rattle.std.specs.Io.KnownBytes.{Appends}
+use Rattle.host_script.specs.declared.fault.Fault.{Fault as ScriptFault}
+use Rattle.host_on_disk.specs.declared.open_fault.OpenFault.{OpenFault}
+use Rattle.image_commands.specs.Faults.{of_opening}
+use Rattle.image_commands.specs.declared.fault.ImageFault.{ImageFault}
+use Rattle.image_server.specs.Serving.{of_visits}
+use Rattle.image_server.specs.declared.serving.ServingFault.{ServingFault}
+use Rattle.ready_sockets.specs.declared.room.VisitFault.{VisitFault}
+use Rattle.gopher_host.specs.Faults.{ended, output_fault, memory_fault}
+use Rattle.gopher_host.specs.declared.fault.Fault.{Fault}
+use Rattle.gopher_host.specs.declared.fault.Fault.TheVariants.{Image, Serving, Script}
+
+-- The text of what was given is printed and nothing else, or standard output took no more; or its fault is answered, and nothing is printed.
+abbrev pub Gives : {A T W X : Type 0} → Result (A × T) (ImageFault × T) → (A → List ℕ) → (W → Option (List ℕ)) → W → W → Result X Fault → Type 0
+Gives (Ok given) text contents old new (Ok _) = Appends (contents old) (contents new) (text given.0)
+Gives (Ok given) text contents old new (Err fault) = fault ≡ output_fault
+Gives (Err refused) text contents old new (Ok _) = ⊥
+Gives (Err refused) text contents old new (Err fault) = (fault ≡ Image refused.0) × (new ≡ old)
+
+-- The line of a count is printed and nothing else, or standard output took no more, or there was no memory for the line; or a fault is answered, and nothing is printed.
+abbrev pub GivesCount : {I E T W X : Type 0} → Result (Result ℕ I × T) (E × T) → (ℕ → List ℕ) → (I → Fault) → (E → Fault) → (W → Option (List ℕ)) → W → W → Result X Fault → Type 0
+GivesCount (Ok (Ok count, _)) line inner outer contents old new (Ok _) = Appends (contents old) (contents new) (ended (line count))
+GivesCount (Ok (Ok count, _)) line inner outer contents old new (Err fault) = (fault ≡ output_fault) ⊎ ((fault ≡ memory_fault) × (new ≡ old))
+GivesCount (Ok (Err e, _)) line inner outer contents old new (Ok _) = ⊥
+GivesCount (Ok (Err e, _)) line inner outer contents old new (Err fault) = (fault ≡ inner e) × (new ≡ old)
+GivesCount (Err (e, _)) line inner outer contents old new (Ok _) = ⊥
+GivesCount (Err (e, _)) line inner outer contents old new (Err fault) = (fault ≡ outer e) × (new ≡ old)
+
+-- clients were served until that could not go on
+abbrev pub visits_ended : {X : Type 0} → Result X VisitFault → Result X Fault
+visits_ended (Ok x) = Ok x
+visits_ended (Err fault) = Err (Serving (of_visits fault))
+
+abbrev pub serving_ended : {T X : Type 0} → Result (Result X VisitFault × T) (ServingFault × T) → Result X Fault
+serving_ended (Ok given) = visits_ended given.0
+serving_ended (Err refused) = Err (Serving refused.0)
+
+-- a script came to its end, or a fault ended it
+abbrev pub script_ended : {X : Type 0} → Result X ScriptFault → Result X Fault
+script_ended (Ok x) = Ok x
+script_ended (Err fault) = Err (Script fault)
+
+abbrev pub replay_ended : {T X : Type 0} → Result (Result X ScriptFault × T) (OpenFault × T) → Result X Fault
+replay_ended (Ok given) = script_ended given.0
+replay_ended (Err refused) = Err (Image (of_opening refused.0))
+
+-- A fault of the script comes before one of the output.
+abbrev pub all_written : {X Y E : Type 0} → Result X Fault → Result Y E → Result X Fault
+all_written (Err fault) written = Err fault
+all_written (Ok x) (Ok _) = Ok x
+all_written (Ok x) (Err _) = Err output_fault

@@ -1,0 +1,6 @@
+pub mod Faults
+pub mod Endings
+pub mod NewImages
+pub mod ImageFiles
+pub mod Tasks
+pub mod ProgressTexts

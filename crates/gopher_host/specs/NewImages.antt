@@ -1,0 +1,79 @@
+-- What `format` is asked for, and what it makes.
+use Rattle.std.specs.Prelude.{◌≡◌, ◌⊎◌, ◌==◌, ℕ, ◌*◌, [], ◌∷◌, Result, Ok, Err, if◌then◌else◌}
+use Rattle.common_types.specs.Names.{stamp_of}
+use Rattle.common_types.specs.declared.refused.Refused.{Refused as Refusal}
+use Rattle.common_types.specs.declared.refused.Refused.TheVariants.{BadName}
+use Rattle.page_store.specs.Formatting.{IsFormatFault}
+use Rattle.page_store.specs.Steps.{AllAre}
+use Rattle.page_store.specs.declared.fault.KeeperFault.{KeeperFault}
+use Rattle.file_device.specs.FileCalls.{FileHistory, file_state}
+use Rattle.file_device.specs.Opening.{IsOpened, IsUnused}
+use Rattle.file_device.specs.declared.file_call.FileCall.TheVariants.{Create, Lock, SetLength}
+use Rattle.image_commands.specs.Faults.{of_store}
+use Rattle.image_commands.specs.Formatted.{names_of, sectors_of, first_site, IsFormatted}
+use Rattle.image_commands.specs.declared.fault.ImageFault.{ImageFault}
+use Rattle.image_commands.specs.declared.fault.ImageFault.TheVariants.{Refused, NoFile, Memory}
+use Rattle.image_commands.specs.declared.names.SiteNames.{SiteNames}
+use Rattle.command_words.specs.declared.words.NewSite.{NewSite}
+use Rattle.gopher_host.specs.ImageFiles.{file_crash_states}
+
+-- ---- what is asked for, or the first thing that is wrong with it
+
+-- a name, or why an image can't have it
+abbrev pub named : {T : Type 0} → Result T Refusal → Result T ImageFault
+named (Ok name) = Ok name
+named (Err refused) = Err (Refused refused)
+
+-- the moment of so many seconds
+abbrev pub moment_of : ℕ → Result ℕ ImageFault
+moment_of seconds = named (stamp_of seconds)
+
+-- a port of 0 is a bad name, and comes before all others
+abbrev pub names_for : NewSite → Result SiteNames ImageFault
+names_for site = if site.port == 0 then Err (Refused BadName) else named (names_of site.host.now site.admin.now site.title.now)
+
+abbrev pub with_sectors : Result SiteNames ImageFault → Result ℕ KeeperFault → Result (SiteNames × ℕ) ImageFault
+with_sectors (Err fault) sectors = Err fault
+with_sectors (Ok names) (Err fault) = Err (of_store fault)
+with_sectors (Ok names) (Ok sectors) = Ok (names, sectors)
+
+-- the names, and how many sectors so many pages are; the names are examined first
+abbrev pub asked_for : NewSite → ℕ → Result (SiteNames × ℕ) ImageFault
+asked_for site pages = with_sectors (names_for site) (sectors_of pages)
+
+abbrev pub behind : {A B : Type 0} → Result A ImageFault → Result B ImageFault → Result B ImageFault
+behind (Err fault) later = Err fault
+behind (Ok _) later = later
+
+-- the moment is examined before all else
+abbrev pub asked_at : NewSite → ℕ → ℕ → Result (SiteNames × ℕ) ImageFault
+asked_at site pages now = behind (moment_of now) (asked_for site pages)
+
+-- ---- what is made
+
+-- A file was created with as many sectors as the pages have. Reads of it give the first image of just this site, and so does a crash at any moment from then on.
+pub record IsMade (site : NewSite) (pages now : ℕ) : Type 0 where
+  pub names : SiteNames
+  pub sectors : ℕ
+  pub asked : asked_for site pages ≡ Ok (names, sectors)
+  pub created : FileHistory
+  pub file : IsOpened (SetLength (512 * sectors) ∷ Lock ∷ Create ∷ []) created
+  pub device : FileHistory
+  pub formatted : IsFormatted (file_state device).disk.view pages (first_site names site.port now)
+  pub sure : AllAre (file_crash_states device) (file_state device).disk.view
+
+-- A file was created with as many sectors as the pages have, and an image could not be made there, for this cause.
+pub record IsNotFormatted (pages : ℕ) (fault : ImageFault) : Type 0 where
+  pub sectors : ℕ
+  pub fits : sectors_of pages ≡ Ok sectors
+  pub created : FileHistory
+  pub file : IsOpened (SetLength (512 * sectors) ∷ Lock ∷ Create ∷ []) created
+  pub unused : IsUnused created
+  pub left : FileHistory
+  pub cause : KeeperFault
+  pub is : fault ≡ of_store cause
+  pub caused : IsFormatFault pages (file_state created) (file_state left) cause
+
+-- Why no image was made: what is asked for is wrong; there is no such file, or no memory; or the file was had, and an image could not be made there.
+abbrev pub IsNotMade : NewSite → ℕ → ImageFault → Type 0
+IsNotMade site pages fault = (asked_for site pages ≡ Err fault) ⊎ ((fault ≡ NoFile) ⊎ ((fault ≡ Memory) ⊎ IsNotFormatted pages fault))
