@@ -23,18 +23,18 @@ pub row_pairs : (n : ℕ) (bytes : List ℕ) → list_all is_pair (pairs_in n by
 row_pairs zero bytes = refl
 row_pairs (suc n) bytes = then_pairs n (pair_at bytes) (λ x e. (pair_read bytes x e).0) (λ rest. row_pairs n rest)
 
-number_rest : (w : Width) (bytes : List ℕ) (x : ℕ × List ℕ) → number_at w bytes ≡ Some x → x.1 ≡ drop (byte_len w) bytes
+pub number_rest : (w : Width) (bytes : List ℕ) (x : ℕ × List ℕ) → number_at w bytes ≡ Some x → x.1 ≡ drop (byte_len w) bytes
 number_rest w bytes x e =
     let t = test_passed (nat_le (byte_len w) (length bytes)) (Some (from_be_bytes w (take (byte_len w) bytes), drop (byte_len w) bytes)) x e in
     sym (ap (λ (y : ℕ × List ℕ). y.1) (some_is (from_be_bytes w (take (byte_len w) bytes), drop (byte_len w) bytes) x t.1))
 
-piece_rest : (n : ℕ) (bytes : List ℕ) (x : List ℕ × List ℕ) → piece_at n bytes ≡ Some x → x.1 ≡ drop n bytes
+pub piece_rest : (n : ℕ) (bytes : List ℕ) (x : List ℕ × List ℕ) → piece_at n bytes ≡ Some x → x.1 ≡ drop n bytes
 piece_rest n bytes x e =
     let t = test_passed (nat_le n (length bytes)) (Some (take n bytes, drop n bytes)) x e in
     sym (ap (λ (y : List ℕ × List ℕ). y.1) (some_is (take n bytes, drop n bytes) x t.1))
 
 -- behind a part that ends at a place
-then_rest : (m n : ℕ) (bytes rest after : List ℕ) → rest ≡ drop n bytes → after ≡ drop m rest → after ≡ drop (n + m) bytes
+pub then_rest : (m n : ℕ) (bytes rest after : List ℕ) → rest ≡ drop n bytes → after ≡ drop m rest → after ≡ drop (n + m) bytes
 then_rest m n bytes rest after r a = a ∙ ap (λ (l : List ℕ). drop m l) r ∙ drop-drop m n bytes
 
 -- the entries of a page begin behind 24 bytes

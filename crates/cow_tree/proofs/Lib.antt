@@ -9,6 +9,7 @@ pub mod Openings
 pub mod FilledWalks
 pub mod PairSizes
 pub mod LeafBytes
+pub mod LeafPlaces
 pub mod Runs
 pub mod OnTheWay
 pub mod PagesTold

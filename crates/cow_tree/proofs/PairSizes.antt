@@ -4,9 +4,8 @@ use Rattle.std.specs.List.{list_all}
 use Rattle.std.specs.BTreeMap.{is_at}
 use Rattle.common_types.specs.ByteOrder.{byte_cmp}
 use Rattle.page_store.specs.Reading.{where_true}
-use Rattle.page_store.specs.Keys.{precedes}
 use Rattle.page_store.specs.Pages.{Pair, Place, pair_at, entries_of, leaf_of, are_leaf}
-use Rattle.page_store.specs.Batch.{is_pair, value_at, pair_after}
+use Rattle.page_store.specs.Batch.{is_pair, value_at}
 use Rattle.page_store.proofs.Fields.{bind_some, test_passed}
 use Rattle.page_store.proofs.DecodedPages.{pair_sizes}
 use Rattle.tree_nodes.proofs.KeyOrder.{both_true}
@@ -27,12 +26,6 @@ some_value v = Some v
 value_is : (a b : List ℕ) → some_value a ≡ some_value b → a ≡ b
 value_is a b e = cc
 
-abbrev some_pair : Pair → Option Pair
-some_pair p = Some p
-
-pair_same : (a b : Pair) → some_pair a ≡ some_pair b → a ≡ b
-pair_same a b e = cc
-
 pub value_size : (pairs : List Pair) (key v : List ℕ) → list_all is_pair pairs ≡ true → Some v ≡ value_at pairs key → length v ≤ 1024
 value_size [] key v h e = absurd (cc e)
 value_size (p ∷ ps) key v h e =
@@ -41,17 +34,4 @@ value_size (p ∷ ps) key v h e =
   where
     here : (t : Bool) → Some v ≡ cond t (Some p.1) (value_at ps key) → length p.1 ≤ 1024 → (Some v ≡ value_at ps key → length v ≤ 1024) → length v ≤ 1024
     here true e size later = let same = value_is v p.1 e in subst (λ (l : List ℕ). length l ≤ 1024) (sym same) size
-    here false e size later = later e
-
-abbrev AreSizes : Pair → Type 0
-AreSizes q = (length q.0 ≤ 300) × (length q.1 ≤ 1024)
-
-pub pair_size : (pairs : List Pair) (key : List ℕ) (found : Pair) → list_all is_pair pairs ≡ true → Some found ≡ pair_after pairs key → (length found.0 ≤ 300) × (length found.1 ≤ 1024)
-pair_size [] key found h e = absurd (cc e)
-pair_size (p ∷ ps) key found h e =
-    let b = both_true (is_pair p) (list_all is_pair ps) h in
-    here (precedes key p.0) e (pair_sizes p b.0) (λ later. pair_size ps key found b.1 later)
-  where
-    here : (t : Bool) → Some found ≡ cond t (Some p) (pair_after ps key) → AreSizes p → (Some found ≡ pair_after ps key → AreSizes found) → AreSizes found
-    here true e size later = let same = pair_same found p e in subst (λ (q : Pair). AreSizes q) (sym same) size
     here false e size later = later e

@@ -1,10 +1,11 @@
 -- Leaves of a tree whose pairs are kept, and what they tell of the next pair.
-use Rattle.std.specs.Prelude.{◌≡◌, ◌⊎◌, ℕ, Bool, false, IsTrue, List, [], ◌∷◌, ◌++◌, ◌&&◌, not, Some, None}
+use Rattle.std.specs.Prelude.{◌≡◌, ◌⊎◌, ℕ, Bool, false, IsTrue, List, [], ◌∷◌, ◌++◌, ◌&&◌, not, Option, Some, None, drop, if◌then◌else◌}
 use Rattle.std.specs.Option.{is_some}
 use Rattle.page_store.specs.Keys.{precedes}
 use Rattle.page_store.specs.Pages.{Pair, leaf_of}
 use Rattle.page_store.specs.Batch.{pair_after}
 use Rattle.page_store.specs.Content.{Found, Bounds, place_in, is_among}
+use Rattle.tree_nodes.specs.PageViews.{pairs_in}
 
 -- Pairs that stand one after another among others.
 pub record IsRun (run pairs : List Pair) : Type 0 where
@@ -37,3 +38,32 @@ IsKeptLeaf bytes bounds tree kept = ∥ (kept ≡ []) ⊎ IsLeaf bytes bounds tr
 abbrev pub has_next : List Pair → List ℕ → Bool
 has_next [] key = false
 has_next (first ∷ others) key = not (precedes key first.0) && is_some (pair_after others key)
+
+-- So many pairs from a place of a page on, as far as they have the form.
+abbrev pub pairs_from : List ℕ → ℕ → ℕ → List Pair
+pairs_from bytes at left = pairs_in left (drop at bytes)
+
+-- The first of these pairs isn't above a key.
+abbrev pub begins_by : List ℕ → List Pair → Bool
+begins_by key [] = false
+begins_by key (first ∷ others) = not (precedes key first.0)
+
+-- The pair after a key, where the first of these pairs isn't above it.
+abbrev pub next_in : List Pair → List ℕ → Option Pair
+next_in pairs key = if begins_by key pairs then pair_after pairs key else None
+
+-- Later ones of these pairs tell what pair is after a key, as all do, where the first of the later ones isn't above it.
+abbrev pub TellsAsAll : List Pair → List Pair → Type 0
+TellsAsAll later pairs = (key : List ℕ) → IsTrue (begins_by key later) → IsTrue (begins_by key pairs) × (pair_after pairs key ≡ pair_after later key)
+
+-- These pairs without some in front that aren't above a key: the later ones tell as all do what is after that key, and after each above it.
+pub record IsWalked (key : List ℕ) (later pairs : List Pair) : Type 0 where
+  pub tells : (other : List ℕ) → precedes other key ≡ false → pair_after pairs other ≡ pair_after later other
+  pub begins : (other : List ℕ) → precedes other key ≡ false → IsTrue (begins_by other later) → IsTrue (begins_by other pairs)
+
+-- The later ones begin with the pair after the key.
+pub record IsReached (key : List ℕ) (found : Pair) (later pairs : List Pair) : Type 0 where
+  pub walked : IsWalked key later pairs
+  pub others : List Pair
+  pub first : later ≡ found ∷ others
+  pub above : IsTrue (precedes key found.0)

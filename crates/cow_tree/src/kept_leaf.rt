@@ -1,5 +1,5 @@
 // The leaf that a next pair was last read from.
-ghost use Rattle.std.specs.Prelude.{◌≡◌, ◌≤◌, ◌<◌, ◌*◌, List, [], None, Some, Ok, IsTrue, IfSome, option_map, length, take};
+ghost use Rattle.std.specs.Prelude.{◌≡◌, ◌≤◌, ◌<◌, ◌*◌, ◌∷◌, ◌⊎◌, false, List, [], None, Some, Ok, IsTrue, IfSome, MatchOption, option_map, length, take};
 ghost use Rattle.std.specs.Option.{is_some};
 ghost use Rattle.page_store.specs.Sectors.{page_of};
 ghost use Rattle.page_store.specs.Steps.{crash_states_of};
@@ -8,13 +8,14 @@ ghost use Rattle.page_store.specs.Batch.{pair_after};
 ghost use Rattle.page_store.specs.StoreState.{IsFilled};
 ghost use Rattle.page_store.specs.Content.{place_in};
 ghost use Rattle.tree_nodes.specs.PageViews.{bounds_of, pairs_in};
-ghost use Rattle.cow_tree.specs.KeptLeaves.{has_next};
+ghost use Rattle.cow_tree.specs.KeptLeaves.{begins_by, next_in, pairs_from, IsReached};
 ghost use Rattle.cow_tree.specs.Ways.{IsAnswer};
 ghost use Rattle.cow_tree.specs.Walks.{ReadsPages};
 ghost use Rattle.cow_tree.specs.declared.page_fault.PageFault.{PageFault as PageFaultValue};
 
 use crate::opening_walk::{count_pairs, load_page};
 use crate::page_fault::PageFault;
+use page_store::pair_at;
 use sector_device::Device;
 use std::cmp::Ordering;
 use std::marker::Model;
@@ -23,21 +24,38 @@ use tree_nodes::{ImageBounds, Leaf};
 /// Where the entries of a page begin.
 const ENTRIES: usize = 24;
 
-/// The pairs of a leaf, in the bytes of its page; or none.
+/// A place from which on no pair stands.
+const NOWHERE: Place = Place {
+    at: ENTRIES,
+    left: 0,
+};
+
+/// A place in the page of a leaf: where a pair begins, and how many there are from it on.
+#[derive(Clone, Copy)]
+struct Place {
+    at: usize,
+    left: u16,
+}
+
+/// The pairs of a leaf, in the bytes of its page; or none. The place of the pair that was given last is known, so that a walk takes one step for each.
 #[derive(Drop)]
 pub(crate) struct KeptLeaf {
     count: u16,
     bytes: [u8; 4096],
+    last: Place,
 }
 
 impl Model for KeptLeaf {
     ghost use Rattle.std.specs.Prelude.{List, drop};
     ghost use Rattle.page_store.specs.Pages.{Pair};
     ghost use Rattle.tree_nodes.specs.PageViews.{pairs_in};
+    ghost use Rattle.cow_tree.specs.KeptLeaves.{pairs_from, TellsAsAll};
 
     ghost Value = { List Pair };
 
     ghost view = { λ kept. pairs_in kept.count (drop 24 kept.bytes) };
+
+    ghost invariant = { λ kept. TellsAsAll (pairs_from kept.bytes kept.last.at kept.last.left) (pairs_in kept.count (drop 24 kept.bytes)) };
 }
 
 impl KeptLeaf {
@@ -48,6 +66,7 @@ impl KeptLeaf {
         KeptLeaf {
             count: 0,
             bytes: [0; 4096],
+            last: NOWHERE,
         }
     }
 
@@ -56,6 +75,7 @@ impl KeptLeaf {
         ensures { self.new ≡ [] }
     {
         self.count = 0;
+        self.last = NOWHERE;
     }
 
     /// Reads a leaf from its page, which was tested before.
@@ -71,6 +91,7 @@ impl KeptLeaf {
             IsAnswer result (λ done. self.new ≡ pairs) }
         ensures reads { ReadsPages D.state (crash_states_of D.moment D.possible_since) device.old device.new result }
     {
+        self.last.left = 0;
         load_page(device, page, &mut self.bytes)?;
         self.count = count_pairs(Leaf::of_tested(&self.bytes));
         Ok(())
@@ -90,40 +111,134 @@ impl KeptLeaf {
         self.pairs().after(key).is_some()
     }
 
-    /// Whether its first key isn't above this one, and another is.
-    pub(crate) fn has_next(&self, key: &[u8]) -> bool
-        ensures { result ≡ has_next self.now key.now }
-    {
-        let Some((first, _, others)) = self.pairs().first() else {
-            return false;
-        };
-        key.cmp(first) != Ordering::Less && others.after(key).is_some()
-    }
-    /// Puts the pair with the least key above this one into the buffers.
-    pub(crate) fn copy_after(
-        &self,
+    /// Puts the pair with the least key above this one into the buffers, where its first key isn't above this one.
+    pub(crate) fn copy_next(
+        &mut self,
         after: &[u8],
         key: &mut [u8; 300],
         value: &mut [u8; 1024],
     ) -> Option<(usize, usize)>
         ensures within { IfSome result (λ n. (n.0 ≤ 300) × (n.1 ≤ 1024)) }
-        ensures pair { option_map (λ n. (take n.0 key.new, take n.1 value.new)) result ≡ pair_after self.now after.now }
+        ensures pair { option_map (λ n. (take n.0 key.new, take n.1 value.new)) result ≡ next_in self.old after.now }
         ensures key { IsFilled {E = PageFaultValue} (λ n. n.0) (Ok result) key.old key.new }
         ensures value { IsFilled {E = PageFaultValue} (λ n. n.1) (Ok result) value.old value.new }
+        ensures kept { self.new ≡ self.old }
     {
-        let (found, stored) = pair_of(&self.pairs(), after)?;
-        key[..found.len()].copy_from_slice(found);
-        value[..stored.len()].copy_from_slice(stored);
-        Some((found.len(), stored.len()))
+        let from = place_by(&self.bytes, self.last, first_place(self.count), after)?;
+        let (place, sizes) = copy_from(&self.bytes, from, after, key, value)?;
+        self.last = place;
+        Some(sizes)
+    }
+
+    /// Puts the pair with the least key above this one into the buffers.
+    pub(crate) fn copy_after(
+        &mut self,
+        after: &[u8],
+        key: &mut [u8; 300],
+        value: &mut [u8; 1024],
+    ) -> Option<(usize, usize)>
+        ensures within { IfSome result (λ n. (n.0 ≤ 300) × (n.1 ≤ 1024)) }
+        ensures pair { option_map (λ n. (take n.0 key.new, take n.1 value.new)) result ≡ pair_after self.old after.now }
+        ensures key { IsFilled {E = PageFaultValue} (λ n. n.0) (Ok result) key.old key.new }
+        ensures value { IsFilled {E = PageFaultValue} (λ n. n.1) (Ok result) value.old value.new }
+        ensures kept { self.new ≡ self.old }
+    {
+        let first = first_place(self.count);
+        let from = place_by(&self.bytes, self.last, first, after).unwrap_or(first);
+        let (place, sizes) = copy_from(&self.bytes, from, after, key, value)?;
+        self.last = place;
+        Some(sizes)
     }
 }
 
-/// The pair of a leaf after a key.
-fn pair_of<'a>(leaf: &Leaf<'a>, after: &[u8]) -> Option<(&'a [u8], &'a [u8])>
-    ensures pair { option_map (λ p. (p.0.now, p.1.now)) result ≡ pair_after (pairs_in leaf.now.count leaf.now.entries.now) after.now }
-    ensures key { IfSome result (λ p. length p.0.now ≤ 300) }
-    ensures value { IfSome result (λ p. length p.1.now ≤ 1024) }
+/// The place of the first pair of a leaf.
+fn first_place(count: u16) -> Place
+    ensures at { result.at ≡ 24 }
+    ensures left { result.left ≡ count }
 {
-    let (key, value) = leaf.after(after)?;
-    Some((key, value))
+    Place {
+        at: ENTRIES,
+        left: count,
+    }
+}
+
+/// The pair at a place, and the place behind it.
+fn pair_from(bytes: &[u8; 4096], place: Place) -> Option<(&[u8], &[u8], Place)>
+    ensures pairs { MatchOption result (pairs_from bytes.now place.at place.left ≡ []) (λ x. pairs_from bytes.now place.at place.left ≡ (x.0.now, x.1.now) ∷ pairs_from bytes.now x.2.at x.2.left) }
+    ensures fewer { IfSome result (λ x. x.2.left < place.left) }
+    ensures sizes { IfSome result (λ x. (length x.0.now ≤ 300) × (length x.1.now ≤ 1024)) }
+{
+    if place.left < 1 {
+        return None;
+    }
+    let entries = bytes.get(place.at..)?;
+    let ((key, value), rest) = pair_at(entries)?;
+    let behind = Place {
+        at: 4096 - rest.len(),
+        left: place.left - 1,
+    };
+    Some((key, value, behind))
+}
+
+/// Whether the pair at a place isn't above a key.
+fn begins_by(bytes: &[u8; 4096], place: Place, key: &[u8]) -> bool
+    ensures { result ≡ begins_by key.now (pairs_from bytes.now place.at place.left) }
+{
+    match pair_from(bytes, place) {
+        Some((first, _, _)) => key.cmp(first) != Ordering::Less,
+        None => false,
+    }
+}
+
+/// The first pair above a key, from a place on, and its place.
+fn place_after<'a>(
+    bytes: &'a [u8; 4096],
+    from: Place,
+    key: &[u8],
+) -> Option<(Place, &'a [u8], &'a [u8])>
+    ensures reached { MatchOption result (pair_after (pairs_from bytes.now from.at from.left) key.now ≡ None)
+        (λ x. IsReached key.now (x.1.now, x.2.now) (pairs_from bytes.now x.0.at x.0.left) (pairs_from bytes.now from.at from.left)) }
+    ensures sizes { IfSome result (λ x. (length x.1.now ≤ 300) × (length x.2.now ≤ 1024)) }
+{
+    let mut place = from;
+    while let Some((here, value, behind)) = pair_from(bytes, place) {
+        if key.cmp(here) == Ordering::Less {
+            return Some((place, here, value));
+        }
+        place = behind;
+    }
+    None
+}
+
+/// The one of two places whose pair isn't above a key, the second only where the first is none.
+fn place_by(bytes: &[u8; 4096], one: Place, other: Place, key: &[u8]) -> Option<Place>
+    ensures { MatchOption result (begins_by key.now (pairs_from bytes.now other.at other.left) ≡ false) (λ place. IsTrue (begins_by key.now (pairs_from bytes.now place.at place.left)) × ((place ≡ one) ⊎ (place ≡ other))) }
+{
+    if begins_by(bytes, one, key) {
+        return Some(one);
+    }
+    if begins_by(bytes, other, key) {
+        return Some(other);
+    }
+    None
+}
+
+/// Puts the first pair above a key, from a place on, into the buffers, and gives its place.
+fn copy_from(
+    bytes: &[u8; 4096],
+    from: Place,
+    after: &[u8],
+    key: &mut [u8; 300],
+    value: &mut [u8; 1024],
+) -> Option<(Place, (usize, usize))>
+    ensures within { IfSome result (λ x. (x.1.0 ≤ 300) × (x.1.1 ≤ 1024)) }
+    ensures reached { MatchOption result (pair_after (pairs_from bytes.now from.at from.left) after.now ≡ None)
+        (λ x. IsReached after.now (take x.1.0 key.new, take x.1.1 value.new) (pairs_from bytes.now x.0.at x.0.left) (pairs_from bytes.now from.at from.left)) }
+    ensures key { IsFilled {E = PageFaultValue} (λ x. x.1.0) (Ok result) key.old key.new }
+    ensures value { IsFilled {E = PageFaultValue} (λ x. x.1.1) (Ok result) value.old value.new }
+{
+    let (place, found, stored) = place_after(bytes, from, after)?;
+    key[..found.len()].copy_from_slice(found);
+    value[..stored.len()].copy_from_slice(stored);
+    Some((place, (found.len(), stored.len())))
 }

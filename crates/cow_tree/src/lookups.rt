@@ -71,25 +71,6 @@ pub(crate) fn read_next_leaf<D: Device>(
     }
 }
 
-/// Sees to it that the leaf is kept that tells the pair of a slot's tree after a key: it may be the one that is kept already.
-fn keep_next_leaf<D: Device>(
-    device: &mut D,
-    slot: &Slot,
-    after: &[u8],
-    kept: &mut KeptLeaf,
-) -> Result<(), PageFault>
-    requires fits { 8 * slot.now.root.pages ≤ (D.state device.old).size }
-    requires rooted { IsRooted slot.now.root }
-    ensures next { KeepsNext D.state (crash_states_of D.moment D.possible_since) (λ pages found. (tree_found slot.now pages ≡ Some found) × IsKeptLeaf pages (bounds_under slot.now) found kept.old)
-        (bounds_under slot.now) after.now device.old device.new kept.new (λ done. pair_after kept.new after.now) result }
-    ensures unread { IsTrue (has_next kept.old after.now) → (device.new ≡ device.old) × (kept.new ≡ kept.old) }
-{
-    if kept.has_next(after) {
-        return Ok(());
-    }
-    read_next_leaf(device, TreeRoot::under(slot), after, kept)
-}
-
 /// Puts the pair of a slot's tree after a key into the buffers, from the leaf that is kept, or else from the one that is to be kept next.
 pub(crate) fn find_next<D: Device>(
     device: &mut D,
@@ -110,6 +91,9 @@ pub(crate) fn find_next<D: Device>(
     // Where the kept leaf tells the pair, nothing is read.
     ensures unread { IsTrue (has_next kept.old after.now) → (device.new ≡ device.old) × (kept.new ≡ kept.old) }
 {
-    keep_next_leaf(device, slot, after, kept)?;
+    if let Some(sizes) = kept.copy_next(after, key, value) {
+        return Ok(Some(sizes));
+    }
+    read_next_leaf(device, TreeRoot::under(slot), after, kept)?;
     Ok(kept.copy_after(after, key, value))
 }
