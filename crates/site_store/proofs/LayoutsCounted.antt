@@ -312,11 +312,8 @@ counts_decide b pairs s site rise decides = (
 )
 
 -- A layout's keys rise.
-pub not_rising : (pairs : List Pair) (s : Site) → rises (map key_of pairs) ≡ false → Decides false (IsLayoutOf pairs s)
-not_rising pairs s falls = (
-  λ y. absurd (let e : false ≡ true = y in cc e),
-  λ is. absurd (clash (rises (map key_of pairs)) (sorted_rises pairs (ap (is_sorted byte_cmp) is.1 ∙ is_sorted-layout s)) falls),
-)
+pub not_rising : (pairs : List Pair) (s : Site) → rises (map key_of pairs) ≡ false → pairs ≡ layout s → ⊥
+not_rising pairs s falls all = clash (rises (map key_of pairs)) (sorted_rises pairs (ap (is_sorted byte_cmp) all ∙ is_sorted-layout s)) falls
 
 -- ---- one item after the other
 

@@ -1,45 +1,101 @@
 -- What a site that was read whole says of what is kept.
-use Rattle.std.proofs.Common.{◌≡◌, ◌<◌, Bool, true, false, Result, Err, refl, ap, sym, ◌∙◌, arith}
-use Rattle.std.specs.Prelude.{IsTrue, IsErrOf, List, []}
+use Rattle.std.proofs.Common.{◌≡◌, Bool, true, false, List, map, Result, Ok, Err, refl, ap, sym, subst, ◌∙◌, arith}
+use Rattle.std.specs.Prelude.{IsTrue, IsErrOf, IfOk, IfErr, OnOk, []}
+use Rattle.common_types.specs.Counts.{counted, counted_below}
 use Rattle.host_types.specs.Site.{Site}
-use Rattle.page_store.specs.Pages.{Pair}
+use Rattle.page_store.specs.Keys.{rises}
+use Rattle.page_store.specs.Pages.{Pair, key_of}
 use Rattle.page_store.specs.StoreState.{StoreState, HasRead}
 use Rattle.site_store.specs.ReadLaws.{kept_after}
-use Rattle.site_store.specs.Represented.{RepresentedBy, HasSite, site_of, site_kept}
+use Rattle.site_store.specs.Represented.{RepresentedBy, Shows, HasSite, site_of, site_kept}
+use Rattle.page_store.specs.declared.banner.Banner.{Banner}
+use Rattle.page_store.specs.declared.fault.KeeperFault.{KeeperFault}
 use Rattle.page_store.specs.declared.fault.KeeperFault.TheVariants as kinds
-use Rattle.site_store.specs.StoreReads.{IsSiteReadFault}
+use Rattle.site_store.specs.StoreReads.{IsSiteReadFault, IsCountedFault, NoneFailed}
 use Rattle.site_store.specs.declared.fault.SiteOpenFault.{SiteOpenFault}
 use Rattle.site_store.specs.declared.fault.SiteOpenFault.TheVariants.{BadRecord, Keeper, Memory}
-use Rattle.site_store.specs.Opening.{IsOpenFault, site_under, with_all_named, HasAddress, IsLayoutOf}
+use Rattle.site_store.specs.Opening.{IsOpenFault, IsPairsFault, site_under, with_all_named, pairs_state, HasAddress, IsLayoutOf}
+use Rattle.site_store.proofs.LayoutsCounted.{not_rising}
 use Rattle.site_store.proofs.NamedItems.{not_kept}
 use Rattle.site_store.proofs.PinsKept.{none_have}
 
--- Where the site that was read hasn't the layout that was read, or breaks a rule, no site is kept.
-pub none_kept : (h k : StoreState) (m : Site) (pairs : List Pair) → HasRead h k → IsTrue h.honest → pairs ≡ h.pairs
-    → (IsTrue k.honest → (s : Site) → RepresentedBy k s → m ≡ with_all_named s (site_under k.banner) pairs) → (IsLayoutOf pairs m → ⊥) → ((s : Site) × RepresentedBy h s) → ⊥
-none_kept h k m pairs read honest all named bad kept =
-    let now : IsTrue k.honest = read.honest ∙ honest in
-    let later = kept_after h k kept.0 read honest kept.1 in
-    not_kept k kept.0 m pairs later (all ∙ sym (read.same.pairs honest)) (named now kept.0 later) bad
+-- ---- pairs in memory
 
--- Else it is kept.
-pub is_kept_site : (h k : StoreState) (m : Site) (pairs : List Pair) → HasRead h k → (IsTrue h.honest → pairs ≡ h.pairs) → HasAddress m k.banner → IsLayoutOf pairs m → IsTrue h.honest → (s : Site) × RepresentedBy h s
-is_kept_site h k m pairs read all address whole = λ honest. (
-  m,
-  record {
-    valid = ∣ whole.0 ∣₁;
-    all = sym (all honest) ∙ whole.1;
-    host = ap (λ b. b.host) (sym read.same.banner) ∙ sym address.host;
-    port = ap (λ b. b.port) (sym read.same.banner) ∙ sym address.port;
-    admin = ap (λ b. b.admin) (sym read.same.banner) ∙ sym address.admin;
-  },
-)
+-- The site that their keys name is theirs where they are its layout.
+shown_site : (pairs : List Pair) (banner : Banner) (m : Site) → HasAddress m banner → IsLayoutOf pairs m → Shows pairs banner m
+shown_site pairs banner m address whole = record { valid = ∣ whole.0 ∣₁; all = whole.1; host = sym address.host; port = sym address.port; admin = sym address.admin }
 
-pub has_port : (h k : StoreState) (m : Site) (pairs : List Pair) → HasRead h k → HasAddress m k.banner → IsLayoutOf pairs m → 0 < h.banner.port
-has_port h k m pairs read address whole =
-    let given = whole.0.port_given in
-    let same : m.port ≡ h.banner.port = address.port ∙ ap (λ b. b.port) read.same.banner in
-    omega (arith, given, same)
+-- Where they are not, or it breaks a rule, they are no site's.
+none_shown : (pairs : List Pair) (banner : Banner) (m : Site) → ((s : Site) → Shows pairs banner s → m ≡ with_all_named s (site_under banner) pairs) → (IsLayoutOf pairs m → ⊥) → (s : Site) → Shows pairs banner s → ⊥
+none_shown pairs banner m named bad s shown = not_kept (pairs_state pairs banner) s m pairs shown refl (named s shown) bad
+
+-- the same of pairs that were looked up, and stayed
+pub whole_site : (pairs : List Pair) (banner : Banner) (m : Site) (a b : List Pair × Banner) → a ≡ (pairs, banner) → b ≡ a → HasAddress m a.1 → IsLayoutOf b.0 m → Shows pairs banner m
+whole_site pairs banner m a b is same address whole = shown_site pairs banner m (subst (λ (r : List Pair × Banner). HasAddress m r.1) is address) (subst (λ (r : List Pair × Banner). IsLayoutOf r.0 m) (same ∙ is) whole)
+
+pub broken_site : (pairs : List Pair) (banner : Banner) (m : Site) (a b : List Pair × Banner) → a ≡ (pairs, banner) → b ≡ a → ((s : Site) → Shows a.0 a.1 s → m ≡ with_all_named s (site_under a.1) a.0) → (IsLayoutOf b.0 m → ⊥) → (s : Site) → Shows pairs banner s → ⊥
+broken_site pairs banner m a b is same named bad = none_shown pairs banner m (subst (λ (r : List Pair × Banner). (s : Site) → Shows r.0 r.1 s → m ≡ with_all_named s (site_under r.1) r.0) is named) (λ whole. bad (subst (λ (r : List Pair × Banner). IsLayoutOf r.0 m) (sym (same ∙ is)) whole))
+
+-- nor where their keys don't rise
+pub none_rising : (pairs : List Pair) (banner : Banner) → rises (map key_of pairs) ≡ false → (s : Site) → Shows pairs banner s → ⊥
+none_rising pairs banner falls s shown = not_rising pairs s falls shown.all
+
+-- a look-up among them never fails by a read
+no_read_fault : (pairs more : List Pair) (banner other : Banner) (fault : KeeperFault) → IsCountedFault (pairs_state pairs banner) (pairs_state more other) fault → ⊥
+no_read_fault pairs more banner other kinds.Device h = let e : 0 ≡ counted 0 = h.0 in let more = counted_below 0 (omega arith) in omega (arith, e, more)
+no_read_fault pairs more banner other kinds.NoImage h = h.0
+no_read_fault pairs more banner other kinds.Version h = h.0
+no_read_fault pairs more banner other (kinds.Damaged page) h = let e = h.0 in cc e
+no_read_fault pairs more banner other kinds.Small h = h.0
+no_read_fault pairs more banner other kinds.Spent h = h.0
+no_read_fault pairs more banner other kinds.Deep h = h.0
+no_read_fault pairs more banner other (kinds.Full need free) h = h.0
+no_read_fault pairs more banner other kinds.Failed h = let e = h.0 in cc e
+no_read_fault pairs more banner other kinds.Memory h = h.0
+
+pub pairs_fault : (pairs more : List Pair) (banner other : Banner) (fault : SiteOpenFault) → IsSiteReadFault (pairs_state pairs banner) (pairs_state more other) fault → IsPairsFault pairs banner fault
+pairs_fault pairs more banner other BadRecord h = λ s shown. h.1 refl (s, shown)
+pairs_fault pairs more banner other (Keeper fault) h = no_read_fault pairs more banner other fault h
+pairs_fault pairs more banner other Memory h = tt
+
+-- they stay
+pub pairs_stay : (a b : List Pair × Banner) → HasRead (pairs_state a.0 a.1) (pairs_state b.0 b.1) → b ≡ a
+pairs_stay a b read = let pairs = read.same.pairs refl in let banner = read.same.banner in λ i. (pairs i, banner i)
+
+-- ---- the pairs that were read
+
+shown_by : (h k : StoreState) (pairs : List Pair) (banner : Banner) → HasRead h k → banner ≡ k.banner → pairs ≡ h.pairs → (s : Site) → Shows pairs banner s → RepresentedBy h s
+shown_by h k pairs banner read same all s shown =
+    let under : h.banner ≡ banner = sym read.same.banner ∙ sym same in
+    record {
+      valid = shown.valid;
+      all = sym all ∙ shown.all;
+      host = ap (λ b. b.host) under ∙ shown.host;
+      port = ap (λ b. b.port) under ∙ shown.port;
+      admin = ap (λ b. b.admin) under ∙ shown.admin;
+    }
+
+shown_to : (h k : StoreState) (pairs : List Pair) (banner : Banner) → HasRead h k → banner ≡ k.banner → pairs ≡ h.pairs → (s : Site) → RepresentedBy h s → Shows pairs banner s
+shown_to h k pairs banner read same all s kept =
+    let under : banner ≡ h.banner = same ∙ read.same.banner in
+    record {
+      valid = kept.valid;
+      all = all ∙ kept.all;
+      host = ap (λ b. b.host) under ∙ kept.host;
+      port = ap (λ b. b.port) under ∙ kept.port;
+      admin = ap (λ b. b.admin) under ∙ kept.admin;
+    }
+
+-- What they say of a site the keeper says.
+pub site_answered : {X : Type 0} → (r : Result X SiteOpenFault) (h k : StoreState) (pairs : List Pair) (banner : Banner) → HasRead h k → banner ≡ k.banner → pairs ≡ h.pairs → OnOk r ((s : Site) × Shows pairs banner s) → IfOk r (λ _. (s : Site) × RepresentedBy h s)
+site_answered (Ok x) h k pairs banner read same all site = (site.0, shown_by h k pairs banner read same all site.0 site.1)
+site_answered (Err e) h k pairs banner read same all site = tt
+
+pub site_refused : {X : Type 0} → (r : Result X SiteOpenFault) (h k : StoreState) (pairs : List Pair) (banner : Banner) → HasRead h k → NoneFailed h k → banner ≡ k.banner → (IsTrue h.honest → pairs ≡ h.pairs) → IfErr r (IsPairsFault pairs banner) → IfErr r (IsSiteReadFault h k)
+site_refused (Ok x) h k pairs banner read none same all fault = tt
+site_refused (Err BadRecord) h k pairs banner read none same all fault = (none, λ honest known. fault known.0 (shown_to h k pairs banner read same (all honest) known.0 known.1))
+site_refused (Err (Keeper e)) h k pairs banner read none same all fault = absurd fault
+site_refused (Err Memory) h k pairs banner read none same all fault = none
 
 -- what is kept once it was read was kept before
 pub kept_before : (a b : StoreState) (s : Site) → HasRead a b → IsTrue a.honest → RepresentedBy b s → RepresentedBy a s

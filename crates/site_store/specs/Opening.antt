@@ -1,5 +1,5 @@
 -- Reading a whole site from its pairs.
-use Rattle.std.specs.Prelude.{◌≡◌, ◌<◌, ℕ, ◌==◌, slice_index_or, true, false, length, flat_map, List, [], ◌∷◌, Option, Some, None, IsTrue, if◌then◌else◌}
+use Rattle.std.specs.Prelude.{◌≡◌, ◌<◌, ◌≤◌, ℕ, All, ◌==◌, slice_index_or, true, false, length, flat_map, List, [], ◌∷◌, Option, Some, None, IsTrue, if◌then◌else◌}
 use Rattle.std.specs.List.{AllByRecursion}
 use Rattle.common_types.specs.Counts.{counted}
 use Rattle.host_types.specs.Site.{Site, IsSite, item_at, with_item}
@@ -12,7 +12,7 @@ use Rattle.site_records.specs.Limits.{is_short}
 use Rattle.page_store.specs.StoreState.{StoreState}
 use Rattle.page_store.specs.declared.banner.Banner.{Banner}
 use Rattle.page_store.specs.declared.fault.KeeperFault.TheVariants as kinds
-use Rattle.site_store.specs.Represented.{RepresentedBy}
+use Rattle.site_store.specs.Represented.{RepresentedBy, Shows}
 use Rattle.site_store.specs.StoreReads.{NoneFailed}
 use Rattle.site_store.specs.declared.fault.SiteOpenFault.{SiteOpenFault}
 use Rattle.site_store.specs.declared.fault.SiteOpenFault.TheVariants.{BadRecord, Keeper, Memory}
@@ -55,6 +55,20 @@ IsOpenFault old new (Keeper (kinds.Full need free)) = ⊥
 IsOpenFault old new (Keeper kinds.Memory) = ⊥
 IsOpenFault old new BadRecord = (old.usable ≡ true) × NoneFailed old new × (IsTrue old.honest → (s : Site) → RepresentedBy old s → ⊥)
 IsOpenFault old new Memory = (old.usable ≡ true) × NoneFailed old new
+
+-- Why some pairs under a banner are no site: `BadRecord` says that they represent no valid one.
+abbrev pub IsPairsFault : List Pair → Banner → SiteOpenFault → Type 0
+IsPairsFault pairs banner (Keeper fault) = ⊥
+IsPairsFault pairs banner BadRecord = (s : Site) → Shows pairs banner s → ⊥
+IsPairsFault pairs banner Memory = Unit {0}
+
+-- each value fits a buffer
+abbrev pub ValuesFit : List Pair → Type 0
+ValuesFit pairs = All (λ p. length p.1 ≤ 1024) pairs
+
+-- Pairs in memory under a banner, as a store that holds them: no read of it fails, and it is never written.
+abbrev pub pairs_state : List Pair → Banner → StoreState
+pairs_state pairs banner = record { pairs = pairs; banner = banner; honest = true; usable = true; failed_reads = 0; failed_writes = 0; generation = 0; top = 0; free = 0; height = 0; pins = [] }
 
 -- no item is too long
 abbrev pub AreShort : List (List ℕ × Item) → Type 0

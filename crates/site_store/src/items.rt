@@ -11,30 +11,29 @@ ghost use Rattle.site_store.specs.StoreReads.{HasViews, HasEntries, HasQuestions
 ghost use Rattle.site_store.specs.Reads.{ReadsKnown, AlwaysReadsKnown};
 
 use crate::SiteOpenFault;
-use crate::looking::look_up;
+use crate::looking::ValueLookup;
 use crate::parts::{read_part, read_view};
 use crate::records::record_at;
 use host_types::{Body, CardView, EntryList, Item, QuestionList, Selector, ViewList};
-use page_store::Keeper;
 use site_records::{Record, RecordBody, RecordFault, item_key, read_entries, read_questions};
 use std::alloc::Global;
 
 /// The views of a document with their bytes.
 #[tactic(auto, using(crate::specs::ReadLaws::reads_later, crate::proofs::LocalReads::fault_later))]
-fn read_views<K: Keeper>(
+fn read_views<V: ValueLookup>(
     alloc: Global,
-    keeper: &mut K,
+    from: &mut V,
     selector: &Selector,
     cards: &[CardView],
 ) -> Result<ViewList, SiteOpenFault>
     requires few { list.length cards.now ≤ 8 }
     requires short { All (λ v. v.length ≤ 65536) cards.now }
-    ensures views { ReadsKnown K.store_state K.may_need K.crash_states keeper.old keeper.new result (λ h vs. HasViews h.pairs selector.now cards.now vs) (λ vs l. l ≡ vs) }
+    ensures views { ReadsKnown V.store_state V.may_need V.crash_states from.old from.new result (λ h vs. HasViews h.pairs selector.now cards.now vs) (λ vs l. l ≡ vs) }
     ensures cards { IfOk result (λ l. map card_view l ≡ cards.now) }
 {
     let mut views = ViewList::new(alloc);
     for place in 0..cards.len() {
-        match read_view(alloc, keeper, selector, place as u8, &cards[place]) {
+        match read_view(alloc, from, selector, place as u8, &cards[place]) {
             Ok(view) => views.push(view)?,
             Err(fault) => return Err(fault),
         }
@@ -43,17 +42,17 @@ fn read_views<K: Keeper>(
 }
 
 /// The entries of a menu.
-pub fn read_menu<K: Keeper>(
+pub fn read_menu<V: ValueLookup>(
     alloc: Global,
-    keeper: &mut K,
+    from: &mut V,
     selector: &Selector,
     size: u32,
 ) -> Result<EntryList, SiteOpenFault>
     requires { size ≤ 65536 }
-    ensures entries { ReadsKnown K.store_state K.may_need K.crash_states keeper.old keeper.new result (λ h es. HasEntries h.pairs selector.now size es) (λ es l. l ≡ es) }
+    ensures entries { ReadsKnown V.store_state V.may_need V.crash_states from.old from.new result (λ h es. HasEntries h.pairs selector.now size es) (λ es l. l ≡ es) }
     ensures valid { IfOk result (λ l. IsTrue (are_entries l)) }
 {
-    let bytes = match read_part(alloc, keeper, selector, 0, size as usize) {
+    let bytes = match read_part(alloc, from, selector, 0, size as usize) {
         Ok(bytes) => bytes,
         Err(fault) => return Err(fault),
     };
@@ -65,18 +64,18 @@ pub fn read_menu<K: Keeper>(
 }
 
 /// The questions of a form.
-pub fn read_form<K: Keeper>(
+pub fn read_form<V: ValueLookup>(
     alloc: Global,
-    keeper: &mut K,
+    from: &mut V,
     selector: &Selector,
     size: u32,
 ) -> Result<QuestionList, SiteOpenFault>
     requires { size ≤ 65536 }
-    ensures questions { ReadsKnown K.store_state K.may_need K.crash_states keeper.old keeper.new result (λ h qs. HasQuestions h.pairs selector.now size qs) (λ qs l. l ≡ qs) }
+    ensures questions { ReadsKnown V.store_state V.may_need V.crash_states from.old from.new result (λ h qs. HasQuestions h.pairs selector.now size qs) (λ qs l. l ≡ qs) }
     ensures valid { IfOk result (λ l. IsTrue (are_questions l)) }
     ensures short { IfOk result (λ l. list_any is_long_question l ≡ false) }
 {
-    let bytes = match read_part(alloc, keeper, selector, 0, size as usize) {
+    let bytes = match read_part(alloc, from, selector, 0, size as usize) {
         Ok(bytes) => bytes,
         Err(fault) => return Err(fault),
     };
@@ -89,32 +88,32 @@ pub fn read_form<K: Keeper>(
 
 /// A body with its parts, by what its record says of it.
 #[tactic(auto, unfolding(site_records::specs::Limits::is_menu_size, site_records::specs::Limits::is_form_size))]
-fn read_body<K: Keeper>(
+fn read_body<V: ValueLookup>(
     alloc: Global,
-    keeper: &mut K,
+    from: &mut V,
     selector: &Selector,
     kept: RecordBody,
 ) -> Result<Body, SiteOpenFault>
     requires { IsTrue (is_body kept) }
-    ensures body { ReadsKnown K.store_state K.may_need K.crash_states keeper.old keeper.new result (λ h b. HasBody h selector.now kept b) (λ b x. x ≡ b) }
+    ensures body { ReadsKnown V.store_state V.may_need V.crash_states from.old from.new result (λ h b. HasBody h selector.now kept b) (λ b x. x ≡ b) }
     ensures short { IfOk result (λ x. IsTrue (is_short_body x)) }
 {
     match kept {
         RecordBody::Views(kind, cards) => match read_views(
             alloc,
-            keeper,
+            from,
             selector,
             cards.as_slice(),
         ) {
             Ok(views) => Ok(Body::Views(kind, views)),
             Err(fault) => Err(fault),
         },
-        RecordBody::Menu { size } => match read_menu(alloc, keeper, selector, size) {
+        RecordBody::Menu { size } => match read_menu(alloc, from, selector, size) {
             Ok(entries) => Ok(Body::Menu(entries)),
             Err(fault) => Err(fault),
         },
         RecordBody::Board { cap, next } => Ok(Body::Board { cap, next }),
-        RecordBody::Form { board, size } => match read_form(alloc, keeper, selector, size) {
+        RecordBody::Form { board, size } => match read_form(alloc, from, selector, size) {
             Ok(questions) => Ok(Body::Form { board, questions }),
             Err(fault) => Err(fault),
         },
@@ -124,11 +123,11 @@ fn read_body<K: Keeper>(
 }
 
 /// Whether an item stands at a selector.
-pub fn has_item<K: Keeper>(keeper: &mut K, selector: &Selector) -> Result<bool, SiteOpenFault>
-    ensures there { AlwaysReadsKnown K.store_state K.may_need K.crash_states keeper.old keeper.new result RepresentedBy (λ s there. there ≡ is_some (item_at s selector.now)) }
+pub fn has_item<V: ValueLookup>(from: &mut V, selector: &Selector) -> Result<bool, SiteOpenFault>
+    ensures there { AlwaysReadsKnown V.store_state V.may_need V.crash_states from.old from.new result RepresentedBy (λ s there. there ≡ is_some (item_at s selector.now)) }
 {
     let mut buffer = [0; 1024];
-    match look_up(keeper, &item_key(selector), &mut buffer) {
+    match from.look_up(&item_key(selector), &mut buffer) {
         Ok(Some(_)) => Ok(true),
         Ok(None) => Ok(false),
         Err(fault) => Err(fault),
@@ -136,15 +135,15 @@ pub fn has_item<K: Keeper>(keeper: &mut K, selector: &Selector) -> Result<bool, 
 }
 
 /// What stands at a selector.
-pub fn item_in<K: Keeper>(
+pub fn item_in<V: ValueLookup>(
     alloc: Global,
-    keeper: &mut K,
+    from: &mut V,
     selector: &Selector,
 ) -> Result<Option<Item>, SiteOpenFault>
-    ensures item { AlwaysReadsKnown K.store_state K.may_need K.crash_states keeper.old keeper.new result RepresentedBy (λ s o. o ≡ item_at s selector.now) }
+    ensures item { AlwaysReadsKnown V.store_state V.may_need V.crash_states from.old from.new result RepresentedBy (λ s o. o ≡ item_at s selector.now) }
     ensures short { IfOk result (λ o. IfSome o (λ item. IsTrue (is_short item))) }
 {
-    let record = match record_at(alloc, keeper, selector) {
+    let record = match record_at(alloc, from, selector) {
         Ok(Some(record)) => record,
         Ok(None) => return Ok(None),
         Err(fault) => return Err(fault),
@@ -155,7 +154,7 @@ pub fn item_in<K: Keeper>(
         summary,
         body,
     } = record;
-    match read_body(alloc, keeper, selector, body) {
+    match read_body(alloc, from, selector, body) {
         Ok(body) => Ok(Some(Item {
             title,
             stamp,

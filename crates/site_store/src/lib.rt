@@ -15,6 +15,7 @@ mod lookup;
 mod opening;
 mod parts;
 mod pinned_chunks;
+mod read_pairs;
 mod records;
 mod search_calls;
 mod searching;

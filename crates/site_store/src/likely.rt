@@ -25,11 +25,11 @@ fn beginning(key: &[u8]) -> &[u8] {
     }
 }
 
-/// A number made of all bytes.
+/// A number made of all bytes, such that those of similar words lie far apart: by the algorithm FNV-1a, of 64 bits.
 fn hash(bytes: &[u8]) -> usize {
-    let mut made: usize = 0;
+    let mut made: usize = 0xcbf2_9ce4_8422_2325;
     for byte in bytes {
-        made = made.wrapping_mul(31).wrapping_add(usize::from(*byte));
+        made = (made ^ usize::from(*byte)).wrapping_mul(0x100_0000_01b3);
     }
     made
 }

@@ -1,21 +1,23 @@
 // Opening a site: all of it is read, and what is kept must be its layout.
-ghost use Rattle.std.specs.Prelude.{◌≡◌, ◌<◌, true, false, [], IfOk, IfErr, OnOk, IsErrAnd, IsTrue};
+ghost use Rattle.std.specs.Prelude.{◌≡◌, ◌<◌, ◌≤◌, true, false, [], length, IfOk, IfErr, IfSome, OnOk, IsErrAnd, IsTrue};
 ghost use Rattle.host_types.specs.Site.{Site};
 ghost use Rattle.page_store.specs.Batch.{pair_after};
 ghost use Rattle.page_store.specs.declared.fault.KeeperFault.TheVariants.{Failed};
-ghost use Rattle.site_store.specs.Represented.{RepresentedBy};
+ghost use Rattle.site_store.specs.Represented.{RepresentedBy, Shows};
 ghost use Rattle.site_store.specs.StoreReads.{ReadsOnly, NoneFailed, IsSiteReadFault, IsReadOrMemory};
 ghost use Rattle.site_store.specs.Reads.{AlwaysReads, ReadsKnown};
-ghost use Rattle.site_store.specs.Opening.{IsOpenFault, last_key, site_under, with_named, with_all_named, HasAddress};
+ghost use Rattle.site_store.specs.Opening.{IsOpenFault, IsPairsFault, ValuesFit, last_key, site_under, with_named, with_all_named, HasAddress};
 ghost use Rattle.site_store.specs.Seen.{keeper_of, seen_site};
 ghost use Rattle.site_store.specs.declared.fault.SiteOpenFault.TheVariants.{Keeper as StoreFault};
 
 use crate::items::item_in;
+use crate::looking::ValueLookup;
+use crate::read_pairs::ReadPairs;
 use crate::whole_layout::has_layout;
 use crate::{DiskSite, SiteOpenFault};
 use host_types::Selector;
 use mem_site::MemSite;
-use page_store::{Keeper, Pair};
+use page_store::{Banner, Keeper, Pair};
 use std::alloc::Global;
 
 /// The pair behind these, the first ones of the keeper.
@@ -25,6 +27,7 @@ fn pair_behind<K: Keeper>(
     pairs: &[Pair],
 ) -> Result<Option<Pair>, SiteOpenFault>
     ensures pair { AlwaysReads K.store_state K.may_need K.crash_states keeper.old keeper.new result IsReadOrMemory (λ h found. found ≡ pair_after h.pairs (last_key pairs.now)) }
+    ensures fit { IfOk result (λ found. IfSome found (λ p. length p.1 ≤ 1024)) }
 {
     let (mut key, mut value) = ([0; 300], [0; 1024]);
     let found = match pairs.last() {
@@ -44,6 +47,7 @@ fn pair_behind<K: Keeper>(
 /// All pairs of a keeper.
 fn pairs_of<K: Keeper>(alloc: Global, keeper: &mut K) -> Result<Vec<Pair>, SiteOpenFault>
     ensures pairs { AlwaysReads K.store_state K.may_need K.crash_states keeper.old keeper.new result IsReadOrMemory (λ h all. all.items ≡ h.pairs) }
+    ensures fit { IfOk result (λ all. ValuesFit all.items) }
 {
     let mut pairs = Vec::new(alloc);
     for _ in 0..u64::MAX {
@@ -57,13 +61,13 @@ fn pairs_of<K: Keeper>(alloc: Global, keeper: &mut K) -> Result<Vec<Pair>, SiteO
 }
 
 /// Puts the item that a key names into a site, where it names one.
-fn put_named<K: Keeper>(
+fn put_named<V: ValueLookup>(
     alloc: Global,
-    keeper: &mut K,
+    from: &mut V,
     site: &mut MemSite,
     key: &[u8],
 ) -> Result<(), SiteOpenFault>
-    ensures named { ReadsKnown K.store_state K.may_need K.crash_states keeper.old keeper.new result RepresentedBy (λ s _. site.new ≡ with_named s site.old key.now) }
+    ensures named { ReadsKnown V.store_state V.may_need V.crash_states from.old from.new result RepresentedBy (λ s _. site.new ≡ with_named s site.old key.now) }
     ensures host { OnOk result (site.new.host ≡ site.old.host) }
     ensures port { OnOk result (site.new.port ≡ site.old.port) }
     ensures admin { OnOk result (site.new.admin ≡ site.old.admin) }
@@ -74,7 +78,7 @@ fn put_named<K: Keeper>(
     let Ok(selector) = Selector::new(name) else {
         return Ok(());
     };
-    match item_in(alloc, keeper, &selector) {
+    match item_in(alloc, from, &selector) {
         Ok(Some(item)) => match site.insert(selector, item) {
             Ok(()) => Ok(()),
             Err(_) => Err(SiteOpenFault::Memory),
@@ -85,28 +89,45 @@ fn put_named<K: Keeper>(
 }
 
 /// The site whose items the keys of these pairs name.
-fn site_of<K: Keeper>(
-    alloc: Global,
-    keeper: &mut K,
-    pairs: &[Pair],
-) -> Result<MemSite, SiteOpenFault>
-    ensures named { ReadsKnown K.store_state K.may_need K.crash_states keeper.old keeper.new result RepresentedBy (λ s m. m ≡ with_all_named s (site_under (K.store_state keeper.old).banner) pairs.now) }
-    ensures address { IfOk result (λ m. HasAddress m (K.store_state keeper.old).banner) }
+fn site_of(alloc: Global, read: &mut ReadPairs<'_>) -> Result<MemSite, SiteOpenFault>
+    ensures named { IfOk result (λ m. (s : Site) → Shows read.old.0 read.old.1 s → m ≡ with_all_named s (site_under read.old.1) read.old.0) }
+    ensures address { IfOk result (λ m. HasAddress m read.old.1) }
+    ensures fault { IfErr result (IsPairsFault read.old.0 read.old.1) }
+    ensures same { read.new ≡ read.old }
 {
-    let banner = keeper.banner();
+    let banner = read.banner();
     let mut site = MemSite::empty(
         alloc,
         banner.host.clone()?,
         banner.port,
         banner.admin.clone()?,
     );
+    let pairs = read.pairs();
     for pair in pairs {
-        match put_named(alloc, keeper, &mut site, pair.key()) {
+        match put_named(alloc, read, &mut site, pair.key()) {
             Ok(()) => {}
             Err(fault) => return Err(fault),
         }
     }
     Ok(site)
+}
+
+/// It ends well where these pairs are the layout of a valid site under this banner.
+fn check_pairs(alloc: Global, banner: &Banner, pairs: &[Pair]) -> Result<(), SiteOpenFault>
+    requires fit { ValuesFit pairs.now }
+    ensures site { OnOk result ((s : Site) × Shows pairs.now banner.now s) }
+    ensures fault { IfErr result (IsPairsFault pairs.now banner.now) }
+    ensures port { OnOk result (0 < banner.now.port) }
+{
+    let Some(mut read) = ReadPairs::new(alloc, banner, pairs)? else {
+        return Err(SiteOpenFault::BadRecord);
+    };
+    let site = site_of(alloc, &mut read)?;
+    if has_layout(alloc, &site, &mut read)? {
+        Ok(())
+    } else {
+        Err(SiteOpenFault::BadRecord)
+    }
 }
 
 /// Reads all that is kept; it ends well where that is the layout of a valid site.
@@ -115,12 +136,7 @@ fn check<K: Keeper>(alloc: Global, keeper: &mut K) -> Result<(), SiteOpenFault>
     ensures port { OnOk result (0 < (K.store_state keeper.old).banner.port) }
 {
     let pairs = pairs_of(alloc, keeper)?;
-    let site = site_of(alloc, keeper, &pairs)?;
-    if has_layout(alloc, &site, &pairs)? {
-        Ok(())
-    } else {
-        Err(SiteOpenFault::BadRecord)
-    }
+    check_pairs(alloc, keeper.banner(), &pairs)
 }
 
 impl<K: Keeper> DiskSite<K> {

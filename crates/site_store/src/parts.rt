@@ -6,9 +6,8 @@ ghost use Rattle.site_store.specs.StoreReads.{HasPart, HasSize, chunk_size, IsPa
 ghost use Rattle.site_store.specs.Reads.{ReadsKnown, AlwaysReadsKnown};
 
 use crate::SiteOpenFault;
-use crate::looking::look_up;
+use crate::looking::ValueLookup;
 use host_types::{Bytes, CHUNK, CardView, Selector, View};
-use page_store::Keeper;
 use site_records::chunk_key;
 use std::alloc::Global;
 
@@ -22,8 +21,8 @@ fn chunk_size(size: usize, k: u16) -> usize
 }
 
 /// Adds chunk k of a part to the bytes before it.
-fn add_chunk<K: Keeper>(
-    keeper: &mut K,
+fn add_chunk<V: ValueLookup>(
+    from: &mut V,
     selector: &Selector,
     part: u8,
     k: u16,
@@ -31,12 +30,12 @@ fn add_chunk<K: Keeper>(
     bytes: &mut Vec<u8>,
 ) -> Result<(), SiteOpenFault>
     requires { 1000 * k < size }
-    ensures bytes { AlwaysReadsKnown K.store_state K.may_need K.crash_states keeper.old keeper.new result (IsPart selector.now part size) (λ p _. bytes.old.items ≡ take (1000 * k) p → bytes.new.items ≡ take (1000 * k + 1000) p) }
+    ensures bytes { AlwaysReadsKnown V.store_state V.may_need V.crash_states from.old from.new result (IsPart selector.now part size) (λ p _. bytes.old.items ≡ take (1000 * k) p → bytes.new.items ≡ take (1000 * k + 1000) p) }
     ensures size { list.length bytes.old.items ≡ 1000 * k → OnOk result (HasSize (list.length bytes.new.items) (1000 * k + 1000) size) }
 {
     let mut buffer = [0; 1024];
     let expected = chunk_size(size, k);
-    let found = look_up(keeper, &chunk_key(selector, part, k), &mut buffer)?;
+    let found = from.look_up(&chunk_key(selector, part, k), &mut buffer)?;
     match found {
         Some(length) if length == expected => {
             bytes.extend_from_slice(&buffer[..length])?;
@@ -48,20 +47,20 @@ fn add_chunk<K: Keeper>(
 
 /// The bytes of a part, so many.
 #[tactic(auto, using(crate::specs::ReadLaws::reads_later, crate::proofs::LocalReads::fault_later))]
-pub fn read_part<K: Keeper>(
+pub fn read_part<V: ValueLookup>(
     alloc: Global,
-    keeper: &mut K,
+    from: &mut V,
     selector: &Selector,
     part: u8,
     size: usize,
 ) -> Result<Bytes, SiteOpenFault>
     requires { size ≤ 65536 }
-    ensures bytes { ReadsKnown K.store_state K.may_need K.crash_states keeper.old keeper.new result (IsPart selector.now part size) (λ p b. b ≡ p) }
+    ensures bytes { ReadsKnown V.store_state V.may_need V.crash_states from.old from.new result (IsPart selector.now part size) (λ p b. b ≡ p) }
     ensures size { IfOk result (λ b. list.length b ≡ size) }
 {
     let mut bytes = Vec::new(alloc);
     for k in 0..(size + 999) / CHUNK {
-        match add_chunk(keeper, selector, part, k as u16, size, &mut bytes) {
+        match add_chunk(from, selector, part, k as u16, size, &mut bytes) {
             Ok(()) => {}
             Err(fault) => return Err(fault),
         }
@@ -70,18 +69,18 @@ pub fn read_part<K: Keeper>(
 }
 
 /// A view with its bytes.
-pub fn read_view<K: Keeper>(
+pub fn read_view<V: ValueLookup>(
     alloc: Global,
-    keeper: &mut K,
+    from: &mut V,
     selector: &Selector,
     part: u8,
     view: &CardView,
 ) -> Result<View, SiteOpenFault>
     requires { view.now.length ≤ 65536 }
-    ensures view { ReadsKnown K.store_state K.may_need K.crash_states keeper.old keeper.new result (λ h v. (view.now ≡ card_view v) × HasPart h.pairs selector.now part v.bytes) (λ v w. w ≡ v) }
+    ensures view { ReadsKnown V.store_state V.may_need V.crash_states from.old from.new result (λ h v. (view.now ≡ card_view v) × HasPart h.pairs selector.now part v.bytes) (λ v w. w ≡ v) }
     ensures card { IfOk result (λ w. card_view w ≡ view.now) }
 {
-    let bytes = match read_part(alloc, keeper, selector, part, view.length as usize) {
+    let bytes = match read_part(alloc, from, selector, part, view.length as usize) {
         Ok(bytes) => bytes,
         Err(fault) => return Err(fault),
     };

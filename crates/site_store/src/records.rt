@@ -10,9 +10,8 @@ ghost use Rattle.site_store.specs.Reads.{AlwaysReadsKnown};
 ghost use Rattle.site_store.specs.declared.fault.SiteOpenFault.TheVariants.{BadRecord, Memory};
 
 use crate::SiteOpenFault;
-use crate::looking::look_up;
+use crate::looking::ValueLookup;
 use host_types::Selector;
-use page_store::Keeper;
 use site_records::{Record, RecordFault, item_key, items_have_records, read_record};
 use std::alloc::Global;
 
@@ -30,17 +29,17 @@ fn record_in(alloc: Global, bytes: &[u8]) -> Result<Record, SiteOpenFault>
 }
 
 /// The record of what stands at a selector.
-pub fn record_at<K: Keeper>(
+pub fn record_at<V: ValueLookup>(
     alloc: Global,
-    keeper: &mut K,
+    from: &mut V,
     selector: &Selector,
 ) -> Result<Option<Record>, SiteOpenFault>
-    ensures record { AlwaysReadsKnown K.store_state K.may_need K.crash_states keeper.old keeper.new result RepresentedBy (λ s r. r ≡ option_map recorded (item_at s selector.now)) }
+    ensures record { AlwaysReadsKnown V.store_state V.may_need V.crash_states from.old from.new result RepresentedBy (λ s r. r ≡ option_map recorded (item_at s selector.now)) }
     ensures valid { IfOk result (λ r. IfSome r (λ r. IsTrue (is_record r))) }
 {
     items_have_records();
     let mut buffer = [0; 1024];
-    let Some(length) = look_up(keeper, &item_key(selector), &mut buffer)? else {
+    let Some(length) = from.look_up(&item_key(selector), &mut buffer)? else {
         return Ok(None);
     };
     match record_in(alloc, &buffer[..length]) {

@@ -13,7 +13,7 @@ ghost use Rattle.site_store.specs.WordWalks as spec;
 ghost use Rattle.site_store.specs.declared.fault.SiteOpenFault.TheVariants.{BadRecord};
 
 use crate::SiteOpenFault;
-use crate::looking::look_up;
+use crate::looking::ValueLookup;
 use host_types::{Bytes, Selector};
 use page_store::Keeper;
 use site_records::{LONGEST_WORD, word_key};
@@ -28,7 +28,7 @@ pub fn has_word<K: Keeper>(
     ensures there { AlwaysReadsKnown K.store_state K.may_need K.crash_states keeper.old keeper.new result RepresentedBy (λ s there. there ≡ kept.has_word (item_at s selector.now) word.now) }
 {
     let mut buffer = [0; 1024];
-    match look_up(keeper, &word_key(word.as_slice(), selector), &mut buffer) {
+    match keeper.look_up(&word_key(word.as_slice(), selector), &mut buffer) {
         Ok(Some(_)) => Ok(true),
         Ok(None) => Ok(false),
         Err(fault) => Err(fault),

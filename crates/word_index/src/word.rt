@@ -26,8 +26,9 @@ fn front(run: &[u8]) -> &[u8]
 fn word_of(alloc: Global, run: &[u8]) -> Result<Bytes, AllocError>
     ensures { IfOk result (λ word. word ≡ spec.word_of run.now) }
 {
-    let mut word = Vec::new(alloc);
-    for byte in front(run) {
+    let kept = front(run);
+    let mut word = Vec::with_capacity(alloc, kept.len())?;
+    for byte in kept {
         word.push(byte.to_ascii_lowercase())?;
     }
     Ok(Bytes::from(word))

@@ -21,7 +21,7 @@ pub returns-in-Err : goal.returns-in-Err
 returns-in-Err g c =
     let menu = c.in-Err.ensures.entries in
     record {
-      body = fails menu.only (fault_unless (g.K.Keeper.store_state c.args.keeper.now) (g.K.Keeper.store_state c.read_menu.new.keeper) c.in-Err.fault
+      body = fails menu.only (fault_unless (g.K.Keeper.store_state c.args.keeper.now) (g.K.Keeper.store_state c.read_menu.new.from) c.in-Err.fault
           (λ honest known. let v = kept_entries (g.K.Keeper.store_state c.args.keeper.now) c.args.selector.now c.in-Menu.size c.args.kept known.0 c.in-Menu.is known.1 in (v.entries, v.has)) menu.fault);
     }
 
@@ -38,6 +38,6 @@ pub returns-in-Err-read_form : goal.returns-in-Err-read_form
 returns-in-Err-read_form g c =
     let form = c.in-Err-read_form.ensures.questions in
     record {
-      body = fails form.only (fault_unless (g.K.Keeper.store_state c.args.keeper.now) (g.K.Keeper.store_state c.read_form.new.keeper) c.in-Err-read_form.fault
+      body = fails form.only (fault_unless (g.K.Keeper.store_state c.args.keeper.now) (g.K.Keeper.store_state c.read_form.new.from) c.in-Err-read_form.fault
           (λ honest known. let v = kept_questions (g.K.Keeper.store_state c.args.keeper.now) c.args.selector.now c.in-Form.board c.in-Form.size c.args.kept known.0 c.in-Form.is known.1 in (v.questions, v.has)) form.fault);
     }

@@ -14,8 +14,8 @@ returns-in-Ok g c =
     let rest = c.in-Ok.ensures.body in
     let r = c.in-Ok-Some.record in
     record {
-      card = begins first (done (read_on first.reads.only rest.only) (none_later (store_state c.args.keeper.now) (store_state c.record_at.new.keeper) (store_state c.card_body.new.keeper) first.reads.none rest.none) (λ honest s kept.
+      card = begins first (done (read_on first.reads.only rest.only) (none_later (store_state c.args.keeper.now) (store_state c.record_at.new.from) (store_state c.card_body.new.keeper) first.reads.none rest.none) (λ honest s kept.
           let found = item_is s c.args.selector.now r (item_at s c.args.selector.now) (sym c.in-Ok-Some.field-0-is ∙ first.reads.gives honest s kept) in
-          let body = rest.gives (read.honest ∙ honest) found.0.body (keeps_body (store_state c.args.keeper.now) (store_state c.record_at.new.keeper) s c.args.selector.now r found.0 read honest kept found.1 found.2) in
+          let body = rest.gives (read.honest ∙ honest) found.0.body (keeps_body (store_state c.args.keeper.now) (store_state c.record_at.new.from) s c.args.selector.now r found.0 read honest kept found.1 found.2) in
           whole_card s c.args.selector.now r c.in-Ok.body found.0 found.1 found.2 body));
     }

@@ -17,8 +17,8 @@ pub returns-in-Ok-clause-body : goal.returns-in-Ok-clause-body
 returns-in-Ok-clause-body g c =
     let all = c.in-Ok.ensures.views in
     done all.only all.none (λ honest b keeps.
-    let v = kept_views (g.K.Keeper.store_state c.args.keeper.now) c.args.selector.now c.in-Views.kind c.in-Views.cards c.args.kept b c.in-Views.is keeps in
-    ap (λ (l : List View). Views c.in-Views.kind l) (all.gives honest v.views (subst (λ (l : List CardView). HasViews (g.K.Keeper.store_state c.args.keeper.now).pairs c.args.selector.now l v.views) (sym c.as_slice.ensures) v.has)) ∙ sym v.body_is)
+    let v = kept_views (g.V.ValueLookup.store_state c.args.from.now) c.args.selector.now c.in-Views.kind c.in-Views.cards c.args.kept b c.in-Views.is keeps in
+    ap (λ (l : List View). Views c.in-Views.kind l) (all.gives honest v.views (subst (λ (l : List CardView). HasViews (g.V.ValueLookup.store_state c.args.from.now).pairs c.args.selector.now l v.views) (sym c.as_slice.ensures) v.has)) ∙ sym v.body_is)
 
 pub returns-in-Ok-clause-short : goal.returns-in-Ok-clause-short
 returns-in-Ok-clause-short g c = short_views_body c.in-Views.kind c.in-Ok.views c.args.kept c.in-Views.cards c.in-Views.is c.requires (c.in-Ok.ensures.cards ∙ c.as_slice.ensures)
@@ -26,29 +26,29 @@ returns-in-Ok-clause-short g c = short_views_body c.in-Views.kind c.in-Ok.views 
 pub returns-in-Views-clause-body : goal.returns-in-Views-clause-body
 returns-in-Views-clause-body g c =
     let all = c.in-Err.ensures.views in
-    fails all.only (fault_unless (g.K.Keeper.store_state c.args.keeper.now) (g.K.Keeper.store_state c.read_views.new.keeper) c.in-Err.fault
+    fails all.only (fault_unless (g.V.ValueLookup.store_state c.args.from.now) (g.V.ValueLookup.store_state c.read_views.new.from) c.in-Err.fault
     (λ honest known.
-    let v = kept_views (g.K.Keeper.store_state c.args.keeper.now) c.args.selector.now c.in-Views.kind c.in-Views.cards c.args.kept known.0 c.in-Views.is known.1 in
-    (v.views, subst (λ (l : List CardView). HasViews (g.K.Keeper.store_state c.args.keeper.now).pairs c.args.selector.now l v.views) (sym c.as_slice.ensures) v.has)) all.fault)
+    let v = kept_views (g.V.ValueLookup.store_state c.args.from.now) c.args.selector.now c.in-Views.kind c.in-Views.cards c.args.kept known.0 c.in-Views.is known.1 in
+    (v.views, subst (λ (l : List CardView). HasViews (g.V.ValueLookup.store_state c.args.from.now).pairs c.args.selector.now l v.views) (sym c.as_slice.ensures) v.has)) all.fault)
 
 pub returns-in-Ok-read_menu-clause-body : goal.returns-in-Ok-read_menu-clause-body
 returns-in-Ok-read_menu-clause-body g c =
     let menu = c.in-Ok-read_menu.ensures.entries in
     done menu.only menu.none (λ honest b keeps.
-    let v = kept_entries (g.K.Keeper.store_state c.args.keeper.now) c.args.selector.now c.in-Menu.size c.args.kept b c.in-Menu.is keeps in
+    let v = kept_entries (g.V.ValueLookup.store_state c.args.from.now) c.args.selector.now c.in-Menu.size c.args.kept b c.in-Menu.is keeps in
     ap (λ (l : List Entry). Menu l) (menu.gives honest v.entries v.has) ∙ sym v.body_is)
 
 pub returns-in-Menu-clause-body : goal.returns-in-Menu-clause-body
 returns-in-Menu-clause-body g c =
     let menu = c.in-Err-read_menu.ensures.entries in
-    fails menu.only (fault_unless (g.K.Keeper.store_state c.args.keeper.now) (g.K.Keeper.store_state c.read_menu.new.keeper) c.in-Err-read_menu.fault
-    (λ honest known. let v = kept_entries (g.K.Keeper.store_state c.args.keeper.now) c.args.selector.now c.in-Menu.size c.args.kept known.0 c.in-Menu.is known.1 in (v.entries, v.has)) menu.fault)
+    fails menu.only (fault_unless (g.V.ValueLookup.store_state c.args.from.now) (g.V.ValueLookup.store_state c.read_menu.new.from) c.in-Err-read_menu.fault
+    (λ honest known. let v = kept_entries (g.V.ValueLookup.store_state c.args.from.now) c.args.selector.now c.in-Menu.size c.args.kept known.0 c.in-Menu.is known.1 in (v.entries, v.has)) menu.fault)
 
 pub returns-in-Ok-read_form-clause-body : goal.returns-in-Ok-read_form-clause-body
 returns-in-Ok-read_form-clause-body g c =
     let form = c.in-Ok-read_form.ensures.questions in
     done form.only form.none (λ honest b keeps.
-    let v = kept_questions (g.K.Keeper.store_state c.args.keeper.now) c.args.selector.now c.in-Form.board c.in-Form.size c.args.kept b c.in-Form.is keeps in
+    let v = kept_questions (g.V.ValueLookup.store_state c.args.from.now) c.args.selector.now c.in-Form.board c.in-Form.size c.args.kept b c.in-Form.is keeps in
     ap (λ (l : List Question). Form c.in-Form.board l) (form.gives honest v.questions v.has) ∙ sym v.body_is)
 
 pub returns-in-Ok-read_form-clause-short : goal.returns-in-Ok-read_form-clause-short
@@ -57,5 +57,5 @@ returns-in-Ok-read_form-clause-short g c = short_form_body c.in-Form.board c.in-
 pub returns-in-Form-clause-body : goal.returns-in-Form-clause-body
 returns-in-Form-clause-body g c =
     let form = c.in-Err-read_form.ensures.questions in
-    fails form.only (fault_unless (g.K.Keeper.store_state c.args.keeper.now) (g.K.Keeper.store_state c.read_form.new.keeper) c.in-Err-read_form.fault
-    (λ honest known. let v = kept_questions (g.K.Keeper.store_state c.args.keeper.now) c.args.selector.now c.in-Form.board c.in-Form.size c.args.kept known.0 c.in-Form.is known.1 in (v.questions, v.has)) form.fault)
+    fails form.only (fault_unless (g.V.ValueLookup.store_state c.args.from.now) (g.V.ValueLookup.store_state c.read_form.new.from) c.in-Err-read_form.fault
+    (λ honest known. let v = kept_questions (g.V.ValueLookup.store_state c.args.from.now) c.args.selector.now c.in-Form.board c.in-Form.size c.args.kept known.0 c.in-Form.is known.1 in (v.questions, v.has)) form.fault)

@@ -7,10 +7,10 @@ use Rattle.site_store.proofs.items.read_views.Given as goal
 
 abbrev pub invariant-loop-place : goal.invariant-loop-place
 invariant-loop-place g l =
-    let store_state = g.K.Keeper.store_state in
+    let store_state = g.V.ValueLookup.store_state in
     record {
-      only : ReadsOnly store_state g.K.Keeper.may_need g.K.Keeper.crash_states l.fn.keeper l.keeper;
-      none : NoneFailed (store_state l.fn.keeper) (store_state l.keeper);
-      views : IsTrue (store_state l.fn.keeper).honest → (vs : List View) → HasViews (store_state l.fn.keeper).pairs l.selector l.cards vs → l.views ≡ take l.place vs;
+      only : ReadsOnly store_state g.V.ValueLookup.may_need g.V.ValueLookup.crash_states l.fn.from l.from;
+      none : NoneFailed (store_state l.fn.from) (store_state l.from);
+      views : IsTrue (store_state l.fn.from).honest → (vs : List View) → HasViews (store_state l.fn.from).pairs l.selector l.cards vs → l.views ≡ take l.place vs;
       cards : map card_view l.views ≡ take l.place l.cards;
     }

@@ -1,4 +1,6 @@
-use Rattle.std.proofs.Common.{◌≡◌, List, Some, sym, ap, ◌∙◌, arith}
+use Rattle.std.proofs.Common.{◌≡◌, ◌≤◌, List, Option, Some, length, sym, ap, subst, ◌∙◌, arith}
+use Rattle.std.specs.Prelude.{IfSome}
+use Rattle.std.proofs.lemmas.List.Elements.{All-push}
 use Rattle.page_store.specs.Batch.{pair_after}
 use Rattle.page_store.specs.Pages.{Pair}
 use Rattle.site_store.specs.ReadLaws.{none_later}
@@ -20,6 +22,7 @@ returns-in-Ok-None g c =
             (sym c.in-Ok-None.field-0-is ∙ last.reads.gives (read.honest ∙ honest) ∙ ap (λ (l : List Pair). pair_after (store_state c.loop.keeper).pairs (last_key l)) c.deref.ensures.value ∙ ap (λ (l : List Pair). pair_after l (last_key c.loop.pairs.items)) (read.same.pairs honest)));
         closed = λ shut. let clash = last.closed (read.same.usable ∙ shut) in absurd (cc clash);
       };
+      fit = inv.fit;
     }
 
 pub loop-preserved : goal.loop-preserved
@@ -36,6 +39,7 @@ loop-preserved g c =
           sym c.in-Ok-Some.field-0-is ∙ next.reads.gives (read.honest ∙ honest) ∙ ap (λ (l : List Pair). pair_after (store_state c.loop.keeper).pairs (last_key l)) c.deref.ensures.value ∙ ap (λ (l : List Pair). pair_after l (last_key c.loop.pairs.items)) (read.same.pairs honest) in
           let more = first_more c.loop.pairs.items (store_state c.args.keeper.now).pairs c.in-Ok-Some.pair (g.met.K.Keeper.ordered c.args.keeper.now honest) (inv.first honest) found in
           rw c.in_ok-push-in-Ok-Some.ensures.items more;
+      fit = rw c.in_ok-push-in-Ok-Some.ensures.items (All-push (λ p. length p.1 ≤ 1024) c.loop.pairs.items c.in-Ok-Some.pair inv.fit (subst (λ (o : Option Pair). IfSome o (λ p. length p.1 ≤ 1024)) c.in-Ok-Some.field-0-is c.in-Ok-Some.ensures.fit));
       shut = λ shut. let clash = next.closed (read.same.usable ∙ shut) in absurd (cc clash);
     }
 
@@ -45,4 +49,5 @@ returns g c = record {
     reads = fails c.loop.invariant.only c.loop.invariant.none;
     closed = λ shut. absurd (let none = c.loop.invariant.shut shut in omega (arith, none, c.loop-test.false));
   };
+  fit = tt;
 }

@@ -9,24 +9,24 @@ use Rattle.site_store.proofs.parts.read_part.Goals as goal
 
 pub returns-in-Err-clause-bytes : goal.returns-in-Err-clause-bytes
 returns-in-Err-clause-bytes g c =
-    let store_state = g.K.Keeper.store_state in
+    let store_state = g.V.ValueLookup.store_state in
     let only = c.loop-k.invariant.only in
     let chunk = c.in-Err.ensures.bytes.reads in
-    fails (read_on only chunk.only) (fault_later (store_state c.args.keeper.now) (store_state c.loop-k.keeper) (store_state c.add_chunk.new.keeper) c.in-Err.fault only.read c.loop-k.invariant.none
+    fails (read_on only chunk.only) (fault_later (store_state c.args.from.now) (store_state c.loop-k.from) (store_state c.add_chunk.new.from) c.in-Err.fault only.read c.loop-k.invariant.none
     (λ honest known. (known.0, (known.1.0, subst (λ (ps : List Pair). HasPart ps c.args.selector.now c.args.part known.0) (sym (only.read.same.pairs honest)) known.1.1))) chunk.fault)
 
 pub loop-k-preserved : goal.loop-k-preserved
 loop-k-preserved g c =
-    let store_state = g.K.Keeper.store_state in
+    let store_state = g.V.ValueLookup.store_state in
     let inv = c.loop-k.invariant in
     let read = inv.only.read in
     let chunk = c.in-Ok.ensures.bytes.reads in
     let next : 1000 * c.loop-k.k + 1000 ≡ 1000 * (c.loop-k.k + 1) = omega arith in
     record {
       only = read_on inv.only chunk.only;
-      none = none_later (store_state c.args.keeper.now) (store_state c.loop-k.keeper) (store_state c.add_chunk.new.keeper) inv.none chunk.none;
+      none = none_later (store_state c.args.from.now) (store_state c.loop-k.from) (store_state c.add_chunk.new.from) inv.none chunk.none;
       bytes = λ honest p is.
-          let now : IsTrue (store_state c.loop-k.keeper).honest = read.honest ∙ honest in
+          let now : IsTrue (store_state c.loop-k.from).honest = read.honest ∙ honest in
           chunk.gives now p (is.0, subst (λ (ps : List Pair). HasPart ps c.args.selector.now c.args.part p) (sym (read.same.pairs honest)) is.1) (inv.bytes honest p is)
           ∙ ap (λ (n : ℕ). take n p) next;
       size = search rules;

@@ -5,10 +5,10 @@ use Rattle.site_store.proofs.parts.read_part.Given as goal
 
 abbrev pub invariant-loop-k : goal.invariant-loop-k
 invariant-loop-k g l =
-    let store_state = g.K.Keeper.store_state in
+    let store_state = g.V.ValueLookup.store_state in
     record {
-      only : ReadsOnly store_state g.K.Keeper.may_need g.K.Keeper.crash_states l.fn.keeper l.keeper;
-      none : NoneFailed (store_state l.fn.keeper) (store_state l.keeper);
-      bytes : IsTrue (store_state l.fn.keeper).honest → (p : List ℕ) → IsPart l.selector l.part l.size (store_state l.fn.keeper) p → l.bytes.items ≡ take (1000 * l.k) p;
+      only : ReadsOnly store_state g.V.ValueLookup.may_need g.V.ValueLookup.crash_states l.fn.from l.from;
+      none : NoneFailed (store_state l.fn.from) (store_state l.from);
+      bytes : IsTrue (store_state l.fn.from).honest → (p : List ℕ) → IsPart l.selector l.part l.size (store_state l.fn.from) p → l.bytes.items ≡ take (1000 * l.k) p;
       size : HasSize (length l.bytes.items) (1000 * l.k) l.size;
     }

@@ -9,19 +9,19 @@ pub returns-in_default-clause-record : goal.returns-in_default-clause-record
 returns-in_default-clause-record g c =
     let look = c.in_ok-length.ensures.value in
     begins look (done look.reads.only look.reads.none (λ honest s kept.
-    no_record (g.K.Keeper.store_state c.args.keeper.now) s c.args.selector.now c.item_key.result kept c.item_key.ensures (sym (ap (option_map (λ n. take n c.look_up.new.buffer)) c.in_default.is) ∙ look.reads.gives honest)))
+    no_record (g.V.ValueLookup.store_state c.args.from.now) s c.args.selector.now c.item_key.result kept c.item_key.ensures (sym (ap (option_map (λ n. take n c.look_up.new.buffer)) c.in_default.is) ∙ look.reads.gives honest)))
 
 pub returns-in-Err-clause-record : goal.returns-in-Err-clause-record
 returns-in-Err-clause-record g c =
     let look = c.in_ok-length.ensures.value in
-    begins look (fails look.reads.only (not_bad (g.K.Keeper.store_state c.args.keeper.now) (g.K.Keeper.store_state c.look_up.new.keeper) c.in-Err.fault look.reads.none c.in-Err.ensures.fault
+    begins look (fails look.reads.only (not_bad (g.V.ValueLookup.store_state c.args.from.now) (g.V.ValueLookup.store_state c.look_up.new.self) c.in-Err.fault look.reads.none c.in-Err.ensures.fault
     (λ honest known.
-    let found = one_record c.items_have_records.ensures (g.K.Keeper.store_state c.args.keeper.now) known.0 c.args.selector.now c.item_key.result (take c.in-Some.length c.look_up.new.buffer) known.1 c.item_key.ensures (sym (ap (option_map (λ n. take n c.look_up.new.buffer)) c.in-Some.is) ∙ look.reads.gives honest) in
+    let found = one_record c.items_have_records.ensures (g.V.ValueLookup.store_state c.args.from.now) known.0 c.args.selector.now c.item_key.result (take c.in-Some.length c.look_up.new.buffer) known.1 c.item_key.ensures (sym (ap (option_map (λ n. take n c.look_up.new.buffer)) c.in-Some.is) ∙ look.reads.gives honest) in
     (c.in-Err.ensures.only (recorded found.0) found.1.valid found.1.bytes_are).1)))
 
 pub returns-in-Ok-clause-record : goal.returns-in-Ok-clause-record
 returns-in-Ok-clause-record g c =
     let look = c.in_ok-length.ensures.value in
     begins look (done look.reads.only look.reads.none (λ honest s kept.
-    let found = one_record c.items_have_records.ensures (g.K.Keeper.store_state c.args.keeper.now) s c.args.selector.now c.item_key.result (take c.in-Some.length c.look_up.new.buffer) kept c.item_key.ensures (sym (ap (option_map (λ n. take n c.look_up.new.buffer)) c.in-Some.is) ∙ look.reads.gives honest) in
+    let found = one_record c.items_have_records.ensures (g.V.ValueLookup.store_state c.args.from.now) s c.args.selector.now c.item_key.result (take c.in-Some.length c.look_up.new.buffer) kept c.item_key.ensures (sym (ap (option_map (λ n. take n c.look_up.new.buffer)) c.in-Some.is) ∙ look.reads.gives honest) in
     ap Some ((c.in-Ok.ensures.only (recorded found.0) found.1.valid found.1.bytes_are).0) ∙ ap (option_map recorded) (sym found.1.stands)))

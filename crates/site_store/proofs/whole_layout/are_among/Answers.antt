@@ -1,26 +1,39 @@
-use Rattle.std.proofs.Common.{◌≡◌, Some, sym, subst, ◌∙◌, false, true, refl, arith}
+use Rattle.std.proofs.Common.{◌≡◌, Some, List, sym, subst, ◌∙◌, false, true, refl, arith}
 use Rattle.std.specs.Prelude.{All}
 use Rattle.std.proofs.lemmas.List.{take_all}
 use Rattle.std.proofs.lemmas.List.Elements.{All-more}
 use Rattle.page_store.specs.Batch.{value_at}
+use Rattle.page_store.specs.Pages.{Pair}
+use Rattle.page_store.specs.declared.banner.Banner.{Banner}
 use Rattle.site_store.proofs.whole_layout.are_among.Goals as goal
 
-pub returns-then-not-is_among : goal.returns-then-not-is_among
-returns-then-not-is_among c = (
-  λ y. absurd (let e : false ≡ true = y in cc e),
-  λ all.
-      let there = all c.loop-entry.entry-index c.entry-item.result c.loop-entry-test.true in
-      let item = c.entry-item.is in
-      let yes : c.is_among.result ≡ true = c.is_among.ensures.1 (subst (λ p. value_at c.args.pairs.now p.0 ≡ Some p.1) (sym item) there) in
-      absurd (let e : false ≡ true = sym c.if-not-is_among.true ∙ yes in cc e),
-)
+pub returns-then-not-has : goal.returns-then-not-has
+returns-then-not-has c =
+    let same = c.loop-entry.invariant.0 in
+    record {
+      among = (
+        λ y. absurd (let e : false ≡ true = y in cc e),
+        λ all.
+            let item = c.entry-item.is in
+            let there = subst (λ p. value_at c.args.read.now.0 p.0 ≡ Some p.1) (sym item) (all c.loop-entry.entry-index c.entry-item.result c.loop-entry-test.true) in
+            let yes : c.has.result ≡ true = c.has.ensures.has.1 (subst (λ (r : List Pair × Banner). value_at r.0 c.entry-item.result.0 ≡ Some c.entry-item.result.1) (sym same) there) in
+            absurd (let e : false ≡ true = sym c.if-not-has.true ∙ yes in cc e),
+      );
+      same = c.has.ensures.same ∙ same;
+    }
 
 pub loop-entry-preserved : goal.loop-entry-preserved
 loop-entry-preserved c =
-    let stands = c.is_among.ensures.0 c.if-not-is_among.false in
-    All-more (λ p. value_at c.args.pairs.now p.0 ≡ Some p.1) c.args.entries.now c.loop-entry.entry-index c.entry-item.result c.loop-entry-test.true c.loop-entry.invariant (subst (λ p. value_at c.args.pairs.now p.0 ≡ Some p.1) c.entry-item.is stands)
+    let same = c.loop-entry.invariant.0 in
+    let stands = subst (λ (r : List Pair × Banner). value_at r.0 c.entry-item.result.0 ≡ Some c.entry-item.result.1) same (c.has.ensures.has.0 c.if-not-has.false) in (
+      c.has.ensures.same ∙ same,
+      All-more (λ p. value_at c.args.read.now.0 p.0 ≡ Some p.1) c.args.entries.now c.loop-entry.entry-index c.entry-item.result c.loop-entry-test.true c.loop-entry.invariant.1 (subst (λ p. value_at c.args.read.now.0 p.0 ≡ Some p.1) c.entry-item.is stands),
+    )
 
 pub returns : goal.returns
 returns c =
     let whole = take_all c.loop-entry.entry-index c.args.entries.now (let t = c.loop-entry-test.false in omega (arith, t)) in
-    (λ y. subst (All (λ p. value_at c.args.pairs.now p.0 ≡ Some p.1)) whole c.loop-entry.invariant, λ all. refl)
+    record {
+      among = (λ y. subst (All (λ p. value_at c.args.read.now.0 p.0 ≡ Some p.1)) whole c.loop-entry.invariant.1, λ all. refl);
+      same = c.loop-entry.invariant.0;
+    }

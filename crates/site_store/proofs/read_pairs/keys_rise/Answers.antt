@@ -4,7 +4,7 @@ use Rattle.common_types.specs.ByteOrder.{byte_cmp}
 use Rattle.page_store.specs.Keys.{rises, precedes}
 use Rattle.page_store.specs.Pages.{key_of}
 use Rattle.page_store.proofs.OpeningFinds.{rises_more, rises_last}
-use Rattle.site_store.proofs.whole_layout.keys_rise.Goals as goal
+use Rattle.site_store.proofs.read_pairs.keys_rise.Goals as goal
 
 pub loop-place-preserved : goal.loop-place-preserved
 loop-place-preserved c =
