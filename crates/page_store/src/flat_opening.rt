@@ -1,11 +1,9 @@
 // Opening an image of flat pages.
-ghost use Rattle.std.specs.Prelude.{◌≡◌, ◌⊎◌, ◌≤◌, ◌<◌, ◌*◌, ◌+◌, ◌==◌, ◌^◌, ℕ, List, Bool, true, false, Some, IfOk, IfErr, IsTrue, length, map};
+ghost use Rattle.std.specs.Prelude.{◌≡◌, ◌⊎◌, ◌≤◌, ◌<◌, ◌*◌, ◌+◌, ◌==◌, ◌^◌, ℕ, List, Bool, true, false, Some, IfOk, IfErr, IsTrue, length};
 ghost use Rattle.std.specs.List.{list_all};
 ghost use Rattle.sector_device.specs.Device.{State, NothingCounted};
 ghost use Rattle.page_store.specs.Counting.{CountsReads, CountsRefusal};
 ghost use Rattle.page_store.specs.declared.fault.KeeperFault.TheVariants.{Small};
-ghost use Rattle.page_store.specs.Keys.{rises};
-ghost use Rattle.page_store.specs.Pages.{key_of};
 ghost use Rattle.page_store.specs.Batch.{is_map, is_pair, is_key, is_value};
 ghost use Rattle.page_store.specs.Flat.{half_size, is_half};
 ghost use Rattle.page_store.specs.Content.{HasContent};
@@ -19,11 +17,11 @@ ghost use Rattle.common_types.specs.CrashStates.{AddsNone};
 
 use crate::flat_reading::read_half;
 use crate::pages::sync_all;
+use crate::pair::keys_rise;
 use crate::roots::{Roots, open_roots};
 use crate::{FlatKeeper, KeeperFault, Pair, Root, Slot};
 use sector_device::Device;
 use std::alloc::Global;
-use std::cmp::Ordering;
 
 /// Whether the record names the first page of a half.
 fn is_half(root: &Root) -> bool
@@ -32,19 +30,6 @@ fn is_half(root: &Root) -> bool
     ensures { result ≡ is_half root.now }
 {
     root.height == 0 && (root.tree == 2 || root.tree == 2 + root.half_size())
-}
-
-/// Whether the keys rise in byte order.
-fn keys_rise(pairs: &[Pair]) -> bool
-    ensures { result ≡ rises (map key_of pairs.now) }
-{
-    for place in 1..pairs.len() {
-        match pairs[place - 1].key().cmp(pairs[place].key()) {
-            Ordering::Less => {}
-            Ordering::Equal | Ordering::Greater => return false,
-        }
-    }
-    true
 }
 
 /// Finds the current slot of a flat image, and the greatest seal.

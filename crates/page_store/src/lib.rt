@@ -41,7 +41,7 @@ pub use laws::{
     pages_decide, seals_are_at_most_the_greatest, the_current_slot_is_the_newest, worked_examples,
 };
 pub use pages::{read_page, read_sector, switch_root, sync_all, write_page, write_sector};
-pub use pair::Pair;
+pub use pair::{Pair, keys_rise};
 pub use pin_fault::PinFault;
 pub use pin_keeper::PinKeeper;
 pub use reading::{PageHead, are_zero, child_at, head_at, pair_at};

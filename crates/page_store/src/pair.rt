@@ -1,8 +1,11 @@
 // A key and its value.
-ghost use Rattle.std.specs.Prelude.{◌≡◌, IfOk};
+ghost use Rattle.std.specs.Prelude.{◌≡◌, map, IfOk};
+ghost use Rattle.page_store.specs.Keys.{rises};
+ghost use Rattle.page_store.specs.Pages.{key_of};
 
 use common_types::Bytes;
 use std::alloc::{AllocError, Global};
+use std::cmp::Ordering;
 use std::marker::Model;
 
 /// A key and its value.
@@ -70,4 +73,17 @@ impl Clone for Pair {
             value: self.value.clone()?,
         })
     }
+}
+
+/// Whether the keys of these pairs rise in byte order.
+pub fn keys_rise(pairs: &[Pair]) -> bool
+    ensures { result ≡ rises (map key_of pairs.now) }
+{
+    for place in 1..pairs.len() {
+        match pairs[place - 1].key().cmp(pairs[place].key()) {
+            Ordering::Less => {}
+            Ordering::Equal | Ordering::Greater => return false,
+        }
+    }
+    true
 }

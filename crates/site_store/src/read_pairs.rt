@@ -9,11 +9,10 @@ ghost use Rattle.site_store.specs.Opening.{pairs_state, ValuesFit};
 use crate::SiteOpenFault;
 use crate::likely::LikelyPlaces;
 use crate::looking::ValueLookup;
-use page_store::{Banner, Pair};
+use page_store::{Banner, Pair, keys_rise};
 use site_pairs::Piece;
 use site_records::Key;
 use std::alloc::{AllocError, Global};
-use std::cmp::Ordering;
 use std::marker::Model;
 
 /// All pairs of a key-value store, and its banner. The keys rise, and each value fits a buffer of 1,024 bytes.
@@ -36,19 +35,6 @@ impl<'a> Model for ReadPairs<'a> {
     ghost view = { λ r. (r.pairs.now, r.banner.now) };
 
     ghost invariant = { λ r. IsTrue (rises (map key_of r.pairs.now)) × ValuesFit r.pairs.now };
-}
-
-/// Whether the keys rise in byte order.
-fn keys_rise(pairs: &[Pair]) -> bool
-    ensures { result ≡ rises (map key_of pairs.now) }
-{
-    for place in 1..pairs.len() {
-        match pairs[place - 1].key().cmp(pairs[place].key()) {
-            Ordering::Less => {}
-            Ordering::Equal | Ordering::Greater => return false,
-        }
-    }
-    true
 }
 
 impl<'a> ReadPairs<'a> {

@@ -4,7 +4,7 @@ use Rattle.common_types.specs.ByteOrder.{byte_cmp}
 use Rattle.page_store.specs.Keys.{rises, precedes}
 use Rattle.page_store.specs.Pages.{key_of}
 use Rattle.page_store.proofs.OpeningFinds.{rises_more, rises_last}
-use Rattle.page_store.proofs.flat_opening.keys_rise.Goals as goal
+use Rattle.page_store.proofs.pair.keys_rise.Goals as goal
 
 pub loop-place-preserved : goal.loop-place-preserved
 loop-place-preserved c =
