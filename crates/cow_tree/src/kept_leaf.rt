@@ -8,7 +8,7 @@ ghost use Rattle.page_store.specs.Batch.{pair_after};
 ghost use Rattle.page_store.specs.StoreState.{IsFilled};
 ghost use Rattle.page_store.specs.Content.{place_in};
 ghost use Rattle.tree_nodes.specs.PageViews.{bounds_of, pairs_in};
-ghost use Rattle.cow_tree.specs.KeptLeaves.{begins_by, next_in, pairs_from, IsReached};
+ghost use Rattle.cow_tree.specs.KeptLeaves.{begins_by, next_in, pairs_from, CopiesPair, IsReached};
 ghost use Rattle.cow_tree.specs.Ways.{IsAnswer};
 ghost use Rattle.cow_tree.specs.Walks.{ReadsPages};
 ghost use Rattle.cow_tree.specs.declared.page_fault.PageFault.{PageFault as PageFaultValue};
@@ -118,10 +118,7 @@ impl KeptLeaf {
         key: &mut [u8; 300],
         value: &mut [u8; 1024],
     ) -> Option<(usize, usize)>
-        ensures within { IfSome result (λ n. (n.0 ≤ 300) × (n.1 ≤ 1024)) }
-        ensures pair { option_map (λ n. (take n.0 key.new, take n.1 value.new)) result ≡ next_in self.old after.now }
-        ensures key { IsFilled {E = PageFaultValue} (λ n. n.0) (Ok result) key.old key.new }
-        ensures value { IsFilled {E = PageFaultValue} (λ n. n.1) (Ok result) value.old value.new }
+        ensures copied { CopiesPair (next_in self.old after.now) result key.old key.new value.old value.new }
         ensures kept { self.new ≡ self.old }
     {
         let from = place_by(&self.bytes, self.last, first_place(self.count), after)?;
@@ -137,10 +134,7 @@ impl KeptLeaf {
         key: &mut [u8; 300],
         value: &mut [u8; 1024],
     ) -> Option<(usize, usize)>
-        ensures within { IfSome result (λ n. (n.0 ≤ 300) × (n.1 ≤ 1024)) }
-        ensures pair { option_map (λ n. (take n.0 key.new, take n.1 value.new)) result ≡ pair_after self.old after.now }
-        ensures key { IsFilled {E = PageFaultValue} (λ n. n.0) (Ok result) key.old key.new }
-        ensures value { IsFilled {E = PageFaultValue} (λ n. n.1) (Ok result) value.old value.new }
+        ensures copied { CopiesPair (pair_after self.old after.now) result key.old key.new value.old value.new }
         ensures kept { self.new ≡ self.old }
     {
         let first = first_place(self.count);

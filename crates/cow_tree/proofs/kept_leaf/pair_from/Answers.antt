@@ -1,4 +1,4 @@
-use Rattle.std.proofs.Common.{◌≤◌, sym, arith}
+use Rattle.std.proofs.Common.{◌≤◌, arith}
 use Rattle.cow_tree.proofs.LeafPlaces.{out_of_page, pair_there}
 use Rattle.cow_tree.proofs.kept_leaf.pair_from.Goals as goal
 

@@ -16,10 +16,10 @@ use Rattle.cow_tree.proofs.lookups.find_next.Goals as goal
 pub returns-in-Some-clause-next : goal.returns-in-Some-clause-next
 returns-in-Some-clause-next g c =
     let a = page_of (g.D.Device.state c.args.device.now).disk.view in
-    let next = next_known c.args.kept.now c.args.after.now (take c.in-Some.sizes.0 c.copy_next.new.key, take c.in-Some.sizes.1 c.copy_next.new.value) c.in-Some.ensures.pair in
+    let next = next_known c.args.kept.now c.args.after.now (take c.in-Some.sizes.0 c.copy_next.new.key, take c.in-Some.sizes.1 c.copy_next.new.value) c.in-Some.ensures.copied.is in
     record {
       pair = λ keeps found is.
-          c.in-Some.ensures.pair ∙ next.1 ∙ sym (kept_tells a (bounds_under c.args.slot.now) found c.args.kept.now c.args.after.now (found_map c.args.slot.now a found is.0) is.1 next.0);
+          c.in-Some.ensures.copied.is ∙ next.1 ∙ sym (kept_tells a (bounds_under c.args.slot.now) found c.args.kept.now c.args.after.now (found_map c.args.slot.now a found is.0) is.1 next.0);
       kept = λ keeps found is. subst (λ (l : List Pair). IsKeptLeaf a (bounds_under c.args.slot.now) found l) (sym c.in-Some.ensures.kept) is.1;
       reads = search rules;
     }
@@ -42,7 +42,7 @@ returns-clause-next g c =
     let a = page_of (g.D.Device.state c.args.device.now).disk.view in
     let next = c.in_ok-read_next_leaf.ensures.next in
     record {
-      pair = λ keeps found is. c.copy_after.ensures.pair ∙ next.pair keeps found (found_there c.args.slot.now a found c.under.result c.under.ensures is.0);
+      pair = λ keeps found is. c.copy_after.ensures.copied.is ∙ next.pair keeps found (found_there c.args.slot.now a found c.under.result c.under.ensures is.0);
       kept = λ keeps found is.
           subst (λ (l : List Pair). IsKeptLeaf a (bounds_under c.args.slot.now) found l) (sym c.copy_after.ensures.kept)
           (subst (λ (tree : TreeRoot). IsKeptLeaf a (bounds_at tree) found c.read_next_leaf.new.kept) c.under.ensures

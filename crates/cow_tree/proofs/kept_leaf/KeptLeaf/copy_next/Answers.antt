@@ -1,6 +1,5 @@
-use Rattle.std.proofs.Common.{List, drop, sym, ap, ◌∙◌, take}
+use Rattle.std.proofs.Common.{List, drop, sym, ap, ◌∙◌, take, rules}
 use Rattle.page_store.specs.Pages.{Pair}
-use Rattle.page_store.specs.Batch.{pair_after}
 use Rattle.tree_nodes.specs.PageViews.{pairs_in}
 use Rattle.cow_tree.specs.KeptLeaves.{pairs_from, next_in}
 use Rattle.cow_tree.specs.declared.kept_leaf.Place.{Place}
@@ -16,12 +15,18 @@ invariant_of-self c =
     reached_tells c.args.after.now (take c.in_ok-place.sizes.0 c.copy_from.new.key, take c.in_ok-place.sizes.1 c.copy_from.new.value) (pairs_from bytes c.in_ok-place.place.at c.in_ok-place.place.left)
     (pairs_from bytes c.in_ok-from.from.at c.in_ok-from.from.left) all c.in_ok-place.ensures.reached from
 
-pub returns-clause-pair : goal.returns-clause-pair
-returns-clause-pair c =
+pub returns-clause-copied : goal.returns-clause-copied
+returns-clause-copied c =
     let bytes = c.self.inside.bytes in
     let all = pairs_in c.self.inside.count (drop 24 bytes) in
     let first = first_is bytes c.first_place.result.at c.first_place.result.left c.self.inside.count c.first_place.ensures.at c.first_place.ensures.left in
     let from = either_tells (λ (p : Place). pairs_from bytes p.at p.left) c.self.inside.last c.first_place.result all c.self.invariant first c.in_ok-from.from c.in_ok-from.ensures.1 c.args.after.now c.in_ok-from.ensures.0 in
-    sym (reached_pair c.args.after.now (take c.in_ok-place.sizes.0 c.copy_from.new.key, take c.in_ok-place.sizes.1 c.copy_from.new.value) (pairs_from bytes c.in_ok-place.place.at c.in_ok-place.place.left)
-    (pairs_from bytes c.in_ok-from.from.at c.in_ok-from.from.left) c.in_ok-place.ensures.reached)
-    ∙ sym from.1 ∙ sym (next_begins all c.args.after.now from.0) ∙ ap (λ (l : List Pair). next_in l c.args.after.now) c.self.view_is
+    record {
+      within = search rules;
+      is =
+          sym (reached_pair c.args.after.now (take c.in_ok-place.sizes.0 c.copy_from.new.key, take c.in_ok-place.sizes.1 c.copy_from.new.value) (pairs_from bytes c.in_ok-place.place.at c.in_ok-place.place.left)
+          (pairs_from bytes c.in_ok-from.from.at c.in_ok-from.from.left) c.in_ok-place.ensures.reached)
+          ∙ sym from.1 ∙ sym (next_begins all c.args.after.now from.0) ∙ ap (λ (l : List Pair). next_in l c.args.after.now) c.self.view_is;
+      key = search rules;
+      value = search rules;
+    }
