@@ -3,6 +3,7 @@ use Rattle.std.proofs.Common.{◌≡◌, ◌∙◌, ℕ, zero, suc, ◌+◌, ◌
 use Rattle.std.specs.Prelude.{IsTrue}
 use Rattle.common_types.specs.CrashStates.{CrashStates, AddsOnly, AddsNone, may_crash_to, no_new_crash_state, adds_both, adds_none_again}
 use Rattle.common_types.specs.declared.refused.Refused.{Refused as Refusal}
+use Rattle.host_types.specs.AllChanges.{Changes}
 use Rattle.host_types.specs.Site.{Site}
 use Rattle.host_types.specs.SiteState.{SiteState, HasTried}
 use Rattle.common_types.specs.Counts.{counted}
@@ -81,7 +82,7 @@ either represents old made front change rest now is c left =
     (λ changed. record { front = front ++ change ∷ []; rest = rest; site = changed.0; parts = sym (append_assoc front (change ∷ []) rest); applied = apply_all_last old front change now made is ∙ changed.1; stands = changed.2 })
     left
 
-module _ {S L : Type 0} (state : S → SiteState) (lacks : S → SiteChange → ℕ → SiteFault → Type 0) (crash_states : S → CrashStates L) (represents : L → Site → Type 0) where
+module _ {S L : Type 0} (state : S → SiteState) (lacks : S → Changes → SiteFault → Type 0) (crash_states : S → CrashStates L) (represents : L → Site → Type 0) where
   honest_still : (old made : S) → HasTried (state old) (state made) → IsTrue (state old).honest → IsTrue (state made).honest
   honest_still old made tried honest = tried.honest ∙ honest
 

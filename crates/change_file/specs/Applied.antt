@@ -2,6 +2,7 @@
 use Rattle.std.specs.Prelude.{◌≡◌, ◌⊎◌, ℕ, zero, suc, ◌+◌, false, List, [], ◌∷◌, ◌++◌, length, Result, Ok, Err, IsTrue}
 use Rattle.common_types.specs.CrashStates.{CrashStates, AddsNone}
 use Rattle.common_types.specs.declared.refused.Refused.{Refused as Refusal}
+use Rattle.host_types.specs.AllChanges.{Changes}
 use Rattle.host_types.specs.Site.{Site}
 use Rattle.host_types.specs.Change.{apply}
 use Rattle.host_types.specs.SiteState.{SiteState, HasTried, IsChangeFault}
@@ -49,12 +50,12 @@ pub record Tries {S L : Type 0} (state : S → SiteState) (crash_states : S → 
   pub no_new_crash_state_when_closed : IsTrue (state old).honest → (state old).usable ≡ false → AddsNone (crash_states old) (crash_states new)
 
 -- Why a change was not made, and what stands then: as a keeper's own clause says; a name that its type refuses changes nothing.
-abbrev pub IsStop : {S : Type 0} → (S → SiteState) → (S → SiteChange → ℕ → SiteFault → Type 0) → FileChange → ℕ → S → S → SiteFault → Type 0
-IsStop state lacks (Change change) now old new fault = IsChangeFault (lacks old change now) (state old) (state new) (apply (state old).site change now) fault × ((state old).usable ≡ false → fault ≡ faults.Failed)
+abbrev pub IsStop : {S : Type 0} → (S → SiteState) → (S → Changes → SiteFault → Type 0) → FileChange → ℕ → S → S → SiteFault → Type 0
+IsStop state lacks (Change change) now old new fault = IsChangeFault (lacks old ((change, now) ∷ [])) (state old) (state new) (apply (state old).site change now) fault × ((state old).usable ≡ false → fault ≡ faults.Failed)
 IsStop state lacks (Refused refused) now old new fault = (fault ≡ faults.Refused refused) × (new ≡ old)
 
 -- The changes up to one of this number were made, from the keeper `old` to `made`, and that one was not: `new` is what it left.
-pub record IsStopped {S : Type 0} (state : S → SiteState) (lacks : S → SiteChange → ℕ → SiteFault → Type 0) (old new : S) (changes : List FileChange) (now number : ℕ) (fault : SiteFault) : Type 0 where
+pub record IsStopped {S : Type 0} (state : S → SiteState) (lacks : S → Changes → SiteFault → Type 0) (old new : S) (changes : List FileChange) (now number : ℕ) (fault : SiteFault) : Type 0 where
   pub front : List FileChange
   pub change : FileChange
   pub rest : List FileChange

@@ -15,7 +15,7 @@ use Rattle.change_file.specs.Questions.{question_of}
 
 -- the keys of a table that puts an item, with those of its body
 abbrev pub with_body : List (List ℕ) → List (List ℕ)
-with_body keys = codes "do" ∷ codes "selector" ∷ codes "title" ∷ codes "abstract" ∷ keys
+with_body keys = codes "do" ∷ codes "selector" ∷ codes "title" ∷ codes "abstract" ∷ codes "until" ∷ keys
 
 -- ---- bodies of their names
 

@@ -8,20 +8,20 @@ use Rattle.host_types.specs.declared.change.Change.{Change as SiteChange}
 use Rattle.host_types.specs.declared.change.Change.TheVariants as changes
 use Rattle.toml.specs.Parse.{parse_document}
 use Rattle.toml.specs.Data.{Data, Members, as_table}
-use Rattle.change_file.specs.Tables.{◌>>=◌, has_only, text_at, optional_text_at, values_at, each}
+use Rattle.change_file.specs.Tables.{◌>>=◌, has_only, text_at, optional_text_at, optional_moment_at, values_at, each}
 use Rattle.change_file.specs.Named.{◌◂◌, name_at, port_at, selector_named, title_named, host_named, admin_named}
 use Rattle.change_file.specs.Bodies.{body_in}
 use Rattle.change_file.specs.declared.fault.FileChange.{FileChange}
 use Rattle.change_file.specs.declared.fault.FileChange.TheVariants.{Change, Refused}
 
 -- the item as a change puts it, whose stamp is that of the change
-abbrev pub item_with : List ℕ → List ℕ → Body → Item
-item_with summary title body = record { title = title; stamp = 0; summary = summary; body = body }
+abbrev pub item_with : List ℕ → Option ℕ → List ℕ → Body → Item
+item_with summary until title body = record { title = title; stamp = 0; until = until; summary = summary; body = body }
 
 -- ---- changes of their names
 
-abbrev pub put : List ℕ → Result (List ℕ) Refusal → Result (List ℕ) Refusal → Result Body Refusal → Result SiteChange Refusal
-put summary selector title body = Ok (λ s t b. changes.Put s (item_with summary t b)) ◂ selector ◂ title ◂ body
+abbrev pub put : List ℕ → Option ℕ → Result (List ℕ) Refusal → Result (List ℕ) Refusal → Result Body Refusal → Result SiteChange Refusal
+put summary until selector title body = Ok (λ s t b. changes.Put s (item_with summary until t b)) ◂ selector ◂ title ◂ body
 
 abbrev pub remove : Result (List ℕ) Refusal → Result SiteChange Refusal
 remove selector = Ok (λ s. changes.Remove s) ◂ selector
@@ -42,8 +42,9 @@ put_in table = do
   selector ← name_at selector_named (codes "selector") table
   title ← name_at title_named (codes "title") table
   summary ← optional_text_at (codes "abstract") table
+  until ← optional_moment_at (codes "until") table
   body ← body_in table
-  Some (put summary selector title body)
+  Some (put summary until selector title body)
 
 abbrev pub remove_in : Members → Option (Result SiteChange Refusal)
 remove_in table = do

@@ -1,6 +1,8 @@
 -- What a table of a file of changes has at its keys.
 use Rattle.std.specs.Prelude.{ℕ, ◌^◌, ℤ, pos, negsuc, Bool, true, ◌&&◌, List, [], ◌∷◌, Option, Some, None, bytes_eq, nat_lt, if◌then◌else◌}
 use Rattle.std.specs.List.{list_any}
+use Rattle.std.specs.Result.{result_ok}
+use Rattle.common_types.specs.Names.{stamp_of}
 use Rattle.toml.specs.Data.{Data, Items, no_items, item, Members, no_members, member, get_member, as_str, as_integer, as_array, as_table}
 
 -- what follows from something, where it is there
@@ -41,6 +43,22 @@ number_at key table = do
   value ← get_member key table
   number ← as_integer value
   small_number number
+
+-- a moment: a number of seconds that a stamp takes
+abbrev pub moment : ℤ → Option ℕ
+moment (pos n) = result_ok (stamp_of n)
+moment (negsuc n) = None
+
+-- a moment that may be left out, and isn't there then
+abbrev pub moment_or_none : Option Data → Option (Option ℕ)
+moment_or_none None = Some None
+moment_or_none (Some value) = do
+  number ← as_integer value
+  stamp ← moment number
+  Some (Some stamp)
+
+abbrev pub optional_moment_at : List ℕ → Members → Option (Option ℕ)
+optional_moment_at key table = moment_or_none (get_member key table)
 
 -- values in their order
 abbrev pub values_of : Items → List Data

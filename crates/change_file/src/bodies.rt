@@ -139,20 +139,37 @@ pub fn body_in(alloc: Global, table: &Table) -> Result<Result<Body, Refused>, Fo
     ensures ok { IfOk result (λ b. spec.body_in (table_view table.now) ≡ Some b) }
     ensures form { result ≡ Err FormFault.Form → spec.body_in (table_view table.now) ≡ None }
 {
-    if has_only(table, &["do", "selector", "title", "abstract", "text"]) {
+    if has_only(
+        table,
+        &["do", "selector", "title", "abstract", "until", "text"],
+    ) {
         text_body(alloc, table)
     } else if has_only(
         table,
-        &["do", "selector", "title", "abstract", "kind", "views"],
+        &[
+            "do", "selector", "title", "abstract", "until", "kind", "views",
+        ],
     ) {
         views_body(alloc, table)
-    } else if has_only(table, &["do", "selector", "title", "abstract", "menu"]) {
+    } else if has_only(
+        table,
+        &["do", "selector", "title", "abstract", "until", "menu"],
+    ) {
         menu_body(alloc, table)
-    } else if has_only(table, &["do", "selector", "title", "abstract", "board"]) {
+    } else if has_only(
+        table,
+        &["do", "selector", "title", "abstract", "until", "board"],
+    ) {
         board_body(table)
-    } else if has_only(table, &["do", "selector", "title", "abstract", "form"]) {
+    } else if has_only(
+        table,
+        &["do", "selector", "title", "abstract", "until", "form"],
+    ) {
         form_body(alloc, table)
-    } else if has_only(table, &["do", "selector", "title", "abstract", "search"]) {
+    } else if has_only(
+        table,
+        &["do", "selector", "title", "abstract", "until", "search"],
+    ) {
         search_body(table)
     } else {
         Err(FormFault::Form)

@@ -8,23 +8,25 @@ ghost use Rattle.change_file.specs.declared.fault.ChangeFileFault.TheVariants.{N
 use crate::bodies::body_in;
 use crate::fault::{ChangeFileFault, FileChange, FormFault};
 use crate::named::{admin_at, host_at, port_at, selector_at, title_at};
-use crate::tables::{has_only, optional_text_at, text_at, values_at};
+use crate::tables::{has_only, optional_moment_at, optional_text_at, text_at, values_at};
 use host_types::{Admin, Body, Bytes, Change, Host, Item, Refused, Selector, Stamp, Title};
 use std::alloc::Global;
 use toml::{Table, Value};
 
 fn put(
     summary: Bytes,
+    until: Option<Stamp>,
     selector: Result<Selector, Refused>,
     title: Result<Title, Refused>,
     body: Result<Body, Refused>,
 ) -> Result<Change, Refused>
-    ensures { result ≡ spec.put summary selector title body }
+    ensures { result ≡ spec.put summary until selector title body }
 {
     let selector = selector?;
     let item = Item {
         title: title?,
         stamp: Stamp::start(),
+        until,
         summary,
         body: body?,
     };
@@ -77,9 +79,12 @@ fn put_in(alloc: Global, table: &Table) -> Result<Result<Change, Refused>, FormF
     let Some(summary) = optional_text_at(table, "abstract") else {
         return Err(FormFault::Form);
     };
+    let Some(until) = optional_moment_at(table, "until") else {
+        return Err(FormFault::Form);
+    };
     let body = body_in(alloc, table)?;
     let summary = Bytes::from_slice(alloc, summary.as_bytes())?;
-    Ok(put(summary, selector, title, body))
+    Ok(put(summary, until, selector, title, body))
 }
 
 fn remove_in(table: &Table) -> Option<Result<Change, Refused>>

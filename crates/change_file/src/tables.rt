@@ -1,10 +1,11 @@
 // What a table of a file of changes has at its keys.
-ghost use Rattle.std.specs.Prelude.{◌≡◌, option_map, map, bytes_eq};
+ghost use Rattle.std.specs.Prelude.{◌≡◌, Some, option_map, map, bytes_eq};
 ghost use Rattle.std.specs.List.{list_any};
 ghost use Rattle.toml.specs.Data.{get_member};
 ghost use Rattle.toml.specs.View.{table_view, view};
 ghost use Rattle.change_file.specs.Tables as spec;
 
+use host_types::Stamp;
 use toml::{Table, Value};
 
 /// The value at a key.
@@ -53,6 +54,32 @@ pub fn number_at(table: &Table, key: &str) -> Option<u16>
             None => None,
         },
         None => None,
+    }
+}
+
+fn moment(seconds: i64) -> Option<Stamp>
+    ensures { result ≡ spec.moment seconds }
+{
+    if seconds < 0 {
+        return None;
+    }
+    Stamp::new(seconds as u64).ok()
+}
+
+fn moment_in(value: &Value) -> Option<Option<Stamp>>
+    ensures { result ≡ spec.moment_or_none (Some (view value.now)) }
+{
+    let seconds = value.as_integer()?;
+    Some(Some(moment(seconds)?))
+}
+
+/// The moment at a key that may be left out.
+pub fn optional_moment_at(table: &Table, key: &str) -> Option<Option<Stamp>>
+    ensures { result ≡ spec.optional_moment_at key.now (table_view table.now) }
+{
+    match value_at(table, key) {
+        Some(value) => moment_in(value),
+        None => Some(None),
     }
 }
 

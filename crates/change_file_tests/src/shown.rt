@@ -1,6 +1,6 @@
 // Changes and items as they are printed.
 use change_file::FileChange;
-use host_types::{Body, Change, Entry, Item, Question, View};
+use host_types::{Body, Change, Entry, Item, Question, Stamp, View};
 use std::alloc::{AllocError, Global};
 
 /// A text that is printed, made part by part.
@@ -150,10 +150,21 @@ impl Shown {
         }
     }
 
-    /// Title, stamp, summary and body.
+    fn until(&mut self, until: Option<Stamp>) -> Result<(), AllocError> {
+        match until {
+            Some(until) => {
+                self.word(" until")?;
+                self.number(until.seconds())
+            }
+            None => Ok(()),
+        }
+    }
+
+    /// Title, stamp, moment of expiry where there is one, summary and body.
     pub fn item(&mut self, item: &Item) -> Result<(), AllocError> {
         self.bytes(item.title.as_bytes())?;
         self.number(item.stamp.seconds())?;
+        self.until(item.until)?;
         self.bytes(item.summary.as_slice())?;
         self.body(&item.body)
     }

@@ -3,3 +3,4 @@ pub mod Moving
 pub mod Posting
 pub mod Planning
 pub mod AfterLookUps
+pub mod PlansOfAll

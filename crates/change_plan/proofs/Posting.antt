@@ -120,8 +120,8 @@ post_in_place s board item posted stood there gone next oldest stands = (ap (λ 
 pub short_posted : (item : Item) (title text : List ℕ) (now : ℕ) → item ≡ text_item title now text → length text ≤ 65536 → is_long_item [] item ≡ false
 unfolding most_view_bytes
 short_posted item title text now is fits =
-    let n : view_bytes (text_view text ∷ []) ≤ 65536 = omega (arith, fits, sum_by-cons (λ (w : View). length w.bytes) (text_view text) []) in
-    ap (is_long_item []) is ∙ ap (λ (b : Bool). b || false) (le-ltb 65536 (view_bytes (text_view text ∷ [])) n)
+    let n : view_bytes (text_view text ∷ []) ≤ 262144 = omega (arith, fits, sum_by-cons (λ (w : View). length w.bytes) (text_view text) []) in
+    ap (is_long_item []) is ∙ ap (λ (b : Bool). b || false) (le-ltb 262144 (view_bytes (text_view text ∷ [])) n)
 
 -- What a post on a board makes.
 pub posted_on : (s : Site) (board : List ℕ) (item posted stood : Item) (there gone : Option Item) (cap next now : ℕ) (selector : List ℕ) (oldest : Option (List ℕ)) (l : List Replacement) → next < 2 ^ 64 → board_of item.body ≡ Some (cap, next) → Some item ≡ item_at s board

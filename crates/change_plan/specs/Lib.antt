@@ -1,3 +1,5 @@
 pub mod LookUps
 pub mod Replacements
 pub mod Plans
+pub mod AllPlans
+pub mod AheadLaws

@@ -30,6 +30,11 @@ with_admin s (Some admin) = record s { admin = admin }
 abbrev pub planned : Site → Plan → Site
 planned s p = with_admin (with_host (all_replaced s p.replacements.items) p.host) p.admin
 
+-- the value that is set last
+abbrev pub set_last : {T : Type 0} → Option T → Option T → Option T
+set_last old None = old
+set_last old (Some new) = Some new
+
 -- A plan makes what a change makes of a site.
 pub record IsPlan (s : Site) (change : Change) (now : ℕ) (p : Plan) : Type 0 where
   pub makes : apply s change now ≡ Ok (planned s p)

@@ -38,6 +38,9 @@ pub trait ItemLookup {
         ensures reads_only { OnOk result (reads_only self.old self.new) }
         ensures failed { IfErr result (failed self.old self.new) };
 
+    /// It is known or not that an item is fit.
+    ghost fits_or_not: { (item : ItemValue) → IsProp (fits item) };
+
     /// No look-up leaves all as it is.
     ghost nothing_read: { (l : Self) → reads_only l l };
 

@@ -78,7 +78,7 @@ pub fn plan_put<L: ItemLookup>(
     ensures reads_only { UnlessFailed result (L.reads_only lookup.old lookup.new) }
     ensures fault { IfErr result (IsPlanFault L.shows L.failed lookup.old lookup.new (λ s. put s selector item now)) }
 {
-    if selector.as_bytes().is_empty() && !item.body.is_menu() {
+    if selector.as_bytes().is_empty() && (!item.body.is_menu() || item.until.is_some()) {
         return Err(SiteFault::Refused(Refused::Root));
     }
     if selector.is_reserved() || item.body.is_moved() {

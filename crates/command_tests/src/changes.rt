@@ -37,6 +37,7 @@ pub fn change_of(alloc: Global, now: Stamp, fields: &[&str]) -> Result<Change, T
             let item = Item {
                 title: title(alloc, shown)?,
                 stamp: now,
+                until: None,
                 summary: Bytes::new(alloc),
                 body: Body::Menu(menu(alloc, local, info)?),
             };

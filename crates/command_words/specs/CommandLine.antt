@@ -73,8 +73,8 @@ serve_command = command (codes "serve")
 
 abbrev pub commands : List Shape
 commands = format_command ∷ apply_command ∷ image_command (codes "show")
-    ∷ image_command (codes "check") ∷ image_command (codes "compact") ∷ replay_command
-    ∷ serve_command ∷ []
+    ∷ image_command (codes "check") ∷ image_command (codes "compact")
+    ∷ image_command (codes "upgrade") ∷ replay_command ∷ serve_command ∷ []
 
 -- the whole of it
 abbrev pub gopher_host : App

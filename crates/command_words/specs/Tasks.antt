@@ -65,6 +65,8 @@ AsksFor name rows (task.Show image) = (name ≡ codes "show") × HasText rows (c
 AsksFor name rows (task.Check image) = (name ≡ codes "check") × HasText rows (codes "IMAGE") image
 AsksFor name rows (task.Compact image) =
     (name ≡ codes "compact") × HasText rows (codes "IMAGE") image
+AsksFor name rows (task.Upgrade image) =
+    (name ≡ codes "upgrade") × HasText rows (codes "IMAGE") image
 AsksFor name rows (task.Replay (Some image)) =
     (name ≡ codes "replay") × HasText rows (codes "IMAGE") image
 AsksFor name rows (task.Replay None) =

@@ -39,6 +39,7 @@ pub record WordExamples : Type 0 where
   pub shows : named show_words ≡ Some (codes "show")
   pub its_image : value_of (codes "IMAGE") show_words ≡ Some (codes "site.img")
   pub it_is_taken : is_taken show_words ≡ true
+  pub upgrades : named (codes "upgrade" ∷ codes "site.img" ∷ []) ≡ Some (codes "upgrade")
   pub no_image : is_taken (codes "show" ∷ []) ≡ false
   pub no_command : is_taken [] ≡ false
   pub replays : is_taken (codes "replay" ∷ []) ≡ true

@@ -50,7 +50,8 @@ fn number<'a>(
 fn now<'a>(alloc: Global) -> Arg<'a>
     ensures { IsArg spec.now_rule result }
 {
-    let help = "The moment of the change, in seconds since 1970-01-01; `date +%s` prints this one";
+    let help =
+        "The moment of the change, in seconds since 1970-01-01, up to the end of the year 9999; `date +%s` prints this one";
     number(alloc, "now", "SECONDS", help, 0, GREATEST_MOMENT)
 }
 
@@ -58,11 +59,12 @@ fn format<'a>(alloc: Global) -> Result<Command<'a>, AllocError>
     ensures { IfOk result (IsCommand spec.format_command) }
 {
     let pages =
-        "How many pages of 4,096 bytes the image has, 16 to 65,536; half of them hold the site, half its next version";
-    let host = "The name of the host, as menus give it to clients";
-    let port = "The port that menus give to clients, and that `serve` listens on";
-    let admin = "The administrator, as attributes show it";
-    let title = "The title of the top menu, which is empty at first";
+        "How many pages of 4,096 bytes the image has, 16 to 65,536; a change is written to free ones";
+    let host =
+        "The name of the host, as menus give it to clients: 1 to 100 visible characters of ASCII";
+    let port = "The port that menus give to clients, and that `serve` listens on, 1 to 65,535";
+    let admin = "The administrator, as attributes show it: at most 100 bytes";
+    let title = "The title of the top menu, which is empty at first: at most 69 bytes";
     Command::new(alloc, "format")
         .about("Makes an image with an empty top menu; what the file held is gone")
         .after_help(
@@ -124,13 +126,24 @@ fn compact<'a>(alloc: Global) -> Result<Command<'a>, AllocError>
         .arg(image(alloc))
 }
 
+fn upgrade<'a>(alloc: Global) -> Result<Command<'a>, AllocError>
+    ensures { IfOk result (IsCommand (spec.image_command (codes "upgrade"))) }
+{
+    Command::new(alloc, "upgrade")
+        .about(
+            "Takes over the image of an older program: writes its site in this program's version, in one step that a crash can't halve, and prints how many items that were, or 0 where it is of this version already; it needs free pages for all records",
+        )
+        .after_help("Example: gopher_host upgrade site.img")
+        .arg(image(alloc))
+}
+
 fn replay<'a>(alloc: Global) -> Result<Command<'a>, AllocError>
     ensures { IfOk result (IsCommand spec.replay_command) }
 {
     let image = path(
         alloc,
         "IMAGE",
-        "The file of the image; without it a site in memory",
+        "The file of the image; if left out, a site in memory",
     );
     Command::new(alloc, "replay")
         .about("Prints the answers of a script on standard input")
@@ -162,9 +175,9 @@ fn serve<'a>(alloc: Global) -> Result<Command<'a>, AllocError>
     ensures { IfOk result (IsCommand spec.serve_command) }
 {
     let together = "How many connections a round takes, which are served in turns, 1 to 32";
-    let rounds = "How many rounds are served, after which the server ends";
-    let listen = "Where to listen, in place of 127.0.0.1 and the site's own port";
-    let quiet = "Writes no line of log for each request";
+    let rounds = "How many rounds are served, 0 to 4,294,967,295, after which the server ends";
+    let listen = "Where to listen; if left out, on 127.0.0.1 at the site's own port";
+    let quiet = "Writes no log; if left out, a line for each request";
     Command::new(alloc, "serve")
         .about(
             "Serves the site of an image on 127.0.0.1, at the site's own port, until it is ended, which is harmless at any moment; or so many rounds of connections, and prints how many replies were written whole",
@@ -202,6 +215,7 @@ pub fn command_line<'a>(alloc: Global) -> Result<Command<'a>, AllocError>
         .subcommand(show(alloc)?)?
         .subcommand(check(alloc)?)?
         .subcommand(compact(alloc)?)?
+        .subcommand(upgrade(alloc)?)?
         .subcommand(replay(alloc)?)?
         .subcommand(serve(alloc)?)
 }

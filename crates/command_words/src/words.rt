@@ -44,6 +44,10 @@ pub enum Task<'a> {
     Compact {
         image: &'a str,
     },
+    /// Takes over an image of an older version.
+    Upgrade {
+        image: &'a str,
+    },
     /// Runs the script on standard input, and prints its answers.
     Replay {
         image: Option<&'a str>,
@@ -198,6 +202,7 @@ fn task_of<'a>(name: &str, matches: &ArgMatches<'a>) -> Option<Task<'a>>
         "show" => Some(Task::Show { image: image? }),
         "check" => Some(Task::Check { image: image? }),
         "compact" => Some(Task::Compact { image: image? }),
+        "upgrade" => Some(Task::Upgrade { image: image? }),
         "replay" => Some(Task::Replay { image }),
         "serve" => serving(image?, matches),
         _ => None,

@@ -25,11 +25,11 @@ use Rattle.cow_tree.proofs.RootWalks.{found_tree}
 use Rattle.cow_tree.proofs.Reaching.{among_within}
 use Rattle.cow_tree.proofs.Planned.{is_ready, now_current, now_found, now_there, now_seals}
 
-shows_has : (slot : Slot) (found : Found) (bytes : ℕ → List ℕ) (c : Image) → slot.root.banner.version ≡ 1 → Shows slot found bytes c → TreeHas c found.pairs slot.root.banner
-shows_has slot found bytes c version s = (ap pairs_and_banner s.content_is, ap is_tree_version version)
+shows_has : (slot : Slot) (found : Found) (bytes : ℕ → List ℕ) (c : Image) → IsTrue (is_tree_version slot.root.banner.version) → Shows slot found bytes c → TreeHas c found.pairs slot.root.banner
+shows_has slot found bytes c version s = (ap pairs_and_banner s.content_is, version)
 
 -- what a crash within a commit leaves has the pairs and the banner from before, or the new ones
-pub old_or_new : (view : Image) (slot : Slot) (top : ℕ) (pairs : List Pair) (banner : Banner) (c : Image) → slot.root.banner.version ≡ 1 → IsTreeBetween view slot top pairs banner c → TreeHas c (found_under slot view).pairs slot.root.banner ⊎ TreeHas c pairs banner
+pub old_or_new : (view : Image) (slot : Slot) (top : ℕ) (pairs : List Pair) (banner : Banner) (c : Image) → IsTrue (is_tree_version slot.root.banner.version) → IsTreeBetween view slot top pairs banner c → TreeHas c (found_under slot view).pairs slot.root.banner ⊎ TreeHas c pairs banner
 old_or_new view slot top pairs banner c version b =
     ⊎_elim (λ s. inl (shows_has slot (found_under slot view) _ c version s))
     (λ s. inr (subst (λ (x : Banner). TreeHas c pairs x) b.banner_is (subst (λ (l : List Pair). TreeHas c l b.new.root.banner) b.pairs_are (shows_has b.new b.found _ c b.plan_is.version s)))) b.between.shows

@@ -1,5 +1,6 @@
 -- The first tree of an image.
 use Rattle.std.proofs.Common.{◌≡◌, inr, ℕ, ◌≤◌, true, false, List, [], ◌∷◌, length, map, replicate, Some, None, refl, sym, ap, subst, ◌∙◌, arith, eq-eqb}
+use Rattle.std.specs.Prelude.{IsTrue}
 use Rattle.std.specs.List.{list_all}
 use Rattle.std.proofs.lemmas.Bool.{lt-ltb}
 use Rattle.page_store.specs.Sectors.{Image, page_of}
@@ -7,7 +8,7 @@ use Rattle.page_store.specs.Roots.{current, greatest_seal}
 use Rattle.page_store.specs.Keys.{rises, is_between}
 use Rattle.page_store.specs.Pages.{Pair, key_of, leaf_of, are_leaf}
 use Rattle.page_store.specs.Batch.{is_map, is_pair}
-use Rattle.page_store.specs.Content.{Found, Bounds, is_among, place_in, walk, tree_of, tree_found, content_under, found_as, pairs_and_banner, HasContent}
+use Rattle.page_store.specs.Content.{tree_as, is_tree_version, Found, Bounds, is_among, place_in, walk, tree_of, tree_found, content_under, found_as, pairs_and_banner, HasContent}
 use Rattle.page_store.specs.Switch.{IsSlotPage, IsSwitched}
 use Rattle.page_store.specs.Commit.{numbers, patched}
 use Rattle.page_store.specs.Formatting.{IsFirst}
@@ -60,11 +61,11 @@ tree_read bytes pages banner (pair ∷ pairs) least map_is room here =
     let all : tree_of bytes bounds 1 2 ≡ Some (first_found (pair ∷ pairs)) = rw inside (leaf_read bytes pages pair pairs here map_is room) in
     bind_again (tree_of bytes bounds 1 2) _ (first_found (pair ∷ pairs)) (Some (first_found (pair ∷ pairs))) all (rw (eq-eqb (length (pair ∷ pairs)) (length (pair ∷ pairs)) refl) refl)
 
-under_first : (bytes : ℕ → List ℕ) (pages : ℕ) (banner : Banner) (pairs : List Pair) → banner.version ≡ 1 → 16 ≤ pages → is_map pairs ≡ true → leaf_bytes pairs ≤ entry_room → (bytes 2 ≡ patched (first_pages pairs) bytes 2)
+under_first : (bytes : ℕ → List ℕ) (pages : ℕ) (banner : Banner) (pairs : List Pair) → IsTrue (is_tree_version banner.version) → 16 ≤ pages → is_map pairs ≡ true → leaf_bytes pairs ≤ entry_room → (bytes 2 ≡ patched (first_pages pairs) bytes 2)
     → content_under (first_slot pages banner pairs) bytes ≡ Some (first_found pairs)
 unfolding content_under
 under_first bytes pages banner pairs version least map_is room here =
-    ap (λ (v : ℕ). found_as v (first_slot pages banner pairs) bytes) version ∙ tree_read bytes pages banner pairs least map_is room here
+    tree_as banner.version (first_slot pages banner pairs) bytes version ∙ tree_read bytes pages banner pairs least map_is room here
 
 -- the page of a slot is none of the first tree's
 first_out : (pairs : List Pair) → is_among 1 (numbers (first_pages pairs)) ≡ false
@@ -109,7 +110,7 @@ module _ (pages : ℕ) (banner : Banner) (pairs : List Pair) (root : List ℕ) (
   pub is_first : IsFirst pages new
   is_first = record { slot = slot; current_is = now; number = refl; seal = refl; greatest = greatest; size = refl }
 
-  pub has_content : banner.version ≡ 1 → 16 ≤ pages → is_map pairs ≡ true → leaf_bytes pairs ≤ entry_room → HasContent new pairs banner
+  pub has_content : IsTrue (is_tree_version banner.version) → 16 ≤ pages → is_map pairs ≡ true → leaf_bytes pairs ≤ entry_room → HasContent new pairs banner
   has_content version least map_is room =
       let under = under_first (page_of new) pages banner pairs version least map_is room second in
       ap pairs_and_banner (content-of new slot (first_found pairs) now under) ∙ ap (λ (l : List Pair). Some (l, banner)) (found_pairs pairs)

@@ -6,7 +6,7 @@ use Rattle.page_alloc.specs.LedgerState.{LedgerState}
 use Rattle.page_store.specs.Reading.{◌>>=◌}
 use Rattle.page_store.specs.Sectors.{Image, page_of}
 use Rattle.page_store.specs.Roots.{current}
-use Rattle.page_store.specs.Content.{Found, content, content_under, found_as, tree_found, pairs_and_banner, HasContent}
+use Rattle.page_store.specs.Content.{tree_as, is_tree_version, Found, content, content_under, found_as, tree_found, pairs_and_banner, HasContent}
 use Rattle.page_store.specs.Counting.{CountsRefusal}
 use Rattle.page_store.specs.declared.slot.Slot.{Slot}
 use Rattle.page_store.specs.declared.fault.KeeperFault.TheVariants.{Small}
@@ -19,10 +19,10 @@ use Rattle.cow_tree.specs.declared.page_fault.PageFault.{PageFault}
 use Rattle.cow_tree.specs.declared.page_fault.PageFault.TheVariants.{Device, Damaged}
 use Rattle.std.specs.Prelude.{Err}
 
-pub content_is : (image : Image) (slot : Slot) (found : Option Found) → current image ≡ Some slot → slot.root.banner.version ≡ 1 → tree_found slot (page_of image) ≡ found → content image ≡ (found >>= λ x. Some (slot, x))
+pub content_is : (image : Image) (slot : Slot) (found : Option Found) → current image ≡ Some slot → IsTrue (is_tree_version slot.root.banner.version) → tree_found slot (page_of image) ≡ found → content image ≡ (found >>= λ x. Some (slot, x))
 unfolding content content_under
 content_is image slot found now version is =
-    bind_again (current image) _ slot _ now (ap (λ (f : Option Found). f >>= λ x. Some (slot, x)) (ap (λ (v : ℕ). found_as v slot (page_of image)) version ∙ is))
+    bind_again (current image) _ slot _ now (ap (λ (f : Option Found). f >>= λ x. Some (slot, x)) (tree_as slot.root.banner.version slot (page_of image) version ∙ is))
 
 abbrev some_content : Slot × Found → Option (Slot × Found)
 some_content x = Some x
@@ -31,7 +31,7 @@ content_same : (a b : Slot × Found) → some_content a ≡ some_content b → a
 content_same a b e = cc
 
 -- the content of an image of a tree is the tree under its current slot
-pub tree_is : (image : Image) (slot : Slot) (found : Found) → content image ≡ Some (slot, found) → slot.root.banner.version ≡ 1 → (current image ≡ Some slot) × (tree_found slot (page_of image) ≡ Some found)
+pub tree_is : (image : Image) (slot : Slot) (found : Found) → content image ≡ Some (slot, found) → IsTrue (is_tree_version slot.root.banner.version) → (current image ≡ Some slot) × (tree_found slot (page_of image) ≡ Some found)
 unfolding content content_under
 tree_is image slot found e version =
     let f = bind_some (current image) (λ s. content_under s (page_of image) >>= λ x. Some (s, x)) (slot, found) e in
@@ -40,7 +40,7 @@ tree_is image slot found e version =
     let slot_is : f.0 ≡ slot = ap (λ (x : Slot × Found). x.0) same in
     let found_is : g.0 ≡ found = ap (λ (x : Slot × Found). x.1) same in (
       f.1 ∙ ap (λ (s : Slot). some_slot s) slot_is,
-      sym (ap (λ (v : ℕ). found_as v slot (page_of image)) version) ∙ ap (λ (s : Slot). content_under s (page_of image)) (sym slot_is) ∙ g.1 ∙ ap (λ (x : Found). some_found x) found_is,
+      sym (tree_as slot.root.banner.version slot (page_of image) version) ∙ ap (λ (s : Slot). content_under s (page_of image)) (sym slot_is) ∙ g.1 ∙ ap (λ (x : Found). some_found x) found_is,
     )
   where
     some_slot : Slot → Option Slot
@@ -49,11 +49,11 @@ tree_is image slot found e version =
     some_found : Found → Option Found
     some_found x = Some x
 
-pub under_is : (image : Image) (slot : Slot) (found : Found) → content image ≡ Some (slot, found) → slot.root.banner.version ≡ 1 → found_under slot image ≡ found
+pub under_is : (image : Image) (slot : Slot) (found : Found) → content image ≡ Some (slot, found) → IsTrue (is_tree_version slot.root.banner.version) → found_under slot image ≡ found
 under_is image slot found e version = ap or_nothing (tree_is image slot found e version).1
 
 -- what the walk answers of the tree is known of the image
-pub holds_now : (image : Image) (slot : Slot) (ledger : LedgerState) → current image ≡ Some slot → slot.root.banner.version ≡ 1 → IsReached (tree_found slot (page_of image)) slot ledger → AreWhole image ledger → IsReadAs image slot ledger
+pub holds_now : (image : Image) (slot : Slot) (ledger : LedgerState) → current image ≡ Some slot → IsTrue (is_tree_version slot.root.banner.version) → IsReached (tree_found slot (page_of image)) slot ledger → AreWhole image ledger → IsReadAs image slot ledger
 holds_now image slot ledger now version r whole = record {
   found = r.found;
   content_is = content_is image slot (Some r.found) now version r.is;
@@ -64,13 +64,13 @@ holds_now image slot ledger now version r whole = record {
 }
 
 -- of the image as it is read now
-pub under_now : (now image : Image) (slot : Slot) (ledger : LedgerState) → now ≡ image → slot.root.banner.version ≡ 1 → (h : IsReadAs image slot ledger) → found_under slot now ≡ h.found
+pub under_now : (now image : Image) (slot : Slot) (ledger : LedgerState) → now ≡ image → IsTrue (is_tree_version slot.root.banner.version) → (h : IsReadAs image slot ledger) → found_under slot now ≡ h.found
 under_now now image slot ledger same version h = ap (found_under slot) same ∙ under_is image slot h.found h.content_is version
 
-pub durable_content : (now image : Image) (slot : Slot) (ledger : LedgerState) → now ≡ image → slot.root.banner.version ≡ 1 → IsReadAs image slot ledger → content now ≡ Some (slot, found_under slot now)
+pub durable_content : (now image : Image) (slot : Slot) (ledger : LedgerState) → now ≡ image → IsTrue (is_tree_version slot.root.banner.version) → IsReadAs image slot ledger → content now ≡ Some (slot, found_under slot now)
 durable_content now image slot ledger same version h = ap content same ∙ h.content_is ∙ ap (λ (x : Found). some_content (slot, x)) (sym (under_now now image slot ledger same version h))
 
-pub has_content : (image now : Image) (slot : Slot) (ledger : LedgerState) → now ≡ image → slot.root.banner.version ≡ 1 → IsReadAs image slot ledger → HasContent image (found_under slot now).pairs slot.root.banner
+pub has_content : (image now : Image) (slot : Slot) (ledger : LedgerState) → now ≡ image → IsTrue (is_tree_version slot.root.banner.version) → IsReadAs image slot ledger → HasContent image (found_under slot now).pairs slot.root.banner
 has_content image now slot ledger same version h =
     ap pairs_and_banner h.content_is
     ∙ ap (λ (x : Found). pairs_and_banner (Some (slot, x))) (sym (under_is image slot h.found h.content_is version) ∙ ap (found_under slot) (sym same))
@@ -88,7 +88,7 @@ walk_not_small Device is = absurd (cc is)
 walk_not_small (Damaged page) is = absurd (cc is)
 
 pub walk_fault : (T : Type 0) (old mid new : State) (slot : Slot) (ledger : LedgerState) (e : PageFault) → 128 ≤ old.size → (IsTrue old.honest → IsTrue mid.honest) → (IsTrue old.honest → mid.disk.view ≡ old.disk.view) → (IsTrue old.honest → current old.disk.view ≡ Some slot)
-    → slot.root.banner.version ≡ 1 → NothingCounted old mid → CountsPages {T = T} (Err e) mid.failed_reads new.failed_reads → new.failed_writes ≡ mid.failed_writes → MayName slot e
+    → IsTrue (is_tree_version slot.root.banner.version) → NothingCounted old mid → CountsPages {T = T} (Err e) mid.failed_reads new.failed_reads → new.failed_writes ≡ mid.failed_writes → MayName slot e
     → (IsTrue mid.honest → Finds {T = T} (tree_found slot (page_of mid.disk.view)) slot ledger (Err e)) → IsOpenFault old new (fault_of e)
 walk_fault T old mid new slot ledger Device large keeps view now version a reads writes named answered = (large, inl (reads ∙ ap counted a.reads, writes ∙ a.writes))
 walk_fault T old mid new slot ledger (Damaged page) large keeps view now version a reads writes named answered = (

@@ -11,7 +11,7 @@ use Rattle.page_store.specs.Counting.{reads_after}
 use Rattle.page_alloc.specs.LedgerState.{LedgerState, has_page, has_page_next, is_alive, is_free, is_held, is_retired, mark_of, free_count}
 use Rattle.page_store.specs.Sectors.{Image, page_of}
 use Rattle.page_store.specs.Pages.{Pair}
-use Rattle.page_store.specs.Content.{Found, content_under, found_as, tree_found, nothing_found, is_among}
+use Rattle.page_store.specs.Content.{tree_as, is_tree_version, Found, content_under, found_as, tree_found, nothing_found, is_among}
 use Rattle.page_store.specs.Commit.{numbers, patched, AreFree}
 use Rattle.page_store.specs.declared.commit.NewPage.{NewPage}
 use Rattle.page_store.specs.declared.slot.Slot.{Slot}
@@ -66,12 +66,12 @@ either : (a b : Bool) → (a || b) ≡ true → (a ≡ true) ⊎ (b ≡ true)
 either true b h = inl refl
 either false b h = inr h
 
-empty_content : (slot : Slot) (bytes : ℕ → List ℕ) → slot.root.banner.version ≡ 1 → slot.root.height ≡ 0 → slot.root.tree ≡ 0 → slot.root.keys ≡ 0 → content_under slot bytes ≡ Some nothing_found
+empty_content : (slot : Slot) (bytes : ℕ → List ℕ) → IsTrue (is_tree_version slot.root.banner.version) → slot.root.height ≡ 0 → slot.root.tree ≡ 0 → slot.root.keys ≡ 0 → content_under slot bytes ≡ Some nothing_found
 unfolding content_under tree_found
-empty_content slot bytes version height root keys = ap (λ (v : ℕ). found_as v slot bytes) version ∙ rw (height, root, keys) refl
+empty_content slot bytes version height root keys = tree_as slot.root.banner.version slot bytes version ∙ rw (height, root, keys) refl
 
 module _ (view : Image) (slot : Slot) (top edits : ℕ) (pairs : List Pair) (ledger now : LedgerState) (tree : RootState) (given : List ℕ) (new : Slot) (pages : List NewPage) (h : IsHeld view slot top ledger) (d : IsDraft slot view edits 0 pairs ledger tree)
-    (lives : length ledger.lives ≡ slot.root.pages) (most : slot.root.pages ≤ 65536) (t : Takes (owned_under tree.root) ledger now given) (number : new.number ≡ 1 - slot.number) (seal : new.seal ≡ top + 1) (last : new.seal < 2 ^ 64) (version : new.root.banner.version ≡ 1)
+    (lives : length ledger.lives ≡ slot.root.pages) (most : slot.root.pages ≤ 65536) (t : Takes (owned_under tree.root) ledger now given) (number : new.number ≡ 1 - slot.number) (seal : new.seal ≡ top + 1) (last : new.seal < 2 ^ 64) (version : IsTrue (is_tree_version new.root.banner.version))
     (size : new.root.pages ≡ slot.root.pages) (keys : new.root.keys ≡ length pairs) where
   marks_fit : length ledger.marks ≡ length ledger.lives
   marks_fit = d.alive.marked ∙ sym lives

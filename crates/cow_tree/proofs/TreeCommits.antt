@@ -14,7 +14,7 @@ use Rattle.page_store.specs.Batch.{is_map}
 use Rattle.page_store.specs.Same.{Agree}
 use Rattle.page_store.specs.Steps.{AllAre}
 use Rattle.page_store.specs.Counting.{CountsReads, reads_after}
-use Rattle.page_store.specs.Content.{Found, content_under, found_as, tree_found, is_among}
+use Rattle.page_store.specs.Content.{tree_as, Found, content_under, found_as, tree_found, is_among}
 use Rattle.page_store.specs.StoreState.{StoreState, HasStayed, IsCommitFault, MayBeDeep}
 use Rattle.page_store.specs.Compaction.{IsCompactFault}
 use Rattle.page_store.specs.declared.banner.Banner.{Banner}
@@ -35,8 +35,8 @@ use Rattle.cow_tree.proofs.Taken.{untaken_at_rest}
 use Rattle.cow_tree.proofs.PlansMade.{held_still}
 use Rattle.cow_tree.proofs.DraftsBegin.{begins, keys_bounded}
 
-pub version_is : (version : ℕ) → IsTrue (is_tree_version version) → version ≡ 1
-version_is version h = eqb-true version 1 h
+pub version_is : (version : ℕ) → IsTrue (is_tree_version version) → IsTrue (is_tree_version version)
+version_is version h = h
 
 -- ---- before
 
@@ -62,7 +62,7 @@ is_held sectors slot disk ledger top fit there durable sealed = record {
 }
 
 abbrev pub may_be_written : (view mid : Image) (states : CrashStates Image) (slot : Slot) (ledger now : LedgerState) (top : ℕ) (plan : Plan) (pairs : List Pair) → IsHeld view slot top ledger → OnlyMarks ledger now → IsPlanned view slot top pairs now plan
-    → slot.root.banner.version ≡ 1 → mid ≡ view → AllAre states mid → MayBeWritten mid states slot now plan
+    → IsTrue (is_tree_version slot.root.banner.version) → mid ≡ view → AllAre states mid → MayBeWritten mid states slot now plan
 may_be_written view mid states slot ledger now top plan pairs held marks planned version same sure = record {
   top = top;
   pairs = pairs;
@@ -147,13 +147,13 @@ unmarked_length : (marks : List Mark) → length (unmarked marks) ≡ length mar
 unmarked_length [] = refl
 unmarked_length (mark ∷ marks) = ap suc (unmarked_length marks)
 
-pub fitted_now : (sectors now : ℕ) (slot : Slot) (ledger mid : LedgerState) (seal : ℕ) (banner : Banner) (plan : Plan) → IsFitted sectors slot ledger → OnlyMarks ledger mid → IsMade slot seal banner plan → banner.version ≡ 1 → 0 < banner.port → now ≡ sectors → IsFitted now plan.slot (advanced plan.slot.seal mid)
+pub fitted_now : (sectors now : ℕ) (slot : Slot) (ledger mid : LedgerState) (seal : ℕ) (banner : Banner) (plan : Plan) → IsFitted sectors slot ledger → OnlyMarks ledger mid → IsMade slot seal banner plan → IsTrue (is_tree_version banner.version) → 0 < banner.port → now ≡ sectors → IsFitted now plan.slot (advanced plan.slot.seal mid)
 fitted_now sectors now slot ledger mid seal banner plan fit marks made version port size = record {
   number = let n = made.number in omega (arith, n);
   least = let a = made.size in let b = fit.least in omega (arith, a, b);
   most = let a = made.size in let b = fit.most in omega (arith, a, b);
   fits = let a = made.size in let b = fit.fits in omega (arith, a, b, size);
-  version = ap (λ (b : Banner). b.version) made.banner_is ∙ version;
+  version = subst (λ (b : Banner). IsTrue (is_tree_version b.version)) (sym made.banner_is) version;
   port = subst (λ (b : Banner). 0 < b.port) (sym made.banner_is) port;
   rooted = made.rooted;
   rest = record {
@@ -166,12 +166,12 @@ fitted_now sectors now slot ledger mid seal banner plan fit marks made version p
 
 -- ---- a commit that failed
 
-module _ (slot : Slot) (view now : Image) (ledger : LedgerState) (version : slot.root.banner.version ≡ 1) (there : IsThere view slot ledger) (stay : Agree (found_under slot view).pages (page_of view) (page_of now)) where
+module _ (slot : Slot) (view now : Image) (ledger : LedgerState) (version : IsTrue (is_tree_version slot.root.banner.version)) (there : IsThere view slot ledger) (stay : Agree (found_under slot view).pages (page_of view) (page_of now)) where
   still_found : tree_found slot (page_of now) ≡ Some (found_under slot view)
   unfolding content_under
   still_found =
-      let before : content_under slot (page_of view) ≡ Some (found_under slot view) = ap (λ (v : ℕ). found_as v slot (page_of view)) version ∙ there.found_is in
-      sym (ap (λ (v : ℕ). found_as v slot (page_of now)) version) ∙ content_under-local slot (page_of view) (page_of now) (found_under slot view) before stay
+      let before : content_under slot (page_of view) ≡ Some (found_under slot view) = tree_as slot.root.banner.version slot (page_of view) version ∙ there.found_is in
+      sym (tree_as slot.root.banner.version slot (page_of now) version) ∙ content_under-local slot (page_of view) (page_of now) (found_under slot view) before stay
 
   pub still_under : found_under slot now ≡ found_under slot view
   still_under = ap or_nothing still_found

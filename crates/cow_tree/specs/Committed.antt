@@ -6,6 +6,7 @@ use Rattle.page_store.specs.Sectors.{Image}
 use Rattle.page_store.specs.Roots.{current, greatest_seal}
 use Rattle.page_store.specs.Pages.{Pair}
 use Rattle.page_store.specs.Steps.{AllAre}
+pub use Rattle.page_store.specs.Content.{is_tree_version}
 use Rattle.page_store.specs.Content.{Found, HasContent}
 use Rattle.page_store.specs.Commit.{IsBetween}
 use Rattle.page_store.specs.declared.commit.NewPage.{NewPage}
@@ -14,10 +15,6 @@ use Rattle.page_store.specs.declared.slot.Slot.{Slot}
 use Rattle.cow_tree.specs.TreeState.{IsThere, found_under}
 use Rattle.cow_tree.specs.Plans.{tree_commit, IsHeld, IsPlan, IsPlanned}
 use Rattle.cow_tree.specs.declared.plans.Plan.{Plan}
-
--- the version of the images that a keeper of a tree opens
-abbrev pub is_tree_version : ℕ → Bool
-is_tree_version version = version == 1
 
 -- An image has these pairs and this banner, in the version of trees.
 abbrev pub TreeHas : Image → List Pair → Banner → Type 0
@@ -29,7 +26,7 @@ pub record MayBeWritten (view : Image) (crash_states : CrashStates Image) (slot 
   pub pairs : List Pair
   pub held : IsHeld view slot top ledger
   pub planned : IsPlanned view slot top pairs ledger plan
-  pub version : slot.root.banner.version ≡ 1
+  pub version : IsTrue (is_tree_version slot.root.banner.version)
   pub sure : AllAre crash_states view
 
 -- The plan is what every image shows, with this tree, and the ledger has the pages of it.

@@ -6,7 +6,7 @@ use Rattle.page_alloc.specs.LedgerState.{LedgerState}
 use Rattle.page_store.specs.Reading.{◌>>=◌}
 use Rattle.page_store.specs.Sectors.{Image, page_of}
 use Rattle.page_store.specs.Roots.{current}
-use Rattle.page_store.specs.Content.{Found, content, content_under, found_as, pairs_and_banner}
+use Rattle.page_store.specs.Content.{tree_found, tree_as, Found, content, content_under, found_as, pairs_and_banner}
 use Rattle.page_store.specs.StoreState.{most_levels}
 use Rattle.page_store.specs.declared.slot.Root.{Root}
 use Rattle.page_store.specs.declared.slot.Slot.{Slot}
@@ -17,9 +17,9 @@ use Rattle.cow_tree.specs.declared.tree_root.TreeRoot.{TreeRoot}
 use Rattle.cow_tree.specs.TreeState.{IsThere, IsDurable, found_under}
 use Rattle.cow_tree.specs.Committed.{is_tree_version, TreeHas}
 
--- version 1 is the one that is opened
-pub opens_trees : (version : ℕ) → version ≡ 1 → IsTrue (is_tree_version version)
-opens_trees version is = ap is_tree_version is
+-- those versions are opened
+pub opens_trees : (version : ℕ) → IsTrue (is_tree_version version) → IsTrue (is_tree_version version)
+opens_trees version is = is
 
 few : (height : ℕ) (P Q : Type 0) → (0 < height → (height ≤ 16) × P × Q) → height ≤ most_levels
 few zero P Q f = omega arith
@@ -29,10 +29,10 @@ few (suc n) P Q f = (f (omega arith)).0
 pub few_levels : (root : Root) → IsRooted root → root.height ≤ most_levels
 few_levels root rooted = few root.height (2 ≤ root.tree) (root.tree < root.pages) rooted
 
-content_now : (image : Image) (slot : Slot) (found : Found) → current image ≡ Some slot → slot.root.banner.version ≡ 1 → found_as 1 slot (page_of image) ≡ Some found → content image ≡ Some (slot, found)
+content_now : (image : Image) (slot : Slot) (found : Found) → current image ≡ Some slot → IsTrue (is_tree_version slot.root.banner.version) → tree_found slot (page_of image) ≡ Some found → content image ≡ Some (slot, found)
 unfolding content content_under
 content_now image slot found now version is =
-    bind_again (current image) _ slot _ now (ap (λ (f : Option Found). f >>= λ x. Some (slot, x)) (ap (λ (v : ℕ). found_as v slot (page_of image)) version ∙ is))
+    bind_again (current image) _ slot _ now (ap (λ (f : Option Found). f >>= λ x. Some (slot, x)) (tree_as slot.root.banner.version slot (page_of image) version ∙ is))
 
 at_most : (image : Image) (number : ℕ) (trees : List (Option TreeRoot)) → length (pins_from image number trees) ≤ length trees
 at_most image number [] = omega arith
@@ -44,7 +44,7 @@ pub few_out : (image : Image) (pages : ℕ) (ledger : LedgerState) (trees : List
 few_out image pages ledger trees pins = let most = at_most image 0 trees in let count = pins.count in omega (arith, most, count)
 
 -- each crash state of a usable keeper has its pairs and its banner
-pub crash_states_have_the_tree : (disk : Disk) (slot : Slot) (ledger : LedgerState) (top : ℕ) → slot.root.banner.version ≡ 1 → IsThere disk.view slot ledger → IsDurable disk slot top → (c : Image) → IsImage disk c → TreeHas c (found_under slot disk.view).pairs slot.root.banner
+pub crash_states_have_the_tree : (disk : Disk) (slot : Slot) (ledger : LedgerState) (top : ℕ) → IsTrue (is_tree_version slot.root.banner.version) → IsThere disk.view slot ledger → IsDurable disk slot top → (c : Image) → IsImage disk c → TreeHas c (found_under slot disk.view).pairs slot.root.banner
 crash_states_have_the_tree disk slot ledger top version there durable c image = (
   ap (λ (i : Image). pairs_and_banner (content i)) (durable.images c image) ∙ ap pairs_and_banner (content_now disk.view slot (found_under slot disk.view) durable.current_is version there.found_is),
   opens_trees slot.root.banner.version version,

@@ -1,5 +1,5 @@
 -- What an opening finds, and when it is refused.
-use Rattle.std.specs.Prelude.{◌≡◌, ◌⊎◌, ◌≤◌, ◌<◌, ℕ, length, Option, Some, None, Result, Ok, Err, IsTrue}
+use Rattle.std.specs.Prelude.{false, ◌≡◌, ◌⊎◌, ◌≤◌, ◌<◌, ℕ, length, Option, Some, None, Result, Ok, Err, IsTrue}
 use Rattle.common_types.specs.CrashStates.{CrashStates}
 use Rattle.sector_device.specs.Device.{State, OneCounted}
 use Rattle.page_alloc.specs.LedgerState.{LedgerState, is_alive}
@@ -7,7 +7,7 @@ use Rattle.page_alloc.specs.Calls.{fresh}
 use Rattle.page_store.specs.Sectors.{Image, page_of}
 use Rattle.page_store.specs.Roots.{current, greatest_seal}
 use Rattle.page_store.specs.Steps.{AllAre}
-use Rattle.page_store.specs.Content.{Found, Bounds, content, is_among}
+use Rattle.page_store.specs.Content.{is_tree_version, Found, Bounds, content, is_among}
 use Rattle.page_store.specs.declared.slot.Root.{Root}
 use Rattle.page_store.specs.declared.slot.Slot.{Slot}
 use Rattle.page_store.specs.declared.fault.KeeperFault.{KeeperFault}
@@ -66,11 +66,11 @@ pub record IsReadAs (image : Image) (slot : Slot) (ledger : LedgerState) : Type 
 
 -- the current slot is of a tree
 abbrev pub IsTree : Image → Slot → Type 0
-IsTree image slot = (current image ≡ Some slot) × (slot.root.banner.version ≡ 1)
+IsTree image slot = (current image ≡ Some slot) × (IsTrue (is_tree_version slot.root.banner.version))
 
 -- the current slot is of another form
 abbrev pub IsOther : Image → Type 0
-IsOther image = (slot : Slot) × (current image ≡ Some slot) × (slot.root.banner.version ≡ 1 → ⊥)
+IsOther image = (slot : Slot) × (current image ≡ Some slot) × (is_tree_version slot.root.banner.version ≡ false)
 
 -- What was found of the roots.
 pub record IsSlotOpened (old new : State) (crash_states : CrashStates Image) (slot : Slot) (top : ℕ) : Type 0 where

@@ -7,7 +7,7 @@ use Rattle.page_store.specs.Pages.{Pair}
 use Rattle.page_store.specs.Batch.{is_map}
 use Rattle.page_store.specs.Switch.{IsSlotPage}
 use Rattle.page_store.specs.Commit.{Commit, AreFree, numbers, patched}
-use Rattle.page_store.specs.Content.{Found, content, content_under, is_among}
+use Rattle.page_store.specs.Content.{is_tree_version, Found, content, content_under, is_among}
 use Rattle.page_store.specs.declared.banner.Banner.{Banner}
 use Rattle.page_store.specs.declared.commit.NewPage.{NewPage}
 use Rattle.page_store.specs.declared.slot.Slot.{Slot}
@@ -38,7 +38,7 @@ pub record IsPlan (view : Image) (slot : Slot) (top : ℕ) (pages : List NewPage
   pub free : AreFree (found_under slot view) pages
   pub number : new.number ≡ 1 - slot.number
   pub seal : new.seal ≡ top + 1
-  pub version : new.root.banner.version ≡ 1
+  pub version : IsTrue (is_tree_version new.root.banner.version)
   pub under : content_under new (patched pages (page_of view)) ≡ Some found
 
 -- The next generation has exactly the pages of the new tree, all of them whole: those that are alive, and those that were taken. No generation in use has a page that is written.

@@ -1,5 +1,5 @@
 -- What a keeper of a tree is, and what its callers see of it.
-use Rattle.std.specs.Prelude.{◌≡◌, ◌≤◌, ◌<◌, ◌*◌, ◌&&◌, ◌||◌, not, nat_le, ℕ, Bool, true, List, length, Option, Some}
+use Rattle.std.specs.Prelude.{IsTrue, ◌≡◌, ◌≤◌, ◌<◌, ◌*◌, ◌&&◌, ◌||◌, not, nat_le, ℕ, Bool, true, List, length, Option, Some}
 use Rattle.sector_device.specs.Device.{State}
 use Rattle.sector_device.specs.Disk.{Disk, IsImage}
 use Rattle.page_alloc.specs.LedgerState.{LedgerState, is_alive, free_count, count_below}
@@ -7,7 +7,7 @@ use Rattle.page_alloc.specs.Calls.{unmarked as without_marks}
 use Rattle.page_store.specs.Sectors.{Image, page_of}
 use Rattle.page_store.specs.Roots.{current, greatest_seal}
 use Rattle.page_store.specs.Batch.{is_map}
-use Rattle.page_store.specs.Content.{Found, tree_found, is_among}
+use Rattle.page_store.specs.Content.{is_tree_version, Found, tree_found, is_among}
 use Rattle.page_store.specs.StoreState.{StoreState}
 use Rattle.page_store.specs.declared.slot.Slot.{Slot}
 use Rattle.cow_tree.specs.Opening.{IsRooted, AreWhole}
@@ -26,7 +26,7 @@ pub record IsFittedSlot (slot : Slot) : Type 0 where
   pub number : slot.number < 2
   pub least : 16 ≤ slot.root.pages
   pub most : slot.root.pages ≤ 65536
-  pub version : slot.root.banner.version ≡ 1
+  pub version : IsTrue (is_tree_version slot.root.banner.version)
   pub port : 0 < slot.root.banner.port
   pub rooted : IsRooted slot.root
 
@@ -36,7 +36,7 @@ pub record IsFitted (sectors : ℕ) (slot : Slot) (ledger : LedgerState) : Type 
   pub least : 16 ≤ slot.root.pages
   pub most : slot.root.pages ≤ 65536
   pub fits : 8 * slot.root.pages ≤ sectors
-  pub version : slot.root.banner.version ≡ 1
+  pub version : IsTrue (is_tree_version slot.root.banner.version)
   pub port : 0 < slot.root.banner.port
   pub rooted : IsRooted slot.root
   pub rest : IsAtRest slot ledger

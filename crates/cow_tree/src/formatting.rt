@@ -5,7 +5,7 @@ ghost use Rattle.sector_device.specs.Device.{NothingCounted};
 ghost use Rattle.sector_device.specs.Effects.{IsSameDevice, WriteOutcome};
 ghost use Rattle.page_store.specs.Batch.{is_map, is_pair};
 ghost use Rattle.page_store.specs.Steps.{crash_states_of, AllAre};
-ghost use Rattle.page_store.specs.Content.{HasContent};
+ghost use Rattle.page_store.specs.Content.{is_tree_version, HasContent};
 ghost use Rattle.page_store.specs.Formatting.{IsFirst, IsFormatFault};
 ghost use Rattle.page_store.specs.declared.fault.KeeperFault.TheVariants.{Failed};
 ghost use Rattle.tree_nodes.specs.Tree.{entry_room, leaf_bytes};
@@ -83,7 +83,7 @@ pub fn format<D: Device>(
     requires map { is_map pairs.now ≡ true }
     requires one_page { leaf_bytes pairs.now ≤ entry_room }
     requires port { 0 < banner.port }
-    requires version { banner.version ≡ 1 }
+    requires version { IsTrue (is_tree_version banner.version) }
     ensures content { IsTrue (D.state device.old).honest → OnOk result (HasContent (D.state device.new).disk.view pairs.now banner) }
     ensures first { IsTrue (D.state device.old).honest → OnOk result (IsFirst pages (D.state device.new).disk.view) }
     ensures tree { IsTrue (D.state device.old).honest → OnOk result (IsFirstTree pages banner pairs.now (D.state device.new).disk.view) }

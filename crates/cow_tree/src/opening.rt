@@ -9,7 +9,7 @@ ghost use Rattle.page_store.specs.Roots.{IsFoundSlot, current, greatest_seal};
 ghost use Rattle.page_store.specs.Steps.{crash_states_of};
 ghost use Rattle.page_store.specs.DeviceEffects.{IsReadCall};
 ghost use Rattle.page_store.specs.Opening.{ReadsToOpen};
-ghost use Rattle.page_store.specs.Content.{tree_of, tree_found, HasContent};
+ghost use Rattle.page_store.specs.Content.{is_tree_version, tree_of, tree_found, HasContent};
 ghost use Rattle.page_store.specs.declared.fault.KeeperFault.TheVariants.{Small, Memory};
 ghost use Rattle.cow_tree.specs.Walks.{Tells, WalksPages};
 ghost use Rattle.cow_tree.specs.Opening.{bounds_under, IsRooted, MayName, Finds, AreWhole, IsReadAs, IsSlotOpened, IsOpened, IsSlotFault, IsOpenFault};
@@ -26,13 +26,20 @@ use sector_device::Device;
 use std::alloc::Global;
 use tree_nodes::ImageBounds;
 
+/// Whether images of that version are trees of pages.
+fn is_tree_version(version: u16) -> bool
+    ensures { result ≡ is_tree_version version }
+{
+    version == 1 || version == 2
+}
+
 /// Finds the current slot of an image of a tree, and the greatest seal.
 fn tree_slot<D: Device>(device: &mut D) -> Result<(Slot, u64), KeeperFault>
     requires { 128 ≤ (D.state device.old).size }
     ensures slot { IsTrue (D.state device.old).honest → IfOk result (λ found. current (D.state device.old).disk.view ≡ Some found.0) }
     ensures top { IsTrue (D.state device.old).honest → IfOk result (λ found. greatest_seal (D.state device.old).disk.view 16 ≡ found.1) }
     ensures fits { IfOk result (λ found. IsFoundSlot (D.state device.old).size found.0) }
-    ensures version { IfOk result (λ found. found.0.root.banner.version ≡ 1) }
+    ensures version { IfOk result (λ found. IsTrue (is_tree_version found.0.root.banner.version)) }
     ensures sealed { IfOk result (λ found. found.0.seal ≤ found.1) }
     ensures fault { IfErr result (IsSlotFault (D.state device.old)) }
     ensures device { IsReadCall D.state (crash_states_of D.moment D.possible_since) device.old device.new }
@@ -45,7 +52,7 @@ fn tree_slot<D: Device>(device: &mut D) -> Result<(Slot, u64), KeeperFault>
     let Some(slot) = current else {
         return Err(KeeperFault::NoImage);
     };
-    if slot.root.banner.version != 1 {
+    if !is_tree_version(slot.root.banner.version) {
         return Err(KeeperFault::Version);
     }
     let top = if greatest < slot.seal {
@@ -60,7 +67,7 @@ fn tree_slot<D: Device>(device: &mut D) -> Result<(Slot, u64), KeeperFault>
 fn open_slot<D: Device>(device: &mut D) -> Result<(Slot, u64), KeeperFault>
     ensures opened { IfOk result (λ found. IsSlotOpened (D.state device.old) (D.state device.new) (crash_states_of D.moment D.possible_since device.new) found.0 found.1) }
     ensures fits { IfOk result (λ found. IsFoundSlot (D.state device.old).size found.0) }
-    ensures version { IfOk result (λ found. found.0.root.banner.version ≡ 1) }
+    ensures version { IfOk result (λ found. IsTrue (is_tree_version found.0.root.banner.version)) }
     ensures sealed { IfOk result (λ found. found.0.seal ≤ found.1) }
     ensures large { IfOk result (λ found. 128 ≤ (D.state device.old).size) }
     ensures opens { ReadsToOpen D.state (crash_states_of D.moment D.possible_since) device.old device.new IsOpenFault result }

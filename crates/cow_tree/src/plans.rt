@@ -1,5 +1,6 @@
 // What a commit is to write, worked out whole before anything is written.
 ghost use Rattle.std.specs.Prelude.{◌≡◌, ◌≤◌, ◌<◌, ◌+◌, ◌-◌, ◌^◌, ℕ, List, IsTrue, OnErr, IfOk, IfErr, All, length, min};
+ghost use Rattle.page_store.specs.Content.{is_tree_version};
 ghost use Rattle.page_alloc.specs.LedgerState.{free_count, is_alive};
 ghost use Rattle.page_store.specs.Sectors.{Image};
 ghost use Rattle.page_store.specs.Pages.{Pair};
@@ -84,7 +85,7 @@ pub(crate) fn plan_draft(
     ensures used { IfOk result (λ plan. length plan.pages.items ≡ owned_under (state_of draft.now.tree).root) }
     ensures levels { IfOk result (λ plan. plan.slot.root.height ≡ levels_of (state_of draft.now.tree)) }
     ensures alive { (n : ℕ) → length ledger.old.marks ≡ length ledger.old.lives → IfOk result (λ plan. is_alive ledger.new n ≡ is_alive ledger.old n) }
-    ensures planned { (view : Image) (top edits : ℕ) (pairs : List Pair) → IsHeld view slot.now top ledger.old → IsCounted slot.now view edits pairs ledger.old draft.now → seal ≡ top + 1 → banner.version ≡ 1 →
+    ensures planned { (view : Image) (top edits : ℕ) (pairs : List Pair) → IsHeld view slot.now top ledger.old → IsCounted slot.now view edits pairs ledger.old draft.now → seal ≡ top + 1 → IsTrue (is_tree_version banner.version) →
         Tells (Unit {0}) result (IsPlanned view slot.now top pairs ledger.new) }
     ensures marks { OnlyMarks ledger.old ledger.new }
     ensures fault { IfErr result (IsRoomFault (free_count ledger.old) (λ need. need ≡ min (owned_under (state_of draft.now.tree).root) (2 ^ 64 - 1))) }
@@ -129,7 +130,7 @@ pub(crate) fn plan_commit<D: Device>(
     requires port { 0 < banner.port }
     ensures made { IfOk result (IsMade slot.now seal banner) }
     ensures room { IfOk result (λ plan. length plan.pages.items ≤ free_count ledger.old) }
-    ensures planned { IsTrue (D.state device.old).honest → (top : ℕ) (pairs : List Pair) → IsHeld (D.state device.old).disk.view slot.now top ledger.old → Starts slot.now (D.state device.old).disk.view pairs ledger.old → seal ≡ top + 1 → banner.version ≡ 1 →
+    ensures planned { IsTrue (D.state device.old).honest → (top : ℕ) (pairs : List Pair) → IsHeld (D.state device.old).disk.view slot.now top ledger.old → Starts slot.now (D.state device.old).disk.view pairs ledger.old → seal ≡ top + 1 → IsTrue (is_tree_version banner.version) →
         Tells (MayBeTooDeep slot.now (length batch.now)) result (λ plan. IsPlanned (D.state device.old).disk.view slot.now top (updated pairs batch.now) ledger.new plan × HasRoom slot.now (D.state device.old).disk.view batch.now (free_count ledger.old)) }
     ensures marks { OnlyMarks ledger.old ledger.new }
     ensures refused { OnErr result (ledger.new ≡ ledger.old) }

@@ -28,7 +28,7 @@ pub fn in_memory(alloc: Global) -> Result<MemSite, Trouble> {
 }
 
 /// The keeper of the image on a device.
-fn kept<D: Device + Drop>(alloc: Global, device: D) -> Result<TreeKeeper<D>, Trouble> {
+pub fn kept<D: Device + Drop>(alloc: Global, device: D) -> Result<TreeKeeper<D>, Trouble> {
     match TreeKeeper::open(alloc, device) {
         Ok(keeper) => Ok(keeper),
         Err((fault, _)) => Err(Trouble::from(fault)),
@@ -172,7 +172,7 @@ fn picked(alloc: Global, writes: usize, bits: u64) -> Result<Vec<usize>, Trouble
 }
 
 /// Which writes since the last sync are on the disk after a crash: each set of them where they are at most six; and else none, all, each half, and eight sets by a seed.
-fn sets_of(alloc: Global, writes: usize, seed: u64) -> Result<Vec<Vec<usize>>, Trouble> {
+pub fn sets_of(alloc: Global, writes: usize, seed: u64) -> Result<Vec<Vec<usize>>, Trouble> {
     let mut sets = Vec::new(alloc);
     if writes <= 6 {
         for bits in 0..1u64 << writes {

@@ -2,10 +2,12 @@
 use crate::bench;
 use crate::bench::Bench;
 use crate::crashes::{compacts, disk_of, is_alike, kept_after, kept_and_used, survives};
+use crate::groups::{groups, together};
 use crate::items::{change, event};
-use crate::line::{Line, number, text_of};
+use crate::line::{Line, number, small_number, text_of};
 use crate::scripts::{Dice, script};
 use crate::trouble::Trouble;
+use crate::upgrades::{outcome, upgrades};
 use host_types::{Bytes, Change};
 use session_core::Event;
 use std::mem;
@@ -26,6 +28,33 @@ fn show_survival(bench: &Bench, line: &mut Line, calls: &[u8]) -> Result<(), Tro
 fn show_compaction(bench: &Bench, line: &mut Line, calls: &[u8]) -> Result<(), Trouble> {
     let is_done = compacts(bench.alloc, &bench.image, number(calls)?, &bench.used)?;
     line.word(if is_done { "done" } else { "stopped" })
+}
+
+/// `upgrades CALLS`: whether the image's site in version 1 is upgraded on a disk that crashes after so many calls. What the crash leaves is always the same site, in version 1 or 2, and can be used once it is upgraded.
+fn show_upgrade(bench: &Bench, line: &mut Line, calls: &[u8]) -> Result<(), Trouble> {
+    let is_done = upgrades(bench.alloc, &bench.image, number(calls)?, &bench.used)?;
+    line.word(if is_done { "done" } else { "stopped" })
+}
+
+/// `upgraded PAGES`: how the upgrade of the image's site in version 1 on so many pages goes.
+fn show_outcome(bench: &Bench, line: &mut Line, pages: &[u8]) -> Result<(), Trouble> {
+    line.word(outcome(bench.alloc, &bench.image, u32::from(small_number(pages)?))?)
+}
+
+/// `groups CALLS`: whether the administrator's changes among the events are made in one step on a disk with the image that crashes after so many calls. What the crash leaves is the site with none or with all of them, and can be used.
+fn show_group(bench: &Bench, line: &mut Line, calls: &[u8]) -> Result<(), Trouble> {
+    let calls = number(calls)?;
+    let is_done = groups(bench.alloc, &bench.image, &bench.events, calls, &bench.used)?;
+    line.word(if is_done { "done" } else { "stopped" })
+}
+
+/// `together`: how these changes go in one step, or which is refused, and the generation of the image then.
+fn show_together(bench: &Bench, line: &mut Line) -> Result<(), Trouble> {
+    let (ended, generation) = together(bench.alloc, &bench.image, &bench.events)?;
+    if let Err(fault) = ended {
+        line.word(&format!(in bench.alloc; "{fault}")?)?;
+    }
+    line.number(generation)
 }
 
 /// A script of the requests and changes that were given.
@@ -120,6 +149,7 @@ fn alone(
         "events" => begin(bench, false),
         "used" => begin(bench, true),
         "changes" => changes(bench),
+        "together" => show_together(bench, line),
         "remember" => remember(bench),
         "remembered" => remembered(bench),
         _ => bench::of_none(bench, line, word, fields),
@@ -139,6 +169,9 @@ pub fn call(
         ("request", [bytes]) => request(bench, bytes),
         ("survives", [calls]) => show_survival(bench, line, calls),
         ("compacts", [calls]) => show_compaction(bench, line, calls),
+        ("upgrades", [calls]) => show_upgrade(bench, line, calls),
+        ("upgraded", [pages]) => show_outcome(bench, line, pages),
+        ("groups", [calls]) => show_group(bench, line, calls),
         ("alike", [seed]) => alike(bench, seed),
         ("stopped", [calls, seed]) => stopped(bench, calls, seed),
         _ => alone(bench, line, word, fields),

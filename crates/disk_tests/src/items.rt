@@ -131,6 +131,7 @@ pub fn item(alloc: Global, stamp: Stamp, fields: &[Vec<u8>]) -> Result<Item, Tro
     Ok(Item {
         title: Title::new(title)?,
         stamp,
+        until: None,
         summary: Bytes::from_slice(alloc, summary)?,
         body,
     })

@@ -20,6 +20,7 @@ mod crashes;
 mod devices;
 mod disks;
 mod events;
+mod groups;
 mod items;
 mod keepers;
 mod line;
@@ -31,6 +32,7 @@ mod scripts;
 mod sites;
 mod texts;
 mod trouble;
+mod upgrades;
 
 use bench::{Bench, call};
 use line::{Line, fields_of, number, text_of};

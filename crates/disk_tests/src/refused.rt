@@ -190,8 +190,8 @@ pub fn noted(alloc: Global, disk: MemDisk) -> Result<(u32, usize), &'static str>
         return Err("no note");
     };
     let top = Selector::root();
-    let found = match site.search(&top, b"note") {
-        Err(SiteFault::Memory) => site.search(&top, b"note"),
+    let found = match site.search(&top, b"note", Stamp::start()) {
+        Err(SiteFault::Memory) => site.search(&top, b"note", Stamp::start()),
         found => found,
     };
     match found {

@@ -68,7 +68,10 @@ fn search<S: SearchKeeper>(
     scope: &[u8],
     query: &[u8],
 ) -> Result<(), Trouble> {
-    for found in site.search(&Selector::new(scope)?, query)?.as_slice() {
+    for found in site
+        .search(&Selector::new(scope)?, query, Stamp::start())?
+        .as_slice()
+    {
         line.bytes(found.as_bytes())?;
     }
     Ok(())

@@ -15,6 +15,7 @@ use Rattle.change_file.specs.declared.fault.FileChange.{FileChange}
 use Rattle.image_changes.specs.ImageChanges.{AppliesToImage}
 use Rattle.image_commands.specs.Compacted.{KeepsSite, IsWrittenAnew}
 use Rattle.image_commands.specs.Lines.{IsChecked}
+use Rattle.image_commands.specs.Upgraded.{IsUpgradedImage}
 use Rattle.image_commands.specs.Listing.{IsShown}
 use Rattle.image_commands.specs.declared.fault.ImageFault.{ImageFault}
 use Rattle.image_commands.specs.declared.fault.ImageFault.TheVariants.{NoFile, Memory}
@@ -48,6 +49,10 @@ PrintsFigures old new device = Prints (λ text. (line : List ℕ) × (text ≡ e
 -- the line of its free pages, once its site is written anew
 abbrev pub PrintsFree : Option (List ℕ) → Option (List ℕ) → FileHistory → Type 0
 PrintsFree old new device = Prints (λ text. (line : List ℕ) × (left : FileHistory) × (text ≡ ended line) × KeepsSite file_state file_crash_states device left × IsWrittenAnew (file_state left).disk.view line) old new
+
+-- the line of how many records an upgrade wrote
+abbrev pub PrintsUpgraded : Option (List ℕ) → Option (List ℕ) → FileHistory → Type 0
+PrintsUpgraded old new device = Prints (λ text. (line : List ℕ) × (left : FileHistory) × (text ≡ ended line) × IsUpgradedImage file_state file_crash_states device left line) old new
 
 -- how many changes some bytes say, once all of them are made at this moment
 abbrev pub PrintsApplied : ℕ → Option (List ℕ) → Option (List ℕ) → FileHistory → Type 0

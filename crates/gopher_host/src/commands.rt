@@ -10,9 +10,10 @@ ghost use Rattle.image_commands.specs.Compacted.{IsCompactingFault};
 ghost use Rattle.image_commands.specs.Faults.{IsReadingFault};
 ghost use Rattle.image_commands.specs.Lines as lines;
 ghost use Rattle.image_commands.specs.declared.fault.ImageFault.{ImageFault as Refusal};
+ghost use Rattle.image_commands.specs.Upgraded.{IsUpgradingFault};
 ghost use Rattle.image_server.specs.Lines as serving;
 ghost use Rattle.gopher_host.specs.Faults.{ended, output_fault};
-ghost use Rattle.gopher_host.specs.ImageFiles.{IsNotThere, EndsFor, OnImageFile, PrintsApplied, PrintsFigures, PrintsFree, PrintsListing, Listens};
+ghost use Rattle.gopher_host.specs.ImageFiles.{IsNotThere, EndsFor, OnImageFile, PrintsApplied, PrintsFigures, PrintsFree, PrintsListing, PrintsUpgraded, Listens};
 ghost use Rattle.gopher_host.specs.NewImages.{moment_of, asked_at, IsMade, IsNotMade};
 ghost use Rattle.gopher_host.specs.declared.fault.Fault.TheVariants as faults;
 
@@ -26,7 +27,7 @@ use command_words::NewSite;
 use file_device::FileDevice;
 use host_script::small_site;
 use image_changes::apply_on;
-use image_commands::{ImageFault, check_image, compact_image, show_image};
+use image_commands::{ImageFault, check_image, compact_image, show_image, upgrade_image};
 use image_server::{serve_clients, serve_image};
 use image_sessions::{replay_on, replay_over};
 use ready_sockets::DoorLog;
@@ -125,6 +126,15 @@ pub fn compact<W: Write>(rt: &HostRuntime, image: &str, writer: &mut W) -> Resul
 {
     let device = open(rt, image)?;
     print_given(compact_image(rt.alloc(), device), writer)
+}
+
+/// Takes over an image of version 1, and prints how many records were written.
+pub fn upgrade<W: Write>(rt: &HostRuntime, image: &str, writer: &mut W) -> Result<(), Fault>
+    ensures printed { OnOk result (OnImageFile (PrintsUpgraded (W.contents writer.old) (W.contents writer.new))) }
+    ensures fault { IfErr result (EndsFor IsUpgradingFault writer.old writer.new) }
+{
+    let device = open(rt, image)?;
+    print_given(upgrade_image(rt.alloc(), device), writer)
 }
 
 /// A script over a site in memory, or over that of an image.

@@ -33,6 +33,7 @@ fn run<W: Write>(rt: &HostRuntime, task: Task<'_>, writer: &mut W) -> Result<(),
         Task::Show { image } => commands::show(rt, image, writer),
         Task::Check { image } => commands::check(rt, image, writer),
         Task::Compact { image } => commands::compact(rt, image, writer),
+        Task::Upgrade { image } => commands::upgrade(rt, image, writer),
         Task::Replay { image } => commands::replay(rt, image),
         Task::ServeRounds {
             image,

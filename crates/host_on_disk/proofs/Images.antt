@@ -1,6 +1,6 @@
 -- Which site an image represents.
 use Rattle.std.proofs.Common.{◌≡◌, ℕ, ◌<◌, ◌≤◌, ◌*◌, Bool, true, List, Option, Some, None, length, refl, sym, ap, subst, ◌∙◌, arith}
-use Rattle.std.specs.Prelude.{◌&&◌, nat_le}
+use Rattle.std.specs.Prelude.{false, IsTrue, ◌&&◌, nat_le}
 use Rattle.std.specs.Int.{w16, w32, w64}
 use Rattle.std.proofs.lemmas.Bool.{leb-true, eqb-true}
 use Rattle.host_types.specs.Names.{name_of, is_word, is_field}
@@ -9,7 +9,7 @@ use Rattle.page_store.specs.Reading.{◌>>=◌, number_at}
 use Rattle.page_store.specs.Sectors.{Image, page_of}
 use Rattle.page_store.specs.Roots.{if_valid, short_text_at, root_at, slot_in, slot_of, newer, current, record_from, shared_seal}
 use Rattle.page_store.specs.Pages.{Pair}
-use Rattle.page_store.specs.Content.{Found, content, content_under, pairs_and_banner, pairs_and_banner_of, HasContent}
+use Rattle.page_store.specs.Content.{is_tree_version, Found, content, content_under, pairs_and_banner, pairs_and_banner_of, HasContent}
 use Rattle.page_store.specs.declared.banner.Banner.{Banner}
 use Rattle.page_store.specs.declared.slot.Root.{Root}
 use Rattle.page_store.specs.declared.slot.Slot.{Slot}
@@ -20,7 +20,7 @@ use Rattle.site_store.specs.Represented.{Shows, same_site}
 use Rattle.host_on_disk.specs.ImageSites.{ImageRepresents, RepresentsNone}
 
 -- one image, one content
-same_pairs_and_banner : (o : Option (List Pair × Banner)) (pairs more : List Pair) (banner other : Banner) → o ≡ Some (pairs, banner) → o ≡ Some (more, other) → (pairs ≡ more) × (banner ≡ other)
+pub same_pairs_and_banner : (o : Option (List Pair × Banner)) (pairs more : List Pair) (banner other : Banner) → o ≡ Some (pairs, banner) → o ≡ Some (more, other) → (pairs ≡ more) × (banner ≡ other)
 same_pairs_and_banner o pairs more banner other x y = let same : (pairs, banner) ≡ (more, other) = cc in (ap (λ (t : List Pair × Banner). t.0) same, ap (λ (t : List Pair × Banner). t.1) same)
 
 -- what an image represents is what its content shows
@@ -33,7 +33,7 @@ pub one_site : (image : Image) (s t : Site) → ImageRepresents image s → Imag
 one_site image s t (pairs, banner, (is, opened), shows) y = same_site pairs banner s t shows (shown image pairs banner t is y)
 
 -- what is kept under an image is what it represents
-pub kept_stands : (image : Image) (pairs : List Pair) (banner : Banner) (s : Site) → HasContent image pairs banner → banner.version ≡ 1 → Shows pairs banner s → ImageRepresents image s
+pub kept_stands : (image : Image) (pairs : List Pair) (banner : Banner) (s : Site) → HasContent image pairs banner → IsTrue (is_tree_version banner.version) → Shows pairs banner s → ImageRepresents image s
 kept_stands image pairs banner s has version shows = (pairs, banner, (has, opens_trees banner.version version), shows)
 
 -- ---- images without a site
@@ -65,11 +65,12 @@ no_slot image none s (pairs, banner, (is, opened), shows) = let there = slot_the
     none_is (Some c) slot e f = absurd cc
     none_is None slot e f = absurd cc
 
-pub other_version : (image : Image) (slot : Slot) → current image ≡ Some slot → (slot.root.banner.version ≡ 1 → ⊥) → RepresentsNone image
+pub other_version : (image : Image) (slot : Slot) → current image ≡ Some slot → (is_tree_version slot.root.banner.version ≡ false) → RepresentsNone image
 other_version image slot is other s (pairs, banner, (has, opened), shows) =
     let there = slot_there image pairs banner has in
     let same : slot ≡ there.0 = some_one (current image) slot there.0 is there.1 in
-    other (ap (λ (x : Slot). x.root.banner.version) same ∙ sym (ap (λ (b : Banner). b.version) there.2) ∙ eqb-true banner.version 1 opened)
+    let clash : false ≡ true = sym other ∙ ap (λ (x : Slot). is_tree_version x.root.banner.version) same ∙ sym (ap (λ (b : Banner). is_tree_version b.version) there.2) ∙ opened in
+    absurd (cc clash)
   where
     some_one : (o : Option Slot) (a b : Slot) → o ≡ Some a → o ≡ Some b → a ≡ b
     some_one o a b e f = cc

@@ -1,5 +1,6 @@
 pub mod Images
 pub mod Openings
+pub mod Upgraded
 pub mod FoundAgain
 pub mod Runs
 pub mod RunsInTurn

@@ -1,6 +1,6 @@
 -- Why a device isn't opened.
-use Rattle.std.proofs.Common.{◌≡◌, ◌≤◌, ◌<◌, ℕ, true, [], ◌∷◌, length, map, inl, refl, sym, ap, ◌∙◌, arith}
-use Rattle.std.specs.Prelude.{IsTrue, List}
+use Rattle.std.proofs.Common.{subst, inr, ◌≡◌, ◌≤◌, ◌<◌, ℕ, true, [], ◌∷◌, length, map, inl, refl, sym, ap, ◌∙◌, arith}
+use Rattle.std.specs.Prelude.{false, IsTrue, List}
 use Rattle.std.proofs.lemmas.Bool.{true≢false, eqb-true}
 use Rattle.host_types.specs.Site.{Site}
 use Rattle.common_types.specs.Counts.{counted}
@@ -8,7 +8,7 @@ use Rattle.sector_device.specs.Device.{State, NothingCounted}
 use Rattle.page_store.specs.Sectors.{Image}
 use Rattle.page_store.specs.Pages.{Pair}
 use Rattle.page_store.specs.StoreState.{StoreState, numbers_out}
-use Rattle.page_store.specs.Content.{HasContent}
+use Rattle.page_store.specs.Content.{is_tree_version, HasContent}
 use Rattle.page_store.specs.Counting.{CountsRefusal}
 use Rattle.page_store.specs.declared.banner.Banner.{Banner}
 use Rattle.page_store.specs.declared.slot.Slot.{Slot}
@@ -42,7 +42,7 @@ no_site_pins h keeps none = ap (λ (numbers : List ℕ). map (λ number. (number
 pub keeper_refused : (old new : State) → (IsTrue old.honest → length old.disk.view ≡ old.size) → (fault : KeeperFault) → IsOpenFault old new fault → CountsRefusal fault old new → IsOpeningFault old new (of_keeper fault)
 keeper_refused old new size kinds.Device is counts = is
 keeper_refused old new size kinds.NoImage is counts = (is, counts, λ honest. no_slot old.disk.view (is.1 honest))
-keeper_refused old new size kinds.Version is counts = (is, counts, λ honest. let found = is.1 honest in other_version old.disk.view found.0 found.1 found.2)
+keeper_refused old new size kinds.Version is counts = (inl is, counts, λ honest. let found = is.1 honest in other_version old.disk.view found.0 found.1 found.2)
 keeper_refused old new size (kinds.Damaged page) is counts = (is, counts, λ honest. no_content old.disk.view (is.1 honest).2)
 keeper_refused old new size kinds.Small is counts = (is, counts, λ honest. too_small old.disk.view (omega (arith, size honest, is)))
 keeper_refused old new size kinds.Memory is counts = (is, counts)
@@ -64,9 +64,9 @@ small_refused state device back kinds.Deep is same small = absurd is
 small_refused state device back (kinds.Full need free) is same small = absurd is
 small_refused state device back kinds.Failed is same small = absurd is
 
--- content of version 1 stands under a current slot of a tree
-pub tree_slot : (image : Image) (pairs : List Pair) (banner : Banner) → HasContent image pairs banner → banner.version ≡ 1 → (slot : Slot) × IsTree image slot
-tree_slot image pairs banner has version = let there = slot_there image pairs banner has in (there.0, (there.1, ap (λ (b : Banner). b.version) (sym there.2) ∙ version))
+-- content in a version of trees stands under a current slot of a tree
+pub tree_slot : (image : Image) (pairs : List Pair) (banner : Banner) → HasContent image pairs banner → IsTrue (is_tree_version banner.version) → (slot : Slot) × IsTree image slot
+tree_slot image pairs banner has version = let there = slot_there image pairs banner has in (there.0, (there.1, subst (λ (b : Banner). IsTrue (is_tree_version b.version)) there.2 version))
 
 -- The pairs of a device were opened: what they are, and that nothing was counted.
 pub record ArePairs (old : State) (before : StoreState) : Type 0 where
@@ -76,7 +76,7 @@ pub record ArePairs (old : State) (before : StoreState) : Type 0 where
   pub reads : before.failed_reads ≡ old.failed_reads
   pub writes : before.failed_writes ≡ old.failed_writes
   pub content : IsTrue old.honest → HasContent old.disk.view before.pairs before.banner
-  pub version : before.banner.version ≡ 1
+  pub version : IsTrue (is_tree_version before.banner.version)
 
 -- a refusal of the site, once its pairs are opened
 pub site_refused : (old new : State) (before after : StoreState) → ArePairs old before → new.failed_reads ≡ after.failed_reads → new.failed_writes ≡ before.failed_writes → (fault : SiteOpenFault) → sites.IsOpenFault before after fault → IsOpeningFault old new (of_site fault)
@@ -100,7 +100,11 @@ site_refused old new before after opened reads writes fault is = by fault is
     )
     by (reading.Keeper kinds.Failed) is = absurd (true≢false (sym opened.usable ∙ is.0))
     by (reading.Keeper kinds.NoImage) is = absurd is
-    by (reading.Keeper kinds.Version) is = absurd is
+    by (reading.Keeper kinds.Version) is = (
+      inr (opened.large, λ honest. (before.pairs, before.banner, (opened.content honest, opens_trees before.banner.version opened.version), is.2)),
+      nothing is.1,
+      λ honest s stands. is.2 (shown old.disk.view before.pairs before.banner s (opened.content honest) stands).version,
+    )
     by (reading.Keeper kinds.Small) is = absurd is
     by (reading.Keeper kinds.Spent) is = absurd is
     by (reading.Keeper kinds.Deep) is = absurd is
@@ -113,4 +117,4 @@ pub no_memory : (old new : State) (s : Site) → 128 ≤ old.size → NothingCou
 no_memory old new s large counts stands = ((large, λ honest. by (stands honest)), counts)
   where
     by : ImageRepresents old.disk.view s → (slot : Slot) × IsTree old.disk.view slot
-    by (pairs, banner, (has, opened), shows) = tree_slot old.disk.view pairs banner has (eqb-true banner.version 1 opened)
+    by (pairs, banner, (has, opened), shows) = tree_slot old.disk.view pairs banner has opened

@@ -1,5 +1,6 @@
 -- Runs over a site that is handed in, and over a device.
 use Rattle.std.proofs.Common.{◌≡◌, ⊎_elim, inl, inr, ℕ, List, IsTrue, refl, ap, sym, subst, arith}
+use Rattle.host_types.specs.AllChanges.{Changes}
 use Rattle.host_types.specs.SiteState.{SiteState}
 use Rattle.host_types.specs.declared.change.Change.{Change}
 use Rattle.host_types.specs.declared.site_fault.SiteFault.{SiteFault}
@@ -38,7 +39,7 @@ handed_over site_state stands crash_states site held new result old first last e
 )
 
 -- the same of all its calls
-pub handed_on : {S L : Type 0} (site_state : S → SiteState) (lacks : S → Change → ℕ → SiteFault → Type 0) (crash_states : S → CrashStates L) (stands : L → Site → Type 0) (site held new result : S) (old last : World) (first : ℕ) (events : List Event) (outcomes : List Outcome) →
+pub handed_on : {S L : Type 0} (site_state : S → SiteState) (lacks : S → Changes → SiteFault → Type 0) (crash_states : S → CrashStates L) (stands : L → Site → Type 0) (site held new result : S) (old last : World) (first : ℕ) (events : List Event) (outcomes : List Outcome) →
     held ≡ site →
     old ≡ started (site_state site).site first →
     IsClosed site_state crash_states new result →

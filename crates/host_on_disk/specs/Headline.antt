@@ -1,5 +1,6 @@
 -- What a crash at any moment of a run leaves on a disk, and what is found when the disk is opened again.
 use Rattle.std.specs.Prelude.{◌≡◌, ◌⊎◌, ℕ, true, List, [], ◌∷◌, IsTrue}
+use Rattle.host_types.specs.AllChanges.{Changes}
 use Rattle.host_types.specs.Site.{Site}
 use Rattle.host_types.specs.SiteState.{SiteState}
 use Rattle.host_types.specs.CrashStates.{CrashStates, AddsNone, may_crash_to}
@@ -33,14 +34,14 @@ pub record Survives {D : Type 0} (state : D → State) (crash_states : D → Cra
   pub again : (image : Image) → (crash_states new).possible_since (crash_states opened).moment image → (s : Site) × ImageRepresents image s × IsFound (started site first) events outcomes 0 s
 
 -- The site is handed in and back: all events are calls, one after another, of one hub over it, which then ends: the pins that its sessions still held are given back, and nothing else changes.
-pub record RunsOver {S L : Type 0} (site_state : S → SiteState) (lacks : S → Change → ℕ → SiteFault → Type 0) (crash_states : S → CrashStates L) (stands : L → Site → Type 0) (old new : S) (first : ℕ) (events : List Event) (outcomes : List Outcome) : Type 0 where
+pub record RunsOver {S L : Type 0} (site_state : S → SiteState) (lacks : S → Changes → SiteFault → Type 0) (crash_states : S → CrashStates L) (stands : L → Site → Type 0) (old new : S) (first : ℕ) (events : List Event) (outcomes : List Outcome) : Type 0 where
   pub last : World
   pub before : S
   pub calls : Calls site_state lacks crash_states stands (started (site_state old).site first) old events outcomes last before
   pub closes : IsClosed site_state crash_states before new
 
 -- A device is opened as the site that it shows, which counts nothing; that is run over, and handed back: the calls, with their causes, on any device.
-pub record RunsOn {D S L : Type 0} (state : D → State) (device : S → D) (site_state : S → SiteState) (lacks : S → Change → ℕ → SiteFault → Type 0) (crash_states : S → CrashStates L) (stands : L → Site → Type 0) (old new : D) (first : ℕ) (events : List Event) (outcomes : List Outcome) : Type 0 where
+pub record RunsOn {D S L : Type 0} (state : D → State) (device : S → D) (site_state : S → SiteState) (lacks : S → Changes → SiteFault → Type 0) (crash_states : S → CrashStates L) (stands : L → Site → Type 0) (old new : D) (first : ℕ) (events : List Event) (outcomes : List Outcome) : Type 0 where
   pub opened : S
   pub closed : S
   pub shows : IsTrue (state old).honest → ImageRepresents (state old).disk.view (site_state opened).site

@@ -1,3 +1,4 @@
 pub mod ImageSites
 pub mod OpenFaults
 pub mod Headline
+pub mod Upgrades

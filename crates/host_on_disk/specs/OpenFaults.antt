@@ -1,5 +1,5 @@
 -- Why a device isn't opened as a site.
-use Rattle.std.specs.Prelude.{◌≡◌, ◌≤◌, List, IsTrue}
+use Rattle.std.specs.Prelude.{◌≡◌, ◌⊎◌, ◌≤◌, List, IsTrue}
 use Rattle.common_types.specs.CrashStates.{CrashStates, AddsNone}
 use Rattle.sector_device.specs.Device.{State, NothingCounted}
 use Rattle.page_store.specs.Pages.{Pair}
@@ -42,11 +42,15 @@ ShowsNone old = IsTrue old.honest → RepresentsNone old.disk.view
 abbrev pub ShowsContent : State → Type 0
 ShowsContent old = IsTrue old.honest → (pairs : List Pair) × (banner : Banner) × TreeHas old.disk.view pairs banner
 
+-- A device that is honest shows whole content, in a version that a keeper opens and a site isn't opened from.
+abbrev pub ShowsOther : State → Type 0
+ShowsOther old = (128 ≤ old.size) × (IsTrue old.honest → (pairs : List Pair) × (banner : Banner) × TreeHas old.disk.view pairs banner × (banner.version ≡ 2 → ⊥))
+
 -- Why an opening is refused, and what it counted. A fault of the key-value store has the cause that opening the keeper gives it, `BadRecord` comes where there is content but it represents no site, and `Memory` where a slot to be opened is current. But for a device that fails and for lack of memory, no two of these hold of one image.
 abbrev pub IsOpeningFault : State → State → OpenFault → Type 0
 IsOpeningFault old new (Keeper kinds.Device) = IsOpenFault old new kinds.Device
 IsOpeningFault old new (Keeper kinds.NoImage) = IsOpenFault old new kinds.NoImage × NothingCounted old new × ShowsNone old
-IsOpeningFault old new (Keeper kinds.Version) = IsOpenFault old new kinds.Version × NothingCounted old new × ShowsNone old
+IsOpeningFault old new (Keeper kinds.Version) = (IsOpenFault old new kinds.Version ⊎ ShowsOther old) × NothingCounted old new × ShowsNone old
 IsOpeningFault old new (Keeper (kinds.Damaged page)) = IsOpenFault old new (kinds.Damaged page) × NothingCounted old new × ShowsNone old
 IsOpeningFault old new (Keeper kinds.Small) = IsOpenFault old new kinds.Small × NothingCounted old new × ShowsNone old
 IsOpeningFault old new (Keeper kinds.Spent) = ⊥

@@ -4,7 +4,8 @@ ghost use Rattle.host_types.specs.CrashStates.{nothing, no_crash_state};
 ghost use Rattle.host_types.specs.Pins.{Copied};
 
 use host_types::{
-    Address, Card, Change, Refused, Selector, SiteFault, SiteKeeper, SitePinFault, Stamp,
+    Address, Card, Change, ChangesFault, Refused, Selector, SiteFault, SiteKeeper, SitePinFault,
+    Stamp,
 };
 use mem_site::{MemPin, MemSite};
 use word_index::{SearchKeeper, SelectorList};
@@ -59,7 +60,7 @@ impl FailingSite {
 impl SiteKeeper for FailingSite {
     ghost site_state = { λ m. record { site = m.site; honest = false; usable = m.usable; free = 0; failed_reads = 0; failed_writes = if m.usable then 0 else 1; pins = [] } };
 
-    ghost lacks = { λ m change now fault. ⊥ };
+    ghost lacks = { λ m changes fault. ⊥ };
 
     ghost CrashState = { ℕ };
 
@@ -133,16 +134,39 @@ impl SiteKeeper for FailingSite {
         }
         self.site.change(change, now)
     }
+
+    fn change_all(&mut self, changes: Vec<(Change, Stamp)>) -> Result<(), ChangesFault> {
+        if !self.usable {
+            return Err(ChangesFault::Failed);
+        }
+        if self.changes == 0 {
+            self.usable = false;
+            return Err(ChangesFault::Failed);
+        }
+        self.changes -= 1;
+        if self.refuses {
+            return Err(ChangesFault::RefusedAt {
+                place: 0,
+                refused: Refused::NotABoard,
+            });
+        }
+        self.site.change_all(changes)
+    }
 }
 
 impl SearchKeeper for FailingSite {
-    fn search(&mut self, scope: &Selector, query: &[u8]) -> Result<SelectorList, SiteFault> {
+    fn search(
+        &mut self,
+        scope: &Selector,
+        query: &[u8],
+        now: Stamp,
+    ) -> Result<SelectorList, SiteFault> {
         if !self.usable {
             return Err(SiteFault::Failed);
         }
         if self.read_fails() {
             return Err(SiteFault::Read);
         }
-        self.site.search(scope, query)
+        self.site.search(scope, query, now)
     }
 }

@@ -160,6 +160,15 @@ fn body(alloc: Global, sort: &str, fields: &[Vec<u8>]) -> Result<Body, Trouble> 
 
 /// An item by its title, its summary, a word, and what its body needs.
 pub fn item(alloc: Global, fields: &[Vec<u8>]) -> Result<Item, Trouble> {
+    item_until(alloc, None, fields)
+}
+
+/// The same, found until a moment.
+pub fn item_until(
+    alloc: Global,
+    until: Option<Stamp>,
+    fields: &[Vec<u8>],
+) -> Result<Item, Trouble> {
     let [title, summary, sort, rest @ ..] = fields else {
         return Err(Trouble::Line);
     };
@@ -167,6 +176,7 @@ pub fn item(alloc: Global, fields: &[Vec<u8>]) -> Result<Item, Trouble> {
     Ok(Item {
         title: Title::new(title)?,
         stamp: Stamp::start(),
+        until,
         summary: Bytes::from_slice(alloc, summary)?,
         body,
     })

@@ -1,11 +1,11 @@
 // A site in memory: its changes, and what is seen of it.
 use crate::bench::Bench;
 use crate::forms;
-use crate::items::item;
+use crate::items::{item, item_until};
 use crate::line::{Line, number, small_number};
 use crate::trouble::Trouble;
 use host_types::{
-    Admin, Bytes, Card, CardBody, Change, Host, Kind, Selector, SiteKeeper, Stamp, Title,
+    Admin, Bytes, Card, CardBody, Change, Host, Kind, Selector, SiteKeeper, Stamp, Title, is_over,
 };
 use mem_site::MemSite;
 use word_index::{SearchKeeper, card_words, words};
@@ -42,6 +42,17 @@ fn put(bench: &mut Bench, fields: &[Vec<u8>]) -> Result<(), Trouble> {
         return Err(Trouble::Line);
     };
     let put = Change::Put(Selector::new(selector)?, item(bench.alloc, rest)?);
+    change(bench, put)
+}
+
+/// `put_until SECONDS SELECTOR ITEM`: the same of an item that is found until a moment.
+fn put_until(bench: &mut Bench, fields: &[Vec<u8>]) -> Result<(), Trouble> {
+    let [until, selector, rest @ ..] = fields else {
+        return Err(Trouble::Line);
+    };
+    let until = Stamp::new(number(until)?)?;
+    let item = item_until(bench.alloc, Some(until), rest)?;
+    let put = Change::Put(Selector::new(selector)?, item);
     change(bench, put)
 }
 
@@ -122,6 +133,22 @@ fn show_card(bench: &mut Bench, line: &mut Line, selector: &[u8]) -> Result<(), 
     Ok(line.number(card.summary.len() as u64)?)
 }
 
+/// `until SELECTOR`: until when what stands there is found, where that has an end, and whether it has expired.
+fn show_until(bench: &mut Bench, line: &mut Line, selector: &[u8]) -> Result<(), Trouble> {
+    let Some(card) = card_at(bench, selector)? else {
+        return Ok(line.word("none")?);
+    };
+    match card.until {
+        Some(until) => line.number(until.seconds())?,
+        None => line.word("always")?,
+    }
+    let has_expired = card.is_expired(bench.now);
+    if has_expired != is_over(card.until, bench.now) {
+        return Err(Trouble::Differs);
+    }
+    Ok(line.word(if has_expired { "expired" } else { "found" })?)
+}
+
 /// `front`: host, port and who keeps the site.
 fn show_front(bench: &Bench, line: &mut Line) -> Result<(), Trouble> {
     if !bench.site.is_usable() {
@@ -154,7 +181,7 @@ fn search(bench: &mut Bench, line: &mut Line, fields: &[Vec<u8>]) -> Result<(), 
     let [scope, words] = fields else {
         return Err(Trouble::Line);
     };
-    let found = bench.site.search(&Selector::new(scope)?, words)?;
+    let found = bench.site.search(&Selector::new(scope)?, words, bench.now)?;
     for selector in found.as_slice() {
         line.bytes(selector.as_bytes())?;
     }
@@ -222,8 +249,10 @@ pub fn call(
     match (word, fields) {
         ("now", [moment]) => set_now(bench, moment),
         ("card", [selector]) => show_card(bench, line, selector),
+        ("until", [selector]) => show_until(bench, line, selector),
         ("site", fields) => fresh(bench, fields),
         ("put", fields) => put(bench, fields),
+        ("put_until", fields) => put_until(bench, fields),
         ("insert", fields) => insert(bench, fields),
         ("post", fields) => post(bench, fields),
         ("remove" | "set_keeper" | "move" | "set_host", fields) => {

@@ -20,5 +20,5 @@ pub each_short : (body : Body) (kind : Kind) (vs : List View) → body ≡ Views
 unfolding most_view_bytes
 each_short body kind vs is short k d less =
     let short_views = subst (λ (b : Body). IsTrue (has_short_views b)) is short in
-    let fits : view_bytes vs ≤ 65536 = leb-true (view_bytes vs) 65536 short_views in
-    omega (arith, each_within vs 65536 k d fits less)
+    let fits : view_bytes vs ≤ 262144 = leb-true (view_bytes vs) 262144 short_views in
+    omega (arith, each_within vs 262144 k d fits less)

@@ -4,7 +4,7 @@ use Rattle.std.specs.Prelude.{Ok, nat_lt, nat_le, not, is_some, ◌&&◌}
 use Rattle.std.proofs.lemmas.Bool.{cases_Bool, both_ways, and_parts, or_parts, not-true, le-leb}
 use Rattle.std.proofs.lemmas.Map.Text.{is_eq-slice_cmp}
 use Rattle.common_types.specs.Names.{is_reserved, is_url_name, is_post_name}
-use Rattle.host_types.specs.Items.{is_selector, is_title, is_bad_body, is_long_item, is_long_body, is_typed_body, is_typed_item, is_valid_item}
+use Rattle.host_types.specs.Items.{is_selector, is_title, is_bad_body, is_long_item, is_long_body, is_typed_body, has_moments, is_typed_item, is_valid_item}
 use Rattle.host_types.specs.Site.{Site, item_at, with_item, post_selector, board_of, board_in, board_at, has_posts, IsSite, MayStand}
 use Rattle.host_types.specs.Change.{is_empty, is_moved, moved_item, movable, move_item, move_to}
 use Rattle.common_types.specs.declared.refused.Refused.TheVariants as refusals
@@ -42,7 +42,7 @@ fits_there from to item s may name no_url fits =
 fits_note : (from to : List ℕ) (item : Item) (s : Site) (now : ℕ) → MayStand s from item → is_selector to ≡ true → now ≤ 253402300799 → FitsThere from (moved_item item to now)
 fits_note from to item s now may name early =
     let valid = and_parts (is_typed_item item) (not (is_bad_body item.body) && not (is_long_item from item)) may.valid in
-    let title = (and_parts (is_title item.title) (nat_le item.stamp 253402300799 && is_typed_body item.body) valid.0).0 in
+    let title = (and_parts (is_title item.title) (has_moments item && is_typed_body item.body) valid.0).0 in
     let note : is_valid_item from (moved_item item to now) ≡ true = rw (title, le-leb now 253402300799 early, name) refl in
     record { name = may.name; valid = note; no_url = may.no_url; counted = λ cap next is. absurd (cc is) }
 

@@ -4,7 +4,7 @@ use Rattle.std.specs.Prelude.{IsTrue, Ok, codes, decimal, nat_lt, nat_le, not, �
 use Rattle.std.proofs.lemmas.Bool.{cases_Bool, cases_lt, both_ways, and_parts, or_parts, not-true, le-leb, le-ltb, lt-ltb, ltb-false, eqb-false}
 use Rattle.std.proofs.lemmas.Fmt.{length-decimal-le}
 use Rattle.common_types.specs.Names.{is_field, is_post_name}
-use Rattle.host_types.specs.Items.{is_selector, is_title, is_host, is_admin, is_bad_body, is_long_item, is_long_body, is_typed_body, is_typed_item, is_valid_item, most_view_bytes}
+use Rattle.host_types.specs.Items.{is_selector, is_title, is_host, is_admin, is_bad_body, is_long_item, is_long_body, is_typed_body, is_until, has_moments, is_typed_item, is_valid_item, most_view_bytes}
 use Rattle.host_types.specs.Site.{Site, byte_cmp, item_at, with_item, without_item, post_selector, board_of, board_in, board_at, text_item, IsPost, IsSite, IsMenuIn, MayStand}
 use Rattle.host_types.specs.SiteLaws.{is_sorted-insert_entry, is_sorted-remove_entry}
 use Rattle.host_types.specs.Change.{most_post_bytes, board_after, oldest_post, without_any, with_post, post_on, post_at, post}
@@ -32,7 +32,7 @@ unfolding most_view_bytes
 fits_post board n title text now field short fits named small early =
     let length_fits = le-leb (length (post_selector board n)) 255 (post_name_fits board n short fits) in
     let name : is_selector (post_selector board n) ≡ true = rw (length_fits, is_field-post_selector board n fits field) refl in
-    let valid : is_valid_item (post_selector board n) (text_item title now text) ≡ true = rw (named, le-leb now 253402300799 early, le-ltb 65536 (0 + length text) (omega arith)) refl in
+    let valid : is_valid_item (post_selector board n) (text_item title now text) ≡ true = rw (named, le-leb now 253402300799 early, le-ltb 262144 (0 + length text) (omega arith)) refl in
     record { name = name; valid = valid; no_url = refl; counted = λ cap next is. absurd (cc is) }
 
 -- ---- the board after it
@@ -55,11 +55,13 @@ fits_board : (s : Site) (board : List ℕ) (cap n now : ℕ) (b : IsBoard s boar
 fits_board s board cap n now b fits early =
     let valid = and_parts (is_typed_item b.item) (not (is_bad_body b.item.body) && not (is_long_item board b.item)) b.may.valid in
     let limits = and_parts (not (is_bad_body b.item.body)) (not (is_long_item board b.item)) valid.1 in
-    let title = (and_parts (is_title b.item.title) (nat_le b.item.stamp 253402300799 && is_typed_body b.item.body) valid.0).0 in
+    let typed = and_parts (is_title b.item.title) (has_moments b.item && is_typed_body b.item.body) valid.0 in
+    let moments = (and_parts (has_moments b.item) (is_typed_body b.item.body) typed.1).0 in
+    let until = (and_parts (nat_le b.item.stamp 253402300799) (is_until b.item.until) moments).1 in
     let sizes = or_parts (nat_lt 400 (length b.item.summary)) (is_long_body board b.item.body) (not-true (is_long_item board b.item) limits.1) in
     let some : is_bad_body (Board cap (n + 1)) ≡ false = ap is_bad_body (sym b.body) ∙ not-true (is_bad_body b.item.body) limits.0 in
     let short : is_long_body board (Board cap (n + 1)) ≡ false = ap (is_long_body board) (sym b.body) ∙ sizes.1 in
-    let after : is_valid_item board (board_after b.item cap n now) ≡ true = rw (title, le-leb now 253402300799 early, lt-ltb (n + 1) (2 ^ 64) fits, some, sizes.0, short) refl in
+    let after : is_valid_item board (board_after b.item cap n now) ≡ true = rw (typed.0, le-leb now 253402300799 early, until, lt-ltb (n + 1) (2 ^ 64) fits, some, sizes.0, short) refl in
     record { name = b.may.name; valid = after; no_url = b.may.no_url; counted = λ many next is. (let same = same_next (cap, n + 1) (many, next) is in omega (arith, same)) }
 
 -- ---- the post that is pushed out

@@ -1,9 +1,9 @@
 -- A site stays one when an item is put.
 use Rattle.std.proofs.Common.{◌≡◌, ℕ, ◌<◌, ◌≤◌, ◌^◌, true, false, List, [], length, Option, Some, None, refl, ap, sym, subst, inl, inr, ◌⊎◌, arith}
-use Rattle.std.specs.Prelude.{Ok, nat_lt, nat_le, not, ◌&&◌}
+use Rattle.std.specs.Prelude.{Ok, nat_lt, nat_le, not, is_some, ◌&&◌, ◌||◌}
 use Rattle.std.proofs.lemmas.Bool.{both_ways, and_parts, and_cases, or_parts, not-false, lt-ltb, le-leb, eqb-true}
 use Rattle.common_types.specs.Names.{is_reserved, is_url_name, is_post_name}
-use Rattle.host_types.specs.Items.{is_selector, is_title, is_bad_body, is_long_item, is_long_body, is_typed_body, is_typed_item, is_valid_item}
+use Rattle.host_types.specs.Items.{is_selector, is_title, is_bad_body, is_long_item, is_long_body, is_typed_body, is_until, has_moments, is_typed_item, is_valid_item}
 use Rattle.host_types.specs.Site.{Site, with_item, board_of, board_at, has_posts, IsSite, IsMenuBody}
 use Rattle.host_types.specs.Change.{is_empty, is_menu, is_moved, keeps_cap, next_after_put, body_put, item_put, put}
 use Rattle.common_types.specs.declared.refused.Refused.TheVariants as refusals
@@ -84,11 +84,12 @@ next_of s k (Some old) site is =
 fits_put : (k : List ℕ) (old : Option (ℕ × ℕ)) (item : Item) (now : ℕ) → is_selector k ≡ true → is_url_name k ≡ false → is_typed_item item ≡ true → is_bad_body item.body ≡ false → is_long_item k item ≡ false
     → now ≤ 253402300799 → 0 < next_after_put old → next_after_put old < 2 ^ 64 → FitsThere k (item_put old item now)
 fits_put k old item now name no_url typed good short early given fits =
-    let given_title = and_parts (is_title item.title) (nat_le item.stamp 253402300799 && is_typed_body item.body) typed in
-    let given_body = and_parts (nat_le item.stamp 253402300799) (is_typed_body item.body) given_title.1 in
+    let given_title = and_parts (is_title item.title) (has_moments item && is_typed_body item.body) typed in
+    let given_body = and_parts (has_moments item) (is_typed_body item.body) given_title.1 in
+    let until = (and_parts (nat_le item.stamp 253402300799) (is_until item.until) given_body.0).1 in
     let body : is_typed_body (body_put old item.body) ≡ true = typed_put old item.body fits given_body.1 in
     let sizes = or_parts (nat_lt 400 (length item.summary)) (is_long_body k item.body) short in
-    let valid : is_valid_item k (item_put old item now) ≡ true = rw (given_title.0, le-leb now 253402300799 early, body, bad_put old item.body, good, sizes.0, long_put k old item.body, sizes.1) refl in
+    let valid : is_valid_item k (item_put old item now) ≡ true = rw (given_title.0, le-leb now 253402300799 early, until, body, bad_put old item.body, good, sizes.0, long_put k old item.body, sizes.1) refl in
     record { name = name; valid = valid; no_url = no_url; counted = λ cap next is. counted_put old item.body cap next given is }
 
 pub put_keeps : (s t : Site) (k : List ℕ) (item : Item) (now : ℕ) → IsSite s → is_selector k ≡ true → is_typed_item item ≡ true → now ≤ 253402300799 → put s k item now ≡ Ok t → IsSite t
@@ -103,9 +104,9 @@ put_keeps s t k item now site name typed early h =
     let old = board_at s k in
     let next = next_of s k old site refl in
     let fits = fits_put k old item now name names.0 typed bad.0 long.0 early next.0 next.1 in
-    let menu : k ≡ [] → IsMenuBody (body_put old item.body) = λ top. elim (and_cases (is_empty k) (not (is_menu item.body)) root.0) [
+    let menu : k ≡ [] → IsMenuBody (body_put old item.body) = λ top. elim (and_cases (is_empty k) (not (is_menu item.body) || is_some item.until) root.0) [
       | inl some ↦ absurd (both_ways (is_empty k) some (ap is_empty top))
-      | inr is ↦ menu_put old item.body (not-false (is_menu item.body) is)
+      | inr is ↦ menu_put old item.body (not-false (is_menu item.body) (or_parts (not (is_menu item.body)) (is_some item.until) is).0)
     ] in
     let own : HasNoPosts s k ⊎ (board_of (body_put old item.body) ≡ board_at s k) = elim (and_cases (has_posts s k) (not (keeps_cap old (board_of item.body))) full.0) [
       | inl none ↦ inl (no_posts s k none)

@@ -26,7 +26,7 @@ card_body (bodies.Moved target) = cards.Moved target
 
 -- an item with lengths in place of the bytes of its views
 abbrev pub card_of : Item → Card
-card_of item = record { title = item.title; stamp = item.stamp; summary = item.summary; body = card_body item.body }
+card_of item = record { title = item.title; stamp = item.stamp; until = item.until; summary = item.summary; body = card_body item.body }
 
 -- the card of what stands at a selector
 abbrev pub card_at : Site → List ℕ → Option Card

@@ -56,11 +56,11 @@ body_put old (bodies.Search scope) = bodies.Search scope
 body_put old (bodies.Moved target) = bodies.Moved target
 
 abbrev pub item_put : Option (ℕ × ℕ) → Item → ℕ → Item
-item_put old item now = record { title = item.title; stamp = now; summary = item.summary; body = body_put old item.body }
+item_put old item now = record { title = item.title; stamp = now; until = item.until; summary = item.summary; body = body_put old item.body }
 
 unfoldable pub put : Site → List ℕ → Item → ℕ → Result Site Refused
 put s selector item now =
-    refusals.Root when is_empty selector && not (is_menu item.body) else
+    refusals.Root when is_empty selector && (not (is_menu item.body) || is_some item.until) else
     refusals.Reserved when is_reserved selector || is_moved item.body else
     refusals.BadName when is_bad_body item.body else
     refusals.TooLong when is_long_item selector item else
@@ -75,7 +75,7 @@ remove s selector =
     Ok (without_item s selector)
 
 abbrev pub moved_item : Item → List ℕ → ℕ → Item
-moved_item item to now = record { title = item.title; stamp = now; summary = []; body = bodies.Moved to }
+moved_item item to now = record { title = item.title; stamp = now; until = None; summary = []; body = bodies.Moved to }
 
 -- what may be moved, and is there
 abbrev pub movable : Option Item → Option Item
@@ -108,7 +108,7 @@ most_post_bytes = 65536
 
 -- the board after its post n
 abbrev pub board_after : Item → ℕ → ℕ → ℕ → Item
-board_after item cap n now = record { title = item.title; stamp = now; summary = item.summary; body = bodies.Board cap (n + 1) }
+board_after item cap n now = record { title = item.title; stamp = now; until = item.until; summary = item.summary; body = bodies.Board cap (n + 1) }
 
 -- the selector of the post that the post n pushes out
 abbrev pub oldest_post : List ℕ → ℕ → ℕ → Option (List ℕ)

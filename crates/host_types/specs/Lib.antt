@@ -4,12 +4,15 @@ pub mod Site
 pub mod SiteLaws
 pub mod Address
 pub mod Change
+pub mod AllChanges
 pub mod ValidChanges
 pub mod Standing
 pub mod Card
+pub mod Visible
 pub mod Words
 pub use Rattle.common_types.specs.CrashStates
 pub mod SiteState
+pub mod ChangesFaults
 pub mod Counting
 pub mod Pins
 pub mod Lines

@@ -1,5 +1,5 @@
 -- Worked examples of changes.
-use Rattle.std.specs.Prelude.{◌≡◌, ℕ, List, [], ◌∷◌, Ok, Err, codes, replicate}
+use Rattle.std.specs.Prelude.{◌≡◌, ℕ, List, [], ◌∷◌, Ok, Err, codes, replicate, None, Some}
 use Rattle.host_types.specs.Site.{Site, empty_menu, text_item}
 use Rattle.host_types.specs.Change.{apply}
 use Rattle.host_types.specs.declared.change.Change.TheVariants.{Put, Remove, Move, SetHost, SetAdmin, Post}
@@ -17,14 +17,14 @@ about stamp = text_item (codes "About us") stamp (codes "Hello")
 
 -- a document without views
 abbrev pub bare : Item
-bare = record { title = codes "About us"; stamp = 0; summary = []; body = Views Text [] }
+bare = record { title = codes "About us"; stamp = 0; until = None; summary = []; body = Views Text [] }
 
 abbrev pub with_summary : ℕ → Item → Item
 with_summary bytes item = record item { summary = replicate bytes 97 }
 
 -- a board of one post
 abbrev pub board : ℕ → ℕ → Item
-board next stamp = record { title = codes "Guests"; stamp = stamp; summary = []; body = Board 1 next }
+board next stamp = record { title = codes "Guests"; stamp = stamp; until = None; summary = []; body = Board 1 next }
 
 abbrev pub note : ℕ → Item
 note stamp = text_item (codes "Ann") stamp (codes "Hi")
@@ -34,6 +34,7 @@ pub record SiteExamples : Type 0 where
   pub put_over : apply (small_site ((codes "/about", bare) ∷ [])) (Put (codes "/about") (about 3)) 7 ≡ Ok (small_site ((codes "/about", about 7) ∷ []))
   pub put_in_order : apply (small_site ((codes "/about", about 3) ∷ [])) (Put (codes "/a") (about 3)) 7 ≡ Ok (small_site ((codes "/a", about 7) ∷ (codes "/about", about 3) ∷ []))
   pub root : apply (small_site []) (Put [] (about 3)) 7 ≡ Err refusals.Root
+  pub no_lasting_root : apply (small_site []) (Put [] (record (empty_menu (codes "Top") 0) { until = Some 9 })) 7 ≡ Err refusals.Root
   pub link : apply (small_site []) (Put (codes "URL:gopher://example.org/") bare) 7 ≡ Err refusals.Reserved
   pub post_name : apply (small_site []) (Put (codes "post/1") (about 3)) 7 ≡ Err refusals.Reserved
   pub bare_document : apply (small_site []) (Put (codes "/about") (with_summary 401 bare)) 7 ≡ Err refusals.BadName
@@ -42,7 +43,7 @@ pub record SiteExamples : Type 0 where
   pub root_stays : apply (small_site []) (Remove []) 7 ≡ Err refusals.Root
   pub missing : apply (small_site []) (Remove (codes "/about")) 7 ≡ Err refusals.Missing
   pub moved : apply (small_site ((codes "/about", about 3) ∷ [])) (Move (codes "/about") (codes "/us")) 7 ≡
-      Ok (small_site ((codes "/about", record { title = codes "About us"; stamp = 7; summary = []; body = Moved (codes "/us") }) ∷ (codes "/us", about 3) ∷ []))
+      Ok (small_site ((codes "/about", record { title = codes "About us"; stamp = 7; until = None; summary = []; body = Moved (codes "/us") }) ∷ (codes "/us", about 3) ∷ []))
   pub host : apply (small_site []) (SetHost (codes "example.org") 70) 7 ≡ Ok (record (small_site []) { host = codes "example.org"; port = 70 })
   pub no_port : apply (small_site []) (SetHost (codes "example.org") 0) 7 ≡ Err refusals.BadName
   pub admin : apply (small_site []) (SetAdmin (codes "Eve")) 7 ≡ Ok (record (small_site []) { admin = codes "Eve" })

@@ -2,7 +2,7 @@
 use Rattle.std.specs.Prelude.{◌≡◌, ◌<◌, ◌≤◌, ℕ, Bool, true, false, List, drop, map, Result, Err, IsOk, IsTrue}
 pub use Rattle.common_types.specs.Counts.{Rose}
 use Rattle.host_types.specs.Site.{Site, Items}
-use Rattle.host_types.specs.declared.change.Change.{Change}
+use Rattle.host_types.specs.AllChanges.{Changes}
 use Rattle.common_types.specs.declared.refused.Refused.{Refused}
 use Rattle.host_types.specs.declared.site_fault.SiteFault.{SiteFault}
 use Rattle.host_types.specs.declared.site_fault.SiteFault.TheVariants as faults
@@ -41,10 +41,10 @@ IsReadFault may_lack_memory old new faults.Deep = ⊥
 IsReadFault may_lack_memory old new faults.Failed = old.usable ≡ false
 IsReadFault may_lack_memory old new faults.Memory = IsTrue may_lack_memory
 
--- A change at a moment may be refused for lack of the same before and now.
-pub record LacksTheSame (old new : Change → ℕ → SiteFault → Type 0) : Type 0 where
-  pub after : (change : Change) (now : ℕ) (fault : SiteFault) → old change now fault → new change now fault
-  pub before : (change : Change) (now : ℕ) (fault : SiteFault) → new change now fault → old change now fault
+-- Changes may be refused for lack of the same before and now.
+pub record LacksTheSame (old new : Changes → SiteFault → Type 0) : Type 0 where
+  pub after : (changes : Changes) (fault : SiteFault) → old changes fault → new changes fault
+  pub before : (changes : Changes) (fault : SiteFault) → new changes fault → old changes fault
 
 -- What stands in a buffer behind its first n places stays.
 abbrev pub IsUnchangedBehind : ℕ → List ℕ → List ℕ → Type 0

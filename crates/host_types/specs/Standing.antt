@@ -4,7 +4,7 @@ use Rattle.std.specs.List.{list_all, list_any}
 use Rattle.std.proofs.Common.{arith, refl}
 use Rattle.std.proofs.lemmas.Bool.{and_parts, or_parts, not-true, leb-true, ltb-true, ltb-false, eqb-false}
 use Rattle.common_types.specs.Names.{is_field, is_url_name}
-use Rattle.host_types.specs.Items.{has_bad_name, has_twins, is_bad_entry, is_bad_question, is_bad_body, most_view_bytes, view_bytes, is_long_view, is_long_question, is_long_body, is_long_item, is_selector, is_title, is_typed_entry, prompt_of, is_typed_body, is_typed_item}
+use Rattle.host_types.specs.Items.{has_bad_name, has_twins, is_bad_entry, is_bad_question, is_bad_body, most_view_bytes, view_bytes, is_long_view, is_long_question, is_long_body, is_long_item, is_selector, is_title, is_typed_entry, prompt_of, is_typed_body, is_until, has_moments, is_typed_item}
 use Rattle.host_types.specs.Site.{Site, IsSite, item_at, board_of}
 use Rattle.host_types.specs.declared.view.View.{View}
 use Rattle.host_types.specs.declared.menu.Entry.{Entry}
@@ -56,6 +56,7 @@ pub record HasLimits (selector : List ℕ) (item : Item) : Type 0 where
   pub title : length item.title ≤ 69
   pub title_field : IsTrue (is_field item.title)
   pub stamp : item.stamp ≤ 253402300799
+  pub until : IsTrue (is_until item.until)
   pub summary : length item.summary ≤ 400
   pub body : HasBodyLimits selector item.body
 
@@ -114,9 +115,10 @@ limits_at s selector item site stands =
     let may = site.each selector item stands in
     let name = and_parts (nat_le (length selector) 255) (is_field selector) may.name in
     let valid = and_parts (is_typed_item item) (not (is_bad_body item.body) && not (is_long_item selector item)) may.valid in
-    let typed = and_parts (is_title item.title) (nat_le item.stamp 253402300799 && is_typed_body item.body) valid.0 in
+    let typed = and_parts (is_title item.title) (has_moments item && is_typed_body item.body) valid.0 in
     let title = and_parts (nat_le (length item.title) 69) (is_field item.title) typed.0 in
-    let body = and_parts (nat_le item.stamp 253402300799) (is_typed_body item.body) typed.1 in
+    let body = and_parts (has_moments item) (is_typed_body item.body) typed.1 in
+    let moments = and_parts (nat_le item.stamp 253402300799) (is_until item.until) body.0 in
     let limits = and_parts (not (is_bad_body item.body)) (not (is_long_item selector item)) valid.1 in
     let sizes = or_parts (nat_lt 400 (length item.summary)) (is_long_body selector item.body) (not-true (is_long_item selector item) limits.1) in
     record {
@@ -125,7 +127,8 @@ limits_at s selector item site stands =
       no_url = may.no_url;
       title = leb-true (length item.title) 69 title.0;
       title_field = title.1;
-      stamp = leb-true item.stamp 253402300799 body.0;
+      stamp = leb-true item.stamp 253402300799 moments.0;
+      until = moments.1;
       summary = ltb-false 400 (length item.summary) sizes.0;
       body = body_limits selector item.body body.1 (not-true (is_bad_body item.body) limits.0) sizes.1 may.counted;
     }

@@ -55,6 +55,8 @@ pub struct Card {
     pub title: Title,
     /// When it last changed.
     pub stamp: Stamp,
+    /// From when on clients don't find it, if it expires at all.
+    pub until: Option<Stamp>,
     /// Empty where it has none.
     pub summary: Bytes,
     /// What it has beside.
@@ -147,6 +149,7 @@ impl Item {
         Ok(Card {
             title: self.title.clone()?,
             stamp: self.stamp,
+            until: self.until,
             summary: self.summary.clone()?,
             body: self.body.card(alloc)?,
         })

@@ -84,6 +84,8 @@ pub struct Item {
     pub title: Title,
     /// When it last changed.
     pub stamp: Stamp,
+    /// From when on clients don't find it, if it expires at all.
+    pub until: Option<Stamp>,
     /// At most 400 bytes where a change puts it; empty where it has none.
     pub summary: Bytes,
     /// What it has beside.
@@ -98,12 +100,14 @@ impl Item {
         let Item {
             title,
             stamp: _,
+            until,
             summary,
             body,
         } = self;
         Item {
             title,
             stamp: now,
+            until,
             summary,
             body: body.put_over(old),
         }
@@ -119,6 +123,7 @@ impl Item {
         Ok(Item {
             title: self.title.clone()?,
             stamp: now,
+            until: None,
             summary: no_summary,
             body: Body::Moved {
                 target: to.clone()?,
@@ -136,6 +141,7 @@ impl Item {
         Ok(Item {
             title: self.title.clone()?,
             stamp: now,
+            until: self.until,
             summary: self.summary.clone()?,
             body: Body::Board {
                 cap,
@@ -151,6 +157,7 @@ impl Item {
         Item {
             title,
             stamp,
+            until: None,
             summary: Bytes::new(alloc),
             body: Body::Menu(EntryList::new(alloc)),
         }
@@ -170,6 +177,7 @@ impl Item {
         Ok(Item {
             title,
             stamp,
+            until: None,
             summary: Bytes::new(alloc),
             body: Body::Views(Kind::Text, views),
         })
@@ -183,6 +191,7 @@ impl Clone for Item {
         Ok(Item {
             title: self.title.clone()?,
             stamp: self.stamp,
+            until: self.until,
             summary: self.summary.clone()?,
             body: self.body.clone()?,
         })

@@ -3,6 +3,8 @@
 
 mod card;
 mod change;
+mod changes_fault;
+mod expiry;
 mod form;
 mod item;
 mod laws;
@@ -17,9 +19,11 @@ mod view;
 
 pub use card::{CHUNK, Card, CardBody, CardView, CardViewList, chunk_of};
 pub use change::Change;
+pub use changes_fault::ChangesFault;
 pub use common_types::{
     Admin, Bytes, GREATEST_STAMP, Host, List, Refused, Selector, Stamp, Title, Url,
 };
+pub use expiry::is_over;
 pub use form::{ChoiceList, Question, QuestionList};
 pub use item::{Body, Item};
 pub use laws::{changes_keep_sites_valid, what_stands_has_limits, worked_examples};

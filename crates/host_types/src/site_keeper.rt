@@ -1,19 +1,21 @@
 // A site that is kept somewhere.
-ghost use Rattle.std.specs.Prelude.{◌≡◌, ◌⊎◌, ◌≤◌, ℕ, Bool, true, false, Ok, Err, IfOk, OnOk, IfErr, IsErrOf, IsTrue, length, take};
+ghost use Rattle.std.specs.Prelude.{◌≡◌, ◌⊎◌, ◌≤◌, ◌∷◌, [], ℕ, Bool, true, false, Ok, Err, IfOk, OnOk, IfErr, IsErrOf, IsTrue, length, take};
 ghost use Rattle.host_types.specs.Site.{Site};
 ghost use Rattle.host_types.specs.Change.{apply};
+ghost use Rattle.host_types.specs.AllChanges.{Changes, all_applied};
+ghost use Rattle.host_types.specs.ChangesFaults.{as_one, IsChangesFault};
 ghost use Rattle.host_types.specs.Card.{card_at, chunk_of};
 ghost use Rattle.common_types.specs.CrashStates.{CrashStates, AddsOnly, AddsNone, may_crash_to};
 ghost use Rattle.host_types.specs.Counting.{CountsReads, CountsWrites};
 ghost use Rattle.host_types.specs.SiteState.{SiteState, HasRead, LacksTheSame, IsUnchangedBehind, HasTried, HasNotChanged, IsReadFault, IsChangeFault};
 ghost use Rattle.host_types.specs.Pins.{Pinned, is_out, pinned_items, viewed_among, IsPinned, IsPinFault, IsUnpinned};
 ghost use Rattle.host_types.specs.Address.{address};
-ghost use Rattle.host_types.specs.declared.change.Change.{Change as ChangeValue};
 ghost use Rattle.host_types.specs.declared.site_fault.SiteFault.{SiteFault as SiteFaultValue};
 ghost use Rattle.host_types.specs.declared.site_fault.SiteFault.TheVariants.{Failed};
+ghost use Rattle.host_types.specs.declared.changes_fault.ChangesFault.TheVariants.{Failed as AllFailed};
 ghost use Rattle.host_types.specs.declared.pin_fault.SitePinFault.TheVariants.{Failed as PinFailed};
 
-use crate::{Admin, Card, Change, Host, Selector, SiteFault, SitePinFault, Stamp};
+use crate::{Admin, Card, Change, ChangesFault, Host, Selector, SiteFault, SitePinFault, Stamp};
 use std::marker::Model;
 
 /// Under which name clients find a site, and who keeps it.
@@ -42,8 +44,8 @@ pub trait SiteKeeper {
     /// The site, the flags and the counts of failed calls.
     ghost site_state: { Self → SiteState };
 
-    /// For lack of what a valid change at a moment may be refused: room, a further change at all, or levels.
-    ghost lacks: { Self → ChangeValue → ℕ → SiteFaultValue → Type 0 };
+    /// For lack of what valid changes that are made in one step may be refused: room, a further change at all, or levels.
+    ghost lacks: { Self → Changes → SiteFaultValue → Type 0 };
 
     /// A crash state.
     ghost CrashState: { Type 0 };
@@ -119,7 +121,7 @@ pub trait SiteKeeper {
     fn change(&mut self, change: Change, now: Stamp) -> Result<(), SiteFault>
         ensures done { IsTrue (site_state self.old).honest → OnOk result (apply (site_state self.old).site change now ≡ Ok (site_state self.new).site) }
         ensures still_usable { OnOk result ((site_state self.new).usable ≡ true) }
-        ensures fault { IfErr result (IsChangeFault (lacks self.old change now) (site_state self.old) (site_state self.new) (apply (site_state self.old).site change now)) }
+        ensures fault { IfErr result (IsChangeFault (lacks self.old ((change, now) ∷ [])) (site_state self.old) (site_state self.new) (apply (site_state self.old).site change now)) }
         ensures closed { (site_state self.old).usable ≡ false → IsErrOf result Failed }
         ensures tried { HasTried (site_state self.old) (site_state self.new) }
         ensures reads { CountsReads result (site_state self.old) (site_state self.new) }
@@ -128,6 +130,24 @@ pub trait SiteKeeper {
         // A crash within the call leaves what represents the site before it, or the changed one.
         ensures at_crash { IsTrue (site_state self.old).honest → (site_state self.old).usable ≡ true →
             AddsOnly (crash_states self.old) (crash_states self.new) (λ c. represents c (site_state self.old).site ⊎ ((s : Site) × (apply (site_state self.old).site change now ≡ Ok s) × represents c s)) }
+
+        // Where nothing failed and nothing was changed, nothing was written.
+        ensures no_new_crash_state { IsTrue (site_state self.old).honest → IfErr result (λ e. (site_state self.new).usable ≡ true → AddsNone (crash_states self.old) (crash_states self.new)) }
+        ensures no_new_crash_state_when_closed { IsTrue (site_state self.old).honest → (site_state self.old).usable ≡ false → AddsNone (crash_states self.old) (crash_states self.new) };
+
+    /// Makes all of these changes in one step, each at its own moment on the site with those before it. Where one is refused, or the step can't be made, none is.
+    fn change_all(&mut self, changes: Vec<(Change, Stamp)>) -> Result<(), ChangesFault>
+        ensures done { IsTrue (site_state self.old).honest → OnOk result (all_applied (site_state self.old).site changes.items ≡ Ok (site_state self.new).site) }
+        ensures still_usable { OnOk result ((site_state self.new).usable ≡ true) }
+        ensures fault { IfErr result (IsChangesFault (lacks self.old changes.items) (site_state self.old) (site_state self.new) (all_applied (site_state self.old).site changes.items)) }
+        ensures closed { (site_state self.old).usable ≡ false → IsErrOf result AllFailed }
+        ensures tried { HasTried (site_state self.old) (site_state self.new) }
+        ensures reads { CountsReads (as_one result) (site_state self.old) (site_state self.new) }
+        ensures writes { CountsWrites (as_one result) (site_state self.old) (site_state self.new) }
+
+        // A crash within the call leaves what represents the site before it, or the one with all changes.
+        ensures at_crash { IsTrue (site_state self.old).honest → (site_state self.old).usable ≡ true →
+            AddsOnly (crash_states self.old) (crash_states self.new) (λ c. represents c (site_state self.old).site ⊎ ((s : Site) × (all_applied (site_state self.old).site changes.items ≡ Ok s) × represents c s)) }
 
         // Where nothing failed and nothing was changed, nothing was written.
         ensures no_new_crash_state { IsTrue (site_state self.old).honest → IfErr result (λ e. (site_state self.new).usable ≡ true → AddsNone (crash_states self.old) (crash_states self.new)) }

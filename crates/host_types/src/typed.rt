@@ -1,10 +1,10 @@
 // What the types say of each value: its names are valid, and its numbers fit.
 ghost use Rattle.std.specs.Prelude.{IsTrue};
 ghost use Rattle.std.specs.List.{list_all};
-ghost use Rattle.host_types.specs.Items.{is_selector, is_title, is_admin, is_host, is_link, is_typed_entry, prompt_of, is_typed_body, is_typed_item};
+ghost use Rattle.host_types.specs.Items.{is_selector, is_title, is_admin, is_host, is_link, is_typed_entry, prompt_of, is_typed_body, is_until, is_typed_item};
 ghost use Rattle.host_types.specs.ValidChanges.{is_typed_change};
 
-use crate::{Admin, Body, Change, Entry, Host, Item, Question, Selector, Title, Url};
+use crate::{Admin, Body, Change, Entry, Host, Item, Question, Selector, Stamp, Title, Url};
 
 /// A name is valid as its type says.
 pub fn valid_selector(selector: &Selector)
@@ -115,6 +115,15 @@ impl Body {
     }
 }
 
+/// A moment fits, where there is one.
+fn valid_until(until: Option<Stamp>)
+    ensures { IsTrue (is_until until) }
+{
+    if let Some(until) = until {
+        let _ = until.seconds();
+    }
+}
+
 impl Item {
     /// Each of its names is valid as its type says, and its numbers fit.
     pub fn valid_names(&self)
@@ -122,6 +131,7 @@ impl Item {
     {
         valid_title(&self.title);
         let _ = self.stamp.seconds();
+        valid_until(self.until);
         self.body.valid_names();
     }
 }

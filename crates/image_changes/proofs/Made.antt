@@ -1,6 +1,7 @@
 -- From what changes answer to what a crash leaves of them.
 use Rattle.std.proofs.Common.{◌≡◌, ◌≢◌, ℕ, Bool, List, Ok, Err, refl, sym, ap, ◌∙◌, subst, true, ◌-◌, take}
 use Rattle.std.specs.Prelude.{Result, OnOk, IfErr}
+use Rattle.host_types.specs.AllChanges.{Changes}
 use Rattle.host_types.specs.Site.{Site}
 use Rattle.host_types.specs.SiteState.{SiteState}
 use Rattle.host_types.specs.CrashStates.{CrashStates, may_crash_to}
@@ -15,7 +16,7 @@ use Rattle.change_file.specs.declared.fault.ApplyFault.{ApplyFault}
 use Rattle.image_changes.specs.ImageChanges.{HasMade}
 
 -- but for a failed write or sync the keeper stays usable
-not_shut : {S : Type 0} (state : S → SiteState) (lacks : S → SiteChange → ℕ → SiteFault → Type 0) (change : FileChange) (now : ℕ) (made new : S) (fault : SiteFault) → fault ≢ faults.Failed → IsStop state lacks change now made new fault → (state new).usable ≡ (state made).usable
+not_shut : {S : Type 0} (state : S → SiteState) (lacks : S → Changes → SiteFault → Type 0) (change : FileChange) (now : ℕ) (made new : S) (fault : SiteFault) → fault ≢ faults.Failed → IsStop state lacks change now made new fault → (state new).usable ≡ (state made).usable
 not_shut state lacks (Change change) now made new (faults.Refused r) other stop = stop.0.0.usable
 not_shut state lacks (Change change) now made new faults.Read other stop = stop.0.0.usable
 not_shut state lacks (Change change) now made new (faults.Full need free) other stop = stop.0.0.usable
@@ -33,7 +34,7 @@ all_made represents states old t changes now U (Err e) made usable sure = made
 at_err : (P : ApplyFault → Type 0) (result : Result ℕ ApplyFault) (e : ApplyFault) → result ≡ Err e → IfErr result P → P e
 at_err P result e is h = subst (λ (r : Result ℕ ApplyFault). IfErr r P) is h
 
-pub before_made : {S L : Type 0} (state : S → SiteState) (lacks : S → SiteChange → ℕ → SiteFault → Type 0) (represents : L → Site → Type 0) (states : CrashStates L) (old new : S) (changes : List FileChange) (now : ℕ) (result : Result ℕ ApplyFault) →
+pub before_made : {S L : Type 0} (state : S → SiteState) (lacks : S → Changes → SiteFault → Type 0) (represents : L → Site → Type 0) (states : CrashStates L) (old new : S) (changes : List FileChange) (now : ℕ) (result : Result ℕ ApplyFault) →
     (state old).usable ≡ true →
     IfErr result (λ e. IsStopped state lacks old new changes now e.number e.fault) →
     IfErr result (λ e. apply_all (state old).site (take (e.number - 1) changes) now ≡ Ok (state new).site) →

@@ -1,5 +1,6 @@
 -- Changes that are made on a site and on the site of an image, and what a crash leaves of them.
 use Rattle.std.specs.Prelude.{◌≡◌, ◌≢◌, ℕ, ◌-◌, true, List, ◌++◌, take, Result, Ok, Err, OnOk, IfErr, IsTrue, length}
+use Rattle.host_types.specs.AllChanges.{Changes}
 use Rattle.host_types.specs.Site.{Site}
 use Rattle.host_types.specs.SiteState.{SiteState}
 use Rattle.host_types.specs.Counting.{IsReadCounted, writes_after}
@@ -41,7 +42,7 @@ pub record CountsOnDevice (fault : SiteFault) (old new : State) : Type 0 where
   pub writes : new.failed_writes ≡ writes_after true fault old.failed_writes
 
 -- A device was opened as the site that it shows, which counts nothing; the changes up to one were made on that, and that one was not, for its own cause; and the device was handed back.
-pub record StopsOnImage {D S : Type 0} (state : D → State) (device : S → D) (site_state : S → SiteState) (lacks : S → SiteChange → ℕ → SiteFault → Type 0) (old new : D) (changes : List FileChange) (now : ℕ) (stopped : ApplyFault) : Type 0 where
+pub record StopsOnImage {D S : Type 0} (state : D → State) (device : S → D) (site_state : S → SiteState) (lacks : S → Changes → SiteFault → Type 0) (old new : D) (changes : List FileChange) (now : ℕ) (stopped : ApplyFault) : Type 0 where
   pub opened : S
   pub closed : S
   pub shows : IsTrue (state old).honest → ImageRepresents (state old).disk.view (site_state opened).site

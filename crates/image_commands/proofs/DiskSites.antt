@@ -1,5 +1,6 @@
 -- A site over a keeper, as its trait tells it.
 use Rattle.std.specs.Prelude.{ℕ}
+use Rattle.host_types.specs.AllChanges.{Changes}
 use Rattle.host_types.specs.SiteState.{SiteState}
 use Rattle.host_types.specs.CrashStates.{CrashStates}
 use Rattle.host_types.specs.declared.change.Change.{Change}
@@ -11,7 +12,7 @@ use Rattle.site_store.specs.declared.disk_site.DiskSite.{DiskSite}
 abbrev pub disk_state : {K : Type 0} {dict : _} → DiskSite K dict → SiteState
 disk_state {dict = dict} d = site_state_of (dict.store_state d.keeper) d.kept
 
-abbrev pub disk_lacks : {K : Type 0} {dict : _} → DiskSite K dict → Change → ℕ → SiteFault → Type 0
+abbrev pub disk_lacks : {K : Type 0} {dict : _} → DiskSite K dict → Changes → SiteFault → Type 0
 disk_lacks {dict = dict} d = IsLacking dict.store_state dict.may_need d.keeper (site_of (dict.store_state d.keeper) d.kept)
 
 abbrev pub disk_crash_states : {K : Type 0} {dict : _} → DiskSite K dict → CrashStates dict.CrashState

@@ -6,7 +6,7 @@ use Rattle.host_types.specs.Site.{Site, fresh_site}
 use Rattle.host_types.proofs.FreshSite.{fresh_keeps}
 use Rattle.page_store.specs.Sectors.{Image}
 use Rattle.page_store.specs.Pages.{Pair}
-use Rattle.page_store.specs.Content.{HasContent}
+use Rattle.page_store.specs.Content.{is_tree_version, HasContent}
 use Rattle.page_store.specs.Formatting.{IsFirst}
 use Rattle.page_store.specs.declared.banner.Banner.{Banner}
 use Rattle.site_records.specs.Layout.{layout}
@@ -16,7 +16,7 @@ use Rattle.image_commands.specs.Formatted.{IsFormatted}
 
 -- the banner of a tree with these names
 abbrev pub banner_of : List ℕ → ℕ → List ℕ → Banner
-banner_of host port admin = record { version = 1; host = host; port = port; admin = admin }
+banner_of host port admin = record { version = 2; host = host; port = port; admin = admin }
 
 -- a fresh site's layout under its banner
 pub fresh_shows : (pairs : List Pair) (host : List ℕ) (port : ℕ) (admin title : List ℕ) (now : ℕ) → pairs ≡ layout (fresh_site host port admin title now) → length host ≤ 100 → IsTrue (is_word host) → 0 < port → port < 2 ^ 16 → length admin ≤ 100 → IsTrue (is_field admin)
@@ -27,9 +27,10 @@ fresh_shows pairs host port admin title now all host_fits word given fits admin_
   host = refl;
   port = refl;
   admin = refl;
+  version = refl;
 }
 
-pub is_formatted : {T E : Type 0} (r : Result T E) (image : Image) (pages : ℕ) (pairs : List Pair) (banner : Banner) (s : Site) → OnOk r (HasContent image pairs banner) → OnOk r (IsFirst pages image) → banner.version ≡ 1 → Shows pairs banner s → OnOk r (IsFormatted image pages s)
+pub is_formatted : {T E : Type 0} (r : Result T E) (image : Image) (pages : ℕ) (pairs : List Pair) (banner : Banner) (s : Site) → OnOk r (HasContent image pairs banner) → OnOk r (IsFirst pages image) → IsTrue (is_tree_version banner.version) → Shows pairs banner s → OnOk r (IsFormatted image pages s)
 is_formatted (Ok x) image pages pairs banner s content first version shows =
     let stands = kept_stands image pairs banner s content version shows in
     record { stands = stands; alone = λ t other. one_site image t s other stands; first = first }

@@ -1,11 +1,12 @@
 -- Worked examples of what the commands on an image print.
-use Rattle.std.specs.Prelude.{◌≡◌, [], Ok, Err, codes}
+use Rattle.std.specs.Prelude.{◌≡◌, [], Ok, Err, codes, None}
 use Rattle.common_types.specs.declared.refused.Refused.TheVariants.{BadName, TooLong}
 use Rattle.host_types.specs.Site.{Site, text_item, fresh_site, with_item}
 use Rattle.host_types.specs.declared.item.Item.{Item}
 use Rattle.host_types.specs.declared.item.Body.TheVariants.{Moved}
 use Rattle.page_store.specs.declared.fault.KeeperFault.TheVariants as store
 use Rattle.image_commands.specs.Compacted.{free_line}
+use Rattle.image_commands.specs.Upgraded.{upgraded_line}
 use Rattle.image_commands.specs.Lines.{formatted_line, figures_line}
 use Rattle.image_commands.specs.Listing.{listing}
 use Rattle.image_commands.specs.Formatted.{names_of, sectors_of}
@@ -14,7 +15,7 @@ use Rattle.image_commands.specs.declared.fault.ImageFault.TheVariants.{Refused, 
 
 -- a note of a move to `/to`
 abbrev pub moved_item : Item
-moved_item = record { title = codes "Old"; stamp = 0; summary = []; body = Moved (codes "/to") }
+moved_item = record { title = codes "Old"; stamp = 0; until = None; summary = []; body = Moved (codes "/to") }
 
 -- a fresh site with a text and a note
 abbrev pub small_site : Site
@@ -24,6 +25,7 @@ pub record CommandExamples : Type 0 where
   pub formatted : formatted_line 64 ≡ codes "formatted 64 pages"
   pub figures : figures_line 2 10 61 3 ≡ codes "items 2 keys 10 free 61 generation 3"
   pub free : free_line 61 ≡ codes "free 61"
+  pub upgraded : upgraded_line 2 ≡ codes "upgraded 2"
   pub shown : listing small_site ≡ codes "1  Top\n0 /about About\\x20us\n> /from Old\n"
   pub pages : sectors_of 64 ≡ Ok 512
   pub few_pages : sectors_of 15 ≡ Err store.Small

@@ -34,7 +34,7 @@ fault_line Memory = codes "memory"
 abbrev pub store_advice : KeeperFault → List ℕ
 store_advice store.Device = []
 store_advice store.NoImage = codes "The command `format` makes an image; what is in the file is lost."
-store_advice store.Version = codes "The image was made by another version of the program."
+store_advice store.Version = codes "The image was made by another version of the program: the command `upgrade` takes over one of an older version."
 store_advice (store.Damaged page) = []
 store_advice store.Small = codes "An image has 16 to 65536 pages, and its file 4096 bytes for each."
 store_advice store.Spent = []

@@ -5,3 +5,4 @@ pub mod Faults
 pub mod FaultLines
 pub mod CommandExamples
 pub mod Compacted
+pub mod Upgraded

@@ -46,7 +46,9 @@ fn store_advice(fault: KeeperFault) -> &'static str
 {
     match fault {
         KeeperFault::NoImage => "The command `format` makes an image; what is in the file is lost.",
-        KeeperFault::Version => "The image was made by another version of the program.",
+        KeeperFault::Version => {
+            "The image was made by another version of the program: the command `upgrade` takes over one of an older version."
+        }
         KeeperFault::Small => "An image has 16 to 65536 pages, and its file 4096 bytes for each.",
         KeeperFault::Device
         | KeeperFault::Damaged { .. }

@@ -16,6 +16,7 @@ use host_types::Stamp;
 use page_store::{Banner, KeeperFault};
 use sector_device::Device;
 use site_pairs::first_pairs;
+use site_store::VERSION;
 use std::alloc::{AllocError, Global};
 
 /// How many sectors an image of so many pages has; `Small` where that is outside 16 to 65,536.
@@ -56,7 +57,7 @@ pub fn format_image<D: Device>(
     let _ = now.seconds();
     let pairs = first_pairs(alloc, &title, now)?;
     let banner = Banner {
-        version: 1,
+        version: VERSION,
         host,
         port,
         admin,

@@ -10,6 +10,7 @@ mod laws;
 mod listing;
 mod names;
 mod showing;
+mod upgrading;
 
 pub use checking::{check_image, check_site, figures_line};
 pub use compacting::{compact_image, free_line};
@@ -19,3 +20,4 @@ pub use formatting::{format_image, formatted_line, sectors_of};
 pub use laws::worked_examples;
 pub use names::SiteNames;
 pub use showing::{show_image, show_site};
+pub use upgrading::{upgrade_image, upgraded_line};

@@ -3,10 +3,18 @@ use Rattle.std.specs.Prelude.{◌≡◌, ◌⊎◌, ℕ, List, [], ◌∷◌, �
 use Rattle.std.specs.Net.Socket.{socket_ip, socket_port}
 use Rattle.std.specs.declared.net.ip_addr.IpAddr.TheVariants.{V4}
 use Rattle.std.specs.declared.net.socket_addr.SocketAddr.{SocketAddr}
+use Rattle.host_types.specs.AllChanges.{Changes}
+use Rattle.host_types.specs.CrashStates.{CrashStates}
 use Rattle.host_types.specs.Site.{Site}
 use Rattle.host_types.specs.SiteState.{SiteState}
+use Rattle.host_types.specs.declared.site_fault.SiteFault.{SiteFault}
 use Rattle.sector_device.specs.Device.{State}
+use Rattle.page_store.specs.Sectors.{Image as Content}
+use Rattle.session_core.specs.declared.event.Event.{Event}
+use Rattle.session_core.specs.declared.event.Outcome.{Outcome}
+use Rattle.turns.specs.Runs.{HasRun}
 use Rattle.host_on_disk.specs.ImageSites.{ImageRepresents}
+use Rattle.image_sessions.specs.ImageRuns.{OverSite, OnImage}
 use Rattle.host_on_disk.specs.declared.open_fault.OpenFault.TheVariants as opening
 use Rattle.ready_sockets.specs.DoorCalls.{DoorCall, Listened, NotListened}
 use Rattle.ready_sockets.specs.Rounds.{HasServed}
@@ -27,23 +35,34 @@ pub record IsPlace (device : State) (address : Option SocketAddr) (at : SocketAd
   pub is : IsGivenOrOwn address port at
   pub own : IsTrue device.honest → (s : Site) × ImageRepresents device.disk.view s × (port ≡ s.port)
 
--- A device was opened as the site that it shows. A listener was asked for once, and had. In a room in which nobody was, clients were served until that ended; and the device was handed back.
-pub record ServesClients {D S X : Type 0} (state : D → State) (device : S → D) (site_state : S → SiteState) (address : Option SocketAddr) (old new : D) (asked_before asked_now : List DoorCall) (result : Result X VisitFault) : Type 0 where
+-- A listener was asked for once, and had.
+abbrev pub IsListened : State → Option SocketAddr → List DoorCall → List DoorCall → Type 0
+IsListened device address before now = (at : SocketAddr) × IsPlace device address at × (now ≡ before ++ Listened at ∷ [])
+
+-- A device was opened as the site that it shows. In a room in which nobody was, clients were served by these events until that ended; and the device was handed back.
+pub record ServesClients {D S Log X : Type 0} (contents : Log → Option (List ℕ)) (state : D → State) (device : S → D) (site_state : S → SiteState) (old new : D) (log_before log_now : Log) (result : Result X VisitFault) (es : List Event) (os : List Outcome) : Type 0 where
   pub opened : S
   pub closed : S
   pub shows : IsTrue (state old).honest → ImageRepresents (state old).disk.view (site_state opened).site
-  pub at : SocketAddr
-  pub place : IsPlace (state old) address at
-  pub listened : asked_now ≡ asked_before ++ Listened at ∷ []
   pub first : Room
   pub last : Room
   pub fresh : IsFresh first
-  pub served : HasServed result (site_state closed).usable first last
+  pub served : HasServed contents result (site_state closed).usable (first, log_before) es os (last, log_now)
   pub handed : new ≡ device closed
+
+-- All that was done to a site is a run, by the events of the clients that were served in a room.
+abbrev pub VisitedOver : {S L Log X : Type 0} → (S → SiteState) → (S → Changes → SiteFault → Type 0) → (S → CrashStates L) → (L → Site → Type 0) → (Log → Option (List ℕ)) → Result X VisitFault → S → S → Room × Log → Room × Log → List ℕ → List ℕ → Type 0
+VisitedOver site_state lacks crash_states stands contents result old new first last told_before told_now =
+    HasRun (OverSite site_state lacks crash_states stands) old new told_before told_now (λ es os. HasServed contents result (site_state new).usable first es os last)
+
+-- And all that was done to a device.
+abbrev pub VisitedImage : {D S L Log X : Type 0} → (Log → Option (List ℕ)) → (D → State) → (S → D) → (S → SiteState) → (S → Changes → SiteFault → Type 0) → (S → CrashStates L) → (L → Site → Type 0) → (D → CrashStates Content) → Result X VisitFault → D → D → Log → Log → List ℕ → List ℕ → Type 0
+VisitedImage contents state device site_state lacks site_crash_states stands crash_states result old new log_before log_now told_before told_now =
+    HasRun (OnImage state device site_state lacks site_crash_states stands crash_states) old new told_before told_now (λ es os. ServesClients contents state device site_state old new log_before log_now result es os)
 
 -- What was asked of the system where no client is served: `Net` comes where a listener was not had; lack of memory before one was asked for, or behind one that was had; all else before.
 abbrev pub IsAskedInVain : State → Option SocketAddr → List DoorCall → List DoorCall → ServingFault → Type 0
 IsAskedInVain device address before now Net = (at : SocketAddr) × IsPlace device address at × (now ≡ before ++ NotListened at ∷ [])
-IsAskedInVain device address before now (Image opening.Memory) = (now ≡ before) ⊎ ((at : SocketAddr) × IsPlace device address at × (now ≡ before ++ Listened at ∷ []))
+IsAskedInVain device address before now (Image opening.Memory) = (now ≡ before) ⊎ IsListened device address before now
 IsAskedInVain device address before now (Image opening.BadRecord) = now ≡ before
 IsAskedInVain device address before now (Image (opening.Keeper fault)) = now ≡ before

@@ -4,7 +4,9 @@ ghost use Rattle.std.specs.String.{string_bytes};
 ghost use Rattle.image_server.specs.Lines as spec;
 
 use crate::ServingFault;
+use host_on_disk::OpenFault;
 use image_commands::{ImageFault, fault_line};
+use page_store::KeeperFault;
 use socket_wires::ServeFault;
 use std::alloc::{AllocError, Global};
 
@@ -21,6 +23,10 @@ pub fn round_line(alloc: Global, fault: ServeFault) -> Result<String, AllocError
 {
     match fault {
         ServeFault::Net => String::from_str(alloc, "net"),
+        ServeFault::Failed => {
+            let failed = OpenFault::Keeper(KeeperFault::Failed);
+            fault_line(alloc, ImageFault::from(failed))
+        }
         ServeFault::Memory => String::from_str(alloc, "memory"),
     }
 }

@@ -4,9 +4,7 @@ ghost use Rattle.page_store.specs.Steps.{crash_states_of};
 ghost use Rattle.cow_tree.specs.TreeSeen.{device_of};
 ghost use Rattle.site_store.specs.Seen.{keeper_of};
 ghost use Rattle.host_on_disk.specs.OpenFaults.{HandsBack};
-ghost use Rattle.image_sessions.specs.ImageRuns.{OverSite, OnImage};
-ghost use Rattle.turns.specs.Runs.{HasRun};
-ghost use Rattle.image_server.specs.Serving.{ServesOver, ServesImage, IsServingFault};
+ghost use Rattle.image_server.specs.Serving.{ServedOver, ServedImage, IsServingFault};
 
 use cow_tree::TreeKeeper;
 use host_on_disk::{OpenFault, open_site};
@@ -40,8 +38,7 @@ pub fn serve_over<S: SearchKeeper, C: Clock>(
 ) -> Result<(Result<u64, ServeFault>, S), (OpenFault, S)>
     requires usable { (S.site_state site).usable ≡ true }
     requires unpinned { (S.site_state site).pins ≡ [] }
-    ensures ran { IfOk result (λ r. HasRun (OverSite S.site_state S.lacks S.crash_states S.represents) site r.1 (C.given clock.old) (C.given clock.new) (λ es os. Unit {0})) }
-    ensures serves { IfOk result (λ r. IfOk r.0 (ServesOver ⟦<S as SiteKeeper>⟧ S.site_state S.lacks S.crash_states S.represents together rounds site r.1 (C.given clock.old) (C.given clock.new))) }
+    ensures served { IfOk result (λ r. ServedOver ⟦<S as SiteKeeper>⟧ S.site_state S.lacks S.crash_states S.represents together rounds r.0 site r.1 (C.given clock.old) (C.given clock.new)) }
     ensures unpinned { IfOk result (λ r. (S.site_state r.1).pins ≡ []) }
     ensures err { IfErr result (λ e. (e.0 ≡ OpenFault.Memory) × (e.1 ≡ site)) }
     ensures untold { IfErr result (λ e. clock.new ≡ clock.old) }
@@ -66,8 +63,7 @@ pub fn serve_image<D: Device, R: Net<Listener = TcpListener, Stream = TcpStream>
     together: u32,
     rounds: u32,
 ) -> Result<(Result<u64, ServeFault>, D), (ServingFault, D)>
-    ensures ran { IfOk result (λ r. HasRun (OnImage D.state (λ d. device_of (keeper_of d)) ⟦<DiskSite<TreeKeeper<D>> as SiteKeeper>⟧.site_state ⟦<DiskSite<TreeKeeper<D>> as SiteKeeper>⟧.lacks ⟦<DiskSite<TreeKeeper<D>> as SiteKeeper>⟧.crash_states ⟦<DiskSite<TreeKeeper<D>> as SiteKeeper>⟧.represents (crash_states_of D.moment D.possible_since)) device r.1 (C.given clock.old) (C.given clock.new) (λ es os. Unit {0})) }
-    ensures serves { IfOk result (λ r. IfOk r.0 (ServesImage ⟦<DiskSite<TreeKeeper<D>> as SiteKeeper>⟧ D.state (λ d. device_of (keeper_of d)) ⟦<DiskSite<TreeKeeper<D>> as SiteKeeper>⟧.site_state ⟦<DiskSite<TreeKeeper<D>> as SiteKeeper>⟧.lacks ⟦<DiskSite<TreeKeeper<D>> as SiteKeeper>⟧.crash_states ⟦<DiskSite<TreeKeeper<D>> as SiteKeeper>⟧.represents together rounds device r.1 (C.given clock.old) (C.given clock.new))) }
+    ensures served { let k = ⟦<DiskSite<TreeKeeper<D>> as SiteKeeper>⟧ in IfOk result (λ r. ServedImage k D.state (λ d. device_of (keeper_of d)) k.site_state k.lacks k.crash_states k.represents (crash_states_of D.moment D.possible_since) together rounds r.0 device r.1 (C.given clock.old) (C.given clock.new)) }
     ensures refused { IfErr result (λ e. HandsBack IsServingFault D.state (crash_states_of D.moment D.possible_since) device e.1 e.0) }
     ensures untold { IfErr result (λ e. clock.new ≡ clock.old) }
 {

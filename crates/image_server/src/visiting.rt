@@ -1,14 +1,11 @@
 // Serves whoever comes, over a site that is handed in, and over the site of an image.
-ghost use Rattle.std.specs.Prelude.{◌≡◌, true, [], IfOk, IfErr, OnErr};
+ghost use Rattle.std.specs.Prelude.{◌≡◌, true, [], IfOk, IfErr, OnErr, OnOk};
 ghost use Rattle.page_store.specs.Steps.{crash_states_of};
 ghost use Rattle.cow_tree.specs.TreeSeen.{device_of};
 ghost use Rattle.site_store.specs.Seen.{keeper_of};
 ghost use Rattle.host_on_disk.specs.OpenFaults.{HandsBack};
-ghost use Rattle.image_sessions.specs.ImageRuns.{OverSite, OnImage};
-ghost use Rattle.turns.specs.Runs.{HasRun};
-ghost use Rattle.ready_sockets.specs.Rounds.{HasServed};
 ghost use Rattle.image_server.specs.Serving.{IsServingFault, of_visits};
-ghost use Rattle.image_server.specs.Visiting.{IsGivenOrOwn, ServesClients, IsAskedInVain};
+ghost use Rattle.image_server.specs.Visiting.{IsGivenOrOwn, VisitedOver, VisitedImage, IsListened, IsAskedInVain};
 
 use crate::ServingFault;
 use cow_tree::TreeKeeper;
@@ -60,9 +57,8 @@ pub fn visits_over<S: SearchKeeper, C: Clock, R: Time, L: Write>(
 ) -> Result<(Result<(), VisitFault>, S), (OpenFault, S)>
     requires usable { (S.site_state site).usable ≡ true }
     requires unpinned { (S.site_state site).pins ≡ [] }
-    ensures served { IfOk result (λ r. HasServed r.0 (S.site_state r.1).usable room.old room.new) }
-    ensures unasked { OnErr result (room.new ≡ room.old) }
-    ensures ran { IfOk result (λ r. HasRun (OverSite S.site_state S.lacks S.crash_states S.represents) site r.1 (C.given clock.old) (C.given clock.new) (λ es os. Unit {0})) }
+    ensures served { IfOk result (λ r. VisitedOver S.site_state S.lacks S.crash_states S.represents L.contents r.0 site r.1 (room.old, log.old) (room.new, log.new) (C.given clock.old) (C.given clock.new)) }
+    ensures unasked { OnErr result ((room.new ≡ room.old) × (log.new ≡ log.old)) }
     ensures unpinned { IfOk result (λ r. (S.site_state r.1).pins ≡ []) }
     ensures err { IfErr result (λ e. (e.0 ≡ OpenFault.Memory) × (e.1 ≡ site)) }
     ensures untold { IfErr result (λ e. clock.new ≡ clock.old) }
@@ -89,9 +85,9 @@ pub fn serve_clients<D: Device, R: Net + Time, C: Clock, L: Write>(
     clock: &mut C,
     log: &mut L,
 ) -> Result<(Result<(), VisitFault>, D), (ServingFault, D)>
-    ensures served { IfOk result (λ r. ServesClients D.state (λ d. device_of (keeper_of d)) ⟦<DiskSite<TreeKeeper<D>> as SiteKeeper>⟧.site_state address device r.1 asked.old.calls asked.new.calls r.0) }
+    ensures served { let k = ⟦<DiskSite<TreeKeeper<D>> as SiteKeeper>⟧ in IfOk result (λ r. VisitedImage L.contents D.state (λ d. device_of (keeper_of d)) k.site_state k.lacks k.crash_states k.represents (crash_states_of D.moment D.possible_since) r.0 device r.1 log.old log.new (C.given clock.old) (C.given clock.new)) }
+    ensures listened { OnOk result (IsListened (D.state device) address asked.old.calls asked.new.calls) }
     ensures asked { IfErr result (λ e. IsAskedInVain (D.state device) address asked.old.calls asked.new.calls e.0) }
-    ensures ran { IfOk result (λ r. HasRun (OnImage D.state (λ d. device_of (keeper_of d)) ⟦<DiskSite<TreeKeeper<D>> as SiteKeeper>⟧.site_state ⟦<DiskSite<TreeKeeper<D>> as SiteKeeper>⟧.lacks ⟦<DiskSite<TreeKeeper<D>> as SiteKeeper>⟧.crash_states ⟦<DiskSite<TreeKeeper<D>> as SiteKeeper>⟧.represents (crash_states_of D.moment D.possible_since)) device r.1 (C.given clock.old) (C.given clock.new) (λ es os. Unit {0})) }
     ensures refused { IfErr result (λ e. HandsBack IsServingFault D.state (crash_states_of D.moment D.possible_since) device e.1 e.0) }
     ensures untold { IfErr result (λ e. clock.new ≡ clock.old) }
 {

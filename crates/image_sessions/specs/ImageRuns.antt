@@ -1,5 +1,6 @@
 -- Events of one hub over a site, and over the site of an image, and a script that makes them.
 use Rattle.std.specs.Prelude.{◌≡◌, ℕ, List, [], Option, IfSome, Result, Err, OnOk, IsTrue}
+use Rattle.host_types.specs.AllChanges.{Changes}
 use Rattle.host_types.specs.Site.{Site}
 use Rattle.host_types.specs.SiteState.{SiteState}
 use Rattle.host_types.specs.CrashStates.{CrashStates}
@@ -18,13 +19,13 @@ use Rattle.host_script.specs.declared.fault.Fault.TheVariants.{Script}
 use Rattle.host_on_disk.specs.Headline.{Survives, RunsOver, RunsOn}
 
 -- A site is handed in and back, and in between these events had these outcomes in one hub, whose sessions count from 1: the calls, on any device; and over an honest one they are a run of the world, with what a crash at any moment of it leaves.
-pub record OverSite {S L : Type 0} (site_state : S → SiteState) (lacks : S → Change → ℕ → SiteFault → Type 0) (crash_states : S → CrashStates L) (stands : L → Site → Type 0) (old : S) (events : List Event) (outcomes : List Outcome) (new : S) : Type 0 where
+pub record OverSite {S L : Type 0} (site_state : S → SiteState) (lacks : S → Changes → SiteFault → Type 0) (crash_states : S → CrashStates L) (stands : L → Site → Type 0) (old : S) (events : List Event) (outcomes : List Outcome) (new : S) : Type 0 where
   pub calls : RunsOver site_state lacks crash_states stands old new 1 events outcomes
   pub run : IsTrue (site_state old).honest → (last : World) × Run (started (site_state old).site 1) events outcomes last × HasCrashStates stands (started (site_state old).site 1) last (crash_states old) (crash_states new) events outcomes
   pub honest : (site_state new).honest ≡ (site_state old).honest
 
 -- The same of a device that is opened as the site which it shows, and what survives a crash at any moment of it.
-pub record OnImage {D S L : Type 0} (state : D → State) (device : S → D) (site_state : S → SiteState) (lacks : S → Change → ℕ → SiteFault → Type 0) (site_crash_states : S → CrashStates L) (stands : L → Site → Type 0) (crash_states : D → CrashStates Image) (old : D) (events : List Event) (outcomes : List Outcome) (new : D) : Type 0 where
+pub record OnImage {D S L : Type 0} (state : D → State) (device : S → D) (site_state : S → SiteState) (lacks : S → Changes → SiteFault → Type 0) (site_crash_states : S → CrashStates L) (stands : L → Site → Type 0) (crash_states : D → CrashStates Image) (old : D) (events : List Event) (outcomes : List Outcome) (new : D) : Type 0 where
   pub calls : RunsOn state device site_state lacks site_crash_states stands old new 1 events outcomes
   pub survives : IsTrue (state old).honest → Survives state crash_states old new 1 events outcomes
   pub honest : (state new).honest ≡ (state old).honest

@@ -12,7 +12,7 @@ use Rattle.std.specs.declared.cmp.Ordering.{Ordering}
 use Rattle.std.specs.declared.cmp.Ordering.TheVariants.{Less, Equal, Greater}
 use Rattle.std.specs.Ordering.{is_eq, is_lt}
 use Rattle.std.proofs.lemmas.Bool.{and_parts, ltb-true, cond-true}
-use Rattle.host_types.specs.Items.{is_title, is_host, is_admin, is_typed_body, is_typed_item}
+use Rattle.host_types.specs.Items.{has_moments, is_title, is_host, is_admin, is_typed_body, is_typed_item}
 use Rattle.host_types.specs.Site.{Site, byte_cmp, item_at, post_selector, board_in, board_at, IsPost, MayStand, IsSite}
 use Rattle.mem_site.specs.ValidSites.{IsLast, IsPlainText, BoardsFit, IsTyped, AreTyped, AllMayStand, HasFront}
 use Rattle.host_types.specs.declared.item.Item.{Item}
@@ -68,8 +68,8 @@ module _ (P : List ℕ × Item → Type 0) where
 boards_fit_at : (o : Option Item) (cap next : ℕ) → ((item : Item) → o ≡ Some item → is_typed_item item ≡ true) → board_in o ≡ Some (cap, next) → next < 2 ^ 64
 boards_fit_at None cap next typed is = absurd (cc is)
 boards_fit_at (Some item) cap next typed is =
-    let parts = and_parts (is_title item.title) (nat_le item.stamp 253402300799 && is_typed_body item.body) (typed item refl) in
-    let body = (and_parts (nat_le item.stamp 253402300799) (is_typed_body item.body) parts.1).1 in
+    let parts = and_parts (is_title item.title) (has_moments item && is_typed_body item.body) (typed item refl) in
+    let body = (and_parts (has_moments item) (is_typed_body item.body) parts.1).1 in
     ltb-true next (2 ^ 64) (ap is_typed_body (sym (body_is item.body cap next is)) ∙ body)
 
 pub boards_fit : (s : Site) → AreTyped s.items → BoardsFit s

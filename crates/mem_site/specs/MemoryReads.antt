@@ -3,6 +3,7 @@ use Rattle.std.proofs.Common.{◌≡◌, ℕ, true, false, List, refl}
 use Rattle.std.specs.Prelude.{nat_lt, length, ◌||◌}
 use Rattle.std.specs.List.{list_any}
 use Rattle.std.proofs.lemmas.Bool.{or_parts, ltb-false, le-leb}
+use Rattle.std.proofs.Props.{props}
 use Rattle.host_types.specs.Items.{most_view_bytes, view_bytes, is_long_view, is_long_body, is_long_item}
 use Rattle.host_types.specs.Card.{has_short_views}
 use Rattle.host_types.specs.declared.item.Item.{Item}
@@ -28,6 +29,9 @@ abbrev pub IsShort : Site → Site → SiteFault → Type 0
 IsShort old new fault = (fault ≡ faults.Memory) × (new ≡ old)
 
 -- ---- it is such a site
+
+pub fits_or_not : (item : Item) → IsProp (HasShortViews item)
+fits_or_not item = hlevel props
 
 pub never_refused : (a b : Site) (r : Refused) → IsShort a b (faults.Refused r) → ⊥
 never_refused a b r h = let clash : faults.Refused r ≡ faults.Memory = h.0 in cc clash

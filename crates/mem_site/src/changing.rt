@@ -1,13 +1,14 @@
 // Changing a site in memory by a plan.
 ghost use Rattle.std.specs.Prelude.{◌≡◌, Ok, IfOk, IsOk, OnOk, IfErr, OnErr, IfSome};
 ghost use Rattle.host_types.specs.Change.{apply};
+ghost use Rattle.host_types.specs.AllChanges.{all_applied};
 ghost use Rattle.change_plan.specs.Replacements.{replaced, all_replaced, IsInPlace, AreInPlace, OnlyFirstIsNew, AreFit};
 ghost use Rattle.mem_site.specs.ShortEntries.{HasShortViews};
-ghost use Rattle.mem_site.specs.MemoryFaults.{IsMemoryFault};
+ghost use Rattle.mem_site.specs.MemoryFaults.{IsMemoryFault, IsMemoryFaultOfAll};
 
 use crate::MemSite;
 use change_plan::{Plan, Replacement, plan_change};
-use host_types::{Change, SiteFault, Stamp};
+use host_types::{Change, ChangesFault, SiteFault, Stamp};
 
 impl MemSite {
     /// Replaces what stands at a selector. Its only fault is that of memory, and then nothing is changed.
@@ -81,6 +82,26 @@ impl MemSite {
         self.replace_all(replacements)?;
         self.set_host(host);
         self.set_admin(admin);
+        Ok(())
+    }
+
+    /// Makes all of these changes, each at its own moment on the site with those before it, or none of them: they are made on a copy of the site.
+    pub(crate) fn make_all(&mut self, changes: Vec<(Change, Stamp)>) -> Result<(), ChangesFault>
+        ensures done { OnOk result (all_applied self.old changes.items ≡ Ok self.new) }
+        ensures kept { OnErr result (self.new ≡ self.old) }
+        ensures refused { IfErr result (λ e. IsMemoryFaultOfAll e (all_applied self.old changes.items)) }
+    {
+        let mut made = self.copy()?;
+        let mut place = 0;
+        let mut rest = changes;
+        while !rest.is_empty() {
+            let (change, now) = rest.remove(0);
+            if let Err(fault) = made.make(change, now) {
+                return Err(ChangesFault::at(place, fault));
+            }
+            place += 1;
+        }
+        *self = made;
         Ok(())
     }
 }

@@ -6,13 +6,14 @@ ghost use Rattle.common_types.specs.CrashStates.{nothing, no_crash_state};
 use crate::mem_site::viewed_among;
 use crate::{MemPin, MemSite};
 use host_types::{
-    Address, Card, Change, Selector, SiteFault, SiteKeeper, SitePinFault, Stamp, chunk_of,
+    Address, Card, Change, ChangesFault, Selector, SiteFault, SiteKeeper, SitePinFault, Stamp,
+    chunk_of,
 };
 
 impl SiteKeeper for MemSite {
     ghost site_state = { λ m. record { site = m; honest = true; usable = true; free = 0; failed_reads = 0; failed_writes = 0; pins = [] } };
 
-    ghost lacks = { λ m change now fault. ⊥ };
+    ghost lacks = { λ m changes fault. ⊥ };
 
     ghost CrashState = { ℕ };
 
@@ -63,5 +64,9 @@ impl SiteKeeper for MemSite {
 
     fn change(&mut self, change: Change, now: Stamp) -> Result<(), SiteFault> {
         self.make(change, now)
+    }
+
+    fn change_all(&mut self, changes: Vec<(Change, Stamp)>) -> Result<(), ChangesFault> {
+        self.make_all(changes)
     }
 }

@@ -2,7 +2,7 @@
 ghost use Rattle.std.proofs.Common.{refl, sym, subst, ◌∙◌};
 ghost use Rattle.change_plan.specs.LookUps.{HasNoLongNames};
 ghost use Rattle.mem_site.specs.ShortEntries.{HasShortViews};
-ghost use Rattle.mem_site.specs.MemoryReads.{Shows, IsUnchanged, IsShort, never_refused, short_fits};
+ghost use Rattle.mem_site.specs.MemoryReads.{Shows, IsUnchanged, IsShort, fits_or_not, never_refused, short_fits};
 
 use crate::MemSite;
 use change_plan::ItemLookup;
@@ -16,6 +16,8 @@ impl ItemLookup for MemSite {
     ghost reads_only = { IsUnchanged };
 
     ghost failed = { IsShort };
+
+    ghost fits_or_not = { fits_or_not };
 
     ghost nothing_read = { λ l. refl };
 

@@ -126,6 +126,19 @@ impl MemSite {
         self.items.clone()
     }
 
+    /// A copy of the whole site.
+    pub(crate) fn copy(&self) -> Result<MemSite, AllocError>
+        ensures { IfOk result (λ m. m ≡ self.now) }
+    {
+        Ok(MemSite {
+            alloc: self.alloc,
+            items: self.items.clone()?,
+            host: self.host.clone()?,
+            port: self.port,
+            admin: self.admin.clone()?,
+        })
+    }
+
     /// Where the site takes its memory.
     pub fn alloc(&self) -> Global {
         self.alloc

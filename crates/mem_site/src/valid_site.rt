@@ -169,7 +169,7 @@ impl MemSite {
     }
 
     /// The entries stand in byte order of their selectors.
-    fn in_order(&self)
+    pub fn in_order(&self)
         ensures { IsTrue (is_sorted byte_cmp self.now.items) }
     {
         let _ = self.items().len();

@@ -89,6 +89,7 @@ pub fn change(alloc: Global, place: usize) -> Result<Change, Ended> {
     let item = Item {
         title: Title::new(b"About us")?,
         stamp: Stamp::start(),
+        until: None,
         summary: Bytes::new(alloc),
         body: body(alloc, place)?,
     };

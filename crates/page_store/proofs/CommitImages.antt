@@ -141,7 +141,8 @@ flat_found-inside slot a found e =
 found_as-inside : (version : ℕ) (slot : Slot) (a : ℕ → List ℕ) (found : Found) → found_as version slot a ≡ Some found → AreInside found.pages
 found_as-inside zero slot a found e = flat_found-inside slot a found e
 found_as-inside (suc zero) slot a found e = tree_found-inside slot a found e
-found_as-inside (suc (suc version)) slot a found e = absurd (cc e)
+found_as-inside (suc (suc zero)) slot a found e = tree_found-inside slot a found e
+found_as-inside (suc (suc (suc version))) slot a found e = absurd (cc e)
 
 pub content_under-inside : (slot : Slot) (a : ℕ → List ℕ) (found : Found) → content_under slot a ≡ Some found → AreInside found.pages
 unfolding content_under

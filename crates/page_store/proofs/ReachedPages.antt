@@ -102,7 +102,8 @@ flat_found-local slot a b found e same =
 found_as-local : (version : ℕ) (slot : Slot) (a b : ℕ → List ℕ) (found : Found) → found_as version slot a ≡ Some found → Agree found.pages a b → found_as version slot b ≡ Some found
 found_as-local zero slot a b found e same = flat_found-local slot a b found e same
 found_as-local (suc zero) slot a b found e same = tree_found-local slot a b found e same
-found_as-local (suc (suc version)) slot a b found e same = absurd (cc e)
+found_as-local (suc (suc zero)) slot a b found e same = tree_found-local slot a b found e same
+found_as-local (suc (suc (suc version))) slot a b found e same = absurd (cc e)
 
 pub content_under-local : (slot : Slot) (a b : ℕ → List ℕ) (found : Found) → content_under slot a ≡ Some found → Agree found.pages a b → content_under slot b ≡ Some found
 unfolding content_under

@@ -1,5 +1,7 @@
 -- What an image holds.
-use Rattle.std.specs.Prelude.{◌≡◌, IsTrue, ℕ, zero, suc, Bool, true, false, List, [], ◌∷◌, ◌++◌, length, Option, Some, None, nat_lt, nat_le, ◌==◌, ◌||◌, ◌&&◌, not}
+use Rattle.std.proofs.Common.{arith}
+use Rattle.std.proofs.lemmas.Bool.{ne_eqb}
+use Rattle.std.specs.Prelude.{◌≡◌, ◌<◌, refl, IsTrue, ℕ, zero, suc, Bool, true, false, List, [], ◌∷◌, ◌++◌, length, Option, Some, None, nat_lt, nat_le, ◌==◌, ◌||◌, ◌&&◌, not}
 use Rattle.page_store.specs.Reading.{◌>>=◌, where_true}
 use Rattle.page_store.specs.Sectors.{Image, page_of}
 use Rattle.page_store.specs.Roots.{current}
@@ -82,11 +84,30 @@ flat_found slot bytes = do
   pairs ← flat_walk bytes slot.seal (half_size slot.root.pages) slot.root.tree 0 slot.root.keys
   where_true (is_half slot.root && is_map pairs) (Some (record { pages = numbers_from slot.root.tree (half_size slot.root.pages); pairs = pairs }))
 
--- what a slot's record represents, by the bytes of the pages: version 0 is flat, 1 a tree
+-- the versions of images that are trees of pages; what their pairs represent is another matter
+abbrev pub is_tree_version : ℕ → Bool
+is_tree_version version = version == 1 || version == 2
+
+-- what a slot's record represents, by the bytes of the pages: version 0 is flat, 1 and 2 are trees
 abbrev pub found_as : ℕ → Slot → (ℕ → List ℕ) → Option Found
 found_as zero slot bytes = flat_found slot bytes
 found_as (suc zero) slot bytes = tree_found slot bytes
-found_as (suc (suc version)) slot bytes = None
+found_as (suc (suc zero)) slot bytes = tree_found slot bytes
+found_as (suc (suc (suc version))) slot bytes = None
+
+pub tree_as : (version : ℕ) (slot : Slot) (bytes : ℕ → List ℕ) → IsTrue (is_tree_version version) → found_as version slot bytes ≡ tree_found slot bytes
+tree_as zero slot bytes h = absurd (cc h)
+tree_as (suc zero) slot bytes h = refl
+tree_as (suc (suc zero)) slot bytes h = refl
+tree_as (suc (suc (suc version))) slot bytes h =
+    let one : (suc (suc (suc version)) == 1) ≡ false = ne_eqb (suc (suc (suc version))) 1 (λ e. omega (arith, e)) in
+    let two : (suc (suc (suc version)) == 2) ≡ false = ne_eqb (suc (suc (suc version))) 2 (λ e. omega (arith, e)) in
+    let none : (false || false) ≡ true = rw (one, two) at h in
+    absurd (cc none)
+
+pub not_flat : (version : ℕ) → IsTrue (is_tree_version version) → 0 < version
+not_flat zero h = absurd (cc h)
+not_flat (suc version) h = omega arith
 
 unfoldable pub content_under : Slot → (ℕ → List ℕ) → Option Found
 content_under slot bytes = found_as slot.root.banner.version slot bytes

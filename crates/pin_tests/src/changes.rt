@@ -44,6 +44,7 @@ fn put(alloc: Global, selector: &[u8], body: Body) -> Result<Change, Trouble> {
     let item = Item {
         title: Title::new(b"An item")?,
         stamp: Stamp::start(),
+        until: None,
         summary: Bytes::new(alloc),
         body,
     };

@@ -6,7 +6,7 @@ use Rattle.std.proofs.lemmas.Bool.Decides.{nat_tests}
 use Rattle.std.proofs.lemmas.List.Sums.{sum_by-cons}
 use Rattle.host_types.specs.Names.{is_field, is_visible, is_word}
 use Rattle.host_types.specs.Lines.{is_lf, lines}
-use Rattle.host_types.specs.Items.{kind_letter, has_bad_name, is_bad_word, is_bad_question, is_bad_body, is_long_item, is_long_body, is_long_view, is_admin, is_host, is_selector, is_title, is_typed_body, is_typed_item, is_valid_item, prompt_of, view_bytes, most_view_bytes}
+use Rattle.host_types.specs.Items.{has_moments, kind_letter, has_bad_name, is_bad_word, is_bad_question, is_bad_body, is_long_item, is_long_body, is_long_view, is_admin, is_host, is_selector, is_title, is_typed_body, is_typed_item, is_valid_item, prompt_of, view_bytes, most_view_bytes}
 use Rattle.host_types.specs.Card.{card_of, card_body, card_view}
 use Rattle.host_types.specs.Address.{Address, address}
 use Rattle.host_types.specs.Site.{Site, IsSite, item_at}
@@ -98,11 +98,11 @@ language_clean : (bytes : List ℕ) (b : Bool) → IsClean bytes → IsClean (if
 language_clean bytes true clean = nil
 language_clean bytes false clean = two (codes " ") bytes (record { none = refl }) clean
 
-size_clean : (n : ℕ) → n ≤ 65536 → IsClean (decimal (kilobytes n))
+size_clean : (n : ℕ) → n ≤ 262144 → IsClean (decimal (kilobytes n))
 unfolding kilobytes
 size_clean n small = number ((n + 1023) / 1024) (omega (arith, small))
 
-view_clean : (v : View) → has_bad_name v ≡ false → length v.bytes ≤ 65536 → IsClean (view_line (card_view v))
+view_clean : (v : View) → has_bad_name v ≡ false → length v.bytes ≤ 262144 → IsClean (view_line (card_view v))
 view_clean v good small =
     let name : IsClean v.name = word v.name (is_not (is_word v.name) (or_first (not (is_word v.name)) (not (list_all is_visible v.language)) good)) in
     let language : IsClean v.language = visible v.language (is_not (list_all is_visible v.language) (or_second (not (is_word v.name)) (not (list_all is_visible v.language)) good)) in
@@ -111,7 +111,7 @@ view_clean v good small =
     let named : IsClean words = two v.name (if is_empty v.language then [] else codes " " ++ v.language) name (language_clean v.language (is_empty v.language) language) in
     two ((words ++ codes ": <") ++ size) (codes "k>") (two (words ++ codes ": <") size (two words (codes ": <") named (record { none = refl })) (size_clean (length v.bytes) small)) (record { none = refl })
 
-views_clean : (vs : List View) → list_any has_bad_name vs ≡ false → view_bytes vs ≤ 65536 → AllByRecursion IsClean (map view_line (map card_view vs))
+views_clean : (vs : List View) → list_any has_bad_name vs ≡ false → view_bytes vs ≤ 262144 → AllByRecursion IsClean (map view_line (map card_view vs))
 views_clean [] good small = tt
 views_clean (v ∷ vs) good small =
     let sum = sum_by-cons (λ (w : View). length w.bytes) v vs in
@@ -148,10 +148,10 @@ abstract_lines summary = elim (is_empty summary) as (λ b. AreLines (if b then [
   | false ↦ of_block (codes "+ABSTRACT") (lines summary) (record { none = refl }) refl (lines_clean summary)
 ]
 
-small_views : (selector : List ℕ) (kind : Kind) (vs : List View) → is_long_body selector (bodies.Views kind vs) ≡ false → view_bytes vs ≤ 65536
+small_views : (selector : List ℕ) (kind : Kind) (vs : List View) → is_long_body selector (bodies.Views kind vs) ≡ false → view_bytes vs ≤ 262144
 unfolding most_view_bytes
 small_views selector kind vs good =
-    let sizes = or_first (nat_lt 65536 (view_bytes vs)) (list_any is_long_view vs) (or_second (nat_lt 8 (length vs)) (nat_lt 65536 (view_bytes vs) || list_any is_long_view vs) good) in
+    let sizes = or_first (nat_lt 262144 (view_bytes vs)) (list_any is_long_view vs) (or_second (nat_lt 8 (length vs)) (nat_lt 262144 (view_bytes vs) || list_any is_long_view vs) good) in
     grind (arith, nat_tests, sizes)
 
 views_lines : (selector : List ℕ) (body : Body) → is_bad_body body ≡ false → is_long_body selector body ≡ false → AreLines (views_of (card_body body))
@@ -183,8 +183,8 @@ blocks_are_lines a names selector item host port keeper name valid =
     let limits = second_of (is_typed_item item) (not (is_bad_body item.body) && not (is_long_item selector item)) valid in
     let good : is_bad_body item.body ≡ false = unnot (is_bad_body item.body) (first_of (not (is_bad_body item.body)) (not (is_long_item selector item)) limits) in
     let short : is_long_body selector item.body ≡ false = or_second (nat_lt 400 (length item.summary)) (is_long_body selector item.body) (unnot (is_long_item selector item) (second_of (not (is_bad_body item.body)) (not (is_long_item selector item)) limits)) in
-    let title : is_title item.title ≡ true = first_of (is_title item.title) (nat_le item.stamp 253402300799 && is_typed_body item.body) typed in
-    let body : is_typed_body item.body ≡ true = second_of (nat_le item.stamp 253402300799) (is_typed_body item.body) (second_of (is_title item.title) (nat_le item.stamp 253402300799 && is_typed_body item.body) typed) in
+    let title : is_title item.title ≡ true = first_of (is_title item.title) (has_moments item && is_typed_body item.body) typed in
+    let body : is_typed_body item.body ≡ true = second_of (has_moments item) (is_typed_body item.body) (second_of (is_title item.title) (has_moments item && is_typed_body item.body) typed) in
     let card = card_of item in
     let host_clean : IsClean a.host = word a.host (second_of (nat_le (length a.host) 100) (is_word a.host) host) in
     let keeper_clean : IsClean a.admin = field a.admin (second_of (nat_le (length a.admin) 100) (is_field a.admin) keeper) in

@@ -1,5 +1,5 @@
 -- Worked examples of dates and blocks.
-use Rattle.std.specs.Prelude.{◌≡◌, ℕ, List, [], ◌∷◌, ◌++◌, codes}
+use Rattle.std.specs.Prelude.{◌≡◌, ℕ, List, [], ◌∷◌, ◌++◌, codes, None}
 use Rattle.host_types.specs.Address.{Address}
 use Rattle.host_types.specs.declared.card.Card.{Card}
 use Rattle.host_types.specs.declared.card.CardBody.TheVariants as cards
@@ -19,13 +19,14 @@ here = record { host = codes "localhost"; port = 7070; admin = codes "Ada <ada@l
 
 -- a document of 16 bytes
 abbrev pub about : Card
-about = record { title = codes "About us"; stamp = 743878921; summary = []; body = cards.Views kinds.Text (record { name = codes "Text/plain"; language = []; length = 16 } ∷ []) }
+about = record { title = codes "About us"; stamp = 743878921; until = None; summary = []; body = cards.Views kinds.Text (record { name = codes "Text/plain"; language = []; length = 16 } ∷ []) }
 
 -- a document in two languages, with a summary
 abbrev pub two_views : Card
 two_views = record {
   title = codes "V";
   stamp = 743878921;
+  until = None;
   summary = codes "One\r\n.two\n";
   body = cards.Views kinds.Text (record { name = codes "Text/plain"; language = []; length = 2 } ∷ record { name = codes "Text/plain"; language = codes "De_DE"; length = 1025 } ∷ []);
 }
@@ -34,6 +35,7 @@ abbrev pub sign : Card
 sign = record {
   title = codes "Sign";
   stamp = 743878921;
+  until = None;
   summary = [];
   body = cards.Form (codes "/book") (questions.Ask (codes "Your name") ∷ questions.AskL (codes "Message") ∷ questions.AskP (codes "Word") (codes "moon") ∷ questions.Choose (codes "Colour") (codes "red" ∷ codes "blue" ∷ []) ∷ []);
 }

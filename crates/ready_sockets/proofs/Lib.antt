@@ -1,4 +1,5 @@
 pub mod ComingIn
+pub mod Dues
 pub mod HeadsKept
 pub mod Passes
 pub mod Rounds

@@ -5,6 +5,7 @@ pub mod Sent
 pub mod Limits
 pub mod Lines
 pub mod Visits
+pub mod Due
 pub mod Logged
 pub mod Rounds
 pub mod Examples

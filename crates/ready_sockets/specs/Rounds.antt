@@ -1,13 +1,23 @@
 -- How rounds follow one another, each a wait, then whoever is at the door, then turns.
-use Rattle.std.specs.Prelude.{◌≡◌, ℕ, ◌+◌, ◌-◌, ◌^◌, ◌≤◌, Bool, true, false, not, Result, Ok, Err, List, [], ◌∷◌, ◌++◌, map, length, filter}
-use Rattle.std.specs.List.{All}
+use Rattle.std.specs.Prelude.{◌≡◌, ℕ, ◌+◌, ◌-◌, ◌^◌, ◌≤◌, Bool, true, false, not, Option, Result, Ok, Err, List, [], ◌∷◌, ◌++◌, map, length, filter}
 use Rattle.std.specs.declared.net.ip_addr.IpAddr.{IpAddr}
 use Rattle.mio.specs.declared.event.event.Event.{Event as SocketEvent}
 use Rattle.mio.specs.declared.token.Token.{Token}
+use Rattle.host_types.specs.AllChanges.{Changes}
+use Rattle.host_types.specs.CrashStates.{CrashStates}
+use Rattle.host_types.specs.Site.{Site}
+use Rattle.host_types.specs.SiteState.{SiteState}
+use Rattle.host_types.specs.declared.site_fault.SiteFault.{SiteFault}
+use Rattle.session_core.specs.Calls.{HubRun}
+use Rattle.session_core.specs.Hub.{keeper_of}
+use Rattle.session_core.specs.declared.hub.Hub.{Hub}
 use Rattle.session_core.specs.declared.event.Event.{Event}
+use Rattle.session_core.specs.declared.event.Event.TheVariants as events
 use Rattle.session_core.specs.declared.event.Outcome.{Outcome}
+use Rattle.turns.specs.Runs.{HasRun}
 use Rattle.ready_sockets.specs.DoorCalls.{DoorCall, Came, NoneCame, NotHad}
-use Rattle.ready_sockets.specs.Visits.{has_gone, asks, IsNew, HasWaited, HasNotWaited, WereServed}
+use Rattle.ready_sockets.specs.Logged.{IsLogged}
+use Rattle.ready_sockets.specs.Visits.{has_gone, asks, AreNew, HasWaited, HasNotWaited, WereServed}
 use Rattle.ready_sockets.specs.declared.room.Room.{Room}
 use Rattle.ready_sockets.specs.declared.room.VisitFault.{VisitFault}
 use Rattle.ready_sockets.specs.declared.room.VisitFault.TheVariants.{Net, Failed, Memory}
@@ -26,8 +36,8 @@ pub data EndsAsking (old new : Room) : List DoorCall → Type 0 where
   not_had : new.may_accept ≡ true → EndsAsking old new (NotHad ∷ [])
 
 -- Clients were asked for, one by one and 32 times at most, until no more are. Who was in is in, in front and as before; behind them, in order, are those who came at the
--- door; and no more than 32 are in, where there were no more. Nothing is done where none is to be asked for.
-pub record HasLetIn (now : ℕ) (old new : Room) : Type 0 where
+-- door, each with the session that joined for it, and no other session joined; and no more than 32 are in, where there were no more. Nothing is done where none is to be asked for.
+pub record HasLetIn (now : ℕ) (old : Room) (es : List Event) (os : List Outcome) (new : Room) : Type 0 where
   pub came : List Visit
   pub last : List DoorCall
   pub made : new.door.made.calls ≡ old.door.made.calls ++ (map came_call came ++ last)
@@ -35,7 +45,8 @@ pub record HasLetIn (now : ℕ) (old new : Room) : Type 0 where
   pub ends : EndsAsking old new last
   pub unasked : asks old ≡ false → new ≡ old
   pub is : new.visits.items ≡ old.visits.items ++ came
-  pub new_ones : All (IsNew now) came
+  pub new_ones : AreNew now os came
+  pub events_are : es ≡ map (λ visit. events.Join) came
   pub few : length old.visits.items ≤ 32 → length new.visits.items ≤ 32
 
 -- ---- rounds
@@ -51,7 +62,7 @@ pub record HasHadTurns (now : ℕ) (old : Room) (es : List Event) (os : List Out
   pub join_outcomes : List Outcome
   pub turn_events : List Event
   pub turn_outcomes : List Outcome
-  pub let_in : HasLetIn now old full
+  pub let_in : HasLetIn now old join_events join_outcomes full
   pub served : WereServed now full.visits.items turn_events turn_outcomes new.visits.items
   pub events_are : es ≡ join_events ++ turn_events
   pub outcomes_are : os ≡ join_outcomes ++ turn_outcomes
@@ -65,22 +76,24 @@ pub record HasSeenOff (old new : Room) : Type 0 where
   pub door : new.door ≡ old.door
   pub may_accept : new.may_accept ≡ old.may_accept
 
--- A round: one wait, then turns with whoever is at the door, then those go out who have gone.
-pub record HasHadRound (old new : Room) : Type 0 where
-  pub called : List SocketEvent
-  pub now : ℕ
-  pub events : List Event
-  pub outcomes : List Outcome
-  pub waited : Room
-  pub turned : Room
-  pub wait : HasWaited called old waited
-  pub turns : HasHadTurns now waited events outcomes turned
-  pub seen_off : HasSeenOff turned new
+module _ {L : Type 0} (contents : L → Option (List ℕ)) where
+  -- A round of a room with its log: one wait, then turns with whoever is at the door, by these events, then those go out who have gone, and of each the log gets a line.
+  pub record HasHadRound (old : Room × L) (es : List Event) (os : List Outcome) (new : Room × L) : Type 0 where
+    pub called : List SocketEvent
+    pub now : ℕ
+    pub waited : Room
+    pub turned : Room
+    pub given_before : List ℕ
+    pub given_now : List ℕ
+    pub wait : HasWaited called old.0 waited
+    pub turns : HasHadTurns now waited es os turned
+    pub seen_off : HasSeenOff turned new.0
+    pub logged : IsLogged contents given_before given_now turned.visits.items old.1 new.1
 
--- so many rounds, one after another
-pub data HasHadRounds : ℕ → Room → Room → Type 0 where
-  none : (room : Room) → HasHadRounds 0 room room
-  more : (rounds : ℕ) (old mid new : Room) → HasHadRounds rounds old mid → HasHadRound mid new → HasHadRounds (rounds + 1) old new
+  -- so many rounds, one after another, by these events
+  pub data HasHadRounds : ℕ → Room × L → List Event → List Outcome → Room × L → Type 0 where
+    none : (room : Room × L) → HasHadRounds 0 room [] [] room
+    more : (rounds : ℕ) (old mid new : Room × L) (es fs : List Event) (os ps : List Outcome) → HasHadRounds rounds old es os mid → HasHadRound mid fs ps new → HasHadRounds (rounds + 1) old (es ++ fs) (os ++ ps) new
 
 -- Why it ends behind so many rounds, by whether the site is still usable: all were had, the next wait failed, or the site is not usable.
 abbrev pub EndsServing : {X : Type 0} → Result X VisitFault → Bool → ℕ → Room → Room → Type 0
@@ -89,8 +102,14 @@ EndsServing (Err Net) usable rounds last new = (usable ≡ true) × HasNotWaited
 EndsServing (Err Failed) usable rounds last new = (usable ≡ false) × (new ≡ last)
 EndsServing (Err Memory) usable rounds last new = ⊥
 
-pub record HasServed {X : Type 0} (result : Result X VisitFault) (usable : Bool) (old new : Room) : Type 0 where
+-- Rounds were had by these events, and why it ended; behind the last of them the log gets nothing.
+pub record HasServed {L X : Type 0} (contents : L → Option (List ℕ)) (result : Result X VisitFault) (usable : Bool) (old : Room × L) (es : List Event) (os : List Outcome) (new : Room × L) : Type 0 where
   pub rounds : ℕ
   pub last : Room
-  pub had : HasHadRounds rounds old last
-  pub ends : EndsServing result usable rounds last new
+  pub had : HasHadRounds contents rounds old es os (last, new.1)
+  pub ends : EndsServing result usable rounds last new.0
+
+-- All that was done to a hub is a run, by the events of these rounds.
+abbrev pub ServesVisits : {S L Log X : Type 0} {bound : _} {ghosts : _} → (S → SiteState) → (S → Changes → SiteFault → Type 0) → (S → CrashStates L) → (L → Site → Type 0) → (Log → Option (List ℕ)) → Result X VisitFault → Hub S bound ghosts → Hub S bound ghosts → Room × Log → Room × Log → List ℕ → List ℕ → Type 0
+ServesVisits site_state lacks crash_states stands contents result old new first last told_before told_now = HasRun (HubRun site_state lacks crash_states stands) old new told_before told_now (λ es os.
+    HasServed contents result (site_state (keeper_of new)).usable first es os last)

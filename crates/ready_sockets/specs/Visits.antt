@@ -6,9 +6,11 @@ use Rattle.mio.specs.Event.{event_token}
 use Rattle.mio.specs.declared.event.event.Event.{Event as SocketEvent}
 use Rattle.mio.specs.declared.token.Token.{Token}
 use Rattle.session_core.specs.declared.event.Event.{Event}
+use Rattle.session_core.specs.declared.event.Event.TheVariants as events
 use Rattle.session_core.specs.declared.event.Outcome.{Outcome}
 use Rattle.turns.specs.Turns.{Both, InOrder, Times}
-use Rattle.ready_turns.specs.Seats.{For, Turn, Dismissed, ending_of}
+use Rattle.ready_turns.specs.Seats.{For, Turn, Dismissed, IsSeated, ending_of, joined_state, state_of}
+use Rattle.ready_turns.specs.declared.seat.Seat.{Seat}
 use Rattle.ready_sockets.specs.DoorCalls.{DoorCall, Waited, WaitFailed, Came, NoneCame, NotHad}
 use Rattle.ready_sockets.specs.Doors.{listener_token, HasSameListener}
 use Rattle.ready_sockets.specs.Limits.{is_over}
@@ -24,9 +26,10 @@ has_gone visit = is_some (ending_of visit.seat.stage)
 abbrev pub has_turn : Visit → Bool
 has_turn visit = not visit.seat.waits && not (has_gone visit)
 
--- a turn of its session
-abbrev pub HadTurn : Visit → List Event → List Outcome → Visit → Type 0
-HadTurn old es os new = For (λ (socket : ReadySocket). socket.made.calls) Turn old.seat es os new.seat
+-- A turn of its session at this moment: where it doesn't rest afterwards, it moved.
+pub record HadTurn (now : ℕ) (old : Visit) (es : List Event) (os : List Outcome) (new : Visit) : Type 0 where
+  pub turn : For (λ (socket : ReadySocket). socket.made.calls) Turn old.seat es os new.seat
+  pub moved : new.moved ≡ (if new.seat.waits then old.moved else now)
 
 -- its session is dismissed where its time is over, and else nothing is done
 abbrev pub GoesIf : Bool → Visit → List Event → List Outcome → Visit → Type 0
@@ -115,31 +118,62 @@ pub record HasNotWaited (old new : Room) : Type 0 where
 -- ---- turns for all
 
 -- Passes over all, in each of which each has one turn, in order. They end where nobody has a turn, or after 16.
-pub record HadPasses (old : List Visit) (es : List Event) (os : List Outcome) (new : List Visit) : Type 0 where
+pub record HadPasses (now : ℕ) (old : List Visit) (es : List Event) (os : List Outcome) (new : List Visit) : Type 0 where
   pub count : ℕ
   pub few : count ≤ 16
-  pub passes : Times count (InOrder HadTurn) old es os new
+  pub passes : Times count (InOrder (HadTurn now)) old es os new
   pub until : count < 16 → all_wait new ≡ true
 
 -- Passes were made over all, and then those were dismissed whose time is over.
 abbrev pub WereServed : ℕ → List Visit → List Event → List Outcome → List Visit → Type 0
-WereServed now old es os new = Both HadPasses (InOrder (WasDismissed now)) old es os new
+WereServed now old es os new = Both (HadPasses now) (InOrder (WasDismissed now)) old es os new
 
 -- ---- who comes in
 
--- A client of this address and token has come in behind the others, at this moment, and has a turn.
-pub record ComesIn (from : IpAddr) (token : Token) (now : ℕ) (old new : List Visit) : Type 0 where
+-- It came at this moment, no call was made of its socket, and its session is the one whose number the hub answered, if it did; and it has a turn.
+pub record IsNew (now : ℕ) (outcome : Outcome) (visit : Visit) : Type 0 where
+  pub came : visit.came ≡ now
+  pub moved : visit.moved ≡ now
+  pub unread : visit.seat.wire.made.calls ≡ []
+  pub session : state_of visit.seat ≡ joined_state outcome
+  pub turn : has_turn visit ≡ true
+
+-- so are these, in order, each by its own outcome
+abbrev pub AreNew : ℕ → List Outcome → List Visit → Type 0
+AreNew now [] [] = Unit {0}
+AreNew now (outcome ∷ outcomes) (visit ∷ visits) = IsNew now outcome visit × AreNew now outcomes visits
+AreNew now [] (visit ∷ visits) = ⊥
+AreNew now (outcome ∷ outcomes) [] = ⊥
+
+-- A client of this address and token has come in behind the others, at this moment, and its session is all that joined.
+pub record ComesIn (from : IpAddr) (token : Token) (now : ℕ) (old : List Visit) (es : List Event) (os : List Outcome) (new : List Visit) : Type 0 where
   pub visit : Visit
+  pub outcome : Outcome
+  pub events_are : es ≡ events.Join ∷ []
+  pub outcomes_are : os ≡ outcome ∷ []
   pub is : new ≡ old ++ visit ∷ []
   pub from_is : visit.from ≡ from
   pub token_is : visit.token ≡ token
-  pub came_is : visit.came ≡ now
-  pub moved_is : visit.moved ≡ now
-  pub turn : has_turn visit ≡ true
+  pub is_new : IsNew now outcome visit
 
--- it came at this moment, and has a turn
-abbrev pub IsNew : ℕ → Visit → Type 0
-IsNew now visit = (visit.came ≡ now) × (visit.moved ≡ now) × (has_turn visit ≡ true)
+-- A session joined, and was dismissed at once.
+pub record IsTurnedAway (es : List Event) (os : List Outcome) : Type 0 where
+  pub socket : ReadySocket
+  pub seat : Seat ReadySocket
+  pub gone : Seat ReadySocket
+  pub join_events : List Event
+  pub join_outcomes : List Outcome
+  pub later_events : List Event
+  pub later_outcomes : List Outcome
+  pub seated : IsSeated socket join_events join_outcomes seat
+  pub dismissed : For (λ (wire : ReadySocket). wire.made.calls) Dismissed seat later_events later_outcomes gone
+  pub events_are : es ≡ join_events ++ later_events
+  pub outcomes_are : os ≡ join_outcomes ++ later_outcomes
+
+-- A client has come in; or, where there is no space, it is turned away.
+pub data ComesInOrNot (has_space : Type 0) (from : IpAddr) (token : Token) (now : ℕ) (old : List Visit) (es : List Event) (os : List Outcome) (new : List Visit) : Type 0 where
+  comes : ComesIn from token now old es os new → ComesInOrNot has_space from token now old es os new
+  turned_away : (has_space → ⊥) → new ≡ old → IsTurnedAway es os → ComesInOrNot has_space from token now old es os new
 
 -- the next client is asked for: fewer than 32 are in, and somebody may be at the door
 abbrev pub asks : Room → Bool

@@ -1,6 +1,7 @@
 // Laws of the definitions, and worked examples.
 ghost use Rattle.std.specs.Prelude.{◌≡◌, ℕ, Bool, List, ◌++◌, take};
 ghost use Rattle.mio.specs.declared.event.event.Event.{Event as SocketEvent};
+ghost use Rattle.ready_sockets.specs.Due.{GivesWhatIsDue};
 ghost use Rattle.ready_sockets.specs.Examples.{VisitExamples};
 ghost use Rattle.ready_sockets.specs.Visits.{woken_by, IsSameClient};
 ghost use Rattle.ready_sockets.specs.declared.visit.Visit.{Visit};
@@ -13,6 +14,11 @@ pub fn head_of_pieces()
 /// A wait takes nobody's turn, and changes nothing of a client but that it rests no more.
 pub fn wait_keeps_clients()
     ensures { (all : Bool) (events : List SocketEvent) (visit : Visit) → IsSameClient visit (woken_by all events visit) }
+{}
+
+/// What a client is given is what was drawn for its session, in order, or that it is to try again later, and nothing else.
+pub fn gives_what_is_due()
+    ensures { GivesWhatIsDue }
 {}
 
 /// Worked examples.

@@ -15,7 +15,7 @@ mod waking;
 
 pub use door_log::DoorLog;
 pub use head::Head;
-pub use laws::{head_of_pieces, wait_keeps_clients, worked_examples};
+pub use laws::{gives_what_is_due, head_of_pieces, wait_keeps_clients, worked_examples};
 pub use limits::{LONGEST_SILENCE, LONGEST_VISIT, is_over};
 pub use lines::{Record, log_line};
 pub use ready_socket::ReadySocket;

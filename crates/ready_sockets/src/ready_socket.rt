@@ -1,6 +1,6 @@
 // The calls of the system on a connection. Each function here makes one of them and notes it. That it makes the call which it notes, no clause can say: so
 // each is short, and tests on real connections hold it.
-ghost use Rattle.std.specs.Prelude.{◌≡◌, [], IfOk};
+ghost use Rattle.std.specs.Prelude.{◌≡◌, ◌⊎◌, true, [], IfOk};
 ghost use Rattle.ready_sockets.specs.Sent.{head_of, asked_by, taken_by};
 
 use crate::Head;
@@ -22,7 +22,11 @@ pub struct ReadySocket {
 }
 
 /// A call that a signal ended, or that would have to wait, can be made again once the connection is ready.
-fn is_for_later(kind: ErrorKind) -> bool {
+fn is_for_later(kind: ErrorKind) -> bool
+    ensures waits { kind ≡ ErrorKind.WouldBlock → result ≡ true }
+    ensures ended { kind ≡ ErrorKind.Interrupted → result ≡ true }
+    ensures only { result ≡ true → (kind ≡ ErrorKind.WouldBlock) ⊎ (kind ≡ ErrorKind.Interrupted) }
+{
     matches!(kind, ErrorKind::WouldBlock | ErrorKind::Interrupted)
 }
 

@@ -1,12 +1,11 @@
 // Serves whoever comes.
-ghost use Rattle.std.specs.Prelude.{◌≡◌, ◌⊎◌, ◌<◌, ◌≤◌, true, [], ◌∷◌, ◌++◌, map, vec_len, vec_capacity};
+ghost use Rattle.std.specs.Prelude.{◌≡◌, ◌<◌, ◌≤◌, true, [], ◌∷◌, ◌++◌, map, vec_len, vec_capacity, Option, None, IfSome};
 ghost use Rattle.std.specs.Io.KnownBytes.{Appends};
 ghost use Rattle.session_core.specs.Calls.{HubRun};
 ghost use Rattle.turns.specs.Runs.{HasRun};
 ghost use Rattle.turns.specs.Turns.{InOrder};
-ghost use Rattle.session_core.specs.Hub.{keeper_of};
-ghost use Rattle.ready_sockets.specs.Rounds.{who, HasLetIn, HasHadTurns, HasSeenOff, HasServed};
-ghost use Rattle.ready_sockets.specs.Visits.{HadTurn, WasDismissed, HadPasses, WereServed, ComesIn};
+ghost use Rattle.ready_sockets.specs.Rounds.{who, HasLetIn, HasHadTurns, HasSeenOff, ServesVisits};
+ghost use Rattle.ready_sockets.specs.Visits.{HadTurn, WasDismissed, HadPasses, WereServed, ComesInOrNot};
 ghost use Rattle.ready_sockets.specs.Logged.{line_of, IsTold, AreTold, IsLogged};
 
 use crate::ReadySocket;
@@ -22,7 +21,7 @@ use socket_wires::SystemClock;
 use std::alloc::Global;
 use std::io::Write;
 use std::net::IpAddr;
-use std::time::{Clock as Time, Instant};
+use std::time::{Clock as Time, Duration, Instant};
 use turns::Clock;
 use word_index::SearchKeeper;
 
@@ -36,9 +35,7 @@ fn enter<S: SearchKeeper>(
     next: (TcpStream, IpAddr, Token),
     now: u64,
 )
-    ensures run { HasRun (HubRun S.site_state S.lacks S.crash_states S.represents) hub.old hub.new [] [] (λ es os. Unit {0}) }
-    ensures visits { ComesIn next.1 next.2 now visits.old.items visits.new.items ⊎ (visits.new.items ≡ visits.old.items) }
-    ensures sure { vec_len visits.old < vec_capacity visits.old → ComesIn next.1 next.2 now visits.old.items visits.new.items }
+    ensures run { HasRun (HubRun S.site_state S.lacks S.crash_states S.represents) hub.old hub.new [] [] (λ es os. ComesInOrNot (vec_len visits.old < vec_capacity visits.old) next.1 next.2 now visits.old.items es os visits.new.items) }
     ensures capacity { vec_capacity visits.old ≤ vec_capacity visits.new }
 {
     let (stream, from, token) = next;
@@ -57,8 +54,7 @@ fn enter<S: SearchKeeper>(
 
 /// A session joins for each client that comes, as long as there is room.
 fn admit<S: SearchKeeper>(room: &mut Room, hub: &mut Hub<S>, now: u64)
-    ensures let_in { HasLetIn now room.old room.new }
-    ensures run { HasRun (HubRun S.site_state S.lacks S.crash_states S.represents) hub.old hub.new [] [] (λ es os. Unit {0}) }
+    ensures { HasRun (HubRun S.site_state S.lacks S.crash_states S.represents) hub.old hub.new [] [] (λ es os. HasLetIn now room.old es os room.new) }
 {
     for _client in 0..MOST_VISITS {
         let Some(next) = room.next() else {
@@ -75,7 +71,7 @@ fn take_turn_of<S: SearchKeeper, C: Clock>(
     clock: &mut C,
     now: u64,
 )
-    ensures run { HasRun (HubRun S.site_state S.lacks S.crash_states S.represents) hub.old hub.new (C.given clock.old) (C.given clock.new) (λ es os. HadTurn visit.old es os visit.new) }
+    ensures run { HasRun (HubRun S.site_state S.lacks S.crash_states S.represents) hub.old hub.new (C.given clock.old) (C.given clock.new) (λ es os. HadTurn now visit.old es os visit.new) }
     ensures who { who visit.new ≡ who visit.old }
 {
     take_turn(hub, &mut visit.seat, clock);
@@ -84,7 +80,7 @@ fn take_turn_of<S: SearchKeeper, C: Clock>(
 
 /// One turn for each client, in order.
 fn pass<S: SearchKeeper, C: Clock>(visits: &mut [Visit], hub: &mut Hub<S>, clock: &mut C, now: u64)
-    ensures run { HasRun (HubRun S.site_state S.lacks S.crash_states S.represents) hub.old hub.new (C.given clock.old) (C.given clock.new) (λ es os. InOrder HadTurn visits.old es os visits.new) }
+    ensures run { HasRun (HubRun S.site_state S.lacks S.crash_states S.represents) hub.old hub.new (C.given clock.old) (C.given clock.new) (λ es os. InOrder (HadTurn now) visits.old es os visits.new) }
     ensures clients { map who visits.new ≡ map who visits.old }
 {
     for visit in visits.iter_mut() {
@@ -99,7 +95,7 @@ fn give_turns<S: SearchKeeper, C: Clock>(
     clock: &mut C,
     now: u64,
 )
-    ensures run { HasRun (HubRun S.site_state S.lacks S.crash_states S.represents) hub.old hub.new (C.given clock.old) (C.given clock.new) (λ es os. HadPasses visits.old es os visits.new) }
+    ensures run { HasRun (HubRun S.site_state S.lacks S.crash_states S.represents) hub.old hub.new (C.given clock.old) (C.given clock.new) (λ es os. HadPasses now visits.old es os visits.new) }
     ensures clients { map who visits.new ≡ map who visits.old }
 {
     for _pass in 0..TURNS {
@@ -196,15 +192,23 @@ fn round<S: SearchKeeper, C: Clock>(room: &mut Room, hub: &mut Hub<S>, clock: &m
     serve_all(&mut room.visits, hub, clock, now);
 }
 
+/// Whole seconds of a time that was measured, or 0 where none could be.
+fn seconds_in(time: Option<Duration>) -> u64
+    ensures seconds { IfSome time (λ t. result ≡ t.secs) }
+    ensures none { time ≡ None → result ≡ 0 }
+{
+    match time {
+        Some(time) => time.as_secs(),
+        None => 0,
+    }
+}
+
 /// The seconds since a moment, on a clock that only goes forward; 0 where it can't be read.
 fn seconds_since<R: Time>(rt: &R, start: &Option<Instant>) -> u64 {
     let Some(start) = start else {
-        return 0;
+        return seconds_in(None);
     };
-    match start.elapsed(rt) {
-        Ok(since) => since.as_secs(),
-        Err(_) => 0,
-    }
+    seconds_in(start.elapsed(rt).ok())
 }
 
 /// Serves whoever comes, up to 32 clients at a time, until a write or a sync of what the site is kept on has failed, or no socket can be waited for.
@@ -217,8 +221,7 @@ pub fn serve_visits<S: SearchKeeper, C: Clock, R: Time, L: Write>(
     clock: &mut C,
     log: &mut L,
 ) -> Result<(), VisitFault>
-    ensures served { HasServed result (S.site_state (keeper_of hub.new)).usable room.old room.new }
-    ensures run { HasRun (HubRun S.site_state S.lacks S.crash_states S.represents) hub.old hub.new (C.given clock.old) (C.given clock.new) (λ es os. Unit {0}) }
+    ensures { ServesVisits S.site_state S.lacks S.crash_states S.represents L.contents result hub.old hub.new (room.old, log.old) (room.new, log.new) (C.given clock.old) (C.given clock.new) }
 {
     let start = Instant::now(rt).ok();
     let mut moments = SystemClock::new(rt);

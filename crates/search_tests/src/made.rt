@@ -54,7 +54,7 @@ fn first_edits(alloc: Global, title: &Title) -> Result<Vec<Edit>, Trouble> {
 fn formatted(alloc: Global, host: Host, admin: Admin) -> Result<MemDisk, Trouble> {
     let mut disk = MemDisk::new(alloc, 8 * PAGES as usize)?;
     let banner = Banner {
-        version: 1,
+        version: 2,
         host,
         port: PORT,
         admin,

@@ -3,10 +3,12 @@
 //!
 //! - `new` begins with a new site of a top menu.
 //! - `put SELECTOR TITLE TEXT` puts a text whose title is one word, `fill FIRST LAST FRONT WORD` a text of that word at the front and each number, in three digits; `remove SELECTOR`, `move FROM TO`.
+//! - `until SECONDS SELECTOR TITLE TEXT` puts a text that is found before that moment alone. `now SECONDS`: the moment of searches, 0 before.
 //! - `search SCOPE WORDS` prints how many items are found, and which. They are searched over the keys of words, by a look at each item on the disk, and in memory: all three have to find the same.
 //! - `pages TIMES SCOPE WORDS` searches the disk so often, and prints how many items are found in all, and how many pages were read. `image PATH` puts the site of an image in the place of the one on the disk alone:
 //!   `bench/items` gives it large ones.
-//! - `random SEED SITES` makes random changes of so many sites, compares the three searches after each, and prints how many queries found how much.
+//! - `random SEED SITES` makes random changes of so many sites, compares the three searches after each, and prints how many queries found how much; `random_ends SEED SITES` the same of items of which half have an end, and queries
+//!   at any moment.
 #![tactic(auto)]
 
 mod batches;

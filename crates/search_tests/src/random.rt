@@ -62,11 +62,34 @@ impl Seen {
 struct Run {
     alloc: Global,
     dice: Dice,
+    /// Whether some items have an end, and queries come at any moment.
+    has_ends: bool,
     sites: Sites,
     seen: Seen,
 }
 
 impl Run {
+    /// One of some moments that lie side by side, in seconds.
+    fn moment(&mut self) -> u64 {
+        self.dice.roll(6) as u64
+    }
+
+    /// The end of an item, in seconds, which half of them have where any has.
+    fn end(&mut self) -> Option<u64> {
+        if self.has_ends && self.dice.roll(2) == 0 {
+            return Some(self.moment());
+        }
+        None
+    }
+
+    /// When a query is asked, in seconds.
+    fn now(&mut self) -> u64 {
+        if self.has_ends {
+            return self.moment();
+        }
+        0
+    }
+
     /// Fewer words of these than so many, with a gap behind each.
     fn words(&mut self, words: &[&[u8]], below: usize) -> Result<Vec<u8>, Trouble>
         requires { 0 < below }
@@ -101,9 +124,14 @@ impl Run {
         let summary = Bytes::from(self.words(&WORDS, 4)?);
         let text = Bytes::from(self.words(&WORDS, 6)?);
         let item = Item::text(self.alloc, title, Stamp::start(), text)?;
+        let until = match self.end() {
+            Some(seconds) => Some(Stamp::new(seconds)?),
+            None => None,
+        };
         Ok(Item {
             title: item.title,
             stamp: item.stamp,
+            until,
             summary,
             body: self.body(item.body),
         })
@@ -139,10 +167,9 @@ impl Run {
 
     fn query(&mut self) -> Result<Query, Trouble> {
         let scope = Selector::new(SCOPES[self.dice.roll(SCOPES.len())])?;
-        Ok(Query {
-            scope,
-            words: self.words(&ASKED, 4)?,
-        })
+        let words = self.words(&ASKED, 4)?;
+        let now = Stamp::new(self.now())?;
+        Ok(Query { scope, words, now })
     }
 
     /// Asks some queries.
@@ -182,11 +209,12 @@ impl Run {
     }
 }
 
-/// What is seen of so many sites.
-pub fn random(alloc: Global, seed: u64, sites: u32) -> Result<Seen, Trouble> {
+/// What is seen of so many sites, of which items may have an end.
+pub fn random(alloc: Global, seed: u64, sites: u32, has_ends: bool) -> Result<Seen, Trouble> {
     let mut run = Run {
         alloc,
         dice: Dice::new(seed),
+        has_ends,
         sites: Sites::new(alloc)?,
         seen: Seen::none(),
     };

@@ -48,6 +48,23 @@ fn put(alloc: Global, sites: &mut Sites, fields: &str) -> Result<(), Trouble> {
     put_text(alloc, sites, place, two_of(item)?)
 }
 
+/// `until SECONDS SELECTOR TITLE TEXT`
+fn put_until(alloc: Global, sites: &mut Sites, fields: &str) -> Result<(), Trouble> {
+    let (until, fields) = two_of(fields)?;
+    let (place, fields) = two_of(fields)?;
+    let (title, text) = two_of(fields)?;
+    let item = text_item(alloc, title, text)?;
+    let until = Stamp::new(number(until)?.into())?;
+    let item = Item {
+        title: item.title,
+        stamp: item.stamp,
+        until: Some(until),
+        summary: item.summary,
+        body: item.body,
+    };
+    sites.change(Change::Put(selector(place)?, item))
+}
+
 /// `fill FIRST LAST FRONT WORD`: texts of a word, at selectors of this front and three digits.
 fn fill(alloc: Global, sites: &mut Sites, fields: &str) -> Result<(), Trouble> {
     let (first, fields) = two_of(fields)?;
@@ -82,13 +99,14 @@ fn show_found(alloc: Global, found: &SelectorList) -> Result<String, Trouble> {
     Ok(text)
 }
 
-/// The one query of a scope and words.
-fn query_of(alloc: Global, scope: &str, words: &str) -> Result<Vec<Query>, Trouble> {
+/// The one query of a scope and words, at a moment.
+fn query_of(alloc: Global, scope: &str, words: &str, now: Stamp) -> Result<Vec<Query>, Trouble> {
     let mut queries = Vec::new(alloc);
     let words = words.as_bytes().to_vec(alloc)?;
     queries.push(Query {
         scope: selector(scope)?,
         words,
+        now,
     })?;
     Ok(queries)
 }
@@ -96,7 +114,8 @@ fn query_of(alloc: Global, scope: &str, words: &str) -> Result<Vec<Query>, Troub
 /// `search SCOPE WORDS`: what is found, the same by all three searches.
 fn search(alloc: Global, sites: &mut Sites, fields: &str) -> Result<String, Trouble> {
     let (scope, words) = two_of(fields)?;
-    let answers = sites.search(&query_of(alloc, scope, words)?)?;
+    let query = query_of(alloc, scope, words, sites.now)?;
+    let answers = sites.search(&query)?;
     match answers.found.as_slice() {
         [found] if answers.differ == 0 => show_found(alloc, found),
         _ => Err(Trouble::Wrong("other searches find something else")),
@@ -107,7 +126,8 @@ fn search(alloc: Global, sites: &mut Sites, fields: &str) -> Result<String, Trou
 fn pages(alloc: Global, sites: &mut Sites, fields: &str) -> Result<String, Trouble> {
     let (times, fields) = two_of(fields)?;
     let (scope, words) = two_of(fields)?;
-    let (found, pages) = sites.pages(number(times)?, &query_of(alloc, scope, words)?)?;
+    let query = query_of(alloc, scope, words, sites.now)?;
+    let (found, pages) = sites.pages(number(times)?, &query)?;
     Ok(format!(in alloc; " {found} items, {pages} pages")?)
 }
 
@@ -120,10 +140,10 @@ fn load(rt: &HostRuntime, sites: &mut Sites, path: &str) -> Result<String, Troub
     Ok(String::new(rt.alloc()))
 }
 
-/// `random SEED SITES`
-fn random_sites(alloc: Global, fields: &str) -> Result<String, Trouble> {
+/// `random SEED SITES` and `random_ends SEED SITES`
+fn random_sites(alloc: Global, fields: &str, has_ends: bool) -> Result<String, Trouble> {
     let (seed, sites) = two_of(fields)?;
-    let seen = random(alloc, number(seed)?.into(), number(sites)?)?;
+    let seen = random(alloc, number(seed)?.into(), number(sites)?, has_ends)?;
     Ok(format!(in alloc;
         " {} changes, {} refused; {} queries, {} found in all, {} differ",
         seen.changes, seen.refused, seen.queries, seen.found, seen.differ
@@ -134,6 +154,7 @@ fn random_sites(alloc: Global, fields: &str) -> Result<String, Trouble> {
 fn change(alloc: Global, sites: &mut Sites, word: &str, fields: &str) -> Result<(), Trouble> {
     match word {
         "put" => put(alloc, sites, fields),
+        "until" => put_until(alloc, sites, fields),
         "fill" => fill(alloc, sites, fields),
         "remove" => remove(sites, fields),
         "move" => move_to(sites, fields),
@@ -147,6 +168,12 @@ fn begin(alloc: Global, sites: &mut Sites) -> Result<String, Trouble> {
     Ok(String::new(alloc))
 }
 
+/// `now SECONDS`
+fn set_now(alloc: Global, sites: &mut Sites, seconds: &str) -> Result<String, Trouble> {
+    sites.now = Stamp::new(number(seconds)?.into())?;
+    Ok(String::new(alloc))
+}
+
 /// Makes the call of a row.
 pub fn call(rt: &HostRuntime, sites: &mut Sites, text: &str) -> Result<String, Trouble> {
     let alloc = rt.alloc();
@@ -154,7 +181,9 @@ pub fn call(rt: &HostRuntime, sites: &mut Sites, text: &str) -> Result<String, T
     match word {
         "new" => begin(alloc, sites),
         "search" => search(alloc, sites, fields),
-        "random" => random_sites(alloc, fields),
+        "now" => set_now(alloc, sites, fields),
+        "random" => random_sites(alloc, fields, false),
+        "random_ends" => random_sites(alloc, fields, true),
         "pages" => pages(alloc, sites, fields),
         "image" => load(rt, sites, fields),
         _ => {

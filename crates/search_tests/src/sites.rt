@@ -10,11 +10,12 @@ use std::cell::Cell;
 use std::rc::Rc;
 use word_index::{SearchKeeper, SelectorList};
 
-/// What is asked for: words within a scope.
+/// What is asked for: words within a scope, at a moment.
 #[derive(Drop)]
 pub struct Query {
     pub scope: Selector,
     pub words: Vec<u8>,
+    pub now: Stamp,
 }
 
 /// What is found for each query, and how many of them have another answer elsewhere.
@@ -31,6 +32,8 @@ pub struct Sites {
     disk: Option<TreeSite>,
     memory: MemSite,
     reads: Reads,
+    /// The moment of the rows that search.
+    pub now: Stamp,
 }
 
 /// What a site finds for each query.
@@ -41,7 +44,7 @@ fn found_in<S: SearchKeeper>(
 ) -> Result<Vec<SelectorList>, Trouble> {
     let mut found = Vec::new(alloc);
     for query in queries {
-        found.push(site.search(&query.scope, &query.words)?)?;
+        found.push(site.search(&query.scope, &query.words, query.now)?)?;
     }
     Ok(found)
 }
@@ -54,7 +57,7 @@ fn filtered_in(
 ) -> Result<Vec<SelectorList>, Trouble> {
     let mut found = Vec::new(alloc);
     for query in queries {
-        found.push(search_by_filter(alloc, keeper, &query.scope, &query.words)?)?;
+        found.push(search_by_filter(alloc, keeper, &query.scope, &query.words, query.now)?)?;
     }
     Ok(found)
 }
@@ -83,6 +86,7 @@ impl Sites {
             disk: Some(on_disk(alloc, reads.clone()?)?),
             memory: in_memory(alloc)?,
             reads,
+            now: Stamp::start(),
         })
     }
 

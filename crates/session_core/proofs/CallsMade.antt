@@ -2,6 +2,7 @@
 use Rattle.std.proofs.Common.{◌≡◌, ◌⊎◌, ℕ, Bool, true, false, not, refl, sym, subst, ap, ◌∙◌, inl, inr, if◌then◌else◌, List, arith}
 use Rattle.std.specs.Prelude.{Option, Result, Ok, Err, IfErr, OnErr, OnOk, IsTrue}
 use Rattle.std.proofs.lemmas.Bool.{not-true, not-false}
+use Rattle.host_types.specs.AllChanges.{Changes}
 use Rattle.host_types.specs.Site.{Site}
 use Rattle.host_types.specs.SiteState.{SiteState}
 use Rattle.host_types.specs.CrashStates.{CrashStates, AddsOnly, AddsNone, may_crash_to, no_new_crash_state}
@@ -104,7 +105,7 @@ pub stays_none_added : {L : Type 0} (s : CrashStates L) (P : L → Type 0) → A
 stays_none_added s P = weaker s s (may_crash_to s) (λ c. may_crash_to s c ⊎ P c) (no_new_crash_state s) (λ c left. inl left)
 
 -- a call that asks no keeper
-pub unasked : {S L : Type 0} (site_state : S → SiteState) (lacks : S → Change → ℕ → SiteFault → Type 0) (crash_states : S → CrashStates L) (stands : L → Site → Type 0) (w : World) (k : S) (e : Event) (o : Outcome) (v : World) →
+pub unasked : {S L : Type 0} (site_state : S → SiteState) (lacks : S → Changes → SiteFault → Type 0) (crash_states : S → CrashStates L) (stands : L → Site → Type 0) (w : World) (k : S) (e : Event) (o : Outcome) (v : World) →
     ((c : L) → IsTrue (site_state k).honest → (site_state k).usable ≡ true → may_crash_to (crash_states k) c → stands c (site_state k).site)
     → IsAnswer w e o v → Step w e o v → IsCause site_state lacks w k e o k → CountsCall (result_of o) (site_state k) (site_state k) → v.site ≡ (site_state k).site → v.failed ≡ not (site_state k).usable → w.failed ≡ not (site_state k).usable → Call site_state lacks crash_states stands w k e o v k
 unasked site_state lacks crash_states stands w k e o v crash_states_represent answers is cause counts site flag was = record {
@@ -182,7 +183,7 @@ adds_none : {L : Type 0} (p q : CrashStates L) (P : L → Type 0) → AddsNone p
 adds_none p q P only = weaker p q (may_crash_to p) (λ c. may_crash_to p c ⊎ P c) only (λ c left. inl left)
 
 -- a session that leaves
-pub left_call : {S L : Type 0} (site_state : S → SiteState) (lacks : S → Change → ℕ → SiteFault → Type 0) (crash_states : S → CrashStates L) (stands : L → Site → Type 0) (w : World) (k : S) (id : ℕ) (v : World) (l : S) →
+pub left_call : {S L : Type 0} (site_state : S → SiteState) (lacks : S → Changes → SiteFault → Type 0) (crash_states : S → CrashStates L) (stands : L → Site → Type 0) (w : World) (k : S) (id : ℕ) (v : World) (l : S) →
     ((c : L) → IsTrue (site_state l).honest → (site_state l).usable ≡ true → may_crash_to (crash_states l) c → stands c (site_state l).site)
     → IsAnswer w (Leave id) outcomes.Gone v → MayGiveBack (site_state k) (site_state l) → (IsTrue (site_state k).honest → AddsNone (crash_states k) (crash_states l))
     → v.site ≡ (site_state l).site → v.failed ≡ not (site_state l).usable → w.failed ≡ not (site_state k).usable → Call site_state lacks crash_states stands w k (Leave id) outcomes.Gone v l
@@ -249,7 +250,7 @@ drawn_steady site_state w k id room v l phase (Err fault) out off flags next sea
 }
 
 -- a session that draws
-pub drawn_call : {S L : Type 0} (site_state : S → SiteState) (lacks : S → Change → ℕ → SiteFault → Type 0) (crash_states : S → CrashStates L) (stands : L → Site → Type 0) (w : World) (k : S) (id room : ℕ) (v : World) (l : S) (phase : Phase) (result : Result Drawn HubFault) (out : List ℕ) →
+pub drawn_call : {S L : Type 0} (site_state : S → SiteState) (lacks : S → Changes → SiteFault → Type 0) (crash_states : S → CrashStates L) (stands : L → Site → Type 0) (w : World) (k : S) (id room : ℕ) (v : World) (l : S) (phase : Phase) (result : Result Drawn HubFault) (out : List ℕ) →
     ((c : L) → IsTrue (site_state l).honest → (site_state l).usable ≡ true → may_crash_to (crash_states l) c → stands c (site_state l).site)
     → (IsTrue (site_state k).honest → Step w (Draw id room) (draw_outcome result out) v) → (site_state k).usable ≡ true → (site_state l).honest ≡ (site_state k).honest → (site_state l).usable ≡ (site_state k).usable
     → v.next ≡ w.next → OnErr result (v.sessions ≡ w.sessions) → IfErr result (IsDrawFault (site_state k) (site_state l) phase) → CountsCall result (site_state k) (site_state l) → (IsTrue (site_state k).honest → AddsNone (crash_states k) (crash_states l))
@@ -267,7 +268,7 @@ drawn_call site_state lacks crash_states stands w k id room v l phase result out
 }
 
 -- a hub that has failed, or has no such session, draws nothing
-pub undrawn : {S L : Type 0} (site_state : S → SiteState) (lacks : S → Change → ℕ → SiteFault → Type 0) (crash_states : S → CrashStates L) (stands : L → Site → Type 0) (w : World) (k : S) (id room : ℕ) (fault : HubFault) →
+pub undrawn : {S L : Type 0} (site_state : S → SiteState) (lacks : S → Changes → SiteFault → Type 0) (crash_states : S → CrashStates L) (stands : L → Site → Type 0) (w : World) (k : S) (id room : ℕ) (fault : HubFault) →
     IsAnswer w (Draw id room) (Fault fault) w → IsDrawCause (site_state k) (site_state k) fault → CountsCall (result_of (Fault fault)) (site_state k) (site_state k) → w.site ≡ (site_state k).site → w.failed ≡ not (site_state k).usable → Call site_state lacks crash_states stands w k (Draw id room) (Fault fault) w k
 undrawn site_state lacks crash_states stands w k id room fault answers cause counts site flag = record {
   step = λ honest. answered_by w.failed w (Draw id room) (Fault fault) w answers;

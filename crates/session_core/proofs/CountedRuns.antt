@@ -3,10 +3,10 @@ use Rattle.std.proofs.Common.{◌≡◌, ℕ, Bool, true, false, not, List, [], 
 use Rattle.std.specs.Prelude.{IsTrue}
 use Rattle.std.proofs.lemmas.Bool.{cases_Bool, not-true, not-false}
 use Rattle.common_types.specs.Counts.{counted}
+use Rattle.host_types.specs.AllChanges.{Changes}
 use Rattle.host_types.specs.Site.{Site}
 use Rattle.host_types.specs.SiteState.{SiteState}
 use Rattle.host_types.specs.CrashStates.{CrashStates}
-use Rattle.host_types.specs.declared.change.Change.{Change}
 use Rattle.host_types.specs.declared.site_fault.SiteFault.{SiteFault}
 use Rattle.session_core.specs.World.{World}
 use Rattle.session_core.specs.Calls.{Calls, StaysClosed}
@@ -100,7 +100,7 @@ not_both fails is other = let no : true ≡ false = sym is ∙ other in cc no
 
 -- ---- of calls one after another
 
-module _ {S L : Type 0} (site_state : S → SiteState) (lacks : S → Change → ℕ → SiteFault → Type 0) (crash_states : S → CrashStates L) (stands : L → Site → Type 0) where
+module _ {S L : Type 0} (site_state : S → SiteState) (lacks : S → Changes → SiteFault → Type 0) (crash_states : S → CrashStates L) (stands : L → Site → Type 0) where
   abbrev All : World → S → List Event → List Outcome → World → S → Type 0
   All w k es os v l = Calls site_state lacks crash_states stands w k es os v l
 

@@ -1,7 +1,8 @@
 -- A change that the site did not make, as an answer to its administrator.
-use Rattle.std.proofs.Common.{◌≡◌, ◌⊎◌, ⊎_elim, ℕ, Bool, true, false, List, not, refl, sym, subst, ap, ◌∙◌, inl, inr, if◌then◌else◌}
+use Rattle.std.proofs.Common.{◌≡◌, ◌⊎◌, ⊎_elim, ℕ, Bool, true, false, List, [], ◌∷◌, not, refl, sym, subst, ap, ◌∙◌, inl, inr, if◌then◌else◌}
 use Rattle.std.specs.Prelude.{Option, Some, Result, Ok, Err, IsTrue, IsOk, is_some}
 use Rattle.common_types.specs.declared.refused.Refused.{Refused}
+use Rattle.host_types.specs.AllChanges.{Changes}
 use Rattle.host_types.specs.Site.{Site}
 use Rattle.host_types.specs.Change.{apply}
 use Rattle.host_types.specs.SiteState.{SiteState, HasNotChanged, IsChangeFault}
@@ -37,7 +38,7 @@ valid_change : (change : Change) (applied : Result Site Refused) → IsOk applie
 valid_change change (Ok site) is = refl
 valid_change change (Err refused) is = absurd (cc is)
 
-lacking : (lacks : Change → ℕ → SiteFault → Type 0) (change : Change) (now : ℕ) (applied : Result Site Refused) (fault : SiteFault) → IsOk applied → lacks change now fault → IsLacking lacks (valid_one change applied) now fault
+lacking : (lacks : Changes → SiteFault → Type 0) (change : Change) (now : ℕ) (applied : Result Site Refused) (fault : SiteFault) → IsOk applied → lacks ((change, now) ∷ []) fault → IsLacking lacks (valid_one change applied) now fault
 lacking lacks change now applied fault is h = subst (λ (post : Option Change). IsLacking lacks post now fault) (sym (valid_change change applied is)) h
 
 is_valid : (r : Result Site Refused) (t : Site) → r ≡ Ok t → IsOk r
@@ -47,7 +48,7 @@ is_valid (Err refused) t e = absurd (cc e)
 made_site : (change : Change) (now : ℕ) (site t : Site) → apply site change now ≡ Ok t → with_change site now (valid_one change (apply site change now)) ≡ t
 made_site change now site t is = ap (λ (post : Option Change). with_change site now post) (valid_change change (apply site change now) (is_valid (apply site change now) t is)) ∙ ap (made_or site) is
 
-module _ {S L : Type 0} (site_state : S → SiteState) (lacks : S → Change → ℕ → SiteFault → Type 0) (crash_states : S → CrashStates L) (stands : L → Site → Type 0) (k l : S) (next : ℕ) (sessions : List (ℕ × Phase)) (change : Change) (now : ℕ) where
+module _ {S L : Type 0} (site_state : S → SiteState) (lacks : S → Changes → SiteFault → Type 0) (crash_states : S → CrashStates L) (stands : L → Site → Type 0) (k l : S) (next : ℕ) (sessions : List (ℕ × Phase)) (change : Change) (now : ℕ) where
   abbrev Answers : HubFault → Type 0
   Answers fault = Call site_state lacks crash_states stands (world_at (site_state k) next sessions) k (Admin change now) (Fault fault) (world_at (site_state l) next sessions) l
 
@@ -114,7 +115,7 @@ module _ {S L : Type 0} (site_state : S → SiteState) (lacks : S → Change →
       }
 
   pub not_made_call : (fault : SiteFault) → CountsCall {T = Outcome} (Err (fault_of fault)) (site_state k) (site_state l) → (site_state k).usable ≡ true → (site_state l).honest ≡ (site_state k).honest → Crashes → WritesNothing
-      → IsChangeFault (lacks k change now) (site_state k) (site_state l) (apply (site_state k).site change now) fault → Answers (fault_of fault)
+      → IsChangeFault (lacks k ((change, now) ∷ [])) (site_state k) (site_state l) (apply (site_state k).site change now) fault → Answers (fault_of fault)
   not_made_call (faults.Refused refused) counts usable same crashes none h = refused_call refused counts usable same none h.0 h.1
   not_made_call faults.Read counts usable same crashes none h = failed_call hub.Broken counts usable same crashes none (usable, h.1) (h.0, h.1)
   not_made_call (faults.Full need free) counts usable same crashes none h =

@@ -2,6 +2,7 @@
 use Rattle.std.proofs.Common.{◌≡◌, ℕ, ◌+◌, ◌-◌, ◌^◌, ◌<◌, ◌≤◌, Bool, true, false, not, List, [], ◌∷◌, ◌++◌, length, refl, ap, sym, ◌∙◌, inl, inr, subst}
 use Rattle.std.specs.Prelude.{Option, Some, None, is_some, Result, Ok, Err, IfOk, IfErr, OnOk, OnErr, IsTrue, if◌then◌else◌}
 use Rattle.std.proofs.lemmas.Bool.{cases_Bool, le-leb, lt-leb, ne_eqb, eq-eqb}
+use Rattle.host_types.specs.AllChanges.{Changes}
 use Rattle.host_types.specs.Site.{Site}
 use Rattle.host_types.specs.SiteState.{SiteState, Rose}
 use Rattle.host_types.specs.declared.change.Change.{Change}
@@ -101,7 +102,7 @@ post_fault a b lacking next old new now e post (hub.Refused r) only honest usabl
 post_fault a b lacking next old new now e post hub.NotReady only honest usable works reads change seats cause = absurd cause
 
 -- what a keeper lacks, it lacks of a change
-pub only_changes : (lacks : Change → ℕ → SiteFault → Type 0) (now : ℕ) (post : Option Change) (what : SiteFault) → IsLacking lacks post now what → is_some post ≡ true
+pub only_changes : (lacks : Changes → SiteFault → Type 0) (now : ℕ) (post : Option Change) (what : SiteFault) → IsLacking lacks post now what → is_some post ≡ true
 only_changes lacks now None what is = absurd is
 only_changes lacks now (Some change) what is = refl
 

@@ -1,5 +1,6 @@
 -- When a fault of a hub may come, by what its keeper was and is.
-use Rattle.std.specs.Prelude.{◌≡◌, ◌⊎◌, ◌<◌, ℕ, true, false, Option, Some, None, IsTrue}
+use Rattle.std.specs.Prelude.{◌≡◌, ◌⊎◌, ◌<◌, ℕ, true, false, [], ◌∷◌, Option, Some, None, IsTrue}
+use Rattle.host_types.specs.AllChanges.{Changes}
 use Rattle.host_types.specs.SiteState.{SiteState, Rose}
 use Rattle.host_types.specs.declared.change.Change.{Change}
 use Rattle.host_types.specs.declared.site_fault.SiteFault.{SiteFault}
@@ -9,9 +10,9 @@ use Rattle.session_core.specs.declared.fault.HubFault.{HubFault}
 use Rattle.session_core.specs.declared.fault.HubFault.TheVariants as hub
 
 -- There is a change, and the keeper may refuse it so, for lack of room, or because it takes no further change.
-abbrev pub IsLacking : (Change → ℕ → SiteFault → Type 0) → Option Change → ℕ → SiteFault → Type 0
+abbrev pub IsLacking : (Changes → SiteFault → Type 0) → Option Change → ℕ → SiteFault → Type 0
 IsLacking lacks None now fault = ⊥
-IsLacking lacks (Some change) now fault = lacks change now fault
+IsLacking lacks (Some change) now fault = lacks ((change, now) ∷ []) fault
 
 -- `Broken` only where the count of failed reads rose; `Full`, `Spent` and `Deep` only of a change that may get them; `Failed` only where a write or a sync had failed before, or where the count of failed writes and syncs rose; `Memory` and `Unknown` as the world says; and no other.
 abbrev pub IsHeardCause : (Option Change → ℕ → SiteFault → Type 0) → Option Change → ℕ → SiteState → SiteState → HubFault → Type 0

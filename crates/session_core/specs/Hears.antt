@@ -1,5 +1,6 @@
 -- What the calls that move a session which hears something do to its site, and what they give.
 use Rattle.std.specs.Prelude.{◌≡◌, ◌⊎◌, ℕ, true, List, Option, None, Some, Result, OnErr, OnOk, IfOk, IfErr, IfSome, IsTrue}
+use Rattle.host_types.specs.AllChanges.{Changes}
 use Rattle.host_types.specs.Site.{Site}
 use Rattle.host_types.specs.SiteState.{SiteState}
 use Rattle.host_types.specs.Pins.{Pinned}
@@ -20,7 +21,7 @@ use Rattle.session_core.specs.declared.fault.HubFault.{HubFault}
 use Rattle.session_core.specs.declared.session.Phase.{Phase}
 
 -- What a call that makes a post, where there is one, does to a site: where it succeeds the site has the post and is still usable, a fault has its reason, and one that leaves the site usable adds no crash state; the answer says what was counted; a crash within the call leaves what represents the site from before it, or with the post.
-pub record MakesPost {T K L : Type 0} (site_state : K → SiteState) (lacks : K → Change → ℕ → SiteFault → Type 0) (crash_states : K → CrashStates L) (represents : L → Site → Type 0) (post : Option Change) (now : ℕ) (old new : K) (result : Result T HubFault) : Type 0 where
+pub record MakesPost {T K L : Type 0} (site_state : K → SiteState) (lacks : K → Changes → SiteFault → Type 0) (crash_states : K → CrashStates L) (represents : L → Site → Type 0) (post : Option Change) (now : ℕ) (old new : K) (result : Result T HubFault) : Type 0 where
   pub done : IsTrue (site_state old).honest → OnOk result ((site_state new).site ≡ with_change (site_state old).site now post)
   pub still_usable : OnOk result ((site_state new).usable ≡ true)
   pub fault : IfErr result (IsPostFault (IsLacking (lacks old)) post now (site_state old) (site_state new))

@@ -1,5 +1,5 @@
 -- Worked examples: what a world answers to some events, one after another.
-use Rattle.std.specs.Prelude.{◌≡◌, ℕ, ◌-◌, ◌^◌, List, [], ◌∷◌, codes}
+use Rattle.std.specs.Prelude.{◌≡◌, ℕ, ◌-◌, ◌^◌, List, [], ◌∷◌, codes, None}
 use Rattle.host_types.specs.Site.{fresh_site, text_item}
 use Rattle.host_types.specs.declared.item.Item.{Item}
 use Rattle.host_types.specs.declared.item.Body.{Body}
@@ -29,7 +29,7 @@ abbrev pub put_about : Event
 put_about = Admin (Put (codes "/about") (text_item (codes "About us") 743878921 (codes "Hello\n.dot\nlast"))) 743878921
 
 abbrev pub an_item : List ℕ → Body → Item
-an_item title body = record { title = title; stamp = 0; summary = []; body = body }
+an_item title body = record { title = title; stamp = 0; until = None; summary = []; body = body }
 
 -- a menu of what stands at `/about` and of a line to read, at the top
 abbrev pub put_menu : Event

@@ -115,7 +115,7 @@ words_bytes (w ∷ ws) short =
 
 -- ---- the record
 
-record_bytes_of : (title : List ℕ) (stamp : ℕ) → length (item_bytes (empty_menu title stamp)) ≡ 16 + length title
+record_bytes_of : (title : List ℕ) (stamp : ℕ) → length (item_bytes (empty_menu title stamp)) ≡ 24 + length title
 unfolding record_bytes
 record_bytes_of title stamp = omega (arith, length-append (title ++ 0 ∷ 0 ∷ []) (0 ∷ 0 ∷ 0 ∷ 0 ∷ []), length-append title (0 ∷ 0 ∷ []))
 

@@ -38,26 +38,26 @@ drop_last edits all ps qs p is whole = sym (last qs) ∙ ap (without_all edits) 
 
 -- ---- sizes of parts
 
-pub short_views : (views : List View) → view_bytes views ≤ 65536 → All (λ p. length p ≤ 65536) (map (λ (v : View). v.bytes) views)
-short_views views fits k d less = each views 65536 k d fits less
+pub short_views : (views : List View) → view_bytes views ≤ 262144 → All (λ p. length p ≤ 262144) (map (λ (v : View). v.bytes) views)
+short_views views fits k d less = each views 262144 k d fits less
   where
     each : (vs : List View) (most k : ℕ) (d : List ℕ) → view_bytes vs ≤ most → k < length (map (λ (v : View). v.bytes) vs) → length (slice_index_or (map (λ (v : View). v.bytes) vs) k d) ≤ most
     each [] most k d fits less = absurd (omega (arith, less))
     each (v ∷ vs) most zero d fits less = omega (arith, fits, sum_by-cons (λ (w : View). length w.bytes) v vs)
     each (v ∷ vs) most (suc k) d fits less = each vs most k d (omega (arith, fits, sum_by-cons (λ (w : View). length w.bytes) v vs)) (omega (arith, less))
 
-pub short_one : (part : List ℕ) → length part ≤ 65536 → All (λ p. length p ≤ 65536) (part ∷ [])
+pub short_one : (part : List ℕ) → length part ≤ 262144 → All (λ p. length p ≤ 262144) (part ∷ [])
 short_one part fits zero d less = fits
 short_one part fits (suc k) d less = absurd (omega (arith, less))
 
 -- what is known of the views of a body that is not too long
-pub few_bytes : (body : Body) (kind : Kind) (views : List View) → body ≡ Views kind views → IsTrue (is_short_body body) → view_bytes views ≤ 65536
+pub few_bytes : (body : Body) (kind : Kind) (views : List View) → body ≡ Views kind views → IsTrue (is_short_body body) → view_bytes views ≤ 262144
 unfolding most_view_bytes
 few_bytes body kind views is short =
     let long : is_long_body [] (Views kind views) ≡ false = ap (is_long_body []) (sym is) ∙ not-true (is_long_body [] body) short in
     let sizes = or_parts (nat_lt 8 (length views)) _ long in
-    let bytes = or_parts (nat_lt 65536 (view_bytes views)) _ sizes.1 in
-    ltb-false 65536 (view_bytes views) bytes.0
+    let bytes = or_parts (nat_lt 262144 (view_bytes views)) _ sizes.1 in
+    ltb-false 262144 (view_bytes views) bytes.0
 
 pub few_views : (body : Body) (kind : Kind) (views : List View) → body ≡ Views kind views → IsTrue (is_short_body body) → length (map (λ (v : View). v.bytes) views) ≤ 8
 few_views body kind views is short =

@@ -160,7 +160,7 @@ pub in_range : (n k : ℕ) → k < chunk_count n → 1000 * k < n
 unfolding chunk_count
 in_range n k h = omega (arith, h, div-add-mod (n + 999) 1000, mod-lt (n + 999) {m = 1000} (omega arith))
 
-one_part : (a : List ℕ) (v : ℕ) (part : List ℕ) (k : ℕ) → length part ≤ 65536 → k < 65536 → value_at (chunk_pairs a v part (chunk_count (length part)) 0) (chunk_key a v k) ≡ chunk_in (Some part) k
+one_part : (a : List ℕ) (v : ℕ) (part : List ℕ) (k : ℕ) → length part ≤ 262144 → k < 65536 → value_at (chunk_pairs a v part (chunk_count (length part)) 0) (chunk_key a v k) ≡ chunk_in (Some part) k
 one_part a v part k small fits =
     let room : chunk_count (length part) ≤ 65536 = count_within (length part) 65536 (omega (arith, small)) in
     elim (nat_lt (1000 * k) (length part)) as (λ b. nat_lt (1000 * k) (length part) ≡ b → value_at (chunk_pairs a v part (chunk_count (length part)) 0) (chunk_key a v k) ≡ cond b (Some (chunk_of part k)) None) [
@@ -169,7 +169,7 @@ one_part a v part k small fits =
     ] refl
 
 abbrev pub AreSmall : List (List ℕ) → Type 0
-AreSmall parts = AllByRecursion (λ part. length part ≤ 65536) parts
+AreSmall parts = AllByRecursion (λ part. length part ≤ 262144) parts
 
 some_part : (a : List ℕ) (parts : List (List ℕ)) (v d w k : ℕ) → AreSmall parts → k < 65536 → w ≡ v + d → value_at (part_pairs a v parts) (chunk_key a w k) ≡ chunk_in (slice_get parts d) k
 some_part a [] v d w k small fits is = refl

@@ -5,7 +5,7 @@ use Rattle.std.specs.List.{list_all, list_any, AllByRecursion}
 use Rattle.std.proofs.lemmas.Bool.{cases_lt, eqb-true, le-leb, leb-true, leb-false, lt-ltb, le-ltb, ltb-true, ne_eqb}
 use Rattle.std.proofs.lemmas.List.{length-append, length-map, length-replicate}
 use Rattle.host_types.specs.Names.{is_field, is_forbidden, is_word, is_visible}
-use Rattle.host_types.specs.Items.{is_selector, is_title, is_host, is_typed_entry, is_bad_entry, is_bad_word, is_bad_question, prompt_of, has_bad_name, is_long_view, has_twins, view_bytes, most_view_bytes, is_bad_body, is_typed_item, is_valid_item}
+use Rattle.host_types.specs.Items.{is_until, is_selector, is_title, is_host, is_typed_entry, is_bad_entry, is_bad_word, is_bad_question, prompt_of, has_bad_name, is_long_view, has_twins, view_bytes, most_view_bytes, is_bad_body, is_typed_item, is_valid_item}
 use Rattle.host_types.specs.Card.{card_view}
 use Rattle.host_types.specs.declared.view.View.{View}
 use Rattle.host_types.specs.declared.card.CardView.{CardView}
@@ -347,12 +347,12 @@ a_body (kept.Views kind cs) h =
     let again = card_again cs in
     let len = length-map cs filled in
     let not_twins : has_twins (map filled cs) ≡ false = sym (twins (map filled cs)) ∙ ap have_twins again ∙ not_true _ (and_first (not (have_twins cs)) _ apart) in
-    let small : nat_lt 65536 (view_bytes (map filled cs)) ≡ false = ap (nat_lt 65536) (sym (lengths (map filled cs)) ∙ ap all_lengths again) ∙ not_true _ (and_second (not (have_twins cs)) _ apart) in (
+    let small : nat_lt 262144 (view_bytes (map filled cs)) ≡ false = ap (nat_lt 262144) (sym (lengths (map filled cs)) ∙ ap all_lengths again) ∙ not_true _ (and_second (not (have_twins cs)) _ apart) in (
       Views kind (map filled cs),
       record {
         typed = refl;
         not_bad = or_false (eqb (length (map filled cs)) 0) _ (ne_eqb _ 0 (λ e. omega (arith, e, len, some))) (or_false (list_any has_bad_name (map filled cs)) _ good.0 not_twins);
-        not_long = or_false (nat_lt 8 (length (map filled cs))) _ (le-ltb 8 _ (omega (arith, len, few))) (or_false (nat_lt 65536 (view_bytes (map filled cs))) _ small good.1);
+        not_long = or_false (nat_lt 8 (length (map filled cs))) _ (le-ltb 8 _ (omega (arith, len, few))) (or_false (nat_lt 262144 (view_bytes (map filled cs))) _ small good.1);
       },
       ap (kept.Views kind) again,
     )
@@ -388,14 +388,14 @@ a_body (kept.Moved target) h = (Moved target, record { typed = h; not_bad = refl
 
 pub an_item : (r : Record) → IsTrue (is_record r) → (item : Item) × IsTrue (is_valid_item [] item) × (recorded item ≡ r)
 an_item r h =
-    let stamp = and_first (is_stamp r.stamp) _ h in
-    let titled = and_second (is_stamp r.stamp) _ h in
+    let moments = and_first (is_stamp r.stamp && is_until r.until) _ h in
+    let titled = and_second (is_stamp r.stamp && is_until r.until) _ h in
     let more = and_second (is_title r.title) _ titled in
     let b = a_body r.body (and_second (is_summary r.summary) _ more) in
     let summary = le-ltb 400 (length r.summary) (leb-true (length r.summary) 400 (and_first (is_summary r.summary) _ more)) in
-    let item : Item = record { title = r.title; stamp = r.stamp; summary = r.summary; body = b.0 } in (
+    let item : Item = record { title = r.title; stamp = r.stamp; until = r.until; summary = r.summary; body = b.0 } in (
       item,
-      and_both (is_typed_item item) _ (and_both (is_title r.title) _ (and_first (is_title r.title) _ titled) (and_both (nat_le r.stamp 253402300799) _ stamp b.1.typed))
+      and_both (is_typed_item item) _ (and_both (is_title r.title) _ (and_first (is_title r.title) _ titled) (and_both (is_stamp r.stamp && is_until r.until) _ moments b.1.typed))
           (and_both (not (is_bad_body b.0)) _ (ap not b.1.not_bad) (ap not (or_false (nat_lt 400 (length r.summary)) _ summary b.1.not_long))),
-      λ i. record { title = r.title; stamp = r.stamp; summary = r.summary; body = b.2 i },
+      λ i. record { title = r.title; stamp = r.stamp; until = r.until; summary = r.summary; body = b.2 i },
     )

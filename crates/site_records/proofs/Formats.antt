@@ -222,6 +222,23 @@ pub mapped_again : {A B : Type 0} (f : A → B) (read : Read A) (bytes : List �
 unfolding mapped
 mapped_again f read bytes x rest e = rw e refl
 
+-- a field that is another value, there and back
+module _ {A B : Type 0} (F : A → Type 0) (G : B → Type 0) (write : A → List ℕ) (read : Read A) (format : IsFormat F write read) (f : A → B) (g : B → A) (fits : (x : A) → F x → G (f x) × (g (f x) ≡ x)) (back : (y : B) → G y → F (g y) × (f (g y) ≡ y)) where
+  turned_takes : (bytes : List ℕ) (y : B) (rest : List ℕ) → IsBytes bytes → mapped f read bytes ≡ Some (y, rest) → Takes bytes (write (g y)) rest × G y
+  turned_takes bytes y rest ok e =
+      let m = mapped_some f read bytes y rest e in
+      let t = format.takes bytes m.0 rest ok m.1 in
+      let k = fits m.0 t.1 in
+      subst (λ (z : B). Takes bytes (write (g z)) rest × G z) m.2 (subst (λ (x : A). Takes bytes (write x) rest) (sym k.1) t.0, k.0)
+
+  turned_again : (y : B) (rest : List ℕ) → G y → mapped f read (write (g y) ++ rest) ≡ Some (y, rest)
+  turned_again y rest h =
+      let k = back y h in
+      mapped_again f read (write (g y) ++ rest) (g y) rest (format.again (g y) rest k.0) ∙ ap (λ (z : B). Some (z, rest)) k.1
+
+  pub turned_format : IsFormat G (λ y. write (g y)) (mapped f read)
+  turned_format = record { takes = turned_takes; again = turned_again }
+
 -- ---- a letter that stands for something
 
 pub find_passes : {A : Type 0} (test : A → Bool) (xs : List A) (x : A) → find test xs ≡ Some x → test x ≡ true

@@ -36,13 +36,13 @@ use Rattle.site_records.proofs.ChunkLaws.{AreSmall, HasSmallParts, chunks_law, c
 
 -- ---- the parts of a valid item
 
-small_views : (vs : List View) → view_bytes vs ≤ 65536 → AreSmall (map (λ v. v.bytes) vs)
+small_views : (vs : List View) → view_bytes vs ≤ 262144 → AreSmall (map (λ v. v.bytes) vs)
 small_views [] h = tt
 small_views (v ∷ vs) h = let sum = sum_by-cons (λ (w : View). length w.bytes) v vs in (omega (arith, h, sum), small_views vs (omega (arith, h, sum)))
 
 pub small_parts : (body : Body) → IsValid body → AreSmall (parts_of body)
 unfolding most_view_bytes
-small_parts (Views kind vs) h = small_views vs (ltb-false 65536 (view_bytes vs) (or_first _ (list_any is_long_view vs) (or_second (nat_lt 8 (length vs)) _ h.not_long)))
+small_parts (Views kind vs) h = small_views vs (ltb-false 262144 (view_bytes vs) (or_first _ (list_any is_long_view vs) (or_second (nat_lt 8 (length vs)) _ h.not_long)))
 small_parts (Menu es) h = (omega (arith, entries_size es (menu_entries es h.typed h.not_bad h.not_long)), tt)
 small_parts (Board many next) h = tt
 small_parts (Form board qs) h = (omega (arith, (questions_size qs (form_questions board qs h.typed h.not_bad h.not_long)).1), tt)
@@ -121,7 +121,7 @@ same_chunks a b k within len same =
     unwrapped : {x y : List ℕ} → a_chunk x ≡ a_chunk y → x ≡ y
     unwrapped e = cc e
 
-same_part : (a b : List ℕ) → length a ≡ length b → length a ≤ 65536 → ((k : ℕ) → k < 65536 → chunk_in (Some a) k ≡ chunk_in (Some b) k) → a ≡ b
+same_part : (a b : List ℕ) → length a ≡ length b → length a ≤ 262144 → ((k : ℕ) → k < 65536 → chunk_in (Some a) k ≡ chunk_in (Some b) k) → a ≡ b
 same_part a b len small same =
     same_number_lists a b len (λ i less.
     let d = div-add-mod i 1000 in
@@ -166,7 +166,7 @@ same_item selector x y g h bytes chunks =
     let lens : map length (parts_of x.body) ≡ map length (parts_of y.body) = part_sizes x.body ∙ ap sizes_of bodies ∙ sym (part_sizes y.body) in
     let parts = same_parts (parts_of x.body) (parts_of y.body) lens (small_parts x.body (valid_body selector x g)) chunks in
     let body = same_body x.body y.body (valid_body selector x g) (valid_body selector y h) bodies parts in
-    λ i. record { title = (r i).title; stamp = (r i).stamp; summary = (r i).summary; body = body i }
+    λ i. record { title = (r i).title; stamp = (r i).stamp; until = (r i).until; summary = (r i).summary; body = body i }
 
 abbrev no_bytes : Option (List ℕ)
 no_bytes = None
@@ -230,14 +230,14 @@ or_later true b h = refl
 or_later false b h = h
 
 module _ (selector : List ℕ) (item : Item) (small : AreSmall (parts_of item.body)) where
-  chunk_stands : (v k : ℕ) (part : List ℕ) → slice_get (parts_of item.body) v ≡ Some part → length part ≤ 65536 → k < chunk_count (length part) → Stands selector item (chunk_key selector v k, chunk_of part k)
+  chunk_stands : (v k : ℕ) (part : List ℕ) → slice_get (parts_of item.body) v ≡ Some part → length part ≤ 262144 → k < chunk_count (length part) → Stands selector item (chunk_key selector v k, chunk_of part k)
   chunk_stands v k part there len less =
       let most = count_within (length part) 65536 (omega (arith, len)) in
       chunk_value selector (Some item) v k small (omega (arith, less, most))
       ∙ ap (λ (o : Option (List ℕ)). chunk_in o k) there
       ∙ ap (λ (b : Bool). cond b (a_chunk (chunk_of part k)) None) (lt-ltb (1000 * k) (length part) (in_range (length part) k less))
 
-  chunks_stand : (v : ℕ) (part : List ℕ) (n k : ℕ) → slice_get (parts_of item.body) v ≡ Some part → length part ≤ 65536 → k + n ≤ chunk_count (length part) → AllByRecursion (Stands selector item) (chunk_pairs selector v part n k)
+  chunks_stand : (v : ℕ) (part : List ℕ) (n k : ℕ) → slice_get (parts_of item.body) v ≡ Some part → length part ≤ 262144 → k + n ≤ chunk_count (length part) → AllByRecursion (Stands selector item) (chunk_pairs selector v part n k)
   chunks_stand v part zero k there len room = tt
   chunks_stand v part (suc n) k there len room = (chunk_stands v k part there len (omega (arith, room)), chunks_stand v part n (k + 1) there len (omega (arith, room)))
 

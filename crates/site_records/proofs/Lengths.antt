@@ -62,8 +62,8 @@ pub short_views : (body : Body) (kind : Kind) (vs : List View) → body ≡ View
 unfolding most_view_bytes
 short_views body kind vs is short k d less =
     let here = not_true _ (subst (λ (b : Body). IsTrue (is_short_body b)) is short) in
-    let fits : view_bytes vs ≤ 65536 = ltb-false 65536 (view_bytes vs) (or_first _ (list_any is_long_view vs) (or_second (nat_lt 8 (length vs)) _ here)) in
-    omega (arith, each_within vs 65536 k d fits less)
+    let fits : view_bytes vs ≤ 262144 = ltb-false 262144 (view_bytes vs) (or_first _ (list_any is_long_view vs) (or_second (nat_lt 8 (length vs)) _ here)) in
+    omega (arith, each_within vs 262144 k d fits less)
 
 view_fits : (v : View) → is_long_view v ≡ false → fits_view (card_view v) ≡ true
 view_fits v h = and_both _ _ (le-leb (length v.name) 40 (ltb-false 40 (length v.name) (or_first _ (nat_lt 10 (length v.language)) h))) (le-leb (length v.language) 10 (ltb-false 10 (length v.language) (or_second (nat_lt 40 (length v.name)) _ h)))

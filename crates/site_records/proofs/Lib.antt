@@ -9,3 +9,4 @@ pub mod QuestionLaws
 pub mod RecordLaws
 pub mod Sizes
 pub mod LayoutTells
+pub mod FirstVersion

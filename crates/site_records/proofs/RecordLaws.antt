@@ -1,24 +1,24 @@
 -- A record reads what it writes, and nothing else.
-use Rattle.std.proofs.Common.{◌≡◌, ℕ, ◌^◌, ◌<◌, ◌≤◌, Bool, true, false, cond, eqb, List, [], ◌∷◌, ◌++◌, length, Option, Some, None, Result, Ok, Err, refl, sym, ap, subst, ◌∙◌, arith, inl, inr}
-use Rattle.std.specs.Prelude.{IsTrue, nat_le, nat_lt, nat_eq, ◌&&◌, ◌||◌, IfOk, flat_map}
+use Rattle.std.proofs.Common.{◌≡◌, ℕ, ◌^◌, ◌-◌, ◌<◌, ◌≤◌, Bool, true, false, cond, eqb, List, [], ◌∷◌, ◌++◌, length, Option, Some, None, Result, Ok, Err, refl, sym, ap, subst, ◌∙◌, arith, inl, inr}
+use Rattle.std.specs.Prelude.{IsTrue, nat_le, nat_lt, nat_eq, ◌&&◌, ◌||◌, ◌==◌, is_none, IfOk, flat_map}
 use Rattle.std.specs.List.{list_all}
 use Rattle.std.specs.Int.{w16, w32, w64, to_be_bytes}
-use Rattle.std.proofs.lemmas.Bool.{eqb-true, leb-true, ltb-true, lt-ltb}
+use Rattle.std.proofs.lemmas.Bool.{cases_Bool, eqb-true, ne_eqb, leb-true, ltb-true, lt-ltb}
 use Rattle.std.proofs.lemmas.List.{append-nil, nil_from_length}
-use Rattle.host_types.specs.Items.{kind_letter, is_selector, is_title}
+use Rattle.host_types.specs.Items.{kind_letter, is_selector, is_title, is_until}
 use Rattle.host_types.specs.Names.{is_visible, is_word}
 use Rattle.host_types.specs.declared.view.Kind.{Kind}
 use Rattle.host_types.specs.declared.view.Kind.TheVariants as kinds
 use Rattle.host_types.specs.declared.card.CardView.{CardView}
-use Rattle.site_records.specs.Records.{short, long, view_head, tag_of, tail_bytes, record_bytes}
-use Rattle.site_records.specs.Limits.{is_stamp, is_summary, is_view_name, is_language, is_view, is_view_count, go_together, is_menu_size, is_form_size, is_cap, is_body, is_record, fits_view, fits_body, fits_record}
-use Rattle.site_records.specs.Field.{◌>>=◌, number, byte, counted, passing, both, known, listed, IsBytes, Takes, IsFormat}
-use Rattle.site_records.specs.Reading.{stamp_at, title_at, summary_at, selector_at, all_kinds, kind_of, head_at, name_at, language_at, view_fields, seen_view, view_at, views_at, views_body, menu_size_at, menu_body, board_at, board_body, form_size_at, form_body, search_body, moved_body, body_behind, record_at, Gives}
+use Rattle.site_records.specs.Records.{short, long, view_head, tag_of, tail_bytes, until_number, until_bytes, rest_bytes, record_bytes, record_bytes_v1}
+use Rattle.site_records.specs.Limits.{is_stamp, is_summary, is_view_name, is_language, is_view, is_view_count, go_together, is_menu_size, is_form_size, is_cap, is_body, is_small, is_record, is_record_v1, fits_view, fits_body, fits_record}
+use Rattle.site_records.specs.Field.{Read, ◌>>=◌, number, byte, counted, passing, both, known, listed, IsBytes, Takes, IsFormat}
+use Rattle.site_records.specs.Reading.{stamp_at, is_expiry, until_of, until_at, never, moments_at, moments_at_v1, rest_at, record_by, record_at_v1, title_at, summary_at, selector_at, all_kinds, kind_of, head_at, name_at, language_at, view_fields, seen_view, view_at, views_at, views_body, menu_size_at, menu_body, board_at, board_body, form_size_at, form_body, search_body, moved_body, body_behind, record_at, Gives}
 use Rattle.site_records.specs.declared.record.RecordBody.{RecordBody}
 use Rattle.site_records.specs.declared.record.RecordBody.TheVariants.{Views, Menu, Board, Form, Search, Moved}
 use Rattle.site_records.specs.declared.record.Record.{Record}
 use Rattle.site_records.specs.declared.record.RecordFault.{RecordFault}
-use Rattle.site_records.proofs.Formats.{and_first, and_second, and_both, bind_some, guard_some, find_passes, Takes-then, wide16, wide32, wide64, number_format, byte_format, counted_format, passing_format, passing_too_format, both_format, known_format, listed_format, mapped_some, mapped_again, Behind, behind_takes, chosen, last_chosen}
+use Rattle.site_records.proofs.Formats.{and_first, and_second, and_both, bind_some, guard_some, find_passes, Takes-then, wide16, wide32, wide64, number_format, byte_format, counted_format, passing_format, passing_too_format, both_format, known_format, listed_format, mapped_some, mapped_again, turned_format, Behind, behind_takes, chosen, last_chosen}
 use Rattle.site_records.proofs.EntryLaws.{short_format, title_format, selector_format}
 
 -- ---- the head
@@ -29,16 +29,77 @@ stamp_format = passing_format (λ n. n < 2 ^ 64) (to_be_bytes w64) (number w64) 
 summary_format : IsFormat (λ text. IsTrue (is_summary text)) long summary_at
 summary_format = passing_format (λ text. length text < 2 ^ 16) long (counted (number w16)) (counted_format (2 ^ 16) (to_be_bytes w16) (number w16) (number_format w16 (2 ^ 16) wide16)) is_summary (λ text h. omega (arith, leb-true (length text) 400 h))
 
-abbrev HeadFits : (ℕ × List ℕ) × List ℕ → Type 0
-HeadFits h = (IsTrue (is_stamp h.0.0) × IsTrue (is_title h.0.1)) × IsTrue (is_summary h.1)
+abbrev HeadFits : List ℕ × List ℕ → Type 0
+HeadFits h = IsTrue (is_title h.0) × IsTrue (is_summary h.1)
 
-abbrev head_text : (ℕ × List ℕ) × List ℕ → List ℕ
-head_text h = to_be_bytes w64 h.0.0 ++ short h.0.1 ++ long h.1
+abbrev head_text : List ℕ × List ℕ → List ℕ
+head_text h = short h.0 ++ long h.1
 
 head_format : IsFormat HeadFits head_text head_at
 unfolding head_at
-head_format = both_format (λ x. IsTrue (is_stamp x.0) × IsTrue (is_title x.1)) (λ text. IsTrue (is_summary text)) (λ x. to_be_bytes w64 x.0 ++ short x.1) long (both stamp_at title_at) summary_at
-    (both_format (λ n. IsTrue (is_stamp n)) (λ text. IsTrue (is_title text)) (to_be_bytes w64) short stamp_at title_at stamp_format title_format) summary_format
+head_format = both_format (λ text. IsTrue (is_title text)) (λ text. IsTrue (is_summary text)) short long title_at summary_at title_format summary_format
+
+-- ---- moments
+
+abbrev Moments : Type 0
+Moments = ℕ × Option ℕ
+
+-- the second of two tests passes where the first doesn't
+second_passes : (a b : Bool) → a ≡ false → (a || b) ≡ true → b ≡ true
+second_passes true b none h = absurd (cc none)
+second_passes false b none h = h
+
+first_passes : (a b : Bool) → b ≡ false → (a || b) ≡ true → a ≡ true
+first_passes true b none h = refl
+first_passes false b none h = absurd (cc (none, h))
+
+expiry_small : (n : ℕ) → IsTrue (is_expiry n) → n < 2 ^ 64
+expiry_small n h =
+    elim (cases_Bool (nat_le n 253402300799)) [
+      | inl early ↦ (let e = leb-true n 253402300799 early in omega (arith, e))
+      | inr late ↦ (let e = eqb-true n (2 ^ 64 - 1) (second_passes (nat_le n 253402300799) (n == 2 ^ 64 - 1) late h) in omega (arith, e))
+    ]
+
+expiry_format : IsFormat (λ n. IsTrue (is_expiry n)) (to_be_bytes w64) (passing is_expiry (number w64))
+expiry_format = passing_format (λ n. n < 2 ^ 64) (to_be_bytes w64) (number w64) (number_format w64 (2 ^ 64) wide64) is_expiry expiry_small
+
+until_fits : (n : ℕ) → IsTrue (is_expiry n) → IsTrue (is_until (until_of n)) × (until_number (until_of n) ≡ n)
+until_fits n h =
+    elim (cases_Bool (n == 2 ^ 64 - 1)) [
+      | inl never ↦ rw never (refl, sym (eqb-true n (2 ^ 64 - 1) never))
+      | inr some ↦ (let early = first_passes (nat_le n 253402300799) (n == 2 ^ 64 - 1) some h in rw some (early, refl))
+    ]
+
+until_back : (u : Option ℕ) → IsTrue (is_until u) → IsTrue (is_expiry (until_number u)) × (until_of (until_number u) ≡ u)
+until_back None h = (refl, refl)
+until_back (Some n) h =
+    let early = leb-true n 253402300799 h in
+    let some : (n == 2 ^ 64 - 1) ≡ false = ne_eqb n (2 ^ 64 - 1) (λ e. omega (arith, e, early)) in
+    (rw h refl, rw some refl)
+
+until_format : IsFormat (λ u. IsTrue (is_until u)) until_bytes until_at
+until_format = turned_format (λ n. IsTrue (is_expiry n)) (λ u. IsTrue (is_until u)) (to_be_bytes w64) (passing is_expiry (number w64)) expiry_format until_of until_number until_fits until_back
+
+abbrev MomentsFit : Moments → Type 0
+MomentsFit m = IsTrue (is_stamp m.0) × IsTrue (is_until m.1)
+
+abbrev moments_text : Moments → List ℕ
+moments_text m = to_be_bytes w64 m.0 ++ until_bytes m.1
+
+moments_format : IsFormat MomentsFit moments_text moments_at
+unfolding moments_at
+moments_format = both_format (λ n. IsTrue (is_stamp n)) (λ u. IsTrue (is_until u)) (to_be_bytes w64) until_bytes stamp_at until_at stamp_format until_format
+
+-- those of version 1
+abbrev MomentsFitV1 : Moments → Type 0
+MomentsFitV1 m = IsTrue (is_stamp m.0) × (m.1 ≡ None)
+
+abbrev moments_text_v1 : Moments → List ℕ
+moments_text_v1 m = to_be_bytes w64 m.0
+
+moments_format_v1 : IsFormat MomentsFitV1 moments_text_v1 moments_at_v1
+unfolding moments_at_v1
+moments_format_v1 = turned_format (λ n. IsTrue (is_stamp n)) MomentsFitV1 (to_be_bytes w64) stamp_at stamp_format never (λ m. m.0) (λ n h. ((h, refl), refl)) (λ m h. (h.0, λ i. (m.0, sym h.1 i)))
 
 -- ---- views
 
@@ -217,48 +278,104 @@ body_again (Moved target) rest h = mapped_again (λ s. Moved s) selector_at (sho
 
 -- ---- the record
 
-abbrev head_of : Record → (ℕ × List ℕ) × List ℕ
-head_of r = ((r.stamp, r.title), r.summary)
+small_tag : (b : RecordBody) → tag_of b < 256
+small_tag (Views kind views) = omega arith
+small_tag (Menu size) = omega arith
+small_tag (Board many next) = omega arith
+small_tag (Form board size) = omega arith
+small_tag (Search scope) = omega arith
+small_tag (Moved target) = omega arith
+
+-- all that stands in a record beside its moments
+record RestFits (r : Record) : Type 0 where
+  title : IsTrue (is_title r.title)
+  summary : IsTrue (is_summary r.summary)
+  body : IsTrue (is_body r.body)
+
+-- whichever way the moments are written
+module _ (Fit : Moments → Type 0) (write : Moments → List ℕ) (read : Read Moments) (format : IsFormat Fit write read) where
+  abbrev written : Record → List ℕ
+  written r = tag_of r.body ∷ write (r.stamp, r.until) ++ rest_bytes r
+
+  abbrev IsTaken : List ℕ → Record → Type 0
+  IsTaken bytes r = (Fit (r.stamp, r.until) × RestFits r) × (bytes ≡ written r)
+
+  taken_by : (bytes : List ℕ) (r : Record) → IsBytes bytes → record_by read bytes ≡ Some r → IsTaken bytes r
+  unfolding record_by rest_at
+  taken_by bytes r fits e =
+      let a = bind_some (byte bytes) (λ tag. read tag.1 >>= λ m. rest_at tag.0 m.0 m.1) r e in
+      let m = bind_some (read a.0.1) (λ m. rest_at a.0.0 m.0 m.1) r a.2 in
+      let b = bind_some (head_at m.0.1) (λ head. body_behind a.0.0 head.1 >>= λ body. cond (eqb (length body.1) 0) (Some (record { title = head.0.0; stamp = m.0.0.0; until = m.0.0.1; summary = head.0.1; body = body.0 })) None) r m.2 in
+      let made : RecordBody → Record = λ t. record { title = b.0.0.0; stamp = m.0.0.0; until = m.0.0.1; summary = b.0.0.1; body = t } in
+      let c = bind_some (body_behind a.0.0 b.0.1) (λ body. cond (eqb (length body.1) 0) (Some (made body.0)) None) r b.2 in
+      let g = guard_some (eqb (length c.0.1) 0) (made c.0.0) r c.2 in
+      let t0 = byte_format.takes bytes a.0.0 a.0.1 fits a.1 in
+      let tm = format.takes a.0.1 m.0.0 m.0.1 t0.0.rest_fits m.1 in
+      let t1 = head_format.takes m.0.1 b.0.0 b.0.1 tm.0.rest_fits b.1 in
+      let t2 = body_takes a.0.0 b.0.1 c.0.0 c.0.1 t1.0.rest_fits c.1 in
+      let nothing : c.0.1 ≡ [] = nil_from_length c.0.1 (eqb-true _ _ g.0) in
+      let e12 = Takes-then m.0.1 (head_text b.0.0) b.0.1 (tail_bytes c.0.0) c.0.1 t1.0 t2.0 in
+      let em = Takes-then a.0.1 (write m.0.0) m.0.1 (head_text b.0.0 ++ tail_bytes c.0.0) c.0.1 tm.0 e12 in
+      let e02 = Takes-then bytes (a.0.0 ∷ []) a.0.1 (write m.0.0 ++ (head_text b.0.0 ++ tail_bytes c.0.0)) c.0.1 t0.0 em in
+      let all : List ℕ = write m.0.0 ++ (head_text b.0.0 ++ tail_bytes c.0.0) in
+      let whole : bytes ≡ written (made c.0.0) =
+      e02.parts ∙ ap (λ (r : List ℕ). (a.0.0 ∷ all) ++ r) nothing ∙ append-nil (a.0.0 ∷ all) ∙ ap (λ (k : ℕ). k ∷ all) t2.1.1 in
+      subst (λ (x : Record). IsTaken bytes x) g.1 ((tm.1, record { title = t1.1.0; summary = t1.1.1; body = t2.1.0 }), whole)
+
+  again_by : (r : Record) → Fit (r.stamp, r.until) → RestFits r → record_by read (written r) ≡ Some r
+  unfolding record_by rest_at
+  again_by r fit rest =
+      let tail : body_behind (tag_of r.body) (tail_bytes r.body) ≡ Some (r.body, []) = ap (body_behind (tag_of r.body)) (sym (append-nil (tail_bytes r.body))) ∙ body_again r.body [] rest.body in
+      rw (byte_format.again (tag_of r.body) (write (r.stamp, r.until) ++ rest_bytes r) (small_tag r.body), format.again (r.stamp, r.until) (rest_bytes r) fit, head_format.again (r.title, r.summary) (tail_bytes r.body) (rest.title, rest.summary), tail) refl
+
+rest_of : (r : Record) → IsTrue (is_record r) → RestFits r
+rest_of r h =
+    let h1 = and_second (is_stamp r.stamp && is_until r.until) _ h in
+    let h2 = and_second (is_title r.title) _ h1 in
+    record { title = and_first (is_title r.title) _ h1; summary = and_first (is_summary r.summary) _ h2; body = and_second (is_summary r.summary) _ h2 }
+
+whole_of : (r : Record) → IsTrue (is_stamp r.stamp) → IsTrue (is_until r.until) → RestFits r → IsTrue (is_record r)
+whole_of r stamp until rest = and_both _ _ (and_both (is_stamp r.stamp) _ stamp until) (and_both _ _ rest.title (and_both _ _ rest.summary rest.body))
+
+moments_of : (r : Record) → IsTrue (is_record r) → MomentsFit (r.stamp, r.until)
+moments_of r h = let m = and_first (is_stamp r.stamp && is_until r.until) _ h in (and_first (is_stamp r.stamp) _ m, and_second (is_stamp r.stamp) _ m)
 
 pub record_takes : (bytes : List ℕ) (r : Record) → IsBytes bytes → record_at bytes ≡ Some r → IsTrue (is_record r) × (bytes ≡ record_bytes r)
-unfolding record_at record_bytes
+unfolding record_bytes
 record_takes bytes r fits e =
-    let a = bind_some (byte bytes) (λ tag. head_at tag.1 >>= λ head. body_behind tag.0 head.1 >>= λ body. cond (eqb (length body.1) 0) (Some (record { title = head.0.0.1; stamp = head.0.0.0; summary = head.0.1; body = body.0 })) None) r e in
-    let b = bind_some (head_at a.0.1) (λ head. body_behind a.0.0 head.1 >>= λ body. cond (eqb (length body.1) 0) (Some (record { title = head.0.0.1; stamp = head.0.0.0; summary = head.0.1; body = body.0 })) None) r a.2 in
-    let made : RecordBody → Record = λ t. record { title = b.0.0.0.1; stamp = b.0.0.0.0; summary = b.0.0.1; body = t } in
-    let c = bind_some (body_behind a.0.0 b.0.1) (λ body. cond (eqb (length body.1) 0) (Some (made body.0)) None) r b.2 in
-    let g = guard_some (eqb (length c.0.1) 0) (made c.0.0) r c.2 in
-    let t0 = byte_format.takes bytes a.0.0 a.0.1 fits a.1 in
-    let t1 = head_format.takes a.0.1 b.0.0 b.0.1 t0.0.rest_fits b.1 in
-    let t2 = body_takes a.0.0 b.0.1 c.0.0 c.0.1 t1.0.rest_fits c.1 in
-    let nothing : c.0.1 ≡ [] = nil_from_length c.0.1 (eqb-true _ _ g.0) in
-    let e12 = Takes-then a.0.1 (head_text b.0.0) b.0.1 (tail_bytes c.0.0) c.0.1 t1.0 t2.0 in
-    let e02 = Takes-then bytes (a.0.0 ∷ []) a.0.1 (head_text b.0.0 ++ tail_bytes c.0.0) c.0.1 t0.0 e12 in
-    let whole : bytes ≡ record_bytes (made c.0.0) =
-    e02.parts ∙ ap (λ (r : List ℕ). (a.0.0 ∷ head_text b.0.0 ++ tail_bytes c.0.0) ++ r) nothing ∙ append-nil (a.0.0 ∷ head_text b.0.0 ++ tail_bytes c.0.0)
-    ∙ ap (λ (k : ℕ). k ∷ head_text b.0.0 ++ tail_bytes c.0.0) t2.1.1 in
-    let good : IsTrue (is_record (made c.0.0)) = and_both _ _ t1.1.0.0 (and_both _ _ t1.1.0.1 (and_both _ _ t1.1.1 t2.1.0)) in
-    subst (λ (x : Record). IsTrue (is_record x) × (bytes ≡ record_bytes x)) g.1 (good, whole)
+    let t = taken_by MomentsFit moments_text moments_at moments_format bytes r fits e in
+    (whole_of r t.0.0.0 t.0.0.1 t.0.1, t.1)
 
 pub record_again : (r : Record) → IsTrue (is_record r) → record_at (record_bytes r) ≡ Some r
-unfolding record_at record_bytes
-record_again r h =
-    let a = and_first (is_stamp r.stamp) _ h in
-    let h1 = and_second (is_stamp r.stamp) _ h in
-    let b = and_first (is_title r.title) _ h1 in
-    let h2 = and_second (is_title r.title) _ h1 in
-    let c = and_first (is_summary r.summary) _ h2 in
-    let d = and_second (is_summary r.summary) _ h2 in
-    let tail : body_behind (tag_of r.body) (tail_bytes r.body) ≡ Some (r.body, []) = ap (body_behind (tag_of r.body)) (sym (append-nil (tail_bytes r.body))) ∙ body_again r.body [] d in
-    rw (byte_format.again (tag_of r.body) (head_text (head_of r) ++ tail_bytes r.body) (small_tag r.body), head_format.again (head_of r) (tail_bytes r.body) ((a, b), c), tail) refl
-  where
-    small_tag : (b : RecordBody) → tag_of b < 256
-    small_tag (Views kind views) = omega arith
-    small_tag (Menu size) = omega arith
-    small_tag (Board many next) = omega arith
-    small_tag (Form board size) = omega arith
-    small_tag (Search scope) = omega arith
-    small_tag (Moved target) = omega arith
+unfolding record_bytes
+record_again r h = again_by MomentsFit moments_text moments_at moments_format r (moments_of r h) (rest_of r h)
+
+-- ---- version 1
+
+none_is : (u : Option ℕ) → is_none u ≡ true → u ≡ None
+none_is None h = refl
+none_is (Some n) h = absurd (cc h)
+
+pub record_takes_v1 : (bytes : List ℕ) (r : Record) → IsBytes bytes → record_at_v1 bytes ≡ Some r → IsTrue (is_record_v1 r) × (bytes ≡ record_bytes_v1 r)
+unfolding record_at_v1 record_bytes_v1
+record_takes_v1 bytes r fits e =
+    let a = bind_some (record_by moments_at_v1 bytes) (λ x. cond (is_small x.body) (Some x) None) r e in
+    let g = guard_some (is_small a.0.body) a.0 r a.2 in
+    let t = taken_by MomentsFitV1 moments_text_v1 moments_at_v1 moments_format_v1 bytes a.0 fits a.1 in
+    let valid : IsTrue (is_record a.0) = whole_of a.0 t.0.0.0 (ap is_until t.0.0.1) t.0.1 in
+    subst (λ (x : Record). IsTrue (is_record_v1 x) × (bytes ≡ record_bytes_v1 x)) g.1 (and_both (is_record a.0) _ valid (and_both (is_none a.0.until) _ (ap is_none t.0.0.1) g.0), t.1)
+
+pub record_again_v1 : (r : Record) → IsTrue (is_record_v1 r) → record_at_v1 (record_bytes_v1 r) ≡ Some r
+unfolding record_at_v1 record_bytes_v1
+record_again_v1 r h =
+    let valid = and_first (is_record r) _ h in
+    let more = and_second (is_record r) _ h in
+    let none = none_is r.until (and_first (is_none r.until) _ more) in
+    rw (again_by MomentsFitV1 moments_text_v1 moments_at_v1 moments_format_v1 r ((moments_of r valid).0, none) (rest_of r valid), and_second (is_none r.until) _ more) refl
+
+pub record_found_v1 : (bytes : List ℕ) (r : Result Record RecordFault) → IsBytes bytes → Gives (λ x. x) r (record_at_v1 bytes) → IfOk r (λ x. IsTrue (is_record_v1 x) × (bytes ≡ record_bytes_v1 x))
+record_found_v1 bytes (Ok x) fits given = record_takes_v1 bytes x fits given
+record_found_v1 bytes (Err e) fits given = tt
 
 pub record_found : (bytes : List ℕ) (r : Result Record RecordFault) → IsBytes bytes → Gives (λ x. x) r (record_at bytes) → IfOk r (λ x. IsTrue (is_record x) × (bytes ≡ record_bytes x))
 record_found bytes (Ok x) fits given = record_takes bytes x fits given
@@ -296,9 +413,13 @@ body_fits (Moved target) h = refl
 
 pub record_fits : (r : Record) → IsTrue (is_record r) → IsTrue (fits_record r)
 record_fits r h =
-    let more = and_second (is_title r.title) _ (and_second (is_stamp r.stamp) _ h) in
-    and_both (is_summary r.summary) _ (and_first (is_summary r.summary) _ more) (body_fits r.body (and_second (is_summary r.summary) _ more))
+    let rest = rest_of r h in
+    and_both (is_summary r.summary) _ rest.summary (body_fits r.body rest.body)
 
 pub read_fits : (bytes : List ℕ) (r : Result Record RecordFault) → IsBytes bytes → Gives (λ x. x) r (record_at bytes) → IfOk r (λ x. IsTrue (fits_record x))
 read_fits bytes (Ok x) fits given = record_fits x (record_takes bytes x fits given).0
 read_fits bytes (Err e) fits given = tt
+
+pub read_fits_v1 : (bytes : List ℕ) (r : Result Record RecordFault) → IsBytes bytes → Gives (λ x. x) r (record_at_v1 bytes) → IfOk r (λ x. IsTrue (fits_record x))
+read_fits_v1 bytes (Ok x) fits given = record_fits x (and_first (is_record x) _ (record_takes_v1 bytes x fits given).0)
+read_fits_v1 bytes (Err e) fits given = tt

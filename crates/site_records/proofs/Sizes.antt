@@ -7,7 +7,7 @@ use Rattle.std.proofs.lemmas.Bool.{ltb-false, ltb-true, lt-ltb, leb-true, le-leb
 use Rattle.std.proofs.lemmas.List.{length-append, length-map}
 use Rattle.std.proofs.lemmas.List.Sums.{sum_by-cons}
 use Rattle.host_types.specs.Names.{is_field, is_word, is_visible, is_url}
-use Rattle.host_types.specs.Items.{is_selector, is_title, is_host, is_link, is_typed_entry, is_bad_entry, is_bad_word, is_bad_question, is_long_question, is_long_word, prompt_of, has_bad_name, is_long_view, is_same_view, has_twins, view_bytes, most_view_bytes, is_typed_body, is_bad_body, is_long_body, is_typed_item, is_long_item, is_valid_item}
+use Rattle.host_types.specs.Items.{is_selector, is_title, is_host, is_link, is_typed_entry, is_bad_entry, is_bad_word, is_bad_question, is_long_question, is_long_word, prompt_of, has_bad_name, is_long_view, is_same_view, has_twins, view_bytes, most_view_bytes, is_typed_body, is_bad_body, is_long_body, has_moments, is_typed_item, is_long_item, is_valid_item}
 use Rattle.host_types.specs.Card.{card_view}
 use Rattle.host_types.specs.declared.view.View.{View}
 use Rattle.host_types.specs.declared.card.CardView.{CardView}
@@ -186,7 +186,7 @@ not_not : (b : Bool) → not b ≡ false → b ≡ true
 not_not true h = refl
 not_not false h = absurd cc
 
-valid_view : (v : View) → has_bad_name v ≡ false → is_long_view v ≡ false → length v.bytes ≤ 65536 → is_view (card_view v) ≡ true
+valid_view : (v : View) → has_bad_name v ≡ false → is_long_view v ≡ false → length v.bytes ≤ 262144 → is_view (card_view v) ≡ true
 valid_view v bad long fits =
     and_both (is_view_name v.name) _
     (and_both (nat_le (length v.name) 40) _ (le-leb (length v.name) 40 (ltb-false 40 (length v.name) (or_first _ (nat_lt 10 (length v.language)) long))) (not_not (is_word v.name) (or_first (not (is_word v.name)) _ bad)))
@@ -194,7 +194,7 @@ valid_view v bad long fits =
     (and_both (nat_le (length v.language) 10) _ (le-leb (length v.language) 10 (ltb-false 10 (length v.language) (or_second (nat_lt 40 (length v.name)) _ long))) (not_not (list_all is_visible v.language) (or_second (not (is_word v.name)) _ bad)))
     (lt-ltb (length v.bytes) (2 ^ 32) (omega (arith, fits))))
 
-valid_views : (vs : List View) → list_any has_bad_name vs ≡ false → list_any is_long_view vs ≡ false → view_bytes vs ≤ 65536 → list_all is_view (map card_view vs) ≡ true
+valid_views : (vs : List View) → list_any has_bad_name vs ≡ false → list_any is_long_view vs ≡ false → view_bytes vs ≤ 262144 → list_all is_view (map card_view vs) ≡ true
 valid_views [] bad long fits = refl
 valid_views (v ∷ vs) bad long fits =
     let sum = sum_by-cons (λ (w : View). length w.bytes) v vs in
@@ -232,11 +232,11 @@ body_record (Views kind vs) typed bad long =
     let count : length (map card_view vs) ≡ length vs = length-map vs card_view in
     let some : 1 ≤ length (map card_view vs) = omega (arith, count, ltb-true 0 (length vs) (above_zero (length vs) (or_first (eqb (length vs) 0) _ bad))) in
     let few : length (map card_view vs) ≤ 8 = omega (arith, count, ltb-false 8 (length vs) (or_first (nat_lt 8 (length vs)) _ long)) in
-    let large = or_first (nat_lt 65536 (view_bytes vs)) _ sizes in
-    let fits : view_bytes vs ≤ 65536 = ltb-false 65536 (view_bytes vs) large in
+    let large = or_first (nat_lt 262144 (view_bytes vs)) _ sizes in
+    let fits : view_bytes vs ≤ 262144 = ltb-false 262144 (view_bytes vs) large in
     and_both _ _
-    (and_both (is_view_count (length (map card_view vs))) _ (and_both (nat_le 1 (length (map card_view vs))) _ (le-leb 1 _ some) (le-leb _ 8 few)) (valid_views vs (or_first (list_any has_bad_name vs) _ names) (or_second (nat_lt 65536 (view_bytes vs)) _ sizes) fits))
-    (and_both (not (have_twins (map card_view vs))) _ (not_false _ (twins vs ∙ or_second (list_any has_bad_name vs) _ names)) (not_false _ (ap (nat_lt 65536) (lengths vs) ∙ large)))
+    (and_both (is_view_count (length (map card_view vs))) _ (and_both (nat_le 1 (length (map card_view vs))) _ (le-leb 1 _ some) (le-leb _ 8 few)) (valid_views vs (or_first (list_any has_bad_name vs) _ names) (or_second (nat_lt 262144 (view_bytes vs)) _ sizes) fits))
+    (and_both (not (have_twins (map card_view vs))) _ (not_false _ (twins vs ∙ or_second (list_any has_bad_name vs) _ names)) (not_false _ (ap (nat_lt 262144) (lengths vs) ∙ large)))
 body_record (Menu es) typed bad long = menu_size es (menu_entries es typed bad long)
 body_record (Board many next) typed bad long =
     and_both (is_cap many) _ (and_both (nat_le 1 many) _ (above_zero many bad) (le-leb many 100 (ltb-false 100 many (or_first (nat_lt 100 many) _ long)))) typed
@@ -263,7 +263,7 @@ valid_body selector item h =
     let rest = and_second (is_typed_item item) _ h in
     let long = not_true (is_long_item selector item) (and_second (not (is_bad_body item.body)) _ rest) in
     record {
-      typed = and_second (nat_le item.stamp 253402300799) _ (and_second (is_title item.title) _ (and_first (is_typed_item item) _ h));
+      typed = and_second (has_moments item) _ (and_second (is_title item.title) _ (and_first (is_typed_item item) _ h));
       not_bad = not_true (is_bad_body item.body) (and_first (not (is_bad_body item.body)) _ rest);
       not_long = short_anywhere selector item.body (or_second (nat_lt 400 (length item.summary)) _ long);
     }
@@ -275,7 +275,7 @@ item_record selector item h =
     let bad = not_true (is_bad_body item.body) (and_first (not (is_bad_body item.body)) _ rest) in
     let long = not_true (is_long_item selector item) (and_second (not (is_bad_body item.body)) _ rest) in
     let more = and_second (is_title item.title) _ typed in
-    let stamp = and_first (nat_le item.stamp 253402300799) _ more in
-    let body = body_record item.body (and_second (nat_le item.stamp 253402300799) _ more) bad (short_anywhere selector item.body (or_second (nat_lt 400 (length item.summary)) _ long)) in
+    let moments = and_first (has_moments item) _ more in
+    let body = body_record item.body (and_second (has_moments item) _ more) bad (short_anywhere selector item.body (or_second (nat_lt 400 (length item.summary)) _ long)) in
     let summary = le-leb (length item.summary) 400 (ltb-false 400 (length item.summary) (or_first (nat_lt 400 (length item.summary)) _ long)) in
-    and_both _ _ stamp (and_both (is_title item.title) _ (and_first (is_title item.title) _ typed) (and_both (is_summary item.summary) _ summary body))
+    and_both _ _ moments (and_both (is_title item.title) _ (and_first (is_title item.title) _ typed) (and_both (is_summary item.summary) _ summary body))

@@ -1,5 +1,5 @@
 -- What holds of keys, records and the layout, as statements.
-use Rattle.std.specs.Prelude.{◌≡◌, ℕ, ◌<◌, ◌^◌, ◌||◌, None, List, [], Some, if◌then◌else◌, IsTrue, IsSome}
+use Rattle.std.specs.Prelude.{false, ◌≡◌, ℕ, ◌<◌, ◌^◌, ◌||◌, None, List, [], Some, if◌then◌else◌, IsTrue, IsSome}
 use Rattle.std.specs.Option.{option_map}
 use Rattle.std.specs.List.{AllByRecursion}
 use Rattle.std.specs.List.Sorted.{IsStrictlySortedBy}
@@ -12,9 +12,9 @@ use Rattle.host_types.specs.Words.{is_among}
 use Rattle.host_types.specs.declared.item.Item.{Item}
 use Rattle.host_types.specs.declared.change.Change.{Change}
 use Rattle.site_records.specs.Keys.{item_key, chunk_key, word_key, owner}
-use Rattle.site_records.specs.Records.{recorded, record_bytes, item_bytes}
+use Rattle.site_records.specs.Records.{recorded, record_bytes, item_bytes, item_bytes_v1}
 use Rattle.site_records.specs.Limits.{is_record}
-use Rattle.site_records.specs.Layout.{Pairs, item_pairs, layout, value_at, kept_chunk, has_word}
+use Rattle.site_records.specs.Layout.{Pairs, item_pairs, is_record_key, layout_v1, layout, value_at, kept_chunk, has_word}
 use Rattle.site_records.specs.declared.record.Record.{Record}
 
 -- a site's items stand in byte order of their selectors
@@ -38,6 +38,11 @@ pub record LayoutHolds (s : Site) : Type 0 where
   pub chunks : (selector : List ℕ) (v k : ℕ) → k < 2 ^ 16 → value_at (layout s) (chunk_key selector v k) ≡ kept_chunk (item_at s selector) v k
   pub words : (word selector : List ℕ) → value_at (layout s) (word_key word selector) ≡ (if has_word (item_at s selector) word then Some [] else None)
 
+-- What stands at each key of a site's layout in version 1.
+pub record FirstLayoutHolds (s : Site) : Type 0 where
+  pub records : (selector : List ℕ) → value_at (layout_v1 s) (item_key selector) ≡ option_map item_bytes_v1 (item_at s selector)
+  pub others : (key : List ℕ) → is_record_key key ≡ false → value_at (layout_v1 s) key ≡ value_at (layout s) key
+
 -- What becomes of the layout where an item is put, or goes: what stands at a key of its selector, and at all others.
 pub record LayoutChanges (s : Site) : Type 0 where
   pub put : (selector : List ℕ) (item : Item) (key : List ℕ) → value_at (layout (with_item s selector item)) key ≡ (if is_at (byte_cmp (owner key)) selector then value_at (item_pairs selector item) key else value_at (layout s) key)
@@ -45,6 +50,9 @@ pub record LayoutChanges (s : Site) : Type 0 where
 
 abbrev pub LayoutsHold : Type 0
 LayoutsHold = (s : Site) → IsSite s → LayoutHolds s
+
+abbrev pub FirstLayoutsHold : Type 0
+FirstLayoutsHold = (s : Site) → IsSite s → FirstLayoutHolds s
 
 abbrev pub LayoutsChange : Type 0
 LayoutsChange = (s : Site) → InOrder s → LayoutChanges s

@@ -1,5 +1,5 @@
 -- The layout of a site: the pairs of keys and values that represent it. docs/IMAGE.md, 'Layout of a site'.
-use Rattle.std.specs.Prelude.{ℕ, zero, suc, ◌+◌, ◌*◌, ◌/◌, Bool, false, List, [], ◌∷◌, ◌++◌, length, map, flat_map, nat_lt, slice_get, if◌then◌else◌, Option, Some, None}
+use Rattle.std.specs.Prelude.{drop, take, true, ◌==◌, ℕ, zero, suc, ◌+◌, ◌*◌, ◌/◌, Bool, false, List, [], ◌∷◌, ◌++◌, length, map, flat_map, nat_lt, slice_get, if◌then◌else◌, Option, Some, None}
 use Rattle.std.specs.Map.{lookup}
 use Rattle.std.specs.BTreeMap.{insert_entry, is_at}
 use Rattle.host_types.specs.Site.{Site, byte_cmp, item_at}
@@ -77,3 +77,24 @@ kept_chunk (Some item) v k = chunk_in (slice_get (parts_of item.body) v) k
 abbrev pub has_word : Option Item → List ℕ → Bool
 has_word None word = false
 has_word (Some item) word = is_among (words_of item) word
+
+-- ---- version 1 of images
+
+-- a record's key
+abbrev pub is_record_key : List ℕ → Bool
+is_record_key [] = false
+is_record_key (tag ∷ rest) = tag == 73
+
+-- a record without the eight bytes that say from when on its item isn't found
+abbrev pub lowered : List ℕ → List ℕ
+lowered bytes = take 9 bytes ++ drop 17 bytes
+
+abbrev pub lowered_at : List ℕ → List ℕ → List ℕ
+lowered_at key value = if is_record_key key then lowered value else value
+
+abbrev pub lowered_pair : Pair → Pair
+lowered_pair p = (p.0, lowered_at p.0 p.1)
+
+-- The layout in version 1: the same, but for the records, which know no expiry.
+abbrev pub layout_v1 : Site → Pairs
+layout_v1 s = map lowered_pair (layout s)

@@ -1,8 +1,8 @@
 -- Which records, entries and questions an item may have.
-use Rattle.std.specs.Prelude.{ℕ, Bool, true, false, List, [], ◌∷◌, length, nat_le, nat_lt, not, bytes_eq, sum_by, ◌==◌, ◌^◌, ◌&&◌, ◌||◌}
+use Rattle.std.specs.Prelude.{ℕ, ◌-◌, Option, Bool, is_none, true, false, List, [], ◌∷◌, length, nat_le, nat_lt, not, bytes_eq, sum_by, ◌==◌, ◌^◌, ◌&&◌, ◌||◌}
 use Rattle.std.specs.List.{list_all, list_any}
 use Rattle.host_types.specs.Names.{is_field, is_visible, is_word}
-use Rattle.host_types.specs.Items.{is_selector, is_title, is_typed_entry, is_bad_entry, is_long_body, is_long_item, most_view_bytes}
+use Rattle.host_types.specs.Items.{is_selector, is_title, is_typed_entry, is_bad_entry, is_until, is_long_body, is_long_item, most_view_bytes}
 use Rattle.host_types.specs.declared.card.CardView.{CardView}
 use Rattle.host_types.specs.declared.menu.Entry.{Entry}
 use Rattle.host_types.specs.declared.form.Question.{Question}
@@ -104,7 +104,25 @@ is_body (kept.Moved target) = is_selector target
 
 -- The record of an item that keeps all limits, whose selector is another matter.
 abbrev pub is_record : Record → Bool
-is_record r = is_stamp r.stamp && (is_title r.title && (is_summary r.summary && is_body r.body))
+is_record r = (is_stamp r.stamp && is_until r.until) && (is_title r.title && (is_summary r.summary && is_body r.body))
+
+-- ---- version 1 of images
+
+-- the most bytes of the views together
+unfoldable pub most_view_bytes_v1 : ℕ
+most_view_bytes_v1 = 65536
+
+abbrev pub is_small : RecordBody → Bool
+is_small (kept.Views kind views) = not (nat_lt most_view_bytes_v1 (all_lengths views))
+is_small (kept.Menu size) = true
+is_small (kept.Board cap next) = true
+is_small (kept.Form board size) = true
+is_small (kept.Search scope) = true
+is_small (kept.Moved target) = true
+
+-- The record of an item as version 1 knows it: it never expires, and its views are smaller.
+abbrev pub is_record_v1 : Record → Bool
+is_record_v1 r = is_record r && (is_none r.until && is_small r.body)
 
 -- ---- lengths that fit their fields
 

@@ -1,5 +1,5 @@
 -- Reading records, entries and questions from left to right, or nothing.
-use Rattle.std.specs.Prelude.{◌≡◌, ℕ, Bool, List, [], ◌∷◌, length, Option, Some, None, Result, Ok, Err, nat_lt, find, ◌==◌, if◌then◌else◌}
+use Rattle.std.specs.Prelude.{◌≡◌, ℕ, ◌-◌, ◌^◌, ◌||◌, ◌&&◌, nat_le, is_none, Bool, List, [], ◌∷◌, length, Option, Some, None, Result, Ok, Err, nat_lt, find, ◌==◌, if◌then◌else◌}
 use Rattle.std.specs.Int.{w16, w32, w64}
 use Rattle.host_types.specs.Items.{kind_letter, link_letter, is_selector, is_title, is_host, is_link}
 use Rattle.host_types.specs.declared.view.Kind.{Kind}
@@ -12,7 +12,7 @@ use Rattle.host_types.specs.declared.menu.LinkKind.TheVariants as links
 use Rattle.host_types.specs.declared.form.Question.{Question}
 use Rattle.host_types.specs.declared.form.Question.TheVariants as questions
 use Rattle.site_records.specs.Field.{Read, ◌>>=◌, number, byte, counted, passing, both, mapped, known, listed, until_end}
-use Rattle.site_records.specs.Limits.{is_stamp, is_summary, is_view_name, is_language, is_view_count, go_together, is_menu_size, is_form_size, is_cap, is_prompt, is_answer, is_choice_count}
+use Rattle.site_records.specs.Limits.{is_stamp, is_small, is_summary, is_view_name, is_language, is_view_count, go_together, is_menu_size, is_form_size, is_cap, is_prompt, is_answer, is_choice_count}
 use Rattle.site_records.specs.declared.record.Record.{Record}
 use Rattle.site_records.specs.declared.record.RecordBody.{RecordBody}
 use Rattle.site_records.specs.declared.record.RecordBody.TheVariants as kept
@@ -138,8 +138,29 @@ questions_at bytes = if length bytes == 0 then None else until_end question_at 1
 
 -- ---- records
 
-unfoldable pub head_at : Read ((ℕ × List ℕ) × List ℕ)
-head_at = both (both stamp_at title_at) summary_at
+-- which numbers stand for an expiry, or for none
+abbrev pub is_expiry : ℕ → Bool
+is_expiry n = nat_le n 253402300799 || n == 2 ^ 64 - 1
+
+abbrev pub until_of : ℕ → Option ℕ
+until_of n = if n == 2 ^ 64 - 1 then None else Some n
+
+abbrev pub until_at : Read (Option ℕ)
+until_at = mapped until_of (passing is_expiry (number w64))
+
+-- when it last changed, and from when on it isn't found
+unfoldable pub moments_at : Read (ℕ × Option ℕ)
+moments_at = both stamp_at until_at
+
+abbrev pub never : ℕ → ℕ × Option ℕ
+never stamp = (stamp, None)
+
+-- the same in version 1, which knows no expiry
+unfoldable pub moments_at_v1 : Read (ℕ × Option ℕ)
+moments_at_v1 = mapped never stamp_at
+
+unfoldable pub head_at : Read (List ℕ × List ℕ)
+head_at = both title_at summary_at
 
 abbrev pub name_at : Read (List ℕ)
 name_at = passing is_view_name (counted byte)
@@ -196,13 +217,29 @@ body_behind tag bytes =
     else if tag == 82 then moved_body bytes
     else None
 
--- all of the bytes
-unfoldable pub record_at : List ℕ → Option Record
-record_at bytes = do
+-- what stands behind the moments, all of the bytes
+unfoldable pub rest_at : ℕ → ℕ × Option ℕ → List ℕ → Option Record
+rest_at tag moments bytes = do
+  head ← head_at bytes
+  body ← body_behind tag head.1
+  if length body.1 == 0 then Some (record { title = head.0.0; stamp = moments.0; until = moments.1; summary = head.0.1; body = body.0 }) else None
+
+-- a record by its moments
+unfoldable pub record_by : Read (ℕ × Option ℕ) → List ℕ → Option Record
+record_by read bytes = do
   tag ← byte bytes
-  head ← head_at tag.1
-  body ← body_behind tag.0 head.1
-  if length body.1 == 0 then Some (record { title = head.0.0.1; stamp = head.0.0.0; summary = head.0.1; body = body.0 }) else None
+  moments ← read tag.1
+  rest_at tag.0 moments.0 moments.1
+
+-- all of the bytes
+abbrev pub record_at : List ℕ → Option Record
+record_at bytes = record_by moments_at bytes
+
+-- all of the bytes, as version 1 has them
+unfoldable pub record_at_v1 : List ℕ → Option Record
+record_at_v1 bytes = do
+  r ← record_by moments_at_v1 bytes
+  if is_small r.body then Some r else None
 
 -- What a function returned, seen by view, is what reading gives, unless memory ran out.
 abbrev pub Fails : {Y : Type 0} → RecordFault → Option Y → Type 0

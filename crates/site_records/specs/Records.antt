@@ -1,5 +1,5 @@
 -- The bytes of records and of parts. docs/IMAGE.md, 'Layout of a site'.
-use Rattle.std.specs.Prelude.{ℕ, List, [], ◌∷◌, ◌++◌, length, flat_map, map}
+use Rattle.std.specs.Prelude.{ℕ, ◌-◌, ◌^◌, List, [], ◌∷◌, ◌++◌, length, flat_map, map, Option, Some, None}
 use Rattle.std.specs.Int.{w16, w32, w64, to_be_bytes}
 use Rattle.host_types.specs.Items.{kind_letter, link_letter}
 use Rattle.host_types.specs.Card.{card_view}
@@ -74,7 +74,7 @@ recorded_body (bodies.Search scope) = kept.Search scope
 recorded_body (bodies.Moved target) = kept.Moved target
 
 abbrev pub recorded : Item → Record
-recorded item = record { title = item.title; stamp = item.stamp; summary = item.summary; body = recorded_body item.body }
+recorded item = record { title = item.title; stamp = item.stamp; until = item.until; summary = item.summary; body = recorded_body item.body }
 
 abbrev pub view_head : CardView → List ℕ
 view_head v = short v.name ++ short v.language ++ to_be_bytes w32 v.length
@@ -96,10 +96,30 @@ tail_bytes (kept.Form board size) = short board ++ to_be_bytes w32 size
 tail_bytes (kept.Search scope) = short scope
 tail_bytes (kept.Moved target) = short target
 
--- a tag, the stamp, the title, the summary, and what the body has
+-- from when on an item isn't found, as a number: the greatest for never
+abbrev pub until_number : Option ℕ → ℕ
+until_number None = 2 ^ 64 - 1
+until_number (Some until) = until
+
+-- the same in eight bytes
+abbrev pub until_bytes : Option ℕ → List ℕ
+until_bytes until = to_be_bytes w64 (until_number until)
+
+-- the title, the summary, and what the body has
+abbrev pub rest_bytes : Record → List ℕ
+rest_bytes r = short r.title ++ long r.summary ++ tail_bytes r.body
+
+-- a tag, the stamp, from when on it isn't found, and the rest
 unfoldable pub record_bytes : Record → List ℕ
-record_bytes r = tag_of r.body ∷ to_be_bytes w64 r.stamp ++ short r.title ++ long r.summary ++ tail_bytes r.body
+record_bytes r = tag_of r.body ∷ to_be_bytes w64 r.stamp ++ until_bytes r.until ++ rest_bytes r
+
+-- the same as version 1 of images has it: it knows no expiry
+unfoldable pub record_bytes_v1 : Record → List ℕ
+record_bytes_v1 r = tag_of r.body ∷ to_be_bytes w64 r.stamp ++ rest_bytes r
 
 -- the record of an item in bytes
 abbrev pub item_bytes : Item → List ℕ
 item_bytes item = record_bytes (recorded item)
+
+abbrev pub item_bytes_v1 : Item → List ℕ
+item_bytes_v1 item = record_bytes_v1 (recorded item)

@@ -5,10 +5,10 @@ ghost use Rattle.std.specs.List.{list_all};
 ghost use Rattle.host_types.specs.Names as names;
 ghost use Rattle.host_types.specs.Names.{is_visible};
 ghost use Rattle.site_records.specs.Field.{number, byte, counted};
-ghost use Rattle.site_records.specs.Reading.{Gives, stamp_at, title_at, summary_at, selector_at, host_at, link_at, port_at};
+ghost use Rattle.site_records.specs.Reading.{Gives, stamp_at, until_at, title_at, summary_at, selector_at, host_at, link_at, port_at};
 
 use crate::RecordFault;
-use host_types::{Bytes, GREATEST_STAMP, Host, Selector, Title, Url};
+use host_types::{Bytes, GREATEST_STAMP, Host, Selector, Stamp, Title, Url};
 use std::alloc::Global;
 
 #[tactic(auto, unfolding(crate::specs::Field::byte))]
@@ -136,6 +136,24 @@ pub fn seconds_of(bytes: &[u8]) -> Result<(u64, &[u8]), RecordFault>
         return Err(RecordFault::BadRecord);
     }
     Ok((seconds, rest))
+}
+
+/// What stands for no expiry.
+pub const NEVER: u64 = u64::MAX;
+
+/// From when on an item isn't found.
+#[tactic(auto, unfolding(crate::specs::Field::passing, crate::specs::Field::mapped))]
+pub fn until_of(bytes: &[u8]) -> Result<(Option<Stamp>, &[u8]), RecordFault>
+    ensures { Gives (λ x. (x.0, x.1.now)) result (until_at bytes.now) }
+{
+    let (seconds, rest) = u64_of(bytes)?;
+    if seconds == NEVER {
+        return Ok((None, rest));
+    }
+    match Stamp::new(seconds) {
+        Ok(until) => Ok((Some(until), rest)),
+        Err(_) => Err(RecordFault::BadRecord),
+    }
 }
 
 /// A length in two bytes, and that many bytes.

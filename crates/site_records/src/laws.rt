@@ -1,7 +1,7 @@
 // What holds of keys, records and the layout.
 ghost use Rattle.site_records.specs.Keys.{KeysAreOneToOne};
 ghost use Rattle.site_records.specs.RecordExamples.{RecordExamples};
-ghost use Rattle.site_records.specs.Laws.{ItemsShareNoKey, PairsStand, LayoutIsInOrder, LayoutsHold, LayoutsChange, ValuesTell, RecordsTell, ItemsHaveRecords, RecordsHaveItems, LayoutTells};
+ghost use Rattle.site_records.specs.Laws.{ItemsShareNoKey, PairsStand, LayoutIsInOrder, LayoutsHold, FirstLayoutsHold, LayoutsChange, ValuesTell, RecordsTell, ItemsHaveRecords, RecordsHaveItems, LayoutTells};
 
 /// The layout of a sample site, byte for byte, and other worked examples.
 pub fn worked_examples()
@@ -31,6 +31,11 @@ pub fn layout_is_in_order()
 /// What stands at the key of a record, of a chunk and of a word.
 pub fn layouts_hold()
     ensures { LayoutsHold }
+{}
+
+/// What stands at the keys in version 1: the records of that version, and at all other keys the same.
+pub fn first_layouts_hold()
+    ensures { FirstLayoutsHold }
 {}
 
 /// What becomes of the layout where an item is put, or goes.

@@ -17,13 +17,13 @@ mod view_reading;
 pub use entry_reading::read_entries;
 pub use keys::{Key, LONGEST_KEY, LONGEST_WORD, chunk_key, item_key, word_key};
 pub use laws::{
-    items_have_records, items_share_no_key, keys_are_one_to_one, layout_is_in_order, layout_tells,
-    layouts_change, layouts_hold, pairs_stand, records_have_items, records_tell, values_tell,
-    worked_examples,
+    first_layouts_hold, items_have_records, items_share_no_key, keys_are_one_to_one,
+    layout_is_in_order, layout_tells, layouts_change, layouts_hold, pairs_stand,
+    records_have_items, records_tell, values_tell, worked_examples,
 };
 pub use part_chunks::chunk_count;
 pub use part_writing::{entries_bytes, questions_bytes};
 pub use question_reading::read_questions;
 pub use record::{Record, RecordBody, RecordFault};
-pub use record_reading::read_record;
-pub use record_writing::{LONGEST_RECORD, record_of};
+pub use record_reading::{read_record, read_record_v1};
+pub use record_writing::{LONGEST_RECORD, LONGEST_RECORD_V1, record_of, record_of_v1};

@@ -57,6 +57,8 @@ pub struct Record {
     pub title: Title,
     /// When it last changed.
     pub stamp: Stamp,
+    /// From when on it isn't found, if it expires at all.
+    pub until: Option<Stamp>,
     /// Empty where it has none.
     pub summary: Bytes,
     /// What it has beside.

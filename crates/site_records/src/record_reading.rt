@@ -1,15 +1,15 @@
 // Reading a record.
 ghost use Rattle.std.specs.Prelude.{◌≡◌, ◌≤◌, ℕ, List, IfOk, IsTrue, Some};
-ghost use Rattle.site_records.specs.Records.{record_bytes};
-ghost use Rattle.site_records.specs.Limits.{is_record, fits_record};
-ghost use Rattle.site_records.specs.Reading.{Gives, head_at, board_at, menu_size_at, form_size_at, body_behind, record_at};
+ghost use Rattle.site_records.specs.Records.{record_bytes, record_bytes_v1};
+ghost use Rattle.site_records.specs.Limits.{is_small, is_record, is_record_v1, fits_record};
+ghost use Rattle.site_records.specs.Reading.{Gives, stamp_at, moments_at_v1, head_at, board_at, menu_size_at, form_size_at, body_behind, rest_at, record_by, record_at, record_at_v1};
 ghost use Rattle.site_records.specs.declared.record.Record.{Record};
 
 use crate::fields::{
-    byte_of, seconds_of, selector_of, summary_of, title_of, u16_of, u32_of, u64_of,
+    byte_of, seconds_of, selector_of, summary_of, title_of, u16_of, u32_of, u64_of, until_of,
 };
 use crate::letters::document_kind;
-use crate::view_reading::views_of;
+use crate::view_reading::{are_larger, views_of};
 use crate::{Record, RecordBody, RecordFault};
 use host_types::{Bytes, Stamp, Title};
 use std::alloc::Global;
@@ -22,28 +22,29 @@ const LARGEST_FORM: u32 = 7_712;
 
 #[derive(Drop)]
 struct Head {
-    seconds: u64,
     title: Title,
     summary: Bytes,
 }
 
-/// Stamp, title and summary.
+/// Title and summary.
 #[tactic(auto, unfolding(crate::specs::Reading::head_at, crate::specs::Field::both))]
 fn head_of(alloc: Global, bytes: &[u8]) -> Result<(Head, &[u8]), RecordFault>
-    ensures range { IfOk result (λ x. x.0.seconds ≤ 253402300799) }
-    ensures exact { Gives (λ x. (((x.0.seconds, x.0.title), x.0.summary), x.1.now)) result (head_at bytes.now) }
+    ensures { Gives (λ x. ((x.0.title, x.0.summary), x.1.now)) result (head_at bytes.now) }
+{
+    let (title, rest) = title_of(bytes)?;
+    let (summary, rest) = summary_of(alloc, rest)?;
+    Ok((Head { title, summary }, rest))
+}
+
+/// When an item last changed.
+fn stamp_of(bytes: &[u8]) -> Result<(Stamp, &[u8]), RecordFault>
+    ensures { Gives (λ x. (x.0, x.1.now)) result (stamp_at bytes.now) }
 {
     let (seconds, rest) = seconds_of(bytes)?;
-    let (title, rest) = title_of(rest)?;
-    let (summary, rest) = summary_of(alloc, rest)?;
-    Ok((
-        Head {
-            seconds,
-            title,
-            summary,
-        },
-        rest,
-    ))
+    match Stamp::new(seconds) {
+        Ok(stamp) => Ok((stamp, rest)),
+        Err(_) => Err(RecordFault::BadRecord),
+    }
 }
 
 /// The length of a menu's entries: an entry has at least 2 bytes.
@@ -119,30 +120,85 @@ fn body_behind(alloc: Global, tag: u8, bytes: &[u8]) -> Result<(RecordBody, &[u8
     }
 }
 
-#[tactic(auto, unfolding(crate::specs::Reading::record_at))]
-fn whole_record(alloc: Global, bytes: &[u8]) -> Result<Record, RecordFault>
-    ensures { Gives (λ r. r) result (record_at bytes.now) }
+/// The most bytes that the views of an item have together in version 1.
+const MOST_VIEW_BYTES_V1: usize = 65_536;
+
+impl RecordBody {
+    /// Whether version 1 has bodies so large.
+    #[tactic(auto, unfolding(crate::specs::Limits::most_view_bytes_v1))]
+    fn is_small(&self) -> bool
+        ensures { result ≡ is_small self.now }
+    {
+        match self {
+            RecordBody::Views(_, views) => !are_larger(views.as_slice(), MOST_VIEW_BYTES_V1),
+            _ => true,
+        }
+    }
+}
+
+/// What stands behind the moments, all of the bytes.
+#[tactic(auto, unfolding(crate::specs::Reading::rest_at))]
+fn record_behind(
+    alloc: Global,
+    tag: u8,
+    stamp: Stamp,
+    until: Option<Stamp>,
+    bytes: &[u8],
+) -> Result<Record, RecordFault>
+    ensures { Gives (λ r. r) result (rest_at tag (stamp, until) bytes.now) }
 {
-    let (tag, rest) = byte_of(bytes)?;
-    let (head, rest) = head_of(alloc, rest)?;
+    let (head, rest) = head_of(alloc, bytes)?;
     let (body, rest) = body_behind(alloc, tag, rest)?;
     if !rest.is_empty() {
         return Err(RecordFault::BadRecord);
     }
-    let Head {
-        seconds,
-        title,
-        summary,
-    } = head;
-    let Ok(stamp) = Stamp::new(seconds) else {
-        return Err(RecordFault::BadRecord);
-    };
+    let Head { title, summary } = head;
     Ok(Record {
         title,
         stamp,
+        until,
         summary,
         body,
     })
+}
+
+#[tactic(auto, unfolding(crate::specs::Reading::record_by, crate::specs::Reading::moments_at, crate::specs::Field::both))]
+fn whole_record(alloc: Global, bytes: &[u8]) -> Result<Record, RecordFault>
+    ensures { Gives (λ r. r) result (record_at bytes.now) }
+{
+    let (tag, rest) = byte_of(bytes)?;
+    let (stamp, rest) = match stamp_of(rest) {
+        Ok(read) => read,
+        Err(fault) => return Err(fault),
+    };
+    let (until, rest) = match until_of(rest) {
+        Ok(read) => read,
+        Err(fault) => return Err(fault),
+    };
+    record_behind(alloc, tag, stamp, until, rest)
+}
+
+#[tactic(auto, unfolding(crate::specs::Reading::record_by, crate::specs::Reading::moments_at_v1, crate::specs::Field::mapped))]
+fn large_record_v1(alloc: Global, bytes: &[u8]) -> Result<Record, RecordFault>
+    ensures { Gives (λ r. r) result (record_by moments_at_v1 bytes.now) }
+{
+    let (tag, rest) = byte_of(bytes)?;
+    let (stamp, rest) = match stamp_of(rest) {
+        Ok(read) => read,
+        Err(fault) => return Err(fault),
+    };
+    record_behind(alloc, tag, stamp, None, rest)
+}
+
+#[tactic(auto, unfolding(crate::specs::Reading::record_at_v1))]
+fn whole_record_v1(alloc: Global, bytes: &[u8]) -> Result<Record, RecordFault>
+    ensures { Gives (λ r. r) result (record_at_v1 bytes.now) }
+{
+    let record = large_record_v1(alloc, bytes)?;
+    if !record.body.is_small() {
+        return Err(RecordFault::BadRecord);
+    }
+    Ok(record)
 }
 
 /// The record that the bytes are, all of them: `BadRecord` where they are not what is written of any item that keeps the limits.
@@ -157,4 +213,16 @@ pub fn read_record(alloc: Global, bytes: &[u8]) -> Result<Record, RecordFault>
     ensures only { (r : Record) → IsTrue (is_record r) → bytes.now ≡ record_bytes r → Gives (λ x. x) result (Some r) }
 {
     whole_record(alloc, bytes)
+}
+
+/// The record that the bytes are in version 1 of images, all of them: `BadRecord` where they are not what is written so of any item that keeps the limits of version 1.
+pub fn read_record_v1(alloc: Global, bytes: &[u8]) -> Result<Record, RecordFault>
+    // What is read is a record, written so.
+    ensures found { IfOk result (λ r. IsTrue (is_record_v1 r) × (bytes.now ≡ record_bytes_v1 r)) }
+    // So it can be written again.
+    ensures fits { IfOk result (λ r. IsTrue (fits_record r)) }
+    // What is written so is read, unless memory runs out.
+    ensures only { (r : Record) → IsTrue (is_record_v1 r) → bytes.now ≡ record_bytes_v1 r → Gives (λ x. x) result (Some r) }
+{
+    whole_record_v1(alloc, bytes)
 }

@@ -1,17 +1,22 @@
 // Writing records.
-ghost use Rattle.std.specs.Prelude.{◌≡◌, ◌≤◌, ◌<◌, ◌+◌, ◌*◌, ◌^◌, ◌++◌, All, length, map, flat_map, IfOk, OnOk, IsTrue};
+ghost use Rattle.std.specs.Prelude.{◌≡◌, ◌≤◌, ◌<◌, ◌+◌, ◌*◌, ◌^◌, ◌++◌, ◌∷◌, All, length, map, flat_map, IfOk, OnOk, IsTrue};
+ghost use Rattle.std.specs.Int.{w64, to_be_bytes};
 ghost use Rattle.std.specs.List.{list_all};
 ghost use Rattle.host_types.specs.Card.{card_view};
 ghost use Rattle.site_records.specs.Limits.{fits_view, fits_body, fits_record, is_short_body, is_short};
 ghost use Rattle.site_records.specs.Records as spec;
 
+use crate::fields::NEVER;
 use crate::part_writing::{entries_bytes, put_short, questions_bytes};
 use crate::{Record, RecordBody};
-use host_types::{Body, Bytes, CardView, CardViewList, Item, View};
+use host_types::{Body, Bytes, CardView, CardViewList, Item, Stamp, View};
 use std::alloc::{AllocError, Global};
 
 /// The greatest length of a record in bytes: that of a document in eight views.
-pub const LONGEST_RECORD: usize = 931;
+pub const LONGEST_RECORD: usize = 939;
+
+/// The greatest length of a record of version 1.
+pub const LONGEST_RECORD_V1: usize = 931;
 
 fn put_view(out: &mut Vec<u8>, view: &CardView) -> Result<(), AllocError>
     requires { IsTrue (fits_view view.now) }
@@ -76,22 +81,63 @@ impl RecordBody {
     }
 }
 
+/// From when on an item isn't found, as a number.
+fn until_number(until: Option<Stamp>) -> u64
+    ensures { result ≡ spec.until_number until }
+{
+    match until {
+        Some(until) => until.seconds(),
+        None => NEVER,
+    }
+}
+
 impl Record {
-    /// The record in bytes, at most 931.
+    /// The tag and the stamp.
+    fn begin(&self, alloc: Global) -> Result<Vec<u8>, AllocError>
+        ensures bytes { IfOk result (λ out. out.items ≡ spec.tag_of self.now.body ∷ to_be_bytes w64 self.now.stamp) }
+        ensures length { IfOk result (λ out. length out.items ≡ 9) }
+    {
+        let mut out = Vec::new(alloc);
+        out.push(self.body.tag())?;
+        out.extend_from_slice(&self.stamp.seconds().to_be_bytes())?;
+        Ok(out)
+    }
+
+    /// Adds the title, the summary, and what the body has.
+    fn put_rest(&self, out: &mut Vec<u8>) -> Result<(), AllocError>
+        requires { IsTrue (fits_record self.now) }
+        ensures bytes { OnOk result (out.new.items ≡ out.old.items ++ spec.rest_bytes self.now) }
+        ensures length { OnOk result (length out.new.items ≤ length out.old.items + 922) }
+    {
+        let summary = self.summary.as_slice();
+        put_short(out, self.title.as_bytes())?;
+        out.extend_from_slice(&(summary.len() as u16).to_be_bytes())?;
+        out.extend_from_slice(summary)?;
+        self.body.put(out)
+    }
+
+    /// The record in bytes, at most 939.
     #[tactic(auto, unfolding(crate::specs::Records::record_bytes))]
     pub fn to_bytes(&self, alloc: Global) -> Result<Bytes, AllocError>
         requires { IsTrue (fits_record self.now) }
         ensures bytes { IfOk result (λ bytes. bytes ≡ spec.record_bytes self.now) }
         ensures length { IfOk result (λ bytes. length bytes ≤ LONGEST_RECORD) }
     {
-        let mut out = Vec::new(alloc);
-        let summary = self.summary.as_slice();
-        out.push(self.body.tag())?;
-        out.extend_from_slice(&self.stamp.seconds().to_be_bytes())?;
-        put_short(&mut out, self.title.as_bytes())?;
-        out.extend_from_slice(&(summary.len() as u16).to_be_bytes())?;
-        out.extend_from_slice(summary)?;
-        self.body.put(&mut out)?;
+        let mut out = self.begin(alloc)?;
+        out.extend_from_slice(&until_number(self.until).to_be_bytes())?;
+        self.put_rest(&mut out)?;
+        Ok(Bytes::from(out))
+    }
+
+    /// The record in the bytes of version 1, at most 931: they don't say when it expires.
+    #[tactic(auto, unfolding(crate::specs::Records::record_bytes_v1))]
+    pub fn to_bytes_v1(&self, alloc: Global) -> Result<Bytes, AllocError>
+        requires { IsTrue (fits_record self.now) }
+        ensures bytes { IfOk result (λ bytes. bytes ≡ spec.record_bytes_v1 self.now) }
+        ensures length { IfOk result (λ bytes. length bytes ≤ LONGEST_RECORD_V1) }
+    {
+        let mut out = self.begin(alloc)?;
+        self.put_rest(&mut out)?;
         Ok(Bytes::from(out))
     }
 }
@@ -152,6 +198,7 @@ fn recorded(alloc: Global, item: &Item) -> Result<Record, AllocError>
     Ok(Record {
         title: item.title.clone()?,
         stamp: item.stamp,
+        until: item.until,
         summary: item.summary.clone()?,
         body: body_of(alloc, &item.body)?,
     })
@@ -168,11 +215,20 @@ impl Record {
     }
 }
 
-/// The record of an item in bytes, at most 931: the value of its key. The item may not be too long.
+/// The record of an item in bytes, at most 939: the value of its key. The item may not be too long.
 pub fn record_of(alloc: Global, item: &Item) -> Result<Bytes, AllocError>
     requires { IsTrue (is_short item.now) }
     ensures bytes { IfOk result (λ bytes. bytes ≡ spec.item_bytes item.now) }
     ensures length { IfOk result (λ bytes. length bytes ≤ LONGEST_RECORD) }
 {
     Record::of_item(alloc, item)?.to_bytes(alloc)
+}
+
+/// The record of an item in the bytes of version 1, at most 931: they don't say when it expires. The item may not be too long.
+pub fn record_of_v1(alloc: Global, item: &Item) -> Result<Bytes, AllocError>
+    requires { IsTrue (is_short item.now) }
+    ensures bytes { IfOk result (λ bytes. bytes ≡ spec.item_bytes_v1 item.now) }
+    ensures length { IfOk result (λ bytes. length bytes ≤ LONGEST_RECORD_V1) }
+{
+    Record::of_item(alloc, item)?.to_bytes_v1(alloc)
 }

@@ -114,12 +114,11 @@ fn have_twins(views: &[CardView]) -> bool
     false
 }
 
-/// Whether the views have more bytes together than they may.
-#[tactic(auto, unfolding(host_types::specs::Items::most_view_bytes))]
-fn are_large(views: &[CardView]) -> bool
-    ensures { result ≡ nat_lt most_view_bytes (all_lengths views.now) }
+/// Whether the views have more bytes together than so many.
+pub fn are_larger(views: &[CardView], most: usize) -> bool
+    ensures { result ≡ nat_lt most (all_lengths views.now) }
 {
-    let mut room = MOST_VIEW_BYTES;
+    let mut room = most;
     for view in views {
         let length = view.length as usize;
         if length > room {
@@ -128,6 +127,14 @@ fn are_large(views: &[CardView]) -> bool
         room -= length;
     }
     false
+}
+
+/// Whether the views have more bytes together than they may.
+#[tactic(auto, unfolding(host_types::specs::Items::most_view_bytes))]
+fn are_large(views: &[CardView]) -> bool
+    ensures { result ≡ nat_lt most_view_bytes (all_lengths views.now) }
+{
+    are_larger(views, MOST_VIEW_BYTES)
 }
 
 #[tactic(auto, unfolding(crate::specs::Limits::go_together))]

@@ -2,6 +2,7 @@
 use Rattle.std.proofs.Common.{◌≡◌, ◌≤◌, ℕ, Bool, true, ◌∙◌, ap, sym, subst, arith, refl, inl, inr}
 use Rattle.std.specs.Prelude.{IsTrue}
 use Rattle.std.proofs.lemmas.Bool.{cases_lt}
+use Rattle.host_types.specs.AllChanges.{Changes}
 use Rattle.host_types.specs.Address.{Address, address}
 use Rattle.host_types.specs.SiteState.{SiteState, HasRead, LacksTheSame, IsReadFault, Rose}
 use Rattle.host_types.specs.Counting.{IsReadCounted, CountsReads}
@@ -27,14 +28,14 @@ pub nothing_left : {L : Type 0} (s : CrashStates L) → AddsNone s s
 nothing_left s = no_new_crash_state s
 
 -- a change may lack the same after one read and then another
-pub lacking_on : (a b c : Change → ℕ → SiteFault → Type 0) → LacksTheSame a b → LacksTheSame b c → LacksTheSame a c
+pub lacking_on : (a b c : Changes → SiteFault → Type 0) → LacksTheSame a b → LacksTheSame b c → LacksTheSame a c
 lacking_on a b c first second = record {
-  after = λ change now fault lacks. second.after change now fault (first.after change now fault lacks);
-  before = λ change now fault lacks. first.before change now fault (second.before change now fault lacks);
+  after = λ changes fault lacks. second.after changes fault (first.after changes fault lacks);
+  before = λ changes fault lacks. first.before changes fault (second.before changes fault lacks);
 }
 
-pub same_lacking : (a : Change → ℕ → SiteFault → Type 0) → LacksTheSame a a
-same_lacking a = record { after = λ change now fault lacks. lacks; before = λ change now fault lacks. lacks }
+pub same_lacking : (a : Changes → SiteFault → Type 0) → LacksTheSame a a
+same_lacking a = record { after = λ changes fault lacks. lacks; before = λ changes fault lacks. lacks }
 
 pub reads_on : (a b c : SiteState) → HasRead a b → HasRead b c → HasRead a c
 reads_on a b c first second = record {
@@ -66,18 +67,18 @@ fault_since wants a b c faults.Failed first second fault = sym first.usable ∙ 
 fault_since wants a b c faults.Memory first second fault = fault
 
 -- one call that only reads after another
-pub only_on : {K L : Type 0} (site_state : K → SiteState) (lacks : K → Change → ℕ → SiteFault → Type 0) (crash_states : K → CrashStates L) (a b c : K) → ReadsOnly site_state lacks crash_states a b → ReadsOnly site_state lacks crash_states b c → ReadsOnly site_state lacks crash_states a c
+pub only_on : {K L : Type 0} (site_state : K → SiteState) (lacks : K → Changes → SiteFault → Type 0) (crash_states : K → CrashStates L) (a b c : K) → ReadsOnly site_state lacks crash_states a b → ReadsOnly site_state lacks crash_states b c → ReadsOnly site_state lacks crash_states a c
 only_on site_state lacks crash_states a b c first second = record {
   kept = reads_on (site_state a) (site_state b) (site_state c) first.kept second.kept;
   lacking = lacking_on (lacks a) (lacks b) (lacks c) first.lacking second.lacking;
   no_new_crash_state = none_added_on (site_state a) (site_state b) (crash_states a) (crash_states b) (crash_states c) first.kept first.no_new_crash_state second.no_new_crash_state;
 }
 
-pub only_none : {K L : Type 0} (site_state : K → SiteState) (lacks : K → Change → ℕ → SiteFault → Type 0) (crash_states : K → CrashStates L) (a : K) → ReadsOnly site_state lacks crash_states a a
+pub only_none : {K L : Type 0} (site_state : K → SiteState) (lacks : K → Changes → SiteFault → Type 0) (crash_states : K → CrashStates L) (a : K) → ReadsOnly site_state lacks crash_states a a
 only_none site_state lacks crash_states a = record { kept = nothing_read (site_state a); lacking = same_lacking (lacks a); no_new_crash_state = λ honest. no_new_crash_state (crash_states a) }
 
 -- what a call that succeeds gives
-pub ok_gives : {T K L : Type 0} {site_state : K → SiteState} {lacks : K → Change → ℕ → SiteFault → Type 0} {crash_states : K → CrashStates L} {old new : K} {result : Result T SiteFault} {answer : Site → T → Type 0} (value : T) → Reads site_state lacks crash_states old new result answer → result ≡ Ok value → IsTrue (site_state old).honest → answer (site_state old).site value
+pub ok_gives : {T K L : Type 0} {site_state : K → SiteState} {lacks : K → Changes → SiteFault → Type 0} {crash_states : K → CrashStates L} {old new : K} {result : Result T SiteFault} {answer : Site → T → Type 0} (value : T) → Reads site_state lacks crash_states old new result answer → result ≡ Ok value → IsTrue (site_state old).honest → answer (site_state old).site value
 ok_gives {site_state = site_state} {old = old} {answer = answer} value reads is honest = subst (λ r. IfOk r (answer (site_state old).site)) is (reads.gives honest)
 
 pub faults_since : {T : Type 0} (result : Result T SiteFault) (a b c : SiteState) → HasRead a b → HasRead b c → IfErr result (IsReadFault true b c) → IfErr result (IsReadFault true a c)

@@ -1,10 +1,12 @@
 -- What the card of an item says of its views.
-use Rattle.std.proofs.Common.{◌≡◌, ℕ, Bool, false, zero, suc, ◌<◌, List, [], ◌∷◌, length, refl, ap, sym, subst, ◌∙◌, arith}
+use Rattle.std.proofs.Common.{◌≡◌, ℕ, Bool, false, zero, suc, ◌<◌, List, [], ◌∷◌, ◌++◌, length, refl, ap, sym, subst, ◌∙◌, arith}
 use Rattle.std.specs.Prelude.{Option, Some, None, Result, Ok, Err, IfOk, IsTrue, map, slice_get, slice_index_or}
 use Rattle.host_types.specs.Names.{is_url_name}
 use Rattle.host_types.specs.Site.{Site, item_at}
 use Rattle.host_types.specs.Card.{card_view, card_body, card_of, card_at, bytes_of, viewed, viewed_in, viewed_at}
+use Rattle.host_types.specs.Visible.{visible, viewed_at-visible}
 use Rattle.host_types.specs.SiteState.{SiteState, HasRead}
+use Rattle.text_writer.specs.Text.{sent_as}
 use Rattle.host_types.specs.declared.view.Kind.{Kind}
 use Rattle.host_types.specs.declared.view.View.{View}
 use Rattle.host_types.specs.declared.item.Item.{Item}
@@ -18,8 +20,10 @@ use Rattle.host_types.specs.declared.menu.Entry.{Entry}
 use Rattle.word_index.specs.Search.{search_of}
 use Rattle.request_reader.specs.Request.{Request}
 use Rattle.site_replies.specs.Lengths.{AreLengths, HasLengths}
-use Rattle.site_replies.specs.Reply.{menu_reply, locals, card_reply, found_reply, reply}
-use Rattle.site_replies.specs.Replies.{answer_of, IsSized}
+use Rattle.site_replies.specs.Reply.{menu_reply, locals, card_reply, found_reply, reply_of, reply}
+use Rattle.site_replies.specs.Replies.{reply_bytes, answer_of, IsSized}
+use Rattle.site_replies.specs.declared.answered.Reply.{Reply}
+use Rattle.site_replies.specs.declared.answered.Reply.TheVariants as replies
 use Rattle.site_replies.specs.declared.answered.Answered.{Answered}
 use Rattle.site_replies.proofs.AfterReads.{still_honest}
 
@@ -52,43 +56,61 @@ pub has_lengths : (s : Site) (selector : List ℕ) (card : Card) → Some card �
 has_lengths s selector card is = lengths_in (item_at s selector) s selector card refl is
 
 -- the reply by the card that was read is the reply of the site before the read
-pub found : {E : Type 0} (a b : SiteState) (selector : List ℕ) (r : Request) (now : ℕ) (card : Card) (result : Result Answered E) → HasRead a b → IsTrue a.honest → selector ≡ r.selector → Some card ≡ card_at a.site selector
-    → (IsTrue b.honest → selector ≡ r.selector → HasLengths card.body (viewed_at b.site selector) → IfOk result (λ answered. answer_of b.site answered ≡ card_reply b.site r now card card.body r.plus))
-    → IfOk result (λ answered. answer_of a.site answered ≡ found_reply a.site r now (card_at a.site selector))
+pub found : {E : Type 0} (a b : SiteState) (selector : List ℕ) (r : Request) (now : ℕ) (card : Card) (result : Result Answered E) → HasRead a b → IsTrue a.honest → selector ≡ r.selector → Some card ≡ card_at (visible a.site now) selector
+    → (IsTrue b.honest → selector ≡ r.selector → HasLengths card.body (viewed_at (visible b.site now) selector) → IfOk result (λ answered. answer_of (visible b.site now) answered ≡ card_reply (visible b.site now) r now card card.body r.plus))
+    → IfOk result (λ answered. answer_of (visible a.site now) answered ≡ found_reply (visible a.site now) r now (card_at (visible a.site now) selector))
 found a b selector r now card (Err e) kept honest same is given = tt
 found a b selector r now card (Ok answered) kept honest same is given =
-    let after : b.site ≡ a.site = kept.site honest in
-    let lengths : HasLengths card.body (viewed_at b.site selector) = rw after (has_lengths a.site selector card is) in
+    let after : visible b.site now ≡ visible a.site now = ap (λ (s : Site). visible s now) (kept.site honest) in
+    let lengths : HasLengths card.body (viewed_at (visible b.site now) selector) = rw after (has_lengths (visible a.site now) selector card is) in
     ap (λ (s : Site). answer_of s answered) (sym after)
     ∙ given (still_honest a b kept honest) same lengths
     ∙ ap (λ (s : Site). card_reply s r now card card.body r.plus) after
-    ∙ ap (found_reply a.site r now) is
+    ∙ ap (found_reply (visible a.site now) r now) is
 
 -- a view that is named by the card that was read has its size before the read
-pub sized : {E : Type 0} (a b : SiteState) (selector : List ℕ) (card : Card) (result : Result Answered E) → HasRead a b → IsTrue a.honest → Some card ≡ card_at a.site selector
-    → (IsTrue b.honest → HasLengths card.body (viewed_at b.site selector) → IfOk result (λ answered. IsSized b.site answered.reply))
-    → IfOk result (λ answered. IsSized a.site answered.reply)
-sized a b selector card (Err e) kept honest is given = tt
-sized a b selector card (Ok answered) kept honest is given =
-    let after : b.site ≡ a.site = kept.site honest in
-    let lengths : HasLengths card.body (viewed_at b.site selector) = rw after (has_lengths a.site selector card is) in
+sized_seen : (a b : SiteState) (selector : List ℕ) (now : ℕ) (card : Card) (answered : Answered) → HasRead a b → IsTrue a.honest → Some card ≡ card_at (visible a.site now) selector
+    → (IsTrue b.honest → HasLengths card.body (viewed_at (visible b.site now) selector) → IsSized (visible b.site now) answered.reply)
+    → IsSized (visible a.site now) answered.reply
+sized_seen a b selector now card answered kept honest is given =
+    let after : visible b.site now ≡ visible a.site now = ap (λ (s : Site). visible s now) (kept.site honest) in
+    let lengths : HasLengths card.body (viewed_at (visible b.site now) selector) = rw after (has_lengths (visible a.site now) selector card is) in
     subst (λ (s : Site). IsSized s answered.reply) after (given (still_honest a b kept honest) lengths)
 
+-- its bytes are those of the site, in which it stands too
+whole_bytes : (s : Site) (now : ℕ) (reply : Reply) → IsSized (visible s now) reply → reply_bytes (visible s now) reply ≡ reply_bytes s reply
+whole_bytes s now (replies.Whole bytes) sized = refl
+whole_bytes s now (replies.View v) sized = ap (λ (bytes : List ℕ). v.head ++ sent_as v.is_text bytes) (viewed_at-visible s now v.selector v.view (omega (arith, sized.0, sized.1)))
+
+whole_size : (s : Site) (now : ℕ) (reply : Reply) → IsSized (visible s now) reply → IsSized s reply
+whole_size s now (replies.Whole bytes) sized = tt
+whole_size s now (replies.View v) sized = (sized.0, ap (λ (bytes : List ℕ). length bytes) (sym (viewed_at-visible s now v.selector v.view (omega (arith, sized.0, sized.1)))) ∙ sized.1)
+
+pub sized : {E : Type 0} (a b : SiteState) (selector : List ℕ) (now : ℕ) (card : Card) (result : Result Answered E) → HasRead a b → IsTrue a.honest → Some card ≡ card_at (visible a.site now) selector
+    → (IsTrue b.honest → HasLengths card.body (viewed_at (visible b.site now) selector) → IfOk result (λ answered. IsSized (visible b.site now) answered.reply))
+    → IfOk result (λ answered. IsSized a.site answered.reply)
+sized a b selector now card (Err e) kept honest is given = tt
+sized a b selector now card (Ok answered) kept honest is given = whole_size a.site now answered.reply (sized_seen a b selector now card answered kept honest is given)
+
 -- the reply to what is no link
-pub found_up : {E : Type 0} (s : Site) (r : Request) (now : ℕ) (selector : List ℕ) (result : Result Answered E) → is_url_name r.selector ≡ false → selector ≡ r.selector
-    → IfOk result (λ answered. answer_of s answered ≡ found_reply s r now (card_at s selector)) → IfOk result (λ answered. answer_of s answered ≡ reply s r now)
-unfolding reply
-found_up s r now selector (Err e) here same given = tt
-found_up s r now selector (Ok answered) here same given = rw here (given ∙ ap (λ (at : List ℕ). found_reply s r now (card_at s at)) same)
+pub found_up : {E : Type 0} (a b : SiteState) (r : Request) (now : ℕ) (selector : List ℕ) (card : Card) (result : Result Answered E) → is_url_name r.selector ≡ false → selector ≡ r.selector → HasRead a b → IsTrue a.honest → Some card ≡ card_at (visible a.site now) selector
+    → (IsTrue b.honest → HasLengths card.body (viewed_at (visible b.site now) selector) → IfOk result (λ answered. IsSized (visible b.site now) answered.reply))
+    → IfOk result (λ answered. answer_of (visible a.site now) answered ≡ found_reply (visible a.site now) r now (card_at (visible a.site now) selector)) → IfOk result (λ answered. answer_of a.site answered ≡ reply a.site r now)
+unfolding reply_of
+found_up a b r now selector card (Err e) here same kept honest is sizes given = tt
+found_up a b r now selector card (Ok answered) here same kept honest is sizes given =
+    let size = sized_seen a b selector now card answered kept honest is sizes in
+    ap (λ (bytes : List ℕ). record { bytes = bytes; post = answered.post }) (sym (whole_bytes a.site now answered.reply size))
+    ∙ rw here (given ∙ ap (λ (at : List ℕ). found_reply (visible a.site now) r now (card_at (visible a.site now) at)) same)
 
 -- the menu of what a search found before
-pub searched : {E : Type 0} (a b : SiteState) (is_plus : Bool) (scope words : List ℕ) (names : List (List ℕ)) (es : List Entry) (result : Result (List ℕ) E) → HasRead a b → IsTrue a.honest
-    → names ≡ search_of a.site scope words → es ≡ locals names
-    → (IsTrue b.honest → IfOk result (λ reply. reply ≡ menu_reply b.site is_plus es))
-    → IfOk result (λ reply. reply ≡ menu_reply a.site is_plus (locals (search_of a.site scope words)))
-searched a b is_plus scope words names es (Err e) kept honest names_are is given = tt
-searched a b is_plus scope words names es (Ok reply) kept honest names_are is given =
+pub searched : {E : Type 0} (a b : SiteState) (is_plus : Bool) (now : ℕ) (scope words : List ℕ) (names : List (List ℕ)) (es : List Entry) (result : Result (List ℕ) E) → HasRead a b → IsTrue a.honest
+    → names ≡ search_of (visible a.site now) scope words → es ≡ locals names
+    → (IsTrue b.honest → IfOk result (λ reply. reply ≡ menu_reply (visible b.site now) is_plus es))
+    → IfOk result (λ reply. reply ≡ menu_reply (visible a.site now) is_plus (locals (search_of (visible a.site now) scope words)))
+searched a b is_plus now scope words names es (Err e) kept honest names_are is given = tt
+searched a b is_plus now scope words names es (Ok reply) kept honest names_are is given =
     given (still_honest a b kept honest)
-    ∙ ap (λ (s : Site). menu_reply s is_plus es) (kept.site honest)
-    ∙ ap (λ (l : List Entry). menu_reply a.site is_plus l) is
-    ∙ ap (λ (l : List (List ℕ)). menu_reply a.site is_plus (locals l)) names_are
+    ∙ ap (λ (s : Site). menu_reply (visible s now) is_plus es) (kept.site honest)
+    ∙ ap (λ (l : List Entry). menu_reply (visible a.site now) is_plus l) is
+    ∙ ap (λ (l : List (List ℕ)). menu_reply (visible a.site now) is_plus (locals l)) names_are

@@ -4,3 +4,4 @@ pub mod Picks
 pub mod PostNames
 pub mod Posted
 pub mod StoredPosts
+pub mod VisibleCards

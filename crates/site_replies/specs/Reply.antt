@@ -4,6 +4,7 @@ use Rattle.std.specs.List.{position}
 use Rattle.host_types.specs.Names.{is_url_name}
 use Rattle.host_types.specs.Site.{Site, post_selector, last_numbers, text_item}
 use Rattle.host_types.specs.Change.{apply}
+use Rattle.host_types.specs.Visible.{visible}
 use Rattle.host_types.specs.Card.{card_of, card_at, viewed_at}
 use Rattle.host_types.specs.Address.{address}
 use Rattle.host_types.specs.declared.view.Kind.{Kind}
@@ -233,11 +234,15 @@ abbrev pub found_reply : Site → Request → ℕ → Option Card → WholeAnswe
 found_reply s r now None = without_post (error_reply_of (is_some r.plus) errors.ItemNotFound)
 found_reply s r now (Some card) = card_reply s r now card card.body r.plus
 
--- links out of gopherspace are known by their names, before any look-up
-unfoldable pub reply : Site → Request → ℕ → WholeAnswer
-reply s r now =
+-- Of a site in which nothing has expired. Links out of gopherspace are known by their names, before any look-up.
+unfoldable pub reply_of : Site → Request → ℕ → WholeAnswer
+reply_of s r now =
     if is_url_name r.selector then without_post (url_reply r.plus (drop 4 r.selector))
     else found_reply s r now (card_at s r.selector)
+
+-- as if the items that have expired weren't there
+abbrev pub reply : Site → Request → ℕ → WholeAnswer
+reply s r now = reply_of (visible s now) r now
 
 -- a request that is none is answered in the plain form
 abbrev pub bad_reply : Cause → List ℕ

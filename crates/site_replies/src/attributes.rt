@@ -1,6 +1,7 @@
 // Attributes of what stands in a site.
 ghost use Rattle.std.specs.Prelude.{◌≡◌, true, filter_map, IfOk, IfErr, IsTrue};
 ghost use Rattle.host_types.specs.Card.{card_at};
+ghost use Rattle.host_types.specs.Visible.{visible};
 ghost use Rattle.host_types.specs.SiteState.{HasRead, LacksTheSame, IsReadFault};
 ghost use Rattle.host_types.specs.CrashStates.{AddsNone};
 ghost use Rattle.site_replies.specs.Reads.{Reads};
@@ -8,9 +9,10 @@ ghost use Rattle.site_replies.specs.Reply as spec;
 ghost use Rattle.site_replies.specs.Reply.{found_blocks, entry_block, attributes_of};
 
 use crate::entries::posts;
+use crate::looking::card_at;
 use crate::menus::add_any;
 use crate::posts::error_reply_of;
-use host_types::{Bytes, CardBody, Entry, LineList, Selector, SiteFault};
+use host_types::{Bytes, CardBody, Entry, LineList, Selector, SiteFault, Stamp};
 use plus_blocks::{entry_attributes, info, item_blocks};
 use std::alloc::{AllocError, Global};
 use text_writer::{ErrorText, link_line};
@@ -23,10 +25,11 @@ fn blocks_at<S: SearchKeeper>(
     site: &mut S,
     names: &LineList,
     selector: &Selector,
+    now: Stamp,
 ) -> Result<Option<Bytes>, SiteFault>
-    ensures blocks { Reads S.site_state S.lacks S.crash_states site.old site.new result (λ s blocks. blocks ≡ found_blocks s names.now selector.now (card_at s selector.now)) }
+    ensures blocks { Reads S.site_state S.lacks S.crash_states site.old site.new result (λ s blocks. blocks ≡ found_blocks (visible s now) names.now selector.now (card_at (visible s now) selector.now)) }
 {
-    let Some(card) = site.card(selector)? else {
+    let Some(card) = card_at(site, selector, now)? else {
         return Ok(None);
     };
     if let CardBody::Moved { .. } = &card.body {
@@ -51,11 +54,12 @@ fn blocks_of<S: SearchKeeper>(
     site: &mut S,
     names: &LineList,
     entry: &Entry,
+    now: Stamp,
 ) -> Result<Option<Bytes>, SiteFault>
-    ensures blocks { Reads S.site_state S.lacks S.crash_states site.old site.new result (λ s blocks. blocks ≡ entry_block s names.now entry.now) }
+    ensures blocks { Reads S.site_state S.lacks S.crash_states site.old site.new result (λ s blocks. blocks ≡ entry_block (visible s now) names.now entry.now) }
 {
     if let Entry::Local(selector) = entry {
-        return blocks_at(alloc, site, names, selector);
+        return blocks_at(alloc, site, names, selector, now);
     }
     let line = link_line(alloc, &site.front(), entry)?;
     Ok(link_block(alloc, line)?)
@@ -68,12 +72,13 @@ fn all_blocks<S: SearchKeeper>(
     site: &mut S,
     names: &LineList,
     entries: &[Entry],
+    now: Stamp,
 ) -> Result<LineList, SiteFault>
-    ensures blocks { Reads S.site_state S.lacks S.crash_states site.old site.new result (λ s blocks. blocks ≡ filter_map (entry_block s names.now) entries.now) }
+    ensures blocks { Reads S.site_state S.lacks S.crash_states site.old site.new result (λ s blocks. blocks ≡ filter_map (entry_block (visible s now) names.now) entries.now) }
 {
     let mut all = LineList::new(alloc);
     for entry in entries {
-        let blocks = blocks_of(alloc, site, names, entry)?;
+        let blocks = blocks_of(alloc, site, names, entry, now)?;
         add_any(&mut all, blocks)?;
     }
     Ok(all)
@@ -85,10 +90,11 @@ fn attributes_of<S: SearchKeeper>(
     site: &mut S,
     names: &LineList,
     entries: &[Entry],
+    now: Stamp,
 ) -> Result<Bytes, SiteFault>
-    ensures reply { Reads S.site_state S.lacks S.crash_states site.old site.new result (λ s reply. reply ≡ attributes_of s names.now entries.now) }
+    ensures reply { Reads S.site_state S.lacks S.crash_states site.old site.new result (λ s reply. reply ≡ attributes_of (visible s now) names.now entries.now) }
 {
-    let blocks = all_blocks(alloc, site, names, entries)?;
+    let blocks = all_blocks(alloc, site, names, entries, now)?;
     Ok(entry_attributes(alloc, &blocks)?)
 }
 
@@ -99,14 +105,15 @@ pub fn entries_reply<S: SearchKeeper>(
     names: &LineList,
     selector: &Selector,
     body: &CardBody,
+    now: Stamp,
 ) -> Result<Bytes, SiteFault>
-    ensures reply { Reads S.site_state S.lacks S.crash_states site.old site.new result (λ s reply. reply ≡ spec.entries_reply s names.now selector.now body.now) }
+    ensures reply { Reads S.site_state S.lacks S.crash_states site.old site.new result (λ s reply. reply ≡ spec.entries_reply (visible s now) names.now selector.now body.now) }
 {
     match body {
-        CardBody::Menu(entries) => attributes_of(alloc, site, names, entries.as_slice()),
+        CardBody::Menu(entries) => attributes_of(alloc, site, names, entries.as_slice(), now),
         CardBody::Board { cap, next } => {
             let entries = posts(alloc, selector, *cap, *next)?;
-            attributes_of(alloc, site, names, entries.as_slice())
+            attributes_of(alloc, site, names, entries.as_slice(), now)
         }
         _ => Ok(error_reply_of(alloc, true, ErrorText::NotAMenu)?),
     }

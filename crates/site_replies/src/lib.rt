@@ -5,6 +5,7 @@ mod answered;
 mod attributes;
 mod documents;
 mod entries;
+mod looking;
 mod menus;
 mod posts;
 mod requests;

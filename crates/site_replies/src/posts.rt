@@ -1,6 +1,7 @@
 // Posts by forms.
 ghost use Rattle.std.specs.Prelude.{◌≡◌, ◌≤◌, true, length, IfOk, IfErr, IfSome, IsTrue};
 ghost use Rattle.host_types.specs.Card.{card_of};
+ghost use Rattle.host_types.specs.Visible.{visible};
 ghost use Rattle.host_types.specs.SiteState.{HasRead, LacksTheSame, IsReadFault};
 ghost use Rattle.host_types.specs.CrashStates.{AddsNone};
 ghost use Rattle.host_types.specs.Site.{text_item};
@@ -14,6 +15,7 @@ ghost use Rattle.site_replies.specs.Reply as spec;
 
 use crate::answered::{Answered, Reply, without_post};
 use crate::documents::as_text;
+use crate::looking::card_at;
 use ask_forms::{AskFault, Post, post_of, read_answers};
 use host_types::{
     Address, Bytes, Card, CardBody, Change, Item, LineList, QuestionList, Selector, SiteFault,
@@ -115,13 +117,13 @@ pub fn post_reply<S: SearchKeeper>(
     post: Post,
     now: Stamp,
 ) -> Result<Answered, SiteFault>
-    ensures reply { Reads S.site_state S.lacks S.crash_states site.old site.new result (λ s answered. answered ≡ whole (spec.post_reply s now board.now post.title post.text)) }
+    ensures reply { Reads S.site_state S.lacks S.crash_states site.old site.new result (λ s answered. answered ≡ whole (spec.post_reply (visible s now) now board.now post.title post.text)) }
     ensures drawn { IfOk result (λ answered. PostsNoView answered.reply answered.post) }
 {
     if post.text.len() > MOST_POST_BYTES {
         return Ok(without_post(error_reply_of(alloc, true, ErrorText::AnswersDoNotFit)?));
     }
-    let card = site.card(board)?;
+    let card = card_at(site, board, now)?;
     reply_by_card(alloc, &site.front(), card, board, post, now)
 }
 
@@ -135,7 +137,7 @@ pub fn form_reply<S: SearchKeeper>(
     given: Option<Data<'_>>,
     now: Stamp,
 ) -> Result<Answered, SiteFault>
-    ensures reply { Reads S.site_state S.lacks S.crash_states site.old site.new result (λ s answered. answered ≡ whole (spec.form_reply s is_plus now board.now questions.now (option_map lines_in given.entry))) }
+    ensures reply { Reads S.site_state S.lacks S.crash_states site.old site.new result (λ s answered. answered ≡ whole (spec.form_reply (visible s now) is_plus now board.now questions.now (option_map lines_in given.entry))) }
     ensures drawn { IfOk result (λ answered. PostsNoView answered.reply answered.post) }
 {
     let Some(data) = given else {

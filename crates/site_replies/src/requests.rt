@@ -2,6 +2,7 @@
 ghost use Rattle.std.specs.Prelude.{◌≡◌, true, Some, IfOk, IfErr, IsTrue};
 ghost use Rattle.std.specs.Option.{option_map};
 ghost use Rattle.host_types.specs.Card.{viewed_at};
+ghost use Rattle.host_types.specs.Visible.{visible};
 ghost use Rattle.host_types.specs.Counting.{CountsReads};
 ghost use Rattle.host_types.specs.SiteState.{HasRead, LacksTheSame, IsReadFault};
 ghost use Rattle.host_types.specs.CrashStates.{AddsNone};
@@ -15,6 +16,7 @@ ghost use Rattle.site_replies.specs.Reply as spec;
 use crate::answered::{Answered, without_post};
 use crate::attributes::entries_reply;
 use crate::documents::as_bytes;
+use crate::looking::card_at;
 use crate::menus::{board_reply, menu_reply, search_reply};
 use crate::posts::{error_reply_of, form_reply};
 use crate::views::{moved_reply, view_reply};
@@ -71,9 +73,9 @@ fn card_reply<S: SearchKeeper>(
     now: Stamp,
     card: &Card,
 ) -> Result<Answered, SiteFault>
-    ensures reply { IsTrue (S.site_state site.old).honest → selector.now ≡ (request_of request.entry).selector → HasLengths card.now.body (viewed_at (S.site_state site.old).site selector.now) →
-        IfOk result (λ answered. answer_of (S.site_state site.old).site answered ≡ spec.card_reply (S.site_state site.old).site (request_of request.entry) now card.now card.now.body (request_of request.entry).plus) }
-    ensures sized { IsTrue (S.site_state site.old).honest → HasLengths card.now.body (viewed_at (S.site_state site.old).site selector.now) → IfOk result (λ answered. IsSized (S.site_state site.old).site answered.reply) }
+    ensures reply { IsTrue (S.site_state site.old).honest → selector.now ≡ (request_of request.entry).selector → HasLengths card.now.body (viewed_at (visible (S.site_state site.old).site now) selector.now) →
+        IfOk result (λ answered. answer_of (visible (S.site_state site.old).site now) answered ≡ spec.card_reply (visible (S.site_state site.old).site now) (request_of request.entry) now card.now card.now.body (request_of request.entry).plus) }
+    ensures sized { IsTrue (S.site_state site.old).honest → HasLengths card.now.body (viewed_at (visible (S.site_state site.old).site now) selector.now) → IfOk result (λ answered. IsSized (visible (S.site_state site.old).site now) answered.reply) }
     ensures drawn { IfOk result (λ answered. PostsNoView answered.reply answered.post) }
     ensures kept { HasRead (S.site_state site.old) (S.site_state site.new) }
     ensures lacking { LacksTheSame (S.lacks site.old) (S.lacks site.new) }
@@ -84,14 +86,14 @@ fn card_reply<S: SearchKeeper>(
     let is_plus = request.plus.is_some();
     let bytes = match (&card.body, request.plus) {
         // A moved item is reported before attributes are scanned.
-        (CardBody::Moved { target }, _) => moved_reply(alloc, site, is_plus, target)?,
+        (CardBody::Moved { target }, _) => moved_reply(alloc, site, is_plus, target, now)?,
         (_, Some(Plus::Attributes(names))) => {
             let names = names.to_list(alloc)?;
             attributes(alloc, &site.front(), &names, selector, card)?
         }
         (body, Some(Plus::EntryAttributes(names))) => {
             let names = names.to_list(alloc)?;
-            entries_reply(alloc, site, &names, selector, body)?
+            entries_reply(alloc, site, &names, selector, body, now)?
         }
         (CardBody::Form { board, questions }, _) => {
             return form_reply(alloc, site, is_plus, board, questions, request.data, now);
@@ -100,19 +102,21 @@ fn card_reply<S: SearchKeeper>(
             let reply = view_reply(alloc, selector, *kind, views.as_slice(), plus)?;
             return Ok(Answered { reply, post: None });
         }
-        (CardBody::Menu(entries), _) => menu_reply(alloc, site, is_plus, entries.as_slice())?,
+        (CardBody::Menu(entries), _) => {
+            menu_reply(alloc, site, is_plus, entries.as_slice(), now)?
+        },
         (CardBody::Board { cap, next }, _) => {
-            board_reply(alloc, site, is_plus, selector, *cap, *next)?
+            board_reply(alloc, site, is_plus, selector, *cap, *next, now)?
         }
         (CardBody::Search { scope }, _) => {
-            search_reply(alloc, site, is_plus, scope, request.search)?
+            search_reply(alloc, site, is_plus, scope, request.search, now)?
         }
     };
     Ok(without_post(bytes))
 }
 
 /// The reply to a request, from the site as it stands, and the post that it stores.
-#[tactic(auto, unfolding(crate::specs::Reply::reply))]
+#[tactic(auto, unfolding(crate::specs::Reply::reply_of))]
 pub fn reply<S: SearchKeeper>(
     alloc: Global,
     site: &mut S,
@@ -135,7 +139,7 @@ pub fn reply<S: SearchKeeper>(
     let Ok(selector) = Selector::new(request.selector) else {
         unreachable!()
     };
-    let Some(card) = site.card(&selector)? else {
+    let Some(card) = card_at(site, &selector, now)? else {
         let bytes = error_reply_of(alloc, request.plus.is_some(), ErrorText::ItemNotFound)?;
         return Ok(without_post(bytes));
     };

@@ -4,6 +4,7 @@ ghost use Rattle.std.specs.List.{position};
 ghost use Rattle.std.specs.Option.{option_map};
 ghost use Rattle.host_types.specs.Site.{Site};
 ghost use Rattle.host_types.specs.Card.{card_at, viewed_at};
+ghost use Rattle.host_types.specs.Visible.{visible};
 ghost use Rattle.host_types.specs.SiteState.{HasRead, LacksTheSame, IsReadFault};
 ghost use Rattle.host_types.specs.CrashStates.{AddsNone};
 ghost use Rattle.request_reader.specs.Seen.{plus_of};
@@ -14,8 +15,9 @@ ghost use Rattle.site_replies.specs.Reply as spec;
 
 use crate::answered::{Reply, ViewReply};
 use crate::documents::{is_sent_as_text, requested_by, requested_place, sent};
+use crate::looking::card_at;
 use crate::posts::error_reply_of;
-use host_types::{Bytes, CardBody, CardView, Kind, Selector, SiteFault};
+use host_types::{Bytes, CardBody, CardView, Kind, Selector, SiteFault, Stamp};
 use plus_blocks::head;
 use request_reader::Plus;
 use std::alloc::{AllocError, Global};
@@ -29,10 +31,11 @@ pub fn moved_reply<S: SearchKeeper>(
     site: &mut S,
     is_plus: bool,
     target: &Selector,
+    now: Stamp,
 ) -> Result<Bytes, SiteFault>
-    ensures reply { Reads S.site_state S.lacks S.crash_states site.old site.new result (λ s reply. reply ≡ spec.moved_reply s is_plus target.now (card_at s target.now)) }
+    ensures reply { Reads S.site_state S.lacks S.crash_states site.old site.new result (λ s reply. reply ≡ spec.moved_reply (visible s now) is_plus target.now (card_at (visible s now) target.now)) }
 {
-    let Some(card) = site.card(target)? else {
+    let Some(card) = card_at(site, target, now)? else {
         return Ok(error_reply_of(alloc, is_plus, ErrorText::ItemNotFound)?);
     };
     if let CardBody::Moved { .. } = &card.body {

@@ -10,7 +10,7 @@ use word_index::SearchKeeper;
 /// The room of each draw of a run.
 const ROOM: usize = 16_384;
 
-/// How often a run draws, which is enough for the longest document.
+/// How often a run draws, which is enough for 128 KiB; longer replies are drawn by calls.
 const DRAWS: usize = 8;
 
 /// How often a reply is drawn by calls at most.

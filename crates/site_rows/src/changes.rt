@@ -141,19 +141,27 @@ fn body(alloc: Global, fields: &[&str]) -> Result<Body, Fault> {
     })
 }
 
+/// What puts an item at a selector, by `SELECTOR TITLE SUMMARY BODY` and the moment until which it is found.
+fn put(alloc: Global, until: Option<Stamp>, fields: &[&str]) -> Result<Change, Fault> {
+    let [at, text, summary, rest @ ..] = fields else {
+        return Err(Fault::Line);
+    };
+    let at = selector(alloc, at)?;
+    let item = Item {
+        title: title(alloc, text)?,
+        stamp: Stamp::start(),
+        until,
+        summary: bytes(alloc, &[summary])?,
+        body: body(alloc, rest)?,
+    };
+    Ok(Change::Put(at, item))
+}
+
 /// The change that a line names, or none where its first word is another one.
 pub fn change(alloc: Global, fields: &[&str]) -> Result<Option<Change>, Fault> {
     Ok(Some(match fields {
-        ["put", at, text, summary, rest @ ..] => {
-            let at = selector(alloc, at)?;
-            let item = Item {
-                title: title(alloc, text)?,
-                stamp: Stamp::start(),
-                summary: bytes(alloc, &[summary])?,
-                body: body(alloc, rest)?,
-            };
-            Change::Put(at, item)
-        }
+        ["put", rest @ ..] => put(alloc, None, rest)?,
+        ["until", seconds, rest @ ..] => { put(alloc, Some(Stamp::new(number(seconds)?)?), rest)? }
         ["remove", at] => Change::Remove(selector(alloc, at)?),
         ["move", from, to] => Change::Move {
             from: selector(alloc, from)?,

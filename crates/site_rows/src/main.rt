@@ -10,6 +10,7 @@
 //! - `put SELECTOR TITLE SUMMARY BODY`, where the body is one of `text TEXT..`, `views KIND (NAME LANGUAGE TEXT)..`,
 //!   `menu (local SELECTOR | info TITLE | url TITLE URL | remote KIND TITLE SELECTOR HOST PORT)..`, `board CAP`, `search SCOPE` and
 //!   `form BOARD (ask PROMPT | askl PROMPT | askp PROMPT WORD | choose PROMPT COUNT CHOICE..)..`; a KIND is the letter of a menu's line.
+//! - `until SECONDS SELECTOR TITLE SUMMARY BODY`: the same, and the item is found before that moment alone.
 //! - `remove SELECTOR`, `move FROM TO`, `host HOST PORT`, `admin TEXT`, `post BOARD TITLE TEXT..`: the administrator's other changes.
 //! - `now`, `text`, `join`, `bytes`, `end`, `draw`, `leave`: lines of the script of sessions, with its answers.
 //! - `ask REQUEST..`: a session sends a request whole, draws its reply and leaves, in one run. `runs SIZE REQUEST..`: by pieces of so many bytes.

@@ -1,5 +1,5 @@
 -- The keys that the batch of a change has.
-use Rattle.std.proofs.Common.{◌≡◌, ◌≢◌, ℕ, Bool, true, false, cond, List, [], ◌∷◌, map, Option, Some, None, Result, Ok, refl, sym, ap, ◌∙◌}
+use Rattle.std.proofs.Common.{◌≡◌, ◌≢◌, ℕ, Bool, true, false, cond, List, [], ◌∷◌, map, Option, Some, None, refl, sym, ap, ◌∙◌}
 use Rattle.std.specs.Prelude.{IsTrue, ◌&&◌, ◌||◌, is_some, bytes_eq, fold}
 use Rattle.std.specs.Map.{lookup}
 use Rattle.std.specs.BTreeMap.{is_at}
@@ -8,22 +8,16 @@ use Rattle.std.proofs.lemmas.Slice.Eq.{bytes_eq-Decides}
 use Rattle.std.proofs.lemmas.Map.Text.{is_eq-slice_cmp}
 use Rattle.host_types.specs.Site.{Site, byte_cmp, item_at}
 use Rattle.host_types.specs.SiteLaws.{lookup-insert_entry, item_at-with_item, item_at-without_item}
-use Rattle.host_types.specs.Change.{apply, touched}
 use Rattle.host_types.specs.Words.{is_among}
-use Rattle.host_types.specs.declared.change.Change.{Change}
 use Rattle.host_types.specs.declared.item.Item.{Item}
-use Rattle.common_types.specs.declared.refused.Refused.{Refused}
 use Rattle.page_store.specs.Batch.{edit_key}
-use Rattle.page_store.specs.declared.banner.Banner.{Banner}
 use Rattle.site_records.specs.Keys.{owner}
 use Rattle.site_records.specs.Layout.{Pairs}
-use Rattle.site_pairs.specs.ChangeKeys.{keys_in, keys_between, keys_of}
-use Rattle.site_pairs.specs.KeyLaws.{entry_keys, has_key, has_beside, keys_once, not_its_own, keys_in-among, among-append}
-use Rattle.site_pairs.specs.Edits.{Edits, with_all, without_all, pairs_beside, with_replacement, edits_of, batch_of}
-use Rattle.site_store.specs.Planned.{named}
-use Rattle.change_plan.specs.Replacements.{replaced_at, replaced, all_replaced, selectors_of, AreReplacements, AreApart, AreReplacementsAt}
+use Rattle.site_pairs.specs.KeyLaws.{entry_keys, has_key, has_beside, not_its_own}
+use Rattle.site_pairs.specs.Edits.{Edits, with_all, without_all, pairs_beside, with_replacement, batch_of}
+use Rattle.change_plan.specs.Replacements.{replaced_at, replaced, all_replaced, selectors_of, AreReplacements, AreApart}
 use Rattle.change_plan.specs.declared.replacement.Replacement.{Replacement}
-use Rattle.site_store.proofs.EditsMakeLayouts.{sorted_replacement, sorted_replacements}
+use Rattle.site_store.proofs.EditsMakeLayouts.{sorted_replacement}
 
 clash : false ≡ true → ⊥
 clash h = cc h
@@ -76,7 +70,7 @@ made_elsewhere (replacement ∷ replacements) s k sorted apart =
     ∙ replaced_stands s replacement k sorted ∙ ap (λ (b : Bool). cond b replacement.after (item_at s k)) parts.0
 
 -- a key of what stands at its selector, but of no word that what stands there in another site has too
-abbrev stands_beside : Site → Site → List ℕ → Bool
+abbrev pub stands_beside : Site → Site → List ℕ → Bool
 stands_beside s other q = has_beside (owner q) (item_at s (owner q)) (item_at other (owner q)) q
 
 here : (new old edit : Bool) → (new || (old || edit)) ≡ ((old || new) || edit)
@@ -85,10 +79,10 @@ here true false edit = refl
 here false true edit = refl
 here false false edit = refl
 
-abbrev all_keys : Bool → Bool → Bool → Bool → Bool
+abbrev pub all_keys : Bool → Bool → Bool → Bool → Bool
 all_keys among before after edit = (among && (before || after)) || edit
 
-made_keys : (replacements : List Replacement) (edits : Edits) (s : Site) (q : List ℕ) → IsTrue (is_sorted byte_cmp s.items) → AreReplacements s replacements → AreApart replacements
+pub made_keys : (replacements : List Replacement) (edits : Edits) (s : Site) (q : List ℕ) → IsTrue (is_sorted byte_cmp s.items) → AreReplacements s replacements → AreApart replacements
     → has_key (fold with_replacement edits replacements) q ≡ all_keys (is_among (selectors_of replacements) (owner q)) (stands_beside s (all_replaced s replacements) q) (stands_beside (all_replaced s replacements) s q) (has_key edits q)
 made_keys [] edits s q sorted know apart = refl
 made_keys (r ∷ replacements) edits s q sorted know apart =
@@ -125,30 +119,6 @@ made_keys (r ∷ replacements) edits s q sorted know apart =
 
 -- ---- the keys of the batch
 
-batch_keys : (edits : Edits) → map edit_key (batch_of edits) ≡ entry_keys edits
+pub batch_keys : (edits : Edits) → map edit_key (batch_of edits) ≡ entry_keys edits
 batch_keys [] = refl
 batch_keys (e ∷ es) = ap (λ l. e.0 ∷ l) (batch_keys es)
-
-spread : (among before after : Bool) → all_keys among before after false ≡ ((among && before) || (among && after))
-spread true true after = refl
-spread true false true = refl
-spread true false false = refl
-spread false before after = refl
-
--- The batch of the replacements of a change has just the keys of the change, in order.
-pub changed_keys : (s : Site) (change : Change) (now : ℕ) (replacements : List Replacement) (banner : Banner) → IsTrue (is_sorted byte_cmp s.items) → AreReplacementsAt s (touched s change) replacements → apply s change now ≡ Ok (named (all_replaced s replacements) banner)
-    → map edit_key (batch_of (edits_of replacements)) ≡ keys_of s change now
-unfolding keys_of
-changed_keys s change now replacements banner sorted made applied =
-    let selectors = touched s change in
-    let t = named (all_replaced s replacements) banner in
-    let among = λ (q : List ℕ). is_among selectors (owner q) in
-    batch_keys (edits_of replacements)
-    ∙ keys_once (edits_of replacements) (keys_between s (apply s change now) selectors) (sorted_replacements replacements [] refl) (λ q.
-    made_keys replacements [] s q sorted made.know made.apart
-    ∙ ap (λ (b : Bool). all_keys b (stands_beside s t q) (stands_beside t s q) false) (made.at (owner q))
-    ∙ spread (among q) (stands_beside s t q) (stands_beside t s q)
-    ∙ ap (λ (b : Bool). b || (among q && stands_beside t s q)) (sym (keys_in-among s t selectors q))
-    ∙ ap (λ (b : Bool). is_among (keys_in s t selectors) q || b) (sym (keys_in-among t s selectors q))
-    ∙ sym (among-append (keys_in s t selectors) (keys_in t s selectors) q)
-    ∙ ap (λ (r : Result Site Refused). is_among (keys_between s r selectors) q) (sym applied))

@@ -28,9 +28,9 @@ use Rattle.site_store.specs.StoreReads.{is_views, is_document}
 use Rattle.site_store.proofs.FoundItems.{kept_record}
 use Rattle.site_store.proofs.DecodedViews.{kept_parts}
 
-pub whole_card : (s : Site) (selector : List ℕ) (r : Record) (body : CardBody) (item : Item) → item_at s selector ≡ Some item → r ≡ recorded item → body ≡ card_body item.body → Some (record { title = r.title; stamp = r.stamp; summary = r.summary; body = body }) ≡ card_at s selector
+pub whole_card : (s : Site) (selector : List ℕ) (r : Record) (body : CardBody) (item : Item) → item_at s selector ≡ Some item → r ≡ recorded item → body ≡ card_body item.body → Some (record { title = r.title; stamp = r.stamp; until = r.until; summary = r.summary; body = body }) ≡ card_at s selector
 whole_card s selector r body item stands is body_is =
-    (λ i. Some (record { title = (is i).title; stamp = (is i).stamp; summary = (is i).summary; body = body_is i })) ∙ ap (option_map card_of) (sym stands)
+    (λ i. Some (record { title = (is i).title; stamp = (is i).stamp; until = (is i).until; summary = (is i).summary; body = body_is i })) ∙ ap (option_map card_of) (sym stands)
 
 -- ---- documents
 
@@ -147,7 +147,7 @@ far_chunk s selector view k site far =
     by_views : (kind : Kind) (views : List View) → HasViewLimits views → chunk_of (viewed (bodies.Views kind views) view) k ≡ []
     by_views kind views limits = elim far [
       | inl v ↦ ap (λ (o : Option View). chunk_of (bytes_of o) k) (slice_out views view (let m = limits.most in omega (arith, v, m))) ∙ none_of k
-      | inr more ↦ past (bytes_of (slice_get views view)) k (let b = short_view views view 65536 limits.bytes in omega (arith, b, more))
+      | inr more ↦ past (bytes_of (slice_get views view)) k (let b = short_view views view 262144 limits.bytes in omega (arith, b, more))
     ]
 
     by_body : (body : Body) → HasBodyLimits selector body → chunk_of (viewed body view) k ≡ []

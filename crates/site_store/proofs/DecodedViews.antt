@@ -159,17 +159,17 @@ each_card [] most k d fits less = absurd (omega (arith, less))
 each_card (v ∷ vs) most zero d fits less = omega (arith, fits, sum_by-cons (λ (w : CardView). w.length) v vs)
 each_card (v ∷ vs) most (suc k) d fits less = each_card vs most k d (omega (arith, fits, sum_by-cons (λ (w : CardView). w.length) v vs)) (omega (arith, less))
 
-together : (cards : List CardView) → IsTrue (are_views cards) → all_lengths cards ≤ 65536
+together : (cards : List CardView) → IsTrue (are_views cards) → all_lengths cards ≤ 262144
 unfolding go_together most_view_bytes
 together cards h =
     let both = and_parts (is_view_count (length cards) && list_all is_view cards) _ h in
-    let parts = and_parts _ (not (nat_lt 65536 (all_lengths cards))) both.1 in
-    ltb-false 65536 (all_lengths cards) (not-true _ parts.1)
+    let parts = and_parts _ (not (nat_lt 262144 (all_lengths cards))) both.1 in
+    ltb-false 262144 (all_lengths cards) (not-true _ parts.1)
 
-pub short_cards : (k : RecordBody) (kind : Kind) (cards l : List CardView) → k ≡ kept.Views kind cards → IsTrue (is_body k) → l ≡ cards → All (λ v. v.length ≤ 65536) l
+pub short_cards : (k : RecordBody) (kind : Kind) (cards l : List CardView) → k ≡ kept.Views kind cards → IsTrue (is_body k) → l ≡ cards → All (λ v. v.length ≤ 262144) l
 short_cards k kind cards l is body same i d less =
     let fits = together l (subst (λ (x : List CardView). IsTrue (are_views x)) (sym same) (subst (λ (b : RecordBody). IsTrue (is_body b)) is body)) in
-    each_card l 65536 i d fits less
+    each_card l 262144 i d fits less
 
 same_lengths : (views : List View) → all_lengths (map card_view views) ≡ view_bytes views
 same_lengths [] = refl
@@ -193,8 +193,8 @@ short_views_body kind views k cards is body same =
     let counts = and_parts (is_view_count (length (map card_view views))) (list_all is_view (map card_view views)) both.0 in
     let count = and_parts _ (nat_le (length (map card_view views)) 8) counts.0 in
     let few : length views ≤ 8 = let n = leb-true (length (map card_view views)) 8 count.1 in omega (arith, n, length-map views card_view) in
-    let fits : view_bytes views ≤ 65536 = let n = together (map card_view views) valid in omega (arith, n, same_lengths views) in
-    rw (le-ltb 8 (length views) few, le-ltb 65536 (view_bytes views) fits, none_long views counts.1) refl
+    let fits : view_bytes views ≤ 262144 = let n = together (map card_view views) valid in omega (arith, n, same_lengths views) in
+    rw (le-ltb 8 (length views) few, le-ltb 262144 (view_bytes views) fits, none_long views counts.1) refl
 
 pub short_form_body : (board : List ℕ) (qs : List Question) → IsTrue (are_questions qs) → list_any is_long_question qs ≡ false → IsTrue (is_short_body (bodies.Form board qs))
 short_form_body board qs valid short =
@@ -214,6 +214,6 @@ pub keeps_body : (a b : StoreState) (s : Site) (selector : List ℕ) (r : Record
 keeps_body a b s selector r item read honest kept stands is = record { site = s; is_kept = kept_after a b s read honest kept; item = item; stands = stands; body_is = refl; recorded = ap (λ (x : Record). x.body) is }
 
 -- an item put together of its record and its body
-pub whole_item : (s : Site) (selector : List ℕ) (r : Record) (body : Body) (item : Item) → item_at s selector ≡ Some item → r ≡ recorded item → body ≡ item.body → Some (record { title = r.title; stamp = r.stamp; summary = r.summary; body = body }) ≡ item_at s selector
+pub whole_item : (s : Site) (selector : List ℕ) (r : Record) (body : Body) (item : Item) → item_at s selector ≡ Some item → r ≡ recorded item → body ≡ item.body → Some (record { title = r.title; stamp = r.stamp; until = r.until; summary = r.summary; body = body }) ≡ item_at s selector
 whole_item s selector r body item stands is body_is =
-    (λ i. Some (record { title = (is i).title; stamp = (is i).stamp; summary = (is i).summary; body = body_is i })) ∙ sym stands
+    (λ i. Some (record { title = (is i).title; stamp = (is i).stamp; until = (is i).until; summary = (is i).summary; body = body_is i })) ∙ sym stands

@@ -26,7 +26,7 @@ use Rattle.change_plan.specs.Replacements.{replaced_at, replaced, all_replaced, 
 use Rattle.change_plan.specs.declared.replacement.Replacement.{Replacement}
 
 -- the value after an edit, if there is one
-abbrev after : Option Value → Value → Value
+abbrev pub after : Option Value → Value → Value
 after None old = old
 after (Some value) old = value
 
@@ -146,11 +146,11 @@ sorted_value : (pairs : Pairs) (key : List ℕ) (value : Value) → IsTrue (is_s
 sorted_value pairs key None h = is_sorted-remove_entry pairs key h
 sorted_value pairs key (Some value) h = is_sorted-insert_entry pairs key value h
 
-sorted_updated : (edits : Edits) (pairs : Pairs) → IsTrue (is_sorted byte_cmp pairs) → IsTrue (is_sorted byte_cmp (updated pairs (batch_of edits)))
+pub sorted_updated : (edits : Edits) (pairs : Pairs) → IsTrue (is_sorted byte_cmp pairs) → IsTrue (is_sorted byte_cmp (updated pairs (batch_of edits)))
 sorted_updated [] pairs h = h
 sorted_updated (e ∷ es) pairs h = sorted_updated es (with_value pairs e.0 e.1) (sorted_value pairs e.0 e.1 h)
 
-updated-at : (edits : Edits) (pairs : Pairs) (q : List ℕ) → is_sorted byte_cmp edits ≡ true → IsTrue (is_sorted byte_cmp pairs) → value_at (updated pairs (batch_of edits)) q ≡ after (edit_at edits q) (value_at pairs q)
+pub updated-at : (edits : Edits) (pairs : Pairs) (q : List ℕ) → is_sorted byte_cmp edits ≡ true → IsTrue (is_sorted byte_cmp pairs) → value_at (updated pairs (batch_of edits)) q ≡ after (edit_at edits q) (value_at pairs q)
 updated-at [] pairs q sorted h = refl
 updated-at (e ∷ es) pairs q sorted h =
     updated-at es (with_value pairs e.0 e.1) q (second_true (below_all byte_cmp e.0 es) (is_sorted byte_cmp es) sorted) (sorted_value pairs e.0 e.1 h)
@@ -170,7 +170,7 @@ replacements_make pairs s replacements sorted is are =
     layout_from_values (updated pairs (batch_of (edits_of replacements))) (all_replaced s replacements) (sorted_updated (edits_of replacements) pairs in_order)
     (λ q. updated-at (edits_of replacements) pairs q edits_in_order in_order ∙ all_replacements replacements [] pairs s sorted are (λ k. ap (λ (ps : Pairs). value_at ps k) is) q)
 
-rises_from : (edits : Edits) → is_sorted byte_cmp edits ≡ true → IsTrue (rises (map edit_key (batch_of edits)))
+pub rises_from : (edits : Edits) → is_sorted byte_cmp edits ≡ true → IsTrue (rises (map edit_key (batch_of edits)))
 rises_from [] h = refl
 rises_from (e ∷ []) h = refl
 rises_from (e ∷ f ∷ es) h =

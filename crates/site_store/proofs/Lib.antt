@@ -1,5 +1,6 @@
 pub mod EditsMakeLayouts
 pub mod ChangedKeys
+pub mod ChangesMade
 pub mod FoundItems
 pub mod LocalReads
 pub mod AfterReads
@@ -27,3 +28,6 @@ pub mod ShortSites
 pub mod PairsFound
 pub mod LayoutsCounted
 pub mod SiteCounts
+pub mod RaisedPairs
+pub mod Upgrades
+pub mod UpgradesCommitted

@@ -12,10 +12,10 @@ use Rattle.site_store.specs.Represented.{RepresentedBy}
 
 -- a store of these pairs, under the names of a site
 abbrev pub holding : StoreState → List Pair → Site → StoreState
-holding h pairs s = record h { pairs = pairs; banner = record { version = 0; host = s.host; port = s.port; admin = s.admin } }
+holding h pairs s = record h { pairs = pairs; banner = record { version = 2; host = s.host; port = s.port; admin = s.admin } }
 
 pub stands_there : (h : StoreState) (number : ℕ) (s : Site) (stood : StoodAt number h s) → RepresentedBy (holding h stood.pairs s) s
-stands_there h number s stood = record { valid = stood.valid; all = stood.all; host = refl; port = refl; admin = refl }
+stands_there h number s stood = record { valid = stood.valid; all = stood.all; host = refl; port = refl; admin = refl; version = refl }
 
 pub stood_after : (a b : StoreState) (number : ℕ) (s : Site) → HasRead a b → IsTrue a.honest → StoodAt number a s → StoodAt number b s
 stood_after a b number s read honest stood = record { pairs = stood.pairs; keeps = ap (lookup (λ n. n == number)) (read.same.pins honest) ∙ stood.keeps; valid = stood.valid; all = stood.all }

@@ -1,9 +1,7 @@
 -- A plan as a key-value store makes it.
-use Rattle.std.proofs.Common.{◌≡◌, ℕ, List, [], ◌∷◌, Option, Some, None, Ok, refl, sym, ap, ◌∙◌}
+use Rattle.std.proofs.Common.{◌≡◌, ℕ, List, [], ◌∷◌, Option, Some, None, refl, sym, ◌∙◌}
 use Rattle.host_types.specs.Site.{Site}
-use Rattle.host_types.specs.Change.{apply, touched}
 use Rattle.host_types.specs.declared.item.Item.{Item}
-use Rattle.host_types.specs.declared.change.Change.{Change}
 use Rattle.page_store.specs.StoreState.{StoreState}
 use Rattle.page_store.specs.declared.banner.Banner.{Banner}
 use Rattle.change_plan.specs.Plans as plans
@@ -11,7 +9,7 @@ use Rattle.change_plan.specs.Replacements.{replaced_at, replaced, all_replaced}
 use Rattle.change_plan.specs.declared.plan.Plan.{Plan}
 use Rattle.change_plan.specs.declared.replacement.Replacement.{Replacement}
 use Rattle.site_store.specs.Represented.{RepresentedBy}
-use Rattle.site_store.specs.Planned.{IsPlanned, named, banner_after}
+use Rattle.site_store.specs.Planned.{named, banner_after}
 
 one_host : (s : Site) (q : List ℕ) (o : Option Item) → (replaced_at s q o).host ≡ s.host
 one_host s q None = refl
@@ -45,8 +43,8 @@ same_name t b (Some name) None h p a = λ i. record t { host = name.0; port = na
 same_name t b None (Some admin) h p a = λ i. record t { host = sym h i; port = sym p i; admin = admin }
 same_name t b (Some name) (Some admin) h p a = refl
 
-pub planned : (h : StoreState) (s : Site) (change : Change) (now : ℕ) (p : Plan) → RepresentedBy h s → plans.IsPlan s change now p → IsPlanned s (apply s change now) (touched s change) p.replacements.items (banner_after h.banner p.host p.admin)
-planned h s change now p kept plan =
+-- what a plan makes is named by the banner after it
+pub planned_named : (h : StoreState) (s : Site) (p : Plan) → RepresentedBy h s → plans.planned s p ≡ named (all_replaced s p.replacements.items) (banner_after h.banner p.host p.admin)
+planned_named h s p kept =
     let l = p.replacements.items in
-    let name = same_name (all_replaced s l) h.banner p.host p.admin (kept.host ∙ sym (all_host l s)) (kept.port ∙ sym (all_port l s)) (kept.admin ∙ sym (all_admin l s)) in
-    (plan.makes ∙ ap (λ (t : Site). Ok t) name, plan.at kept.valid)
+    same_name (all_replaced s l) h.banner p.host p.admin (kept.host ∙ sym (all_host l s)) (kept.port ∙ sym (all_port l s)) (kept.admin ∙ sym (all_admin l s))

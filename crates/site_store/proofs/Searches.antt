@@ -7,6 +7,7 @@ use Rattle.std.specs.FinMap.{is_sorted}
 use Rattle.std.proofs.lemmas.Bool.{and_parts, eq-eqb, lt-ltb}
 use Rattle.std.proofs.lemmas.Slice.Eq.{bytes_eq-Decides}
 use Rattle.host_types.specs.Site.{Site, byte_cmp, item_at}
+use Rattle.host_types.specs.Visible.{is_fresh}
 use Rattle.host_types.specs.Words.{words_of, is_among}
 use Rattle.host_types.specs.declared.item.Item.{Item}
 use Rattle.site_records.specs.Layout.{has_word}
@@ -50,18 +51,18 @@ not_found scope word asked e among without =
       | false ↦ λ b. refl
     ] refl
 
-passed_over : (scope word : List ℕ) (asked : List (List ℕ)) → is_among asked word ≡ true → (old : List (List ℕ)) (e : Entry) → is_with scope word e ≡ false → searched_at scope asked old e ≡ old
+passed_over : (now : ℕ) (scope word : List ℕ) (asked : List (List ℕ)) → is_among asked word ≡ true → (old : List (List ℕ)) (e : Entry) → is_with scope word e ≡ false → searched_at now scope asked old e ≡ old
 unfolding searched_at
-passed_over scope word asked among old e without =
-    ap (λ (b : Bool). cond (nat_lt (length old) 100 && b) (old ++ e.0 ∷ []) old) (not_found scope word asked e among without) ∙ unmoved (nat_lt (length old) 100) old (old ++ e.0 ∷ [])
+passed_over now scope word asked among old e without =
+    ap (λ (b : Bool). cond (nat_lt (length old) 100 && (b && is_fresh now e)) (old ++ e.0 ∷ []) old) (not_found scope word asked e among without) ∙ unmoved (nat_lt (length old) 100) old (old ++ e.0 ∷ [])
 
 -- so only the items that have the word are to be looked at
-only_with : (s : Site) (scope word : List ℕ) (asked : List (List ℕ)) → is_among asked word ≡ true → fold (searched_at scope asked) [] (items_with s scope word) ≡ all_found s scope asked
-only_with s scope word asked among = sym (fold_kept (searched_at scope asked) (is_with scope word) s.items [] (passed_over scope word asked among))
+only_with : (now : ℕ) (s : Site) (scope word : List ℕ) (asked : List (List ℕ)) → is_among asked word ≡ true → fold (searched_at now scope asked) [] (items_with s scope word) ≡ all_found now s scope asked
+only_with now s scope word asked among = sym (fold_kept (searched_at now scope asked) (is_with scope word) s.items [] (passed_over now scope word asked among))
 
-looked_at : (scope word : List ℕ) (asked old : List (List ℕ)) (selector : List ℕ) (item : Item) → is_among asked word ≡ true → length old < 100 → starts_with nat_eq selector scope ≡ true → searched_at scope asked old (selector, item) ≡ found_with asked old selector item
+looked_at : (now : ℕ) (scope word : List ℕ) (asked old : List (List ℕ)) (selector : List ℕ) (item : Item) → is_among asked word ≡ true → length old < 100 → starts_with nat_eq selector scope ≡ true → searched_at now scope asked old (selector, item) ≡ found_with now asked old selector item
 unfolding searched_at
-looked_at scope word asked old selector item among room within = rw (lt-ltb (length old) 100 room, within, all_hold (words_of item) asked word among) refl
+looked_at now scope word asked old selector item among room within = rw (lt-ltb (length old) 100 room, within, all_hold (words_of item) asked word among) refl
 
 -- ---- the scope itself
 
@@ -86,22 +87,22 @@ holder s selector word has =
     ] refl has
 
 -- the item at the scope has the word
-pub begins_here : (s : Site) (scope word : List ℕ) (asked new : List (List ℕ)) (item : Item) → IsTrue (is_sorted byte_cmp s.items) → is_among asked word ≡ true → item_at s scope ≡ Some item → is_among (words_of item) word ≡ true → new ≡ found_with asked [] scope item → IsLeft s scope word asked new scope
-begins_here s scope word asked new item sorted among stands has is =
+pub begins_here : (now : ℕ) (s : Site) (scope word : List ℕ) (asked new : List (List ℕ)) (item : Item) → IsTrue (is_sorted byte_cmp s.items) → is_among asked word ≡ true → item_at s scope ≡ Some item → is_among (words_of item) word ≡ true → new ≡ found_with now asked [] scope item → IsLeft now s scope word asked new scope
+begins_here now s scope word asked new item sorted among stands has is =
     let es = items_with s scope word in
     let passes : is_with scope word (scope, item) ≡ true = rw (begins_itself scope, has) refl in
     let first = first_there es scope item (sorted_kept (is_with scope word) s.items sorted) (none_kept (is_with scope word) scope s.items (none_below s scope word)) (kept_there (is_with scope word) s.items scope item stands passes) in
     record {
       within = begins_itself scope;
       rest =
-          ap (λ (l : List (List ℕ)). fold (searched_at scope asked) l (rest_of es scope)) (is ∙ sym (looked_at scope word asked [] scope item among (omega arith) (begins_itself scope)))
-          ∙ ap (fold (searched_at scope asked) []) (sym first)
-          ∙ only_with s scope word asked among;
+          ap (λ (l : List (List ℕ)). fold (searched_at now scope asked) l (rest_of es scope)) (is ∙ sym (looked_at now scope word asked [] scope item among (omega arith) (begins_itself scope)))
+          ∙ ap (fold (searched_at now scope asked) []) (sym first)
+          ∙ only_with now s scope word asked among;
     }
 
 -- it doesn't, or no item stands there
-pub begins_above : (s : Site) (scope word : List ℕ) (asked new : List (List ℕ)) → IsTrue (is_sorted byte_cmp s.items) → is_among asked word ≡ true → has_word (item_at s scope) word ≡ false → new ≡ [] → IsLeft s scope word asked new scope
-begins_above s scope word asked new sorted among lacks is =
+pub begins_above : (now : ℕ) (s : Site) (scope word : List ℕ) (asked new : List (List ℕ)) → IsTrue (is_sorted byte_cmp s.items) → is_among asked word ≡ true → has_word (item_at s scope) word ≡ false → new ≡ [] → IsLeft now s scope word asked new scope
+begins_above now s scope word asked new sorted among lacks is =
     let es = items_with s scope word in
     let nothing : found es scope ≡ None =
     elim (found es scope) as (λ o. found es scope ≡ o → o ≡ None) [
@@ -114,24 +115,24 @@ begins_above s scope word asked new sorted among lacks is =
     record {
       within = begins_itself scope;
       rest =
-          ap (λ (l : List (List ℕ)). fold (searched_at scope asked) l (rest_of es scope)) is
-          ∙ ap (fold (searched_at scope asked) []) (all_above es scope (none_kept (is_with scope word) scope s.items (none_below s scope word)) nothing)
-          ∙ only_with s scope word asked among;
+          ap (λ (l : List (List ℕ)). fold (searched_at now scope asked) l (rest_of es scope)) is
+          ∙ ap (fold (searched_at now scope asked) []) (all_above es scope (none_kept (is_with scope word) scope s.items (none_below s scope word)) nothing)
+          ∙ only_with now s scope word asked among;
     }
 
 -- ---- one step
 
-pub stops_full : (s : Site) (scope word : List ℕ) (asked old : List (List ℕ)) (last : List ℕ) → IsLeft s scope word asked old last → 100 ≤ length old → old ≡ all_found s scope asked
-stops_full s scope word asked old last left many = sym (enough scope asked old (rest_of (items_with s scope word) last) many) ∙ left.rest
+pub stops_full : (now : ℕ) (s : Site) (scope word : List ℕ) (asked old : List (List ℕ)) (last : List ℕ) → IsLeft now s scope word asked old last → 100 ≤ length old → old ≡ all_found now s scope asked
+stops_full now s scope word asked old last left many = sym (enough now scope asked old (rest_of (items_with s scope word) last) many) ∙ left.rest
 
 none_with : (o : Option Entry) → None ≡ option_map {U = List ℕ} (λ e. e.0) o → o ≡ None
 none_with None none = refl
 none_with (Some e) none = absurd (cc none)
 
-pub stops_last : (s : Site) (scope word : List ℕ) (asked old : List (List ℕ)) (last : List ℕ) → IsLeft s scope word asked old last → None ≡ next_with s scope word last → old ≡ all_found s scope asked
-stops_last s scope word asked old last left none =
+pub stops_last : (now : ℕ) (s : Site) (scope word : List ℕ) (asked old : List (List ℕ)) (last : List ℕ) → IsLeft now s scope word asked old last → None ≡ next_with s scope word last → old ≡ all_found now s scope asked
+stops_last now s scope word asked old last left none =
     let es = items_with s scope word in
-    ap (fold (searched_at scope asked) old) (sym (none_left es last (none_with (next_of es last) none))) ∙ left.rest
+    ap (fold (searched_at now scope asked) old) (sym (none_left es last (none_with (next_of es last) none))) ∙ left.rest
 
 -- The next item that has the word.
 pub record IsNextItem (s : Site) (scope word last next : List ℕ) : Type 0 where
@@ -159,30 +160,31 @@ next_item s scope word last next sorted is =
           }
     ] refl is
 
-pub goes_further : (s : Site) (scope word : List ℕ) (asked old new : List (List ℕ)) (last next : List ℕ) → IsTrue (is_sorted byte_cmp s.items) → is_among asked word ≡ true → length old < 100 → IsLeft s scope word asked old last → (n : IsNextItem s scope word last next) → new ≡ found_with asked old next n.item → IsLeft s scope word asked new next
-goes_further s scope word asked old new last next sorted among room left n is =
+pub goes_further : (now : ℕ) (s : Site) (scope word : List ℕ) (asked old new : List (List ℕ)) (last next : List ℕ) → IsTrue (is_sorted byte_cmp s.items) → is_among asked word ≡ true → length old < 100 → IsLeft now s scope word asked old last → (n : IsNextItem s scope word last next) → new ≡ found_with now asked old next n.item → IsLeft now s scope word asked new next
+goes_further now s scope word asked old new last next sorted among room left n is =
     let es = items_with s scope word in
     record {
       within = n.within;
       rest =
-          ap (λ (l : List (List ℕ)). fold (searched_at scope asked) l (rest_of es next)) (is ∙ sym (looked_at scope word asked old next n.item among room n.within))
-          ∙ ap (fold (searched_at scope asked) old) (sym (next_left es last (next, n.item) (sorted_kept (is_with scope word) s.items sorted) n.is_next))
+          ap (λ (l : List (List ℕ)). fold (searched_at now scope asked) l (rest_of es next)) (is ∙ sym (looked_at now scope word asked old next n.item among room n.within))
+          ∙ ap (fold (searched_at now scope asked) old) (sym (next_left es last (next, n.item) (sorted_kept (is_with scope word) s.items sorted) n.is_next))
           ∙ left.rest;
     }
 
 -- ---- no word is asked for
 
-nothing_asked : (scope : List ℕ) (found : List (List ℕ)) (e : Entry) → searched_at scope [] found e ≡ found
+nothing_asked : (now : ℕ) (scope : List ℕ) (found : List (List ℕ)) (e : Entry) → searched_at now scope [] found e ≡ found
 unfolding searched_at
-nothing_asked scope found e = by (starts_with nat_eq e.0 scope) (nat_lt (length found) 100)
+nothing_asked now scope found e = by (starts_with nat_eq e.0 scope) (nat_lt (length found) 100)
   where
-    by : (b c : Bool) → cond (c && (b && false)) (found ++ e.0 ∷ []) found ≡ found
-    by b true = unmoved b found (found ++ e.0 ∷ [])
+    by : (b c : Bool) → cond (c && ((b && false) && is_fresh now e)) (found ++ e.0 ∷ []) found ≡ found
+    by true true = refl
+    by false true = refl
     by b false = refl
 
-none_found : (scope : List ℕ) (es : List Entry) → fold (searched_at scope []) [] es ≡ []
-none_found scope [] = refl
-none_found scope (e ∷ es) = ap (λ (l : List (List ℕ)). fold (searched_at scope []) l es) (nothing_asked scope [] e) ∙ none_found scope es
+none_found : (now : ℕ) (scope : List ℕ) (es : List Entry) → fold (searched_at now scope []) [] es ≡ []
+none_found now scope [] = refl
+none_found now scope (e ∷ es) = ap (λ (l : List (List ℕ)). fold (searched_at now scope []) l es) (nothing_asked now scope [] e) ∙ none_found now scope es
 
-pub finds_nothing : (s : Site) (scope : List ℕ) (asked : List (List ℕ)) → asked ≡ [] → all_found s scope asked ≡ []
-finds_nothing s scope asked none = ap (all_found s scope) none ∙ none_found scope s.items
+pub finds_nothing : (now : ℕ) (s : Site) (scope : List ℕ) (asked : List (List ℕ)) → asked ≡ [] → all_found now s scope asked ≡ []
+finds_nothing now s scope asked none = ap (all_found now s scope) none ∙ none_found now scope s.items

@@ -14,6 +14,7 @@ use Rattle.page_store.specs.declared.fault.KeeperFault.{KeeperFault}
 use Rattle.page_store.specs.declared.fault.KeeperFault.TheVariants as kinds
 use Rattle.host_types.specs.CrashStates.{CrashStates}
 use Rattle.change_plan.specs.Plans.{IsPlanFault, IfRefused}
+use Rattle.change_plan.specs.AllPlans.{ShowsValid}
 use Rattle.site_store.specs.LookUps.{IsShown, HasFound, HasNotFound}
 use Rattle.site_store.specs.Represented.{HasSite, site_of, site_kept}
 use Rattle.site_store.specs.StoreFault.{site_fault_of, store_site_fault_of}
@@ -55,7 +56,7 @@ closed_counts usable count closed = rw closed refl
 module _ {D K L : Type 0} (keeper : D → K) (store_state : K → StoreState) (may_need : K → List Edit → ℕ → Type 0) (crash_states : K → CrashStates L) where
   -- a change that was not planned counts what its look-ups do
   pub plan_counted : (d0 d1 : D) (ka : HasSite (store_state (keeper d0))) (applied : Site → Result Site Refused) (fault : SiteFault) → (store_state (keeper d0)).usable ≡ true
-      → IsPlanFault (λ d. IsShown store_state (keeper d)) (λ a b. HasNotFound store_state may_need crash_states (keeper a) (keeper b)) d0 d1 applied fault
+      → IsPlanFault (ShowsValid (λ d. IsShown store_state (keeper d))) (λ a b. HasNotFound store_state may_need crash_states (keeper a) (keeper b)) d0 d1 applied fault
       → IfRefused fault (HasFound store_state may_need crash_states (keeper d0) (keeper d1))
       → sites.IsReadCounted (store_state (keeper d0)).honest fault (store_state (keeper d0)).failed_reads (store_state (keeper d1)).failed_reads
   plan_counted d0 d1 ka applied (faults.Refused r) up h found = found.none
@@ -68,7 +69,7 @@ module _ {D K L : Type 0} (keeper : D → K) (store_state : K → StoreState) (m
 
   -- and no write
   pub plan_writes : (d0 d1 : D) (applied : Site → Result Site Refused) (fault : SiteFault) → (store_state (keeper d0)).usable ≡ true
-      → IsPlanFault (λ d. IsShown store_state (keeper d)) (λ a b. HasNotFound store_state may_need crash_states (keeper a) (keeper b)) d0 d1 applied fault
+      → IsPlanFault (ShowsValid (λ d. IsShown store_state (keeper d))) (λ a b. HasNotFound store_state may_need crash_states (keeper a) (keeper b)) d0 d1 applied fault
       → (store_state (keeper d1)).failed_writes ≡ (store_state (keeper d0)).failed_writes
       → (store_state (keeper d1)).failed_writes ≡ sites.writes_after (store_state (keeper d0)).usable fault (store_state (keeper d0)).failed_writes
   plan_writes d0 d1 applied (faults.Refused r) up h same = rw up same

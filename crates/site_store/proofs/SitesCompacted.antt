@@ -44,6 +44,7 @@ shown_still old new s honest same shown = record {
   host = ap (λ (b : Banner). b.host) same.banner ∙ shown.host;
   port = ap (λ (b : Banner). b.port) same.banner ∙ shown.port;
   admin = ap (λ (b : Banner). b.admin) same.banner ∙ shown.admin;
+  version = ap (λ (b : Banner). b.version) same.banner ∙ shown.version;
 }
 
 pub keeps_site : (old new : StoreState) → new.honest ≡ old.honest → Stays old new → HasSite old → HasSite new

@@ -22,16 +22,16 @@ use Rattle.site_store.proofs.PinsKept.{none_have}
 -- ---- pairs in memory
 
 -- The site that their keys name is theirs where they are its layout.
-shown_site : (pairs : List Pair) (banner : Banner) (m : Site) → HasAddress m banner → IsLayoutOf pairs m → Shows pairs banner m
-shown_site pairs banner m address whole = record { valid = ∣ whole.0 ∣₁; all = whole.1; host = sym address.host; port = sym address.port; admin = sym address.admin }
+shown_site : (pairs : List Pair) (banner : Banner) (m : Site) → banner.version ≡ 2 → HasAddress m banner → IsLayoutOf pairs m → Shows pairs banner m
+shown_site pairs banner m version address whole = record { valid = ∣ whole.0 ∣₁; all = whole.1; host = sym address.host; port = sym address.port; admin = sym address.admin; version = version }
 
 -- Where they are not, or it breaks a rule, they are no site's.
 none_shown : (pairs : List Pair) (banner : Banner) (m : Site) → ((s : Site) → Shows pairs banner s → m ≡ with_all_named s (site_under banner) pairs) → (IsLayoutOf pairs m → ⊥) → (s : Site) → Shows pairs banner s → ⊥
 none_shown pairs banner m named bad s shown = not_kept (pairs_state pairs banner) s m pairs shown refl (named s shown) bad
 
 -- the same of pairs that were looked up, and stayed
-pub whole_site : (pairs : List Pair) (banner : Banner) (m : Site) (a b : List Pair × Banner) → a ≡ (pairs, banner) → b ≡ a → HasAddress m a.1 → IsLayoutOf b.0 m → Shows pairs banner m
-whole_site pairs banner m a b is same address whole = shown_site pairs banner m (subst (λ (r : List Pair × Banner). HasAddress m r.1) is address) (subst (λ (r : List Pair × Banner). IsLayoutOf r.0 m) (same ∙ is) whole)
+pub whole_site : (pairs : List Pair) (banner : Banner) (m : Site) (a b : List Pair × Banner) → banner.version ≡ 2 → a ≡ (pairs, banner) → b ≡ a → HasAddress m a.1 → IsLayoutOf b.0 m → Shows pairs banner m
+whole_site pairs banner m a b version is same address whole = shown_site pairs banner m version (subst (λ (r : List Pair × Banner). HasAddress m r.1) is address) (subst (λ (r : List Pair × Banner). IsLayoutOf r.0 m) (same ∙ is) whole)
 
 pub broken_site : (pairs : List Pair) (banner : Banner) (m : Site) (a b : List Pair × Banner) → a ≡ (pairs, banner) → b ≡ a → ((s : Site) → Shows a.0 a.1 s → m ≡ with_all_named s (site_under a.1) a.0) → (IsLayoutOf b.0 m → ⊥) → (s : Site) → Shows pairs banner s → ⊥
 broken_site pairs banner m a b is same named bad = none_shown pairs banner m (subst (λ (r : List Pair × Banner). (s : Site) → Shows r.0 r.1 s → m ≡ with_all_named s (site_under r.1) r.0) is named) (λ whole. bad (subst (λ (r : List Pair × Banner). IsLayoutOf r.0 m) (sym (same ∙ is)) whole))
@@ -73,6 +73,7 @@ shown_by h k pairs banner read same all s shown =
       host = ap (λ b. b.host) under ∙ shown.host;
       port = ap (λ b. b.port) under ∙ shown.port;
       admin = ap (λ b. b.admin) under ∙ shown.admin;
+      version = ap (λ b. b.version) under ∙ shown.version;
     }
 
 shown_to : (h k : StoreState) (pairs : List Pair) (banner : Banner) → HasRead h k → banner ≡ k.banner → pairs ≡ h.pairs → (s : Site) → RepresentedBy h s → Shows pairs banner s
@@ -84,6 +85,7 @@ shown_to h k pairs banner read same all s kept =
       host = ap (λ b. b.host) under ∙ kept.host;
       port = ap (λ b. b.port) under ∙ kept.port;
       admin = ap (λ b. b.admin) under ∙ kept.admin;
+      version = ap (λ b. b.version) under ∙ kept.version;
     }
 
 -- What they say of a site the keeper says.
@@ -105,6 +107,7 @@ kept_before a b s read honest kept = record {
   host = ap (λ x. x.host) (sym read.same.banner) ∙ kept.host;
   port = ap (λ x. x.port) (sym read.same.banner) ∙ kept.port;
   admin = ap (λ x. x.admin) (sym read.same.banner) ∙ kept.admin;
+  version = ap (λ x. x.version) (sym read.same.banner) ∙ kept.version;
 }
 
 pub site_before : (a b : StoreState) (keeps : HasSite b) → HasRead a b → IsTrue a.honest → RepresentedBy a (site_of b keeps)

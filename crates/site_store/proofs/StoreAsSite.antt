@@ -1,15 +1,16 @@
 -- A key-value store as a keeper of its site: what calls leave.
-use Rattle.std.proofs.Common.{◌≡◌, ◌⊎◌, ℕ, ◌<◌, ◌≤◌, ◌+◌, Bool, true, false, List, length, map, Option, Some, None, Result, Ok, Err, refl, inl, inr, ⊎_elim, sym, ap, subst, ◌∙◌, arith}
+use Rattle.std.proofs.Common.{◌≡◌, ◌⊎◌, ℕ, ◌<◌, ◌+◌, Bool, true, false, List, [], ◌∷◌, length, map, Option, Some, None, Result, Ok, Err, refl, inl, inr, ⊎_elim, sym, ap, subst, ◌∙◌, arith}
 use Rattle.std.proofs.lemmas.List.{length-map}
 use Rattle.std.specs.Prelude.{◌/◌, IsTrue, IfErr, IfSome, OnOk, IsOk}
-use mathlib.Core.Logic.{∥∥₁_elim, ∥∥₁_prop}
-use Rattle.host_types.specs.Site.{Site}
-use Rattle.host_types.specs.Change.{apply, touched}
-use Rattle.host_types.specs.ValidChanges.{ChangesKeepSites, is_typed_change}
+use Rattle.host_types.specs.Site.{Site, IsSite}
+use Rattle.host_types.specs.Change.{apply}
+use Rattle.host_types.specs.AllChanges.{Changes, then_at, all_applied, one_refusal}
+use Rattle.host_types.specs.declared.change.Change.{Change}
 use Rattle.host_types.specs.SiteState.{SiteState, Rose}
 use Rattle.host_types.specs.SiteState as sites
+use Rattle.host_types.specs.ChangesFaults.{fault_at, one_fault, IsChangesFault}
+use Rattle.host_types.specs.declared.changes_fault.ChangesFault.TheVariants.{RefusedAt}
 use Rattle.host_types.specs.CrashStates.{CrashStates, AddsOnly, AddsNone, may_crash_to, adds_both}
-use Rattle.host_types.specs.declared.change.Change.{Change}
 use Rattle.common_types.specs.declared.refused.Refused.{Refused}
 use Rattle.host_types.specs.declared.site_fault.SiteFault.{SiteFault}
 use Rattle.host_types.specs.declared.site_fault.SiteFault.TheVariants as faults
@@ -21,7 +22,7 @@ use Rattle.page_store.specs.declared.edit.Edit.{Edit}
 use Rattle.page_store.specs.declared.fault.KeeperFault.{KeeperFault}
 use Rattle.page_store.specs.declared.fault.KeeperFault.TheVariants as kinds
 use Rattle.site_records.specs.Layout.{layout}
-use Rattle.site_pairs.specs.ChangeKeys.{keys_of}
+use Rattle.site_pairs.specs.ChangeKeys.{keys_of_all}
 use Rattle.site_store.specs.ReadLaws.{kept_after}
 use Rattle.site_store.specs.Represented.{Shows, Represents, RepresentedBy, HasSite, no_site, where_passed, site_of, site_state_of, site_kept, site_is}
 use Rattle.site_store.specs.PinnedItems.{AllHave}
@@ -29,18 +30,19 @@ use Rattle.site_store.specs.Lacking.{MayNeed, IsLacking}
 use Rattle.site_store.specs.StoreReads.{ReadsOnly, IsSiteReadFault, IsQuickFault}
 use Rattle.site_pairs.specs.Edits.{batch_of, edits_of}
 use Rattle.change_plan.specs.Replacements.{all_replaced}
-use Rattle.change_plan.specs.Plans.{IsPlan, IsPlanFault, IfRefused}
+use Rattle.change_plan.specs.Plans.{planned, IsPlanFault, IfRefused}
+use Rattle.change_plan.specs.AllPlans.{ShowsValid, AreMadeBy, IsPlanOfAll}
 use Rattle.change_plan.specs.declared.plan.Plan.{Plan}
 use Rattle.site_store.specs.StoreFault.{site_fault_of, store_site_fault_of}
-use Rattle.site_store.specs.Planned.{IsPlanned, named, banner_after}
+use Rattle.site_store.specs.Planned.{named, banner_after}
 use Rattle.site_store.specs.LookUps.{IsShown, HasFound, IsLookUpFault, HasNotFound}
-use Rattle.site_store.proofs.Planned.{planned}
+use Rattle.site_store.proofs.Planned.{planned_named}
 use Rattle.change_plan.specs.declared.replacement.Replacement.{Replacement}
 use Rattle.site_store.specs.declared.fault.SiteOpenFault.{SiteOpenFault}
 use Rattle.site_store.specs.declared.fault.SiteOpenFault.TheVariants.{BadRecord, Keeper, Memory}
 use Rattle.site_store.proofs.FoundItems.{kept_sorted}
 use Rattle.site_store.proofs.EditsMakeLayouts.{replacements_make}
-use Rattle.site_store.proofs.ChangedKeys.{changed_keys}
+use Rattle.site_store.proofs.ChangesMade.{all_know, all_changed_keys}
 use Rattle.site_store.proofs.LocalReads.{rose_later, rose_counted}
 use Rattle.site_store.proofs.PinsKept.{PinsStay, pins_stay_read, have_still, same_pins}
 
@@ -113,22 +115,22 @@ site_still a b ka kb same still = by a.honest refl
 deep_later : (a b : StoreState) (edits : ℕ) → b.banner ≡ a.banner → b.height ≡ a.height → MayBeDeep a edits → MayBeDeep b edits
 deep_later a b edits banner height deep = (subst (λ (x : Banner). 0 < x.version) (sym banner) deep.0, subst (λ (n : ℕ). most_levels < n + 2 + edits / 8) (sym height) deep.1)
 
-lacks_later : {K : Type 0} → (store_state : K → StoreState) (may_need : K → List Edit → ℕ → Type 0) (k0 k1 : K) (s : Site) (change : Change) (now : ℕ) (fault : SiteFault) → ((batch : List Edit) (need : ℕ) → may_need k0 batch need → may_need k1 batch need) → (store_state k1).top ≡ (store_state k0).top → (store_state k1).banner ≡ (store_state k0).banner → (store_state k1).height ≡ (store_state k0).height
-    → IsLacking store_state may_need k0 s change now fault → IsLacking store_state may_need k1 s change now fault
-lacks_later store_state may_need k0 k1 s change now (faults.Refused r) need top banner height h = h
-lacks_later store_state may_need k0 k1 s change now faults.Read need top banner height h = h
-lacks_later store_state may_need k0 k1 s change now (faults.Full may_be_out_of_memory free) need top banner height (batch, t, applied, keys, makes, (is, needs)) = (batch, t, applied, keys, makes, (is, need batch may_be_out_of_memory needs))
-lacks_later store_state may_need k0 k1 s change now faults.Spent need top banner height h = top ∙ h
-lacks_later store_state may_need k0 k1 s change now faults.Deep need top banner height h = deep_later (store_state k0) (store_state k1) (length (keys_of s change now)) banner height h
-lacks_later store_state may_need k0 k1 s change now faults.Failed need top banner height h = h
-lacks_later store_state may_need k0 k1 s change now faults.Memory need top banner height h = h
+lacks_later : {K : Type 0} → (store_state : K → StoreState) (may_need : K → List Edit → ℕ → Type 0) (k0 k1 : K) (s : Site) (changes : Changes) (fault : SiteFault) → ((batch : List Edit) (need : ℕ) → may_need k0 batch need → may_need k1 batch need) → (store_state k1).top ≡ (store_state k0).top → (store_state k1).banner ≡ (store_state k0).banner → (store_state k1).height ≡ (store_state k0).height
+    → IsLacking store_state may_need k0 s changes fault → IsLacking store_state may_need k1 s changes fault
+lacks_later store_state may_need k0 k1 s changes (faults.Refused r) need top banner height h = h
+lacks_later store_state may_need k0 k1 s changes faults.Read need top banner height h = h
+lacks_later store_state may_need k0 k1 s changes (faults.Full may_be_out_of_memory free) need top banner height (batch, t, applied, keys, makes, (is, needs)) = (batch, t, applied, keys, makes, (is, need batch may_be_out_of_memory needs))
+lacks_later store_state may_need k0 k1 s changes faults.Spent need top banner height h = top ∙ h
+lacks_later store_state may_need k0 k1 s changes faults.Deep need top banner height h = deep_later (store_state k0) (store_state k1) (length (keys_of_all s changes)) banner height h
+lacks_later store_state may_need k0 k1 s changes faults.Failed need top banner height h = h
+lacks_later store_state may_need k0 k1 s changes faults.Memory need top banner height h = h
 
 -- what a change may lack stays where the site and these of the keeper do
 pub lacks_still : {K : Type 0} → (store_state : K → StoreState) (may_need : K → List Edit → ℕ → Type 0) (k0 k1 : K) (s0 s1 : Site) → s1 ≡ s0 → NeedsTheSame (may_need k0) (may_need k1) → (store_state k1).top ≡ (store_state k0).top → (store_state k1).banner ≡ (store_state k0).banner → (store_state k1).height ≡ (store_state k0).height
     → sites.LacksTheSame (IsLacking store_state may_need k0 s0) (IsLacking store_state may_need k1 s1)
 lacks_still store_state may_need k0 k1 s0 s1 still need top banner height = record {
-  after = λ change now fault h. lacks_later store_state may_need k0 k1 s1 change now fault need.after top banner height (subst (λ (s : Site). IsLacking store_state may_need k0 s change now fault) (sym still) h);
-  before = λ change now fault h. lacks_later store_state may_need k1 k0 s0 change now fault need.before (sym top) (sym banner) (sym height) (subst (λ (s : Site). IsLacking store_state may_need k1 s change now fault) still h);
+  after = λ changes fault h. lacks_later store_state may_need k0 k1 s1 changes fault need.after top banner height (subst (λ (s : Site). IsLacking store_state may_need k0 s changes fault) (sym still) h);
+  before = λ changes fault h. lacks_later store_state may_need k1 k0 s0 changes fault need.before (sym top) (sym banner) (sym height) (subst (λ (s : Site). IsLacking store_state may_need k1 s changes fault) still h);
 }
 
 -- a call that reads leaves it
@@ -162,6 +164,7 @@ stayed a b s same honest kept = record {
   host = ap (λ x. x.host) same.banner ∙ kept.host;
   port = ap (λ x. x.port) same.banner ∙ kept.port;
   admin = ap (λ x. x.admin) same.banner ∙ kept.admin;
+  version = ap (λ x. x.version) same.banner ∙ kept.version;
 }
 
 failed : (a b : StoreState) (s : Site) → HasFailed a b → IsTrue a.honest → RepresentedBy a s → RepresentedBy b s
@@ -171,6 +174,7 @@ failed a b s same honest kept = record {
   host = ap (λ x. x.host) same.banner ∙ kept.host;
   port = ap (λ x. x.port) same.banner ∙ kept.port;
   admin = ap (λ x. x.admin) same.banner ∙ kept.admin;
+  version = ap (λ x. x.version) same.banner ∙ kept.version;
 }
 
 pub not_changed : (a b : StoreState) (ka : HasSite a) (kb : HasSite b) → HasRead a b → sites.HasNotChanged (site_state_of a ka) (site_state_of b kb)
@@ -185,7 +189,7 @@ same_after a b c ka kc read same honest_is = record {
 -- a change that was not planned
 module _ {D K L : Type 0} (keeper : D → K) (store_state : K → StoreState) (may_need : K → List Edit → ℕ → Type 0) (crash_states : K → CrashStates L) where
   abbrev PlanFault : D → D → (Site → Result Site Refused) → SiteFault → Type 0
-  PlanFault d0 d1 applied fault = IsPlanFault (λ d. IsShown store_state (keeper d)) (λ a b. HasNotFound store_state may_need crash_states (keeper a) (keeper b)) d0 d1 applied fault
+  PlanFault d0 d1 applied fault = IsPlanFault (ShowsValid (λ d. IsShown store_state (keeper d))) (λ a b. HasNotFound store_state may_need crash_states (keeper a) (keeper b)) d0 d1 applied fault
 
   pub plan_reads_only : (d0 d1 : D) (applied : Site → Result Site Refused) (fault : SiteFault) → PlanFault d0 d1 applied fault → IfRefused fault (HasFound store_state may_need crash_states (keeper d0) (keeper d1)) → ReadsOnly store_state may_need crash_states (keeper d0) (keeper d1)
   plan_reads_only d0 d1 applied (faults.Refused r) h found = found.reads_only
@@ -196,25 +200,25 @@ module _ {D K L : Type 0} (keeper : D → K) (store_state : K → StoreState) (m
   plan_reads_only d0 d1 applied faults.Failed h found = h.reads_only
   plan_reads_only d0 d1 applied faults.Memory h found = h.reads_only
 
-  pub plan_fault_comes : (lacks : SiteFault → Type 0) (d0 d1 : D) (ka : HasSite (store_state (keeper d0))) (kb : HasSite (store_state (keeper d1))) (change : Change) (now : ℕ) (fault : SiteFault) → HasRead (store_state (keeper d0)) (store_state (keeper d1)) → (store_state (keeper d0)).usable ≡ true
-      → PlanFault d0 d1 (λ s. apply s change now) fault → sites.IsChangeFault lacks (site_state_of (store_state (keeper d0)) ka) (site_state_of (store_state (keeper d1)) kb) (apply (site_of (store_state (keeper d0)) ka) change now) fault
-  plan_fault_comes lacks d0 d1 ka kb change now (faults.Refused r) read up h =
+  pub plan_fault_comes : (lacks : SiteFault → Type 0) (d0 d1 : D) (ka : HasSite (store_state (keeper d0))) (kb : HasSite (store_state (keeper d1))) (changes : Changes) (fault : SiteFault) → HasRead (store_state (keeper d0)) (store_state (keeper d1)) → (store_state (keeper d0)).usable ≡ true
+      → PlanFault d0 d1 (λ s. one_refusal (all_applied s changes)) fault → sites.IsChangeFault lacks (site_state_of (store_state (keeper d0)) ka) (site_state_of (store_state (keeper d1)) kb) (one_refusal (all_applied (site_of (store_state (keeper d0)) ka) changes)) fault
+  plan_fault_comes lacks d0 d1 ka kb changes (faults.Refused r) read up h =
       let a = store_state (keeper d0) in
-      (not_changed a (store_state (keeper d1)) ka kb read, λ honest. h (site_of a ka) (honest, site_kept a ka honest))
-  plan_fault_comes lacks d0 d1 ka kb change now faults.Read read up h =
+      (not_changed a (store_state (keeper d1)) ka kb read, λ honest. let kept = site_kept a ka honest in h (site_of a ka) ((honest, kept), kept.valid))
+  plan_fault_comes lacks d0 d1 ka kb changes faults.Read read up h =
       let a = store_state (keeper d0) in
       (not_changed a (store_state (keeper d1)) ka kb read, λ honest. rose_counted a.failed_reads (store_state (keeper d1)).failed_reads (h.cause honest (site_of a ka) (site_kept a ka honest)))
-  plan_fault_comes lacks d0 d1 ka kb change now (faults.Full need free) read up h = absurd h.cause
-  plan_fault_comes lacks d0 d1 ka kb change now faults.Spent read up h = absurd h.cause
-  plan_fault_comes lacks d0 d1 ka kb change now faults.Deep read up h = absurd h.cause
-  plan_fault_comes lacks d0 d1 ka kb change now faults.Failed read up h = absurd (no_truth (store_state (keeper d0)).usable up h.cause)
-  plan_fault_comes lacks d0 d1 ka kb change now faults.Memory read up h = not_changed (store_state (keeper d0)) (store_state (keeper d1)) ka kb read
+  plan_fault_comes lacks d0 d1 ka kb changes (faults.Full need free) read up h = absurd h.cause
+  plan_fault_comes lacks d0 d1 ka kb changes faults.Spent read up h = absurd h.cause
+  plan_fault_comes lacks d0 d1 ka kb changes faults.Deep read up h = absurd h.cause
+  plan_fault_comes lacks d0 d1 ka kb changes faults.Failed read up h = absurd (no_truth (store_state (keeper d0)).usable up h.cause)
+  plan_fault_comes lacks d0 d1 ka kb changes faults.Memory read up h = not_changed (store_state (keeper d0)) (store_state (keeper d1)) ka kb read
 
 -- the site that a change makes of the one that is kept
-pub record Makes (a b : StoreState) (ka : HasSite a) (change : Change) (now : ℕ) (replacements : List Replacement) (banner : Banner) : Type 0 where
+pub record Makes (a b : StoreState) (ka : HasSite a) (changes : Changes) (replacements : List Replacement) (banner : Banner) : Type 0 where
   pub site : Site
-  pub applied : apply (site_of a ka) change now ≡ Ok site
-  pub keys : map edit_key (batch_of (edits_of replacements)) ≡ keys_of (site_of a ka) change now
+  pub applied : all_applied (site_of a ka) changes ≡ Ok site
+  pub keys : map edit_key (batch_of (edits_of replacements)) ≡ keys_of_all (site_of a ka) changes
   pub shows : Shows (updated b.pairs (batch_of (edits_of replacements))) banner site
   pub before : RepresentedBy b (site_of a ka)
 
@@ -222,88 +226,92 @@ same_layout : (s : Site) (banner : Banner) → layout s ≡ layout (named s bann
 unfolding layout
 same_layout s banner = refl
 
-pub makes : ChangesKeepSites → (a b : StoreState) (ka : HasSite a) (change : Change) (now : ℕ) (replacements : List Replacement) (banner : Banner) → IsTrue a.honest → HasRead a b → IsTrue (is_typed_change change) → now ≤ 253402300799
-    → IsPlanned (site_of a ka) (apply (site_of a ka) change now) (touched (site_of a ka) change) replacements banner → Makes a b ka change now replacements banner
-makes laws a b ka change now replacements banner honest read typed early planned =
+pub after_version : (b : Banner) (host : Option (List ℕ × ℕ)) (admin : Option (List ℕ)) → (banner_after b host admin).version ≡ b.version
+after_version b None None = refl
+after_version b (Some name) None = refl
+after_version b None (Some admin) = refl
+after_version b (Some name) (Some admin) = refl
+
+-- by a plan that was found
+pub plan_makes : (a b : StoreState) (ka : HasSite a) (changes : Changes) (p : Plan) (replacements : List Replacement) (banner : Banner) → replacements ≡ p.replacements.items → banner ≡ banner_after b.banner p.host p.admin → HasRead a b
+    → ((s : Site) → (IsTrue a.honest × RepresentedBy a s) × ∥ IsSite s ∥₁ → IsPlanOfAll s changes p) → IsTrue a.honest → Makes a b ka changes replacements banner
+plan_makes a b ka changes p replacements banner all name read plan honest =
     let s = site_of a ka in
     let kept = site_kept a ka honest in
     let before = kept_after a b s read honest kept in
+    let found = plan s ((honest, kept), kept.valid) in
+    let version : banner.version ≡ 2 = ap (λ (x : Banner). x.version) name ∙ after_version b.banner p.host p.admin ∙ before.version in
     let t = named (all_replaced s replacements) banner in
+    let same : planned s p ≡ t =
+    planned_named b s p before
+    ∙ ap (λ (l : List Replacement). named (all_replaced s l) (banner_after b.banner p.host p.admin)) (sym all)
+    ∙ ap (λ (x : Banner). named (all_replaced s replacements) x) (sym name) in
+    let made : AreMadeBy s changes replacements (planned s p) = subst (λ (l : List Replacement). AreMadeBy s changes l (planned s p)) (sym all) found.made in
     record {
       site = t;
-      applied = planned.0;
-      keys = changed_keys s change now replacements banner (kept_sorted s before.valid) planned.1 planned.0;
+      applied = found.makes ∙ ap (λ (x : Site). Ok x) same;
+      keys = all_changed_keys s (planned s p) changes replacements (kept_sorted s before.valid) made;
       shows = record {
-        valid = ∥∥₁_elim kept.valid ∥∥₁_prop (λ site. ∣ laws s t change now site typed early planned.0 ∣₁);
-        all = replacements_make b.pairs s replacements (kept_sorted s before.valid) before.all planned.1.know ∙ same_layout (all_replaced s replacements) banner;
+        valid = subst (λ (x : Site). ∥ IsSite x ∥₁) same found.valid;
+        all = replacements_make b.pairs s replacements (kept_sorted s before.valid) before.all (all_know changes replacements s (planned s p) made) ∙ same_layout (all_replaced s replacements) banner;
         host = refl;
         port = refl;
         admin = refl;
+        version = version;
       };
       before = before;
     }
 
--- by a plan that was found
-pub plan_makes : ChangesKeepSites → (a b : StoreState) (ka : HasSite a) (change : Change) (now : ℕ) (p : Plan) (replacements : List Replacement) (banner : Banner) → replacements ≡ p.replacements.items → banner ≡ banner_after b.banner p.host p.admin → HasRead a b → IsTrue (is_typed_change change)
-    → now ≤ 253402300799 → ((s : Site) → IsTrue a.honest × RepresentedBy a s → IsPlan s change now p) → IsTrue a.honest → Makes a b ka change now replacements banner
-plan_makes laws a b ka change now p replacements banner all name read typed early plan honest =
-    let s = site_of a ka in
-    let kept = site_kept a ka honest in
-    let made = planned b s change now p (kept_after a b s read honest kept) (plan s (honest, kept)) in
-    let same : IsPlanned s (apply s change now) (touched s change) replacements banner =
-    subst (λ (l : List Replacement). IsPlanned s (apply s change now) (touched s change) l banner) (sym all)
-    (subst (λ (x : Banner). IsPlanned s (apply s change now) (touched s change) p.replacements.items x) (sym name) made) in
-    makes laws a b ka change now replacements banner honest read typed early same
-
-pub kept_made : (a b c : StoreState) (ka : HasSite a) (change : Change) (now : ℕ) (replacements : List Replacement) (banner : Banner) → (m : Makes a b ka change now replacements banner) → c.pairs ≡ updated b.pairs (batch_of (edits_of replacements)) → c.banner ≡ banner → RepresentedBy c m.site
-kept_made a b c ka change now replacements banner m pairs named = record {
+pub kept_made : (a b c : StoreState) (ka : HasSite a) (changes : Changes) (replacements : List Replacement) (banner : Banner) → (m : Makes a b ka changes replacements banner) → c.pairs ≡ updated b.pairs (batch_of (edits_of replacements)) → c.banner ≡ banner → RepresentedBy c m.site
+kept_made a b c ka changes replacements banner m pairs named = record {
   valid = m.shows.valid;
   all = pairs ∙ m.shows.all;
   host = ap (λ x. x.host) named ∙ m.shows.host;
   port = ap (λ x. x.port) named ∙ m.shows.port;
   admin = ap (λ x. x.admin) named ∙ m.shows.admin;
+  version = ap (λ x. x.version) named ∙ m.shows.version;
 }
 
-pub done_made : (a b c : StoreState) (ka : HasSite a) (kc : HasSite c) (change : Change) (now : ℕ) (replacements : List Replacement) (banner : Banner) → (m : Makes a b ka change now replacements banner) → IsTrue c.honest → c.pairs ≡ updated b.pairs (batch_of (edits_of replacements)) → c.banner ≡ banner
-    → apply (site_of a ka) change now ≡ Ok (site_of c kc)
-done_made a b c ka kc change now replacements banner m honest pairs named = m.applied ∙ ap (λ (t : Site). Ok t) (sym (site_is c kc honest m.site (kept_made a b c ka change now replacements banner m pairs named)))
+pub done_made : (a b c : StoreState) (ka : HasSite a) (kc : HasSite c) (changes : Changes) (replacements : List Replacement) (banner : Banner) → (m : Makes a b ka changes replacements banner) → IsTrue c.honest → c.pairs ≡ updated b.pairs (batch_of (edits_of replacements)) → c.banner ≡ banner
+    → all_applied (site_of a ka) changes ≡ Ok (site_of c kc)
+done_made a b c ka kc changes replacements banner m honest pairs named = m.applied ∙ ap (λ (t : Site). Ok t) (sym (site_is c kc honest m.site (kept_made a b c ka changes replacements banner m pairs named)))
 
-is_ok : (r : Result Site Refused) (t : Site) → r ≡ Ok t → IsOk r
+is_ok : (r : Result Site (ℕ × Refused)) (t : Site) → r ≡ Ok t → IsOk (one_refusal r)
 is_ok (Ok x) t e = refl
 is_ok (Err x) t e = absurd (cc e)
 
 -- a change that was not written
-pub commit_fault_comes : {K : Type 0} → (store_state : K → StoreState) (may_need : K → List Edit → ℕ → Type 0) (k0 k1 k2 : K) (ka : HasSite (store_state k0)) (kc : HasSite (store_state k2)) (change : Change) (now : ℕ) (replacements : List Replacement) (banner : Banner) (fault : KeeperFault)
-    → HasRead (store_state k0) (store_state k1) → NeedsTheSame (may_need k0) (may_need k1) → HasTried (store_state k1) (store_state k2) → (store_state k1).usable ≡ true → (IsTrue (store_state k0).honest → Makes (store_state k0) (store_state k1) ka change now replacements banner)
+pub commit_fault_comes : {K : Type 0} → (store_state : K → StoreState) (may_need : K → List Edit → ℕ → Type 0) (k0 k1 k2 : K) (ka : HasSite (store_state k0)) (kc : HasSite (store_state k2)) (changes : Changes) (replacements : List Replacement) (banner : Banner) (fault : KeeperFault)
+    → HasRead (store_state k0) (store_state k1) → NeedsTheSame (may_need k0) (may_need k1) → HasTried (store_state k1) (store_state k2) → (store_state k1).usable ≡ true → (IsTrue (store_state k0).honest → Makes (store_state k0) (store_state k1) ka changes replacements banner)
     → IsCommitFault (store_state k1) (store_state k2) (length (batch_of (edits_of replacements))) (MayNeed may_need k1 (batch_of (edits_of replacements))) fault
-    → sites.IsChangeFault (IsLacking store_state may_need k0 (site_of (store_state k0) ka) change now) (site_state_of (store_state k0) ka) (site_state_of (store_state k2) kc) (apply (site_of (store_state k0) ka) change now) (store_site_fault_of fault)
-commit_fault_comes store_state may_need k0 k1 k2 ka kc change now replacements banner kinds.Device read need tried up m h =
+    → sites.IsChangeFault (IsLacking store_state may_need k0 (site_of (store_state k0) ka) changes) (site_state_of (store_state k0) ka) (site_state_of (store_state k2) kc) (one_refusal (all_applied (site_of (store_state k0) ka) changes)) (store_site_fault_of fault)
+commit_fault_comes store_state may_need k0 k1 k2 ka kc changes replacements banner kinds.Device read need tried up m h =
     (same_after (store_state k0) (store_state k1) (store_state k2) ka kc read h.0 tried.honest, λ honest. rose_later (store_state k0).failed_reads (store_state k1).failed_reads (store_state k2).failed_reads read.reads tried.reads (rose_counted (store_state k1).failed_reads (store_state k2).failed_reads h.1))
-commit_fault_comes store_state may_need k0 k1 k2 ka kc change now replacements banner kinds.NoImage read need tried up m h = absurd h
-commit_fault_comes store_state may_need k0 k1 k2 ka kc change now replacements banner kinds.Version read need tried up m h = absurd h
-commit_fault_comes store_state may_need k0 k1 k2 ka kc change now replacements banner (kinds.Damaged page) read need tried up m h =
+commit_fault_comes store_state may_need k0 k1 k2 ka kc changes replacements banner kinds.NoImage read need tried up m h = absurd h
+commit_fault_comes store_state may_need k0 k1 k2 ka kc changes replacements banner kinds.Version read need tried up m h = absurd h
+commit_fault_comes store_state may_need k0 k1 k2 ka kc changes replacements banner (kinds.Damaged page) read need tried up m h =
     (same_after (store_state k0) (store_state k1) (store_state k2) ka kc read h.0 tried.honest, λ honest. absurd (no_truth (store_state k1).honest (read.honest ∙ honest) h.1))
-commit_fault_comes store_state may_need k0 k1 k2 ka kc change now replacements banner kinds.Small read need tried up m h = absurd h
-commit_fault_comes store_state may_need k0 k1 k2 ka kc change now replacements banner kinds.Spent read need tried up m h =
-    (same_after (store_state k0) (store_state k1) (store_state k2) ka kc read h.0 tried.honest, λ honest. (is_ok (apply (site_of (store_state k0) ka) change now) (m honest).site (m honest).applied, sym read.same.top ∙ h.1))
-commit_fault_comes store_state may_need k0 k1 k2 ka kc change now replacements banner kinds.Deep read need tried up m h = (
+commit_fault_comes store_state may_need k0 k1 k2 ka kc changes replacements banner kinds.Small read need tried up m h = absurd h
+commit_fault_comes store_state may_need k0 k1 k2 ka kc changes replacements banner kinds.Spent read need tried up m h =
+    (same_after (store_state k0) (store_state k1) (store_state k2) ka kc read h.0 tried.honest, λ honest. (is_ok (all_applied (site_of (store_state k0) ka) changes) (m honest).site (m honest).applied, sym read.same.top ∙ h.1))
+commit_fault_comes store_state may_need k0 k1 k2 ka kc changes replacements banner kinds.Deep read need tried up m h = (
   same_after (store_state k0) (store_state k1) (store_state k2) ka kc read h.0 tried.honest,
   λ honest.
       let made = m honest in
       let batch = batch_of (edits_of replacements) in
-      let many : length batch ≡ length (keys_of (site_of (store_state k0) ka) change now) = sym (length-map batch edit_key) ∙ ap (λ (keys : List (List ℕ)). length keys) made.keys in (
-        is_ok (apply (site_of (store_state k0) ka) change now) made.site made.applied,
+      let many : length batch ≡ length (keys_of_all (site_of (store_state k0) ka) changes) = sym (length-map batch edit_key) ∙ ap (λ (keys : List (List ℕ)). length keys) made.keys in (
+        is_ok (all_applied (site_of (store_state k0) ka) changes) made.site made.applied,
         subst (λ (n : ℕ). MayBeDeep (store_state k0) n) many (deep_later (store_state k1) (store_state k0) (length batch) (sym read.same.banner) (sym read.same.height) (h.1 (read.honest ∙ honest))),
       ),
 )
-commit_fault_comes store_state may_need k0 k1 k2 ka kc change now replacements banner (kinds.Full may_be_out_of_memory free) read need tried up m h = (
+commit_fault_comes store_state may_need k0 k1 k2 ka kc changes replacements banner (kinds.Full may_be_out_of_memory free) read need tried up m h = (
   same_after (store_state k0) (store_state k1) (store_state k2) ka kc read h.0 tried.honest,
   h.1,
   λ honest.
       let made = m honest in
       let room = h.2 (read.honest ∙ honest) in (
         room.0 ∙ read.same.free honest,
-        is_ok (apply (site_of (store_state k0) ka) change now) made.site made.applied,
+        is_ok (all_applied (site_of (store_state k0) ka) changes) made.site made.applied,
         (
           batch_of (edits_of replacements),
           made.site,
@@ -314,22 +322,49 @@ commit_fault_comes store_state may_need k0 k1 k2 ka kc change now replacements b
         ),
       ),
 )
-commit_fault_comes store_state may_need k0 k1 k2 ka kc change now replacements banner kinds.Failed read need tried up m h =
+commit_fault_comes store_state may_need k0 k1 k2 ka kc changes replacements banner kinds.Failed read need tried up m h =
     record {
       site = λ honest. site_is (store_state k2) kc (tried.honest ∙ read.honest ∙ honest) (site_of (store_state k0) ka) (failed (store_state k1) (store_state k2) (site_of (store_state k0) ka) h (read.honest ∙ honest) (kept_after (store_state k0) (store_state k1) (site_of (store_state k0) ka) read honest (site_kept (store_state k0) ka honest)));
       shut = h.shut;
       cause = λ honest usable. subst (λ (n : ℕ). Rose n (store_state k2).failed_writes) read.writes (rose_counted (store_state k1).failed_writes (store_state k2).failed_writes (h.cause up));
-      right = λ honest usable. is_ok (apply (site_of (store_state k0) ka) change now) (m honest).site (m honest).applied;
+      right = λ honest usable. is_ok (all_applied (site_of (store_state k0) ka) changes) (m honest).site (m honest).applied;
     }
-commit_fault_comes store_state may_need k0 k1 k2 ka kc change now replacements banner kinds.Memory read need tried up m h = same_after (store_state k0) (store_state k1) (store_state k2) ka kc read h tried.honest
+commit_fault_comes store_state may_need k0 k1 k2 ka kc changes replacements banner kinds.Memory read need tried up m h = same_after (store_state k0) (store_state k1) (store_state k2) ka kc read h tried.honest
+
+-- ---- faults of several changes
+
+one_of_at : (place : ℕ) (fault : SiteFault) → one_fault (fault_at place fault) ≡ fault
+one_of_at place (faults.Refused r) = refl
+one_of_at place faults.Read = refl
+one_of_at place (faults.Full need free) = refl
+one_of_at place faults.Spent = refl
+one_of_at place faults.Deep = refl
+one_of_at place faults.Failed = refl
+one_of_at place faults.Memory = refl
+
+not_refused : (fault : KeeperFault) (place n : ℕ) (r : Refused) → fault_at place (store_site_fault_of fault) ≡ RefusedAt n r → ⊥
+not_refused kinds.Device place n r told = cc told
+not_refused kinds.NoImage place n r told = cc told
+not_refused kinds.Version place n r told = cc told
+not_refused (kinds.Damaged page) place n r told = cc told
+not_refused kinds.Small place n r told = cc told
+not_refused kinds.Spent place n r told = cc told
+not_refused kinds.Deep place n r told = cc told
+not_refused (kinds.Full need free) place n r told = cc told
+not_refused kinds.Failed place n r told = cc told
+not_refused kinds.Memory place n r told = cc told
+
+-- a fault of the one commit of several changes
+pub commit_fault_of_all : (lacks : SiteFault → Type 0) (old new : SiteState) (applied : Result Site (ℕ × Refused)) (place : ℕ) (fault : KeeperFault) → sites.IsChangeFault lacks old new (one_refusal applied) (store_site_fault_of fault) → IsChangesFault lacks old new applied (fault_at place (store_site_fault_of fault))
+commit_fault_of_all lacks old new applied place fault h = record {
+  cause = subst (sites.IsChangeFault lacks old new (one_refusal applied)) (sym (one_of_at place (store_site_fault_of fault))) h;
+  place = λ n refused told honest. absurd (not_refused fault place n refused told);
+}
+
+pub one_commit_fault : (place : ℕ) (fault : KeeperFault) → one_fault (fault_at place (store_site_fault_of fault)) ≡ store_site_fault_of fault
+one_commit_fault place fault = one_of_at place (store_site_fault_of fault)
 
 -- ---- banners
-
-pub after_version : (b : Banner) (host : Option (List ℕ × ℕ)) (admin : Option (List ℕ)) → (banner_after b host admin).version ≡ b.version
-after_version b None None = refl
-after_version b (Some name) None = refl
-after_version b None (Some admin) = refl
-after_version b (Some name) (Some admin) = refl
 
 pub after_port : (b : Banner) (host : Option (List ℕ × ℕ)) (admin : Option (List ℕ)) → 0 < b.port → IfSome host (λ name. 0 < name.1) → 0 < (banner_after b host admin).port
 after_port b None None h given = h
@@ -366,13 +401,13 @@ err_banner b c edits may_need kinds.Memory h = h.banner
 have_twice : (a b c : StoreState) → HasSite a → HasRead a b → PinsStay b c → IsTrue b.honest → AllHave c.pins
 have_twice a b c ka read stay honest = let keeps = keeps_read a b read ka in have_still b c stay honest (keeps honest).2
 
-pub keeps_written : {U : Type 0} → (r : Result U KeeperFault) (a b c : StoreState) (ka : HasSite a) (change : Change) (now : ℕ) (replacements : List Replacement) (banner : Banner) (edits : ℕ) (may_need : ℕ → Type 0) → HasRead a b → c.honest ≡ b.honest → PinsStay b c
-    → (IsTrue a.honest → Makes a b ka change now replacements banner) → (IsTrue b.honest → OnOk r (c.pairs ≡ updated b.pairs (batch_of (edits_of replacements)))) → OnOk r (c.banner ≡ banner) → IfErr r (IsCommitFault b c edits may_need) → HasSite c
-keeps_written (Ok u) a b c ka change now replacements banner edits may_need read same stay m pairs named fault honest2 =
+pub keeps_written : {U : Type 0} → (r : Result U KeeperFault) (a b c : StoreState) (ka : HasSite a) (changes : Changes) (replacements : List Replacement) (banner : Banner) (edits : ℕ) (may_need : ℕ → Type 0) → HasRead a b → c.honest ≡ b.honest → PinsStay b c
+    → (IsTrue a.honest → Makes a b ka changes replacements banner) → (IsTrue b.honest → OnOk r (c.pairs ≡ updated b.pairs (batch_of (edits_of replacements)))) → OnOk r (c.banner ≡ banner) → IfErr r (IsCommitFault b c edits may_need) → HasSite c
+keeps_written (Ok u) a b c ka changes replacements banner edits may_need read same stay m pairs named fault honest2 =
     let honest1 : IsTrue b.honest = sym same ∙ honest2 in
     let made = m (sym read.honest ∙ honest1) in
-    (made.site, kept_made a b c ka change now replacements banner made (pairs honest1) named, have_twice a b c ka read stay honest1)
-keeps_written (Err e) a b c ka change now replacements banner edits may_need read same stay m pairs named fault honest2 =
+    (made.site, kept_made a b c ka changes replacements banner made (pairs honest1) named, have_twice a b c ka read stay honest1)
+keeps_written (Err e) a b c ka changes replacements banner edits may_need read same stay m pairs named fault honest2 =
     let honest1 : IsTrue b.honest = sym same ∙ honest2 in
     let made = m (sym read.honest ∙ honest1) in
     (site_of a ka, err_kept b c edits may_need e (site_of a ka) fault honest1 made.before, have_twice a b c ka read stay honest1)
@@ -396,21 +431,40 @@ port_written (Ok u) a b c banner edits may_need read old new named fault = subst
 port_written (Err e) a b c banner edits may_need read old new named fault = subst (λ (x : Banner). 0 < x.port) (sym (err_banner b c edits may_need e fault ∙ read.same.banner)) old
 
 -- what a crash within a change may leave
-abbrev pub EitherSite : {L : Type 0} → (L → List Pair → Banner → Type 0) → Site → Result Site Refused → L → Type 0
+abbrev pub EitherSite : {L R : Type 0} → (L → List Pair → Banner → Type 0) → Site → Result Site R → L → Type 0
 EitherSite has_content s applied c = Represents has_content c s ⊎ ((t : Site) × (applied ≡ Ok t) × Represents has_content c t)
 
-pub none_at_crash : {L : Type 0} → (has_content : L → List Pair → Banner → Type 0) (a : StoreState) (ka : HasSite a) (applied : Result Site Refused) (s t : CrashStates L) → IsTrue a.honest → AddsNone s t → ((c : L) → may_crash_to s c → has_content c a.pairs a.banner) → AddsOnly s t (EitherSite has_content (site_of a ka) applied)
+pub none_at_crash : {L R : Type 0} → (has_content : L → List Pair → Banner → Type 0) (a : StoreState) (ka : HasSite a) (applied : Result Site R) (s t : CrashStates L) → IsTrue a.honest → AddsNone s t → ((c : L) → may_crash_to s c → has_content c a.pairs a.banner) → AddsOnly s t (EitherSite has_content (site_of a ka) applied)
 none_at_crash has_content a ka applied s t honest no_new_crash_state start = none_added_crashes s t (EitherSite has_content (site_of a ka) applied) no_new_crash_state (λ c left. inl (stands has_content a ka c honest (start c left)))
 
-pub crash_states_made : {L : Type 0} → (has_content : L → List Pair → Banner → Type 0) (a b : StoreState) (ka : HasSite a) (change : Change) (now : ℕ) (replacements : List Replacement) (banner : Banner) (s0 s1 s2 : CrashStates L) → IsTrue a.honest → AddsNone s0 s1
-    → ((c : L) → may_crash_to s0 c → has_content c a.pairs a.banner) → (m : Makes a b ka change now replacements banner)
+pub crash_states_made : {L : Type 0} → (has_content : L → List Pair → Banner → Type 0) (a b : StoreState) (ka : HasSite a) (changes : Changes) (replacements : List Replacement) (banner : Banner) (s0 s1 s2 : CrashStates L) → IsTrue a.honest → AddsNone s0 s1
+    → ((c : L) → may_crash_to s0 c → has_content c a.pairs a.banner) → (m : Makes a b ka changes replacements banner)
     → AddsOnly s1 s2 (λ c. has_content c b.pairs b.banner ⊎ has_content c (updated b.pairs (batch_of (edits_of replacements))) banner)
-    → AddsOnly s0 s2 (EitherSite has_content (site_of a ka) (apply (site_of a ka) change now))
-crash_states_made has_content a b ka change now replacements banner s0 s1 s2 honest no_new_crash_state start m written =
-    let P = EitherSite has_content (site_of a ka) (apply (site_of a ka) change now) in
+    → AddsOnly s0 s2 (EitherSite has_content (site_of a ka) (all_applied (site_of a ka) changes))
+crash_states_made has_content a b ka changes replacements banner s0 s1 s2 honest no_new_crash_state start m written =
+    let P = EitherSite has_content (site_of a ka) (all_applied (site_of a ka) changes) in
     adds_both s0 s1 s2 (may_crash_to s0) (λ c. has_content c b.pairs b.banner ⊎ has_content c (updated b.pairs (batch_of (edits_of replacements))) banner) P no_new_crash_state written
     (λ c left. inl (stands has_content a ka c honest (start c left)))
     (λ c left. ⊎_elim (λ x. inl (b.pairs, b.banner, x, m.before)) (λ x. inr (m.site, m.applied, (updated b.pairs (batch_of (edits_of replacements)), banner, x, m.shows))) left)
+
+-- ---- one change as several
+
+one_made : (r : Result Site Refused) (t : Site) → then_at 0 (λ x. Ok x) r ≡ Ok t → r ≡ Ok t
+one_made (Ok s) t h = ap (λ (x : Site). Ok x) (cc h)
+one_made (Err refused) t h = absurd (cc h)
+
+alone : {L : Type 0} → (has_content : L → List Pair → Banner → Type 0) (s : Site) (change : Change) (now : ℕ) (changes : Changes) → changes ≡ (change, now) ∷ [] → (c : L) → EitherSite has_content s (all_applied s changes) c → EitherSite has_content s (apply s change now) c
+alone has_content s change now changes is c either = ⊎_elim (λ x. inl x) (λ made. inr (made.0, one_made (apply s change now) made.0 (ap (all_applied s) (sym is) ∙ made.1), made.2)) either
+
+-- what a crash within one change may leave that is made alone
+pub alone_at_crash : {L : Type 0} → (has_content : L → List Pair → Banner → Type 0) (s : Site) (change : Change) (now : ℕ) (changes : Changes) (states new : CrashStates L) → changes ≡ (change, now) ∷ [] → AddsOnly states new (EitherSite has_content s (all_applied s changes)) → AddsOnly states new (EitherSite has_content s (apply s change now))
+alone_at_crash has_content s change now changes states new is h =
+    record {
+      later = h.later;
+      keeps = h.keeps;
+      nothing_else = λ m c le left. ⊎_elim (λ o. inl o) (λ x. inr (alone has_content s change now changes is c x)) (h.nothing_else m c le left);
+      now = λ c left. alone has_content s change now changes is c (h.now c left);
+    }
 
 -- ---- look-ups for a plan
 

@@ -5,17 +5,17 @@ use Rattle.host_types.specs.Site.{Site, byte_cmp, item_at}
 use Rattle.host_types.specs.declared.item.Item.{Item}
 use Rattle.word_index.specs.Gathered.{searched_at}
 
--- what is found where all items are examined
-abbrev pub all_found : Site → List ℕ → List (List ℕ) → List (List ℕ)
-all_found s scope asked = fold (searched_at scope asked) [] s.items
+-- what is found at a moment where all items are examined
+abbrev pub all_found : ℕ → Site → List ℕ → List (List ℕ) → List (List ℕ)
+all_found now s scope asked = fold (searched_at now scope asked) [] s.items
 
 -- An item stands at the selector, and where it and those above it are scanned too, all that is to be found is found.
-pub record IsLeft (s : Site) (scope : List ℕ) (asked found : List (List ℕ)) (selector : List ℕ) : Type 0 where
+pub record IsLeft (now : ℕ) (s : Site) (scope : List ℕ) (asked found : List (List ℕ)) (selector : List ℕ) : Type 0 where
   pub item : Item
   pub stands : item_at s selector ≡ Some item
-  pub rest : fold (searched_at scope asked) found ((selector, item) ∷ filter (λ e. is_lt (byte_cmp selector e.0)) s.items) ≡ all_found s scope asked
+  pub rest : fold (searched_at now scope asked) found ((selector, item) ∷ filter (λ e. is_lt (byte_cmp selector e.0)) s.items) ≡ all_found now s scope asked
 
 -- Items are left, or all is found.
-abbrev pub IsFurther : Site → List ℕ → List (List ℕ) → Bool → List (List ℕ) → List ℕ → Type 0
-IsFurther s scope asked true found selector = IsLeft s scope asked found selector
-IsFurther s scope asked false found selector = found ≡ all_found s scope asked
+abbrev pub IsFurther : ℕ → Site → List ℕ → List (List ℕ) → Bool → List (List ℕ) → List ℕ → Type 0
+IsFurther now s scope asked true found selector = IsLeft now s scope asked found selector
+IsFurther now s scope asked false found selector = found ≡ all_found now s scope asked

@@ -1,26 +1,25 @@
--- For lack of what a valid change of the site that is kept may be refused.
+-- For lack of what valid changes of the site that is kept may be refused.
 use Rattle.std.specs.Prelude.{◌≡◌, ℕ, List, length, map, Ok, IsTrue}
 use Rattle.host_types.specs.Site.{Site}
-use Rattle.host_types.specs.Change.{apply}
-use Rattle.host_types.specs.declared.change.Change.{Change}
+use Rattle.host_types.specs.AllChanges.{Changes, all_applied}
 use Rattle.host_types.specs.declared.site_fault.SiteFault.{SiteFault}
 use Rattle.host_types.specs.declared.site_fault.SiteFault.TheVariants as faults
 use Rattle.page_store.specs.Batch.{updated, edit_key, is_batch}
 use Rattle.page_store.specs.StoreState.{StoreState, MayBeDeep, last_generation}
 use Rattle.page_store.specs.declared.edit.Edit.{Edit}
 use Rattle.site_records.specs.Layout.{layout}
-use Rattle.site_pairs.specs.ChangeKeys.{keys_of}
+use Rattle.site_pairs.specs.ChangeKeys.{keys_of_all}
 
 -- Some edits are a batch, for which a keeper may need so much.
 abbrev pub MayNeed : {K : Type 0} → (K → List Edit → ℕ → Type 0) → K → List Edit → ℕ → Type 0
 MayNeed may_need k batch need = IsTrue (is_batch batch) × may_need k batch need
 
--- `Full`: the keeper may need so much for a batch that makes the changed site's layout, with one edit for each key of the change. `Spent`: no generation is left. `Deep`: the tree of the keeper might have too many levels, with one edit for each key of the change.
-abbrev pub IsLacking : {K : Type 0} → (K → StoreState) → (K → List Edit → ℕ → Type 0) → K → Site → Change → ℕ → SiteFault → Type 0
-IsLacking store_state may_need k s change now (faults.Full need free) = (batch : List Edit) × (t : Site) × (apply s change now ≡ Ok t) × (map edit_key batch ≡ keys_of s change now) × (updated (layout s) batch ≡ layout t) × MayNeed may_need k batch need
-IsLacking store_state may_need k s change now faults.Spent = (store_state k).top ≡ last_generation
-IsLacking store_state may_need k s change now faults.Deep = MayBeDeep (store_state k) (length (keys_of s change now))
-IsLacking store_state may_need k s change now (faults.Refused r) = ⊥
-IsLacking store_state may_need k s change now faults.Read = ⊥
-IsLacking store_state may_need k s change now faults.Failed = ⊥
-IsLacking store_state may_need k s change now faults.Memory = ⊥
+-- `Full`: the keeper may need so much for a batch that makes the changed site's layout, with one edit for each key of the changes. `Spent`: no generation is left. `Deep`: the tree of the keeper might have too many levels, with one edit for each key of the changes.
+abbrev pub IsLacking : {K : Type 0} → (K → StoreState) → (K → List Edit → ℕ → Type 0) → K → Site → Changes → SiteFault → Type 0
+IsLacking store_state may_need k s changes (faults.Full need free) = (batch : List Edit) × (t : Site) × (all_applied s changes ≡ Ok t) × (map edit_key batch ≡ keys_of_all s changes) × (updated (layout s) batch ≡ layout t) × MayNeed may_need k batch need
+IsLacking store_state may_need k s changes faults.Spent = (store_state k).top ≡ last_generation
+IsLacking store_state may_need k s changes faults.Deep = MayBeDeep (store_state k) (length (keys_of_all s changes))
+IsLacking store_state may_need k s changes (faults.Refused r) = ⊥
+IsLacking store_state may_need k s changes faults.Read = ⊥
+IsLacking store_state may_need k s changes faults.Failed = ⊥
+IsLacking store_state may_need k s changes faults.Memory = ⊥

@@ -18,3 +18,4 @@ pub mod WordWalks
 pub mod Searching
 pub mod Counting
 pub mod Compacting
+pub mod Upgrading

@@ -2,6 +2,7 @@
 use Rattle.std.proofs.Common.{◌≡◌, ℕ, Bool, false, List, [], length, Some, refl, sym, ap, subst, ◌∙◌}
 use Rattle.std.specs.Prelude.{◌||◌, nat_lt}
 use Rattle.std.proofs.lemmas.Bool.{or_parts}
+use Rattle.std.proofs.Props.{props}
 use Rattle.common_types.specs.Counts.{counted}
 use Rattle.host_types.specs.Items.{is_long_body, is_long_item}
 use Rattle.host_types.specs.Site.{Site, board_of}
@@ -51,6 +52,9 @@ module _ {K L : Type 0} (store_state : K → StoreState) (may_need : K → List 
 
 pub short_names : {K : Type 0} (store_state : K → StoreState) (k : K) (s : Site) → IsShown store_state k s → HasNoLongNames s
 short_names store_state k s shown = λ q long. long_none s q shown.1.valid long
+
+pub fits_or_not : (item : Item) → IsProp (IsShort item)
+fits_or_not item = hlevel props
 
 -- an item that is not too long for its selector is not too long
 pub short_fits : (selector : List ℕ) (item : Item) → is_long_item selector item ≡ false → IsShort item

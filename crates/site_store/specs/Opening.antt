@@ -47,7 +47,7 @@ IsOpenFault old new (Keeper kinds.Failed) = (old.usable ≡ false) × NoneFailed
 IsOpenFault old new (Keeper kinds.Device) = (old.usable ≡ true) × (new.failed_reads ≡ counted old.failed_reads)
 IsOpenFault old new (Keeper (kinds.Damaged page)) = (old.usable ≡ true) × NoneFailed old new × (old.honest ≡ false)
 IsOpenFault old new (Keeper kinds.NoImage) = ⊥
-IsOpenFault old new (Keeper kinds.Version) = ⊥
+IsOpenFault old new (Keeper kinds.Version) = (old.usable ≡ true) × NoneFailed old new × (old.banner.version ≡ 2 → ⊥)
 IsOpenFault old new (Keeper kinds.Small) = ⊥
 IsOpenFault old new (Keeper kinds.Spent) = ⊥
 IsOpenFault old new (Keeper kinds.Deep) = ⊥
@@ -65,6 +65,10 @@ IsPairsFault pairs banner Memory = Unit {0}
 -- each value fits a buffer
 abbrev pub ValuesFit : List Pair → Type 0
 ValuesFit pairs = All (λ p. length p.1 ≤ 1024) pairs
+
+-- each key fits a buffer
+abbrev pub KeysFit : List Pair → Type 0
+KeysFit pairs = All (λ p. length p.0 ≤ 300) pairs
 
 -- Pairs in memory under a banner, as a store that holds them: no read of it fails, and it is never written.
 abbrev pub pairs_state : List Pair → Banner → StoreState

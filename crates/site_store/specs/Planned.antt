@@ -1,10 +1,7 @@
 -- A plan as a key-value store makes it: replacements, and a banner.
-use Rattle.std.specs.Prelude.{◌≡◌, ℕ, List, Option, Some, None, Result, Ok}
+use Rattle.std.specs.Prelude.{ℕ, List, Option, Some, None}
 use Rattle.host_types.specs.Site.{Site}
-use Rattle.common_types.specs.declared.refused.Refused.{Refused}
 use Rattle.page_store.specs.declared.banner.Banner.{Banner}
-use Rattle.change_plan.specs.Replacements.{all_replaced, AreReplacementsAt}
-use Rattle.change_plan.specs.declared.replacement.Replacement.{Replacement}
 
 -- a banner with another name, where one is set
 abbrev pub with_host : Banner → Option (List ℕ × ℕ) → Banner
@@ -22,7 +19,3 @@ banner_after b host admin = with_admin (with_host b host) admin
 -- a site under the name of a banner
 abbrev pub named : Site → Banner → Site
 named s banner = record s { host = banner.host; port = banner.port; admin = banner.admin }
-
--- Replacements at the selectors that are touched, and a banner, that make a changed site.
-abbrev pub IsPlanned : Site → Result Site Refused → List (List ℕ) → List Replacement → Banner → Type 0
-IsPlanned s applied touched replacements banner = (applied ≡ Ok (named (all_replaced s replacements) banner)) × AreReplacementsAt s touched replacements

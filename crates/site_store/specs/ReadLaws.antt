@@ -67,6 +67,7 @@ kept_after a b s read honest kept = record {
   host = ap (λ x. x.host) read.same.banner ∙ kept.host;
   port = ap (λ x. x.port) read.same.banner ∙ kept.port;
   admin = ap (λ x. x.admin) read.same.banner ∙ kept.admin;
+  version = ap (λ x. x.version) read.same.banner ∙ kept.version;
 }
 
 -- nothing stands at a selector that is too long

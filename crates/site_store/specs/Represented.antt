@@ -15,13 +15,14 @@ use Rattle.site_records.specs.Layout.{layout}
 use Rattle.site_records.proofs.LayoutTells.{layout_tells}
 use Rattle.site_store.specs.PinnedItems.{Pins, AllHave, AllHave-prop, pins_of}
 
--- These pairs and this banner represent a valid site: its layout, and its host, port and administrator.
+-- These pairs and this banner represent a valid site: its layout, and its host, port and administrator, in version 2 of images.
 pub record Shows (pairs : List Pair) (banner : Banner) (s : Site) : Type 0 where
   pub valid : ∥ IsSite s ∥₁
   pub all : pairs ≡ layout s
   pub host : banner.host ≡ s.host
   pub port : banner.port ≡ s.port
   pub admin : banner.admin ≡ s.admin
+  pub version : banner.version ≡ 2
 
 -- What is left has the pairs and the banner of a site; `has_content` says which it has.
 abbrev pub Represents : {L : Type 0} → (L → List Pair → Banner → Type 0) → L → Site → Type 0
@@ -62,7 +63,7 @@ site_state_of h keeps = record {
 
 -- ---- a keeper holds at most one site
 
-site_set : (s t : Site) → IsProp (s ≡ t)
+pub site_set : (s t : Site) → IsProp (s ≡ t)
 site_set s t = Coded-set (mem.the_row).coded s t
 
 pub same_site : (pairs : List Pair) (banner : Banner) (s t : Site) → Shows pairs banner s → Shows pairs banner t → s ≡ t
@@ -76,12 +77,14 @@ Shows-prop pairs banner s x y =
     let host_prop : IsProp (banner.host ≡ s.host) = hlevel props in
     let port_prop : IsProp (banner.port ≡ s.port) = hlevel props in
     let admin_prop : IsProp (banner.admin ≡ s.admin) = hlevel props in
+    let version_prop : IsProp (banner.version ≡ 2) = hlevel props in
     λ i. record {
       valid = valid_prop x.valid y.valid i;
       all = all_prop x.all y.all i;
       host = host_prop x.host y.host i;
       port = port_prop x.port y.port i;
       admin = admin_prop x.admin y.admin i;
+      version = version_prop x.version y.version i;
     }
 
 site_prop : (pairs : List Pair) (banner : Banner) (pins : Pins) → IsProp ((s : Site) × Shows pairs banner s × AllHave pins)

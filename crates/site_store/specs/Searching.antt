@@ -1,8 +1,9 @@
 -- A search over the keys of a word.
-use Rattle.std.specs.Prelude.{◌≡◌, ℕ, ◌<◌, ◌≤◌, Bool, true, false, List, [], ◌∷◌, ◌++◌, length, Option, Some, None, nat_eq, nat_lt, fold, filter, if◌then◌else◌}
+use Rattle.std.specs.Prelude.{◌&&◌, ◌≡◌, ℕ, ◌<◌, ◌≤◌, Bool, true, false, List, [], ◌∷◌, ◌++◌, length, Option, Some, None, nat_eq, nat_lt, fold, filter, if◌then◌else◌}
 use Rattle.std.specs.List.{AllByRecursion, list_all, starts_with}
 use Rattle.std.specs.Ordering.{is_lt}
 use Rattle.host_types.specs.Site.{Site, byte_cmp}
+use Rattle.host_types.specs.Visible.{is_fresh}
 use Rattle.host_types.specs.Words.{words_of, is_among}
 use Rattle.host_types.specs.declared.item.Item.{Item}
 use Rattle.word_index.specs.Gathered.{searched_at}
@@ -27,16 +28,16 @@ abbrev pub longer : Option (List ℕ) → List ℕ → List ℕ
 longer None other = other
 longer (Some first) other = if nat_lt (length first) (length other) then other else first
 
--- what is found once an item has been looked at, where all words that are asked for are to be among its own
-abbrev pub found_with : List (List ℕ) → List (List ℕ) → List ℕ → Item → List (List ℕ)
-found_with asked found selector item = if list_all (is_among (words_of item)) asked then found ++ selector ∷ [] else found
+-- what is found once an item has been looked at, where all words that are asked for are to be among its own and it hasn't expired
+abbrev pub found_with : ℕ → List (List ℕ) → List (List ℕ) → List ℕ → Item → List (List ℕ)
+found_with now asked found selector item = if list_all (is_among (words_of item)) asked && is_fresh now (selector, item) then found ++ selector ∷ [] else found
 
 -- Where the items with the word above a selector of the scope are looked at too, all that is to be found is found.
-pub record IsLeft (s : Site) (scope word : List ℕ) (asked found : List (List ℕ)) (selector : List ℕ) : Type 0 where
+pub record IsLeft (now : ℕ) (s : Site) (scope word : List ℕ) (asked found : List (List ℕ)) (selector : List ℕ) : Type 0 where
   pub within : starts_with nat_eq selector scope ≡ true
-  pub rest : fold (searched_at scope asked) found (filter (λ e. is_lt (byte_cmp selector e.0)) (items_with s scope word)) ≡ all_found s scope asked
+  pub rest : fold (searched_at now scope asked) found (filter (λ e. is_lt (byte_cmp selector e.0)) (items_with s scope word)) ≡ all_found now s scope asked
 
 -- Items are left, or all is found.
-abbrev pub IsFurther : Site → List ℕ → List ℕ → List (List ℕ) → Bool → List (List ℕ) → List ℕ → Type 0
-IsFurther s scope word asked true found selector = IsLeft s scope word asked found selector
-IsFurther s scope word asked false found selector = found ≡ all_found s scope asked
+abbrev pub IsFurther : ℕ → Site → List ℕ → List ℕ → List (List ℕ) → Bool → List (List ℕ) → List ℕ → Type 0
+IsFurther now s scope word asked true found selector = IsLeft now s scope word asked found selector
+IsFurther now s scope word asked false found selector = found ≡ all_found now s scope asked

@@ -57,6 +57,7 @@ pub fn card_in<K: Keeper>(
     let Record {
         title,
         stamp,
+        until,
         summary,
         body,
     } = record;
@@ -64,6 +65,7 @@ pub fn card_in<K: Keeper>(
         Ok(body) => Ok(Some(Card {
             title,
             stamp,
+            until,
             summary,
             body,
         })),

@@ -6,12 +6,13 @@ ghost use Rattle.site_store.specs.Reads.{ReadsKnown};
 ghost use Rattle.site_store.specs.FilterSearch as spec;
 ghost use Rattle.word_index.specs.Gathered.{searched_at};
 ghost use Rattle.word_index.specs.Search.{search_of};
+ghost use Rattle.host_types.specs.Visible.{visible};
 ghost use Rattle.host_types.specs.Words as words;
 
 use crate::SiteOpenFault;
 use crate::items::item_in;
 use crate::walking::selector_after;
-use host_types::{LineList, Selector};
+use host_types::{LineList, Selector, Stamp};
 use page_store::Keeper;
 use std::alloc::Global;
 use word_index::{MOST_FOUND, SelectorList, look_at, words_in};
@@ -24,16 +25,17 @@ fn look_in<K: Keeper>(
     found: &mut SelectorList,
     scope: &Selector,
     asked: &LineList,
+    now: Stamp,
     selector: &Selector,
 ) -> Result<(), SiteOpenFault>
-    ensures found { ReadsKnown K.store_state K.may_need K.crash_states keeper.old keeper.new result (StandsAt selector.now) (λ item _. found.new ≡ searched_at scope.now asked.now found.old (selector.now, item)) }
+    ensures found { ReadsKnown K.store_state K.may_need K.crash_states keeper.old keeper.new result (StandsAt selector.now) (λ item _. found.new ≡ searched_at now scope.now asked.now found.old (selector.now, item)) }
 {
     if !selector.as_bytes().starts_with(scope.as_bytes()) {
         return Ok(());
     }
     match item_in(alloc, keeper, selector) {
         Ok(Some(item)) => {
-            look_at(alloc, found, scope, asked, (selector, &item))?;
+            look_at(alloc, found, scope, asked, now, (selector, &item))?;
             Ok(())
         }
         Ok(None) => Err(SiteOpenFault::BadRecord),
@@ -48,11 +50,12 @@ fn step<K: Keeper>(
     found: &mut SelectorList,
     scope: &Selector,
     asked: &LineList,
+    now: Stamp,
     selector: &mut Selector,
 ) -> Result<bool, SiteOpenFault>
-    ensures further { ReadsKnown K.store_state K.may_need K.crash_states keeper.old keeper.new result (λ h s. RepresentedBy h s × spec.IsLeft s scope.now asked.now found.old selector.old) (λ s more. spec.IsFurther s scope.now asked.now more found.new selector.new) }
+    ensures further { ReadsKnown K.store_state K.may_need K.crash_states keeper.old keeper.new result (λ h s. RepresentedBy h s × spec.IsLeft now s scope.now asked.now found.old selector.old) (λ s more. spec.IsFurther now s scope.now asked.now more found.new selector.new) }
 {
-    match look_in(alloc, keeper, found, scope, asked, selector) {
+    match look_in(alloc, keeper, found, scope, asked, now, selector) {
         Ok(()) => {}
         Err(fault) => return Err(fault),
     }
@@ -75,13 +78,14 @@ fn search_in<K: Keeper>(
     keeper: &mut K,
     scope: &Selector,
     asked: &LineList,
+    now: Stamp,
 ) -> Result<SelectorList, SiteOpenFault>
-    ensures found { ReadsKnown K.store_state K.may_need K.crash_states keeper.old keeper.new result RepresentedBy (λ s found. found ≡ spec.all_found s scope.now asked.now) }
+    ensures found { ReadsKnown K.store_state K.may_need K.crash_states keeper.old keeper.new result RepresentedBy (λ s found. found ≡ spec.all_found now s scope.now asked.now) }
 {
     let mut found = SelectorList::new(alloc);
     let mut selector = Selector::root();
     for _ in 0..u64::MAX {
-        match step(alloc, keeper, &mut found, scope, asked, &mut selector) {
+        match step(alloc, keeper, &mut found, scope, asked, now, &mut selector) {
             Ok(true) => {}
             Ok(false) => return Ok(found),
             Err(fault) => return Err(fault),
@@ -92,15 +96,15 @@ fn search_in<K: Keeper>(
 }
 
 /// The first items of a site that are found, by looking at each item within the scope: to compare with the search over the keys of words.
-#[tactic(auto, unfolding(word_index::specs::Search::search_of))]
 pub fn search_by_filter<K: Keeper>(
     alloc: Global,
     keeper: &mut K,
     scope: &Selector,
     query: &[u8],
+    now: Stamp,
 ) -> Result<SelectorList, SiteOpenFault>
-    ensures found { ReadsKnown K.store_state K.may_need K.crash_states keeper.old keeper.new result RepresentedBy (λ s found. found ≡ search_of s scope.now query.now) }
+    ensures found { ReadsKnown K.store_state K.may_need K.crash_states keeper.old keeper.new result RepresentedBy (λ s found. found ≡ search_of (visible s now) scope.now query.now) }
 {
     let asked = words_in(alloc, query)?;
-    search_in(alloc, keeper, scope, &asked)
+    search_in(alloc, keeper, scope, &asked, now)
 }

@@ -27,7 +27,7 @@ fn read_views<V: ValueLookup>(
     cards: &[CardView],
 ) -> Result<ViewList, SiteOpenFault>
     requires few { list.length cards.now ≤ 8 }
-    requires short { All (λ v. v.length ≤ 65536) cards.now }
+    requires short { All (λ v. v.length ≤ 262144) cards.now }
     ensures views { ReadsKnown V.store_state V.may_need V.crash_states from.old from.new result (λ h vs. HasViews h.pairs selector.now cards.now vs) (λ vs l. l ≡ vs) }
     ensures cards { IfOk result (λ l. map card_view l ≡ cards.now) }
 {
@@ -48,7 +48,7 @@ pub fn read_menu<V: ValueLookup>(
     selector: &Selector,
     size: u32,
 ) -> Result<EntryList, SiteOpenFault>
-    requires { size ≤ 65536 }
+    requires { size ≤ 262144 }
     ensures entries { ReadsKnown V.store_state V.may_need V.crash_states from.old from.new result (λ h es. HasEntries h.pairs selector.now size es) (λ es l. l ≡ es) }
     ensures valid { IfOk result (λ l. IsTrue (are_entries l)) }
 {
@@ -70,7 +70,7 @@ pub fn read_form<V: ValueLookup>(
     selector: &Selector,
     size: u32,
 ) -> Result<QuestionList, SiteOpenFault>
-    requires { size ≤ 65536 }
+    requires { size ≤ 262144 }
     ensures questions { ReadsKnown V.store_state V.may_need V.crash_states from.old from.new result (λ h qs. HasQuestions h.pairs selector.now size qs) (λ qs l. l ≡ qs) }
     ensures valid { IfOk result (λ l. IsTrue (are_questions l)) }
     ensures short { IfOk result (λ l. list_any is_long_question l ≡ false) }
@@ -151,6 +151,7 @@ pub fn item_in<V: ValueLookup>(
     let Record {
         title,
         stamp,
+        until,
         summary,
         body,
     } = record;
@@ -158,6 +159,7 @@ pub fn item_in<V: ValueLookup>(
         Ok(body) => Ok(Some(Item {
             title,
             stamp,
+            until,
             summary,
             body,
         })),

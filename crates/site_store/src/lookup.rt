@@ -1,6 +1,6 @@
 // Looking up the items of a site over a key-value store, while a change of it is planned.
 ghost use Rattle.site_store.specs.LookUps.{IsShown, HasFound, HasNotFound};
-ghost use Rattle.site_store.specs.LookUpLaws.{nothing_read, reads_again, failed_later, may_be_out_of_memory, never_refused, shows_still, short_names, short_fits, board_fits};
+ghost use Rattle.site_store.specs.LookUpLaws.{fits_or_not, nothing_read, reads_again, failed_later, may_be_out_of_memory, never_refused, shows_still, short_names, short_fits, board_fits};
 ghost use Rattle.site_pairs.specs.ShortReplacements.{IsShort};
 
 use crate::DiskSite;
@@ -18,6 +18,8 @@ impl<K: Keeper> ItemLookup for DiskSite<K> {
     ghost reads_only = { λ a b. HasFound K.store_state K.may_need K.crash_states a.keeper b.keeper };
 
     ghost failed = { λ a b. HasNotFound K.store_state K.may_need K.crash_states a.keeper b.keeper };
+
+    ghost fits_or_not = { fits_or_not };
 
     ghost nothing_read = { λ d. nothing_read K.store_state K.may_need K.crash_states d.keeper };
 

@@ -6,7 +6,7 @@ ghost use Rattle.page_store.specs.declared.fault.KeeperFault.TheVariants.{Failed
 ghost use Rattle.site_store.specs.Represented.{RepresentedBy, Shows};
 ghost use Rattle.site_store.specs.StoreReads.{ReadsOnly, NoneFailed, IsSiteReadFault, IsReadOrMemory};
 ghost use Rattle.site_store.specs.Reads.{AlwaysReads, ReadsKnown};
-ghost use Rattle.site_store.specs.Opening.{IsOpenFault, IsPairsFault, ValuesFit, last_key, site_under, with_named, with_all_named, HasAddress};
+ghost use Rattle.site_store.specs.Opening.{IsOpenFault, IsPairsFault, ValuesFit, KeysFit, last_key, site_under, with_named, with_all_named, HasAddress};
 ghost use Rattle.site_store.specs.Seen.{keeper_of, seen_site};
 ghost use Rattle.site_store.specs.declared.fault.SiteOpenFault.TheVariants.{Keeper as StoreFault};
 
@@ -17,8 +17,11 @@ use crate::whole_layout::has_layout;
 use crate::{DiskSite, SiteOpenFault};
 use host_types::Selector;
 use mem_site::MemSite;
-use page_store::{Banner, Keeper, Pair};
+use page_store::{Banner, Keeper, KeeperFault, Pair};
 use std::alloc::Global;
+
+/// The version of images that sites are opened from.
+pub const VERSION: u16 = 2;
 
 /// The pair behind these, the first ones of the keeper.
 fn pair_behind<K: Keeper>(
@@ -28,6 +31,7 @@ fn pair_behind<K: Keeper>(
 ) -> Result<Option<Pair>, SiteOpenFault>
     ensures pair { AlwaysReads K.store_state K.may_need K.crash_states keeper.old keeper.new result IsReadOrMemory (λ h found. found ≡ pair_after h.pairs (last_key pairs.now)) }
     ensures fit { IfOk result (λ found. IfSome found (λ p. length p.1 ≤ 1024)) }
+    ensures keys { IfOk result (λ found. IfSome found (λ p. length p.0 ≤ 300)) }
 {
     let (mut key, mut value) = ([0; 300], [0; 1024]);
     let found = match pairs.last() {
@@ -45,9 +49,10 @@ fn pair_behind<K: Keeper>(
 }
 
 /// All pairs of a keeper.
-fn pairs_of<K: Keeper>(alloc: Global, keeper: &mut K) -> Result<Vec<Pair>, SiteOpenFault>
+pub(crate) fn pairs_of<K: Keeper>(alloc: Global, keeper: &mut K) -> Result<Vec<Pair>, SiteOpenFault>
     ensures pairs { AlwaysReads K.store_state K.may_need K.crash_states keeper.old keeper.new result IsReadOrMemory (λ h all. all.items ≡ h.pairs) }
     ensures fit { IfOk result (λ all. ValuesFit all.items) }
+    ensures keys { IfOk result (λ all. KeysFit all.items) }
 {
     let mut pairs = Vec::new(alloc);
     for _ in 0..u64::MAX {
@@ -113,8 +118,13 @@ fn site_of(alloc: Global, read: &mut ReadPairs<'_>) -> Result<MemSite, SiteOpenF
 }
 
 /// It ends well where these pairs are the layout of a valid site under this banner.
-fn check_pairs(alloc: Global, banner: &Banner, pairs: &[Pair]) -> Result<(), SiteOpenFault>
+pub(crate) fn check_pairs(
+    alloc: Global,
+    banner: &Banner,
+    pairs: &[Pair],
+) -> Result<(), SiteOpenFault>
     requires fit { ValuesFit pairs.now }
+    requires version { banner.now.version ≡ 2 }
     ensures site { OnOk result ((s : Site) × Shows pairs.now banner.now s) }
     ensures fault { IfErr result (IsPairsFault pairs.now banner.now) }
     ensures port { OnOk result (0 < banner.now.port) }
@@ -132,6 +142,7 @@ fn check_pairs(alloc: Global, banner: &Banner, pairs: &[Pair]) -> Result<(), Sit
 
 /// Reads all that is kept; it ends well where that is the layout of a valid site.
 fn check<K: Keeper>(alloc: Global, keeper: &mut K) -> Result<(), SiteOpenFault>
+    requires version { (K.store_state keeper.old).banner.version ≡ 2 }
     ensures kept { AlwaysReads K.store_state K.may_need K.crash_states keeper.old keeper.new result IsSiteReadFault (λ h _. (s : Site) × RepresentedBy h s) }
     ensures port { OnOk result (0 < (K.store_state keeper.old).banner.port) }
 {
@@ -142,7 +153,7 @@ fn check<K: Keeper>(alloc: Global, keeper: &mut K) -> Result<(), SiteOpenFault>
 impl<K: Keeper> DiskSite<K> {
     /// Opens the site whose layout a keeper holds, of which no pin is out, and reads all of it. A refusal hands the keeper back; nothing is written.
     ///
-    /// A keeper that isn't usable is `Failed`, and gets no other answer. `BadRecord` where what is kept is no valid site's layout, else the keeper's fault. `Memory` may stand in place of `BadRecord` and of success.
+    /// A keeper that isn't usable is `Failed`, and gets no other answer. `Version` where what is kept is of another version than 2, which is not read. `BadRecord` where what is kept is no valid site's layout, else the keeper's fault. `Memory` may stand in place of `BadRecord` and of success.
     pub fn open(alloc: Global, keeper: K) -> Result<DiskSite<K>, (SiteOpenFault, K)>
         requires unpinned { (K.store_state keeper).pins ≡ [] }
         ensures site { IsTrue (K.store_state keeper).honest → IfOk result (λ d. RepresentedBy (K.store_state keeper) (seen_site d)) }
@@ -153,6 +164,12 @@ impl<K: Keeper> DiskSite<K> {
         ensures handed_back { IfErr result (λ e. ReadsOnly K.store_state K.may_need K.crash_states keeper e.1) }
         ensures closed { (K.store_state keeper).usable ≡ false → IsErrAnd result (λ e. e.0 ≡ StoreFault Failed) }
     {
+        if !keeper.is_usable() {
+            return Err((SiteOpenFault::Keeper(KeeperFault::Failed), keeper));
+        }
+        if keeper.banner().version != VERSION {
+            return Err((SiteOpenFault::Keeper(KeeperFault::Version), keeper));
+        }
         let mut keeper = keeper;
         match check(alloc, &mut keeper) {
             Ok(()) => Ok(DiskSite { alloc, keeper }),

@@ -54,7 +54,7 @@ pub fn read_part<V: ValueLookup>(
     part: u8,
     size: usize,
 ) -> Result<Bytes, SiteOpenFault>
-    requires { size ≤ 65536 }
+    requires { size ≤ 262144 }
     ensures bytes { ReadsKnown V.store_state V.may_need V.crash_states from.old from.new result (IsPart selector.now part size) (λ p b. b ≡ p) }
     ensures size { IfOk result (λ b. list.length b ≡ size) }
 {
@@ -76,7 +76,7 @@ pub fn read_view<V: ValueLookup>(
     part: u8,
     view: &CardView,
 ) -> Result<View, SiteOpenFault>
-    requires { view.now.length ≤ 65536 }
+    requires { view.now.length ≤ 262144 }
     ensures view { ReadsKnown V.store_state V.may_need V.crash_states from.old from.new result (λ h v. (view.now ≡ card_view v) × HasPart h.pairs selector.now part v.bytes) (λ v w. w ≡ v) }
     ensures card { IfOk result (λ w. card_view w ≡ view.now) }
 {

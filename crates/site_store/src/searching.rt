@@ -1,6 +1,7 @@
 // Searching a site over the keys of words: those of the longest word that is asked for are walked, and the others looked up.
 ghost use Rattle.std.specs.Prelude.{◌≡◌, ◌≤◌, All, IsTrue};
 ghost use Rattle.std.specs.Prelude as list;
+ghost use Rattle.host_types.specs.Visible.{is_over, visible};
 ghost use Rattle.host_types.specs.Words.{is_among};
 ghost use Rattle.site_store.specs.Represented.{RepresentedBy};
 ghost use Rattle.site_store.specs.Reads.{ReadsKnown};
@@ -11,30 +12,55 @@ ghost use Rattle.word_index.specs.Search.{search_of};
 
 use crate::SiteOpenFault;
 use crate::longest::longest;
+use crate::records::record_at;
 use crate::word_walk::{has_all, has_word, next_with};
-use host_types::{Bytes, Selector};
+use host_types::{Bytes, Selector, Stamp, is_over};
 use page_store::Keeper;
 use site_records::LONGEST_WORD;
 use std::alloc::Global;
 use word_index::{MOST_FOUND, SelectorList, words_in};
 
-/// Looks at an item that has the word: it is found where it has all words that are asked for.
+/// Whether an item that has the word has expired, by its record.
+fn has_expired<K: Keeper>(
+    alloc: Global,
+    keeper: &mut K,
+    selector: &Selector,
+    word: &Bytes,
+    now: Stamp,
+) -> Result<bool, SiteOpenFault>
+    ensures expired { ReadsKnown K.store_state K.may_need K.crash_states keeper.old keeper.new result (StandsWith selector.now word.now) (λ item expired. expired ≡ is_over item.until now) }
+{
+    match record_at(alloc, keeper, selector) {
+        Ok(Some(record)) => Ok(is_over(record.until, now)),
+        Ok(None) => Err(SiteOpenFault::BadRecord),
+        Err(fault) => Err(fault),
+    }
+}
+
+/// Looks at an item that has the word: it is found where it has all words that are asked for, and hasn't expired.
 fn look_in<K: Keeper>(
+    alloc: Global,
     keeper: &mut K,
     found: &mut SelectorList,
     selector: &Selector,
     word: &Bytes,
     asked: &[Bytes],
+    now: Stamp,
 ) -> Result<(), SiteOpenFault>
     requires { All (λ w. list.length w ≤ LONGEST_WORD) asked.now }
-    ensures found { ReadsKnown K.store_state K.may_need K.crash_states keeper.old keeper.new result (StandsWith selector.now word.now) (λ item _. found.new ≡ spec.found_with asked.now found.old selector.now item) }
+    ensures found { ReadsKnown K.store_state K.may_need K.crash_states keeper.old keeper.new result (StandsWith selector.now word.now) (λ item _. found.new ≡ spec.found_with now asked.now found.old selector.now item) }
 {
     match has_all(keeper, selector, word, asked) {
-        Ok(true) => {
+        Ok(true) => {}
+        Ok(false) => return Ok(()),
+        Err(fault) => return Err(fault),
+    }
+    match has_expired(alloc, keeper, selector, word, now) {
+        Ok(true) => Ok(()),
+        Ok(false) => {
             found.push(selector.clone()?)?;
             Ok(())
         }
-        Ok(false) => Ok(()),
         Err(fault) => Err(fault),
     }
 }
@@ -46,11 +72,12 @@ fn begin<K: Keeper>(
     scope: &Selector,
     word: &Bytes,
     asked: &[Bytes],
+    now: Stamp,
 ) -> Result<SelectorList, SiteOpenFault>
     requires word { list.length word.now ≤ LONGEST_WORD }
     requires short { All (λ w. list.length w ≤ LONGEST_WORD) asked.now }
     requires asked { IsTrue (is_among asked.now word.now) }
-    ensures left { ReadsKnown K.store_state K.may_need K.crash_states keeper.old keeper.new result RepresentedBy (λ s found. spec.IsLeft s scope.now word.now asked.now found scope.now) }
+    ensures left { ReadsKnown K.store_state K.may_need K.crash_states keeper.old keeper.new result RepresentedBy (λ s found. spec.IsLeft now s scope.now word.now asked.now found scope.now) }
 {
     let mut found = SelectorList::new(alloc);
     match has_word(keeper, word, scope) {
@@ -58,7 +85,7 @@ fn begin<K: Keeper>(
         Ok(false) => return Ok(found),
         Err(fault) => return Err(fault),
     }
-    match look_in(keeper, &mut found, scope, word, asked) {
+    match look_in(alloc, keeper, &mut found, scope, word, asked, now) {
         Ok(()) => Ok(found),
         Err(fault) => Err(fault),
     }
@@ -66,17 +93,19 @@ fn begin<K: Keeper>(
 
 /// Goes on to the next item that has the word and looks at it; false where all that is to be found is found.
 fn step<K: Keeper>(
+    alloc: Global,
     keeper: &mut K,
     found: &mut SelectorList,
     scope: &Selector,
     word: &Bytes,
     asked: &[Bytes],
+    now: Stamp,
     last: &mut Selector,
 ) -> Result<bool, SiteOpenFault>
     requires word { list.length word.now ≤ LONGEST_WORD }
     requires short { All (λ w. list.length w ≤ LONGEST_WORD) asked.now }
     requires asked { IsTrue (is_among asked.now word.now) }
-    ensures further { ReadsKnown K.store_state K.may_need K.crash_states keeper.old keeper.new result (λ h s. RepresentedBy h s × spec.IsLeft s scope.now word.now asked.now found.old last.old) (λ s more. spec.IsFurther s scope.now word.now asked.now more found.new last.new) }
+    ensures further { ReadsKnown K.store_state K.may_need K.crash_states keeper.old keeper.new result (λ h s. RepresentedBy h s × spec.IsLeft now s scope.now word.now asked.now found.old last.old) (λ s more. spec.IsFurther now s scope.now word.now asked.now more found.new last.new) }
 {
     if found.as_slice().len() >= MOST_FOUND {
         return Ok(false);
@@ -86,7 +115,7 @@ fn step<K: Keeper>(
         Ok(None) => return Ok(false),
         Err(fault) => return Err(fault),
     };
-    match look_in(keeper, found, &next, word, asked) {
+    match look_in(alloc, keeper, found, &next, word, asked, now) {
         Ok(()) => {
             *last = next;
             Ok(true)
@@ -102,19 +131,22 @@ fn search_in<K: Keeper>(
     scope: &Selector,
     word: &Bytes,
     asked: &[Bytes],
+    now: Stamp,
 ) -> Result<SelectorList, SiteOpenFault>
     requires word { list.length word.now ≤ LONGEST_WORD }
     requires short { All (λ w. list.length w ≤ LONGEST_WORD) asked.now }
     requires asked { IsTrue (is_among asked.now word.now) }
-    ensures found { ReadsKnown K.store_state K.may_need K.crash_states keeper.old keeper.new result RepresentedBy (λ s found. found ≡ all_found s scope.now asked.now) }
+    ensures found { ReadsKnown K.store_state K.may_need K.crash_states keeper.old keeper.new result RepresentedBy (λ s found. found ≡ all_found now s scope.now asked.now) }
 {
     let mut last = scope.clone()?;
-    let mut found = match begin(alloc, keeper, scope, word, asked) {
+    let mut found = match begin(alloc, keeper, scope, word, asked, now) {
         Ok(found) => found,
         Err(fault) => return Err(fault),
     };
     for _ in 0..u64::MAX {
-        match step(keeper, &mut found, scope, word, asked, &mut last) {
+        match step(
+            alloc, keeper, &mut found, scope, word, asked, now, &mut last,
+        ) {
             Ok(true) => {}
             Ok(false) => return Ok(found),
             Err(fault) => return Err(fault),
@@ -124,19 +156,20 @@ fn search_in<K: Keeper>(
     Err(SiteOpenFault::Memory)
 }
 
-/// The first items of a site that are found. Only keys are read.
+/// The first items of a site that are found. Only keys are read, and the records of what has all words.
 pub fn search_all<K: Keeper>(
     alloc: Global,
     keeper: &mut K,
     scope: &Selector,
     query: &[u8],
+    now: Stamp,
 ) -> Result<SelectorList, SiteOpenFault>
-    ensures found { ReadsKnown K.store_state K.may_need K.crash_states keeper.old keeper.new result RepresentedBy (λ s found. found ≡ search_of s scope.now query.now) }
+    ensures found { ReadsKnown K.store_state K.may_need K.crash_states keeper.old keeper.new result RepresentedBy (λ s found. found ≡ search_of (visible s now) scope.now query.now) }
 {
     let words = words_in(alloc, query)?;
     let asked = words.as_slice();
     match longest(asked) {
-        Some(word) => search_in(alloc, keeper, scope, word, asked),
+        Some(word) => search_in(alloc, keeper, scope, word, asked, now),
         None => Ok(SelectorList::new(alloc)),
     }
 }

@@ -1,4 +1,5 @@
 // The calls of a site over a key-value store.
+ghost use Rattle.std.specs.Prelude.{◌≡◌, ◌∷◌, [], IfOk};
 ghost use Rattle.host_types.specs.Pins.{Numbered};
 ghost use Rattle.site_store.specs.Represented.{site_state_of, site_of, Represents};
 ghost use Rattle.site_store.specs.Lacking.{IsLacking};
@@ -7,14 +8,23 @@ ghost use Rattle.site_store.specs.CrashStatesRepresent.{crash_states_represent_s
 use crate::DiskSite;
 use crate::cards::card_in;
 use crate::pinned_chunks::chunk_in_at;
-use crate::to_site_fault::{pin_fault_comes, store_fault_comes, to_site_fault};
+use crate::to_site_fault::{changes_fault_comes, pin_fault_comes, to_site_fault};
 use crate::writing::{banner_after, write_replacements};
-use change_plan::plan_change;
+use change_plan::plan_all;
 use host_types::{
-    Address, Card, Change, Selector, SiteFault, SiteKeeper, SitePinFault, Stamp,
-    changes_keep_sites_valid,
+    Address, Card, Change, ChangesFault, Selector, SiteFault, SiteKeeper, SitePinFault, Stamp,
 };
 use page_store::PinKeeper;
+use std::alloc::{AllocError, Global};
+
+/// One change at its moment.
+fn only(alloc: Global, change: Change, now: Stamp) -> Result<Vec<(Change, Stamp)>, AllocError>
+    ensures { IfOk result (λ changes. changes.items ≡ (change, now) ∷ []) }
+{
+    let mut changes = Vec::new(alloc);
+    changes.push((change, now))?;
+    Ok(changes)
+}
 
 impl<K: PinKeeper> SiteKeeper for DiskSite<K> {
     ghost site_state = { λ d. site_state_of (K.store_state d.keeper) d.kept };
@@ -82,18 +92,26 @@ impl<K: PinKeeper> SiteKeeper for DiskSite<K> {
         if !self.keeper.is_usable() {
             return Err(SiteFault::Failed);
         }
-        changes_keep_sites_valid();
-        change.valid_names();
-        let _ = now.seconds();
+        let changes = only(self.alloc, change, now)?;
+        match self.change_all(changes) {
+            Ok(()) => Ok(()),
+            Err(fault) => Err(fault.of_one()),
+        }
+    }
+
+    fn change_all(&mut self, changes: Vec<(Change, Stamp)>) -> Result<(), ChangesFault> {
+        if !self.keeper.is_usable() {
+            return Err(ChangesFault::Failed);
+        }
         let alloc = self.alloc;
-        let plan = match plan_change(alloc, self, change, now) {
+        let plan = match plan_all(alloc, self, changes) {
             Ok(plan) => plan,
             Err(fault) => return Err(fault),
         };
         let banner = banner_after(self.keeper.banner(), &plan)?;
         match write_replacements(alloc, &mut self.keeper, &plan.replacements, banner) {
             Ok(()) => Ok(()),
-            Err(fault) => Err(store_fault_comes(fault)),
+            Err(fault) => Err(changes_fault_comes(fault)),
         }
     }
 }

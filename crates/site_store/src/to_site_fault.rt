@@ -1,9 +1,10 @@
 // Faults of what is kept, as the site's.
 ghost use Rattle.std.specs.Prelude.{◌≡◌};
+ghost use Rattle.host_types.specs.ChangesFaults.{fault_at};
 ghost use Rattle.site_store.specs.StoreFault.{site_fault_of, store_site_fault_of, site_pin_fault_of};
 
 use crate::SiteOpenFault;
-use host_types::{SiteFault, SitePinFault};
+use host_types::{ChangesFault, SiteFault, SitePinFault};
 use page_store::{KeeperFault, PinFault};
 
 /// A keeper's fault as the site's.
@@ -22,6 +23,13 @@ pub fn store_fault_comes(fault: KeeperFault) -> SiteFault
         KeeperFault::Failed => SiteFault::Failed,
         KeeperFault::Memory => SiteFault::Memory,
     }
+}
+
+/// A fault of a commit of several changes, as the site's.
+pub fn changes_fault_comes(fault: KeeperFault) -> ChangesFault
+    ensures { result ≡ fault_at 0 (store_site_fault_of fault) }
+{
+    ChangesFault::at(0, store_fault_comes(fault))
 }
 
 /// Why a keeper gives no pin, as the site's.

@@ -1,9 +1,7 @@
 // Rounds of connections.
-ghost use Rattle.std.specs.Prelude.{IfOk};
-ghost use Rattle.session_core.specs.Calls.{HubRun};
-ghost use Rattle.session_core.specs.Hub.{keeper_of};
-ghost use Rattle.turns.specs.Runs.{HasRun};
-ghost use Rattle.socket_wires.specs.Rounds.{IsFresh, IsServing};
+ghost use Rattle.std.specs.Prelude.{◌≡◌, ◌⊎◌, IfOk, IfErr};
+ghost use Rattle.socket_wires.specs.declared.serving.ServeFault.TheVariants as faults;
+ghost use Rattle.socket_wires.specs.Rounds.{IsFresh, ServesRounds};
 
 use crate::SocketWire;
 use session_core::Hub;
@@ -19,6 +17,9 @@ pub enum ServeFault {
     /// A connection could not be accepted or set up.
     #[error("net")]
     Net,
+    /// A write or a sync of what the site is kept on has failed.
+    #[error("failed")]
+    Failed,
     #[error("memory")]
     Memory,
 }
@@ -29,7 +30,8 @@ fn accept(
     listener: &TcpListener,
     together: u32,
 ) -> Result<Vec<Connection<SocketWire>>, ServeFault>
-    ensures { IfOk result (λ connections. IsFresh together connections.items) }
+    ensures fresh { IfOk result (λ connections. IsFresh together connections.items) }
+    ensures fault { IfErr result (λ fault. (fault ≡ faults.Net) ⊎ (fault ≡ faults.Memory)) }
 {
     let mut connections = Vec::new(alloc);
     for _ in 0..together {
@@ -47,7 +49,7 @@ fn accept(
 }
 
 /// Accepts so many connections in each round and serves them in turns. It answers how many replies were written whole, over all rounds, at most the
-/// greatest u64. Where a write or a sync of what the site is kept on has failed, it ends before the next round.
+/// greatest u64; or `Failed`, and no round more, once a write or a sync of what the site is kept on has failed.
 pub fn serve_on<S: SearchKeeper, C: Clock>(
     alloc: Global,
     listener: &TcpListener,
@@ -56,16 +58,19 @@ pub fn serve_on<S: SearchKeeper, C: Clock>(
     together: u32,
     rounds: u32,
 ) -> Result<u64, ServeFault>
-    ensures serves { IfOk result (IsServing (HubRun S.site_state S.lacks S.crash_states S.represents) (λ h. (S.site_state (keeper_of h)).usable) together rounds hub.old hub.new (C.given clock.old) (C.given clock.new)) }
-    ensures ran { HasRun (HubRun S.site_state S.lacks S.crash_states S.represents) hub.old hub.new (C.given clock.old) (C.given clock.new) (λ es os. Unit {0}) }
+    ensures { ServesRounds S.site_state S.lacks S.crash_states S.represents together rounds result hub.old hub.new (C.given clock.old) (C.given clock.new) }
 {
     let mut served = 0u64;
     for _round in 0..rounds {
         if !hub.is_usable() {
-            return Ok(served);
+            return Err(ServeFault::Failed);
         }
         let mut connections = accept(alloc, listener, together)?;
         served = served.saturating_add(take_turns(hub, &mut connections, clock));
     }
-    Ok(served)
+    if hub.is_usable() {
+        Ok(served)
+    } else {
+        Err(ServeFault::Failed)
+    }
 }

@@ -10,7 +10,7 @@ use Rattle.std.proofs.lemmas.List.Folds.{list_any-append}
 use Rattle.std.specs.Prelude.{nat_le, nat_lt}
 use Rattle.std.specs.Option.{option_map}
 use Rattle.host_types.specs.Names.{is_forbidden, is_field, is_visible, is_word, is_url, has_scheme}
-use Rattle.host_types.specs.Items.{kind_letter, link_letter, is_typed_entry, is_typed_body, is_typed_item, is_bad_body, is_long_item, is_selector, is_title, is_host, is_link}
+use Rattle.host_types.specs.Items.{has_moments, kind_letter, link_letter, is_typed_entry, is_typed_body, is_typed_item, is_bad_body, is_long_item, is_selector, is_title, is_host, is_link}
 use Rattle.host_types.specs.Site.{Site, IsSite, item_at}
 use Rattle.host_types.specs.Card.{card_of, card_body}
 use Rattle.host_types.specs.declared.item.Item.{Item}
@@ -176,7 +176,7 @@ pub of_item : (s : Site) (selector : List ℕ) (item : Item) → IsSite s → it
 of_item s selector item site stands =
     let may = site.each selector item stands in
     let typed : IsTrue (is_typed_item item) = first_of (is_typed_item item) (not (is_bad_body item.body) && not (is_long_item selector item)) may.valid in
-    let title : IsTrue (is_title item.title) = first_of (is_title item.title) (nat_le item.stamp 253402300799 && is_typed_body item.body) typed in
+    let title : IsTrue (is_title item.title) = first_of (is_title item.title) (has_moments item && is_typed_body item.body) typed in
     let body = card_body item.body in
     five_line (type_letter body) item.title selector s.host (plus_sign body) s.port (type_is_no_lf body).0 (type_is_no_lf body).1
     (title_has_none item.title title) (selector_has_none selector may.name) (host_has_none s.host site.host) (sign_has_none body) (omega (arith, site.port_fits))

@@ -1,11 +1,11 @@
 -- What stands under a slot that names a tree.
 use Rattle.std.proofs.Common.{◌≡◌, ℕ, suc, ◌+◌, ◌≤◌, ◌<◌, true, false, List, [], ◌∷◌, length, Some, None, refl, sym, ap, ◌∙◌, arith, eq-eqb, inl, inr}
-use Rattle.std.specs.Prelude.{◌&&◌, ◌==◌}
+use Rattle.std.specs.Prelude.{IsTrue, ◌&&◌, ◌==◌}
 use Rattle.std.proofs.lemmas.Bool.{cases_Bool, le-leb, lt-ltb}
 use Rattle.page_store.specs.Reading.{where_true}
 use Rattle.page_store.specs.Pages.{Pair}
 use Rattle.page_store.specs.Commit.{numbers}
-use Rattle.page_store.specs.Content.{Found, Bounds, walk, tree_of, tree_found, found_as, content_under, are_distinct, is_among}
+use Rattle.page_store.specs.Content.{tree_as, is_tree_version, Found, Bounds, walk, tree_of, tree_found, found_as, content_under, are_distinct, is_among}
 use Rattle.page_store.specs.declared.commit.NewPage.{NewPage}
 use Rattle.page_store.specs.declared.slot.Slot.{Slot}
 use Rattle.page_store.proofs.Fields.{bind_again}
@@ -42,11 +42,11 @@ tree_under slot now level found height low first inside walked once many =
     bind_again (tree_of now bounds slot.root.height slot.root.tree) (λ found. where_true (are_distinct found.pages && (length found.pairs == slot.root.keys)) (Some found)) found (Some found)
     (ap (λ (h : ℕ). tree_of now bounds h slot.root.tree) height ∙ at) (rw (once, many) refl)
 
-content_of_tree : (slot : Slot) (now : ℕ → List ℕ) (found : Found) → slot.root.banner.version ≡ 1 → tree_found slot now ≡ Some found → content_under slot now ≡ Some found
+content_of_tree : (slot : Slot) (now : ℕ → List ℕ) (found : Found) → IsTrue (is_tree_version slot.root.banner.version) → tree_found slot now ≡ Some found → content_under slot now ≡ Some found
 unfolding content_under
-content_of_tree slot now found version is = ap (λ (v : ℕ). found_as v slot now) version ∙ is
+content_of_tree slot now found version is = tree_as slot.root.banner.version slot now version ∙ is
 
-pub holds_tree : (slot : Slot) (tree : Tree) (old now : ℕ → List ℕ) (bounds : Bounds) (level : ℕ) (pages : List NewPage) → slot.root.banner.version ≡ 1 → slot.root.pages ≡ bounds.pages → slot.root.height ≡ suc level → level ≤ 15
+pub holds_tree : (slot : Slot) (tree : Tree) (old now : ℕ → List ℕ) (bounds : Bounds) (level : ℕ) (pages : List NewPage) → IsTrue (is_tree_version slot.root.banner.version) → slot.root.pages ≡ bounds.pages → slot.root.height ≡ suc level → level ≤ 15
     → IsTreePage bounds.pages slot.root.tree → slot.root.keys ≡ length (pairs_of (old_of old bounds) tree) → FindsTree old now bounds slot.seal level tree [] None slot.root.tree pages
     → ((m : ℕ) → times m (numbers pages) + times m (reached old bounds tree) ≤ 1) → HoldsTree old now bounds slot tree pages
 holds_tree slot tree old now bounds level pages version count height low inside keys finds once =

@@ -1,6 +1,6 @@
 // Laws of trees that are written as pages.
-ghost use Rattle.std.specs.Prelude.{◌≡◌, ◌<◌, ◌≤◌, ◌^◌, ◌+◌, ℕ, suc, [], List, Option, None, length};
-ghost use Rattle.page_store.specs.Content.{Bounds};
+ghost use Rattle.std.specs.Prelude.{IsTrue, ◌≡◌, ◌<◌, ◌≤◌, ◌^◌, ◌+◌, ℕ, suc, [], List, Option, None, length};
+ghost use Rattle.page_store.specs.Content.{is_tree_version, Bounds};
 ghost use Rattle.page_store.specs.Commit.{numbers};
 ghost use Rattle.page_store.specs.declared.commit.NewPage.{NewPage};
 ghost use Rattle.page_store.specs.declared.slot.Slot.{Slot};
@@ -19,7 +19,7 @@ pub fn a_written_tree_is_found()
 
 /// Under a slot that names the page of a tree that is found, of so many levels and pairs, stands that tree, where no page is reached twice.
 pub fn a_found_tree_is_content()
-    ensures { (slot : Slot) (tree : Tree) (old now : ℕ → List ℕ) (bounds : Bounds) (level : ℕ) (pages : List NewPage) → slot.root.banner.version ≡ 1 → slot.root.pages ≡ bounds.pages → slot.root.height ≡ suc level → level ≤ 15 →
+    ensures { (slot : Slot) (tree : Tree) (old now : ℕ → List ℕ) (bounds : Bounds) (level : ℕ) (pages : List NewPage) → IsTrue (is_tree_version slot.root.banner.version) → slot.root.pages ≡ bounds.pages → slot.root.height ≡ suc level → level ≤ 15 →
         IsTreePage bounds.pages slot.root.tree → slot.root.keys ≡ length (pairs_of (old_of old bounds) tree) → FindsTree old now bounds slot.seal level tree [] None slot.root.tree pages →
         ((m : ℕ) → times m (numbers pages) + times m (reached old bounds tree) ≤ 1) → HoldsTree old now bounds slot tree pages }
 {}

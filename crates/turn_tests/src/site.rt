@@ -39,6 +39,7 @@ fn put(alloc: Global, selector: &[u8], title: &[u8], body: Body) -> Result<Chang
     let item = Item {
         title: Title::new(title)?,
         stamp: Stamp::start(),
+        until: None,
         summary: Bytes::new(alloc),
         body,
     };

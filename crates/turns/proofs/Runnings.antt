@@ -3,6 +3,7 @@ use Rattle.std.proofs.Common.{◌≡◌, ℕ, List, [], ◌∷◌, ◌++◌, ref
 use Rattle.std.proofs.lemmas.List.{append-nil}
 use Rattle.std.proofs.lemmas.Grind.{flat_map-append}
 use Rattle.std.specs.Prelude.{IsTrue, true}
+use Rattle.host_types.specs.AllChanges.{Changes}
 use Rattle.host_types.specs.Site.{Site}
 use Rattle.host_types.specs.SiteState.{SiteState}
 use Rattle.host_types.specs.CrashStates.{CrashStates, may_crash_to}
@@ -24,7 +25,7 @@ run_as ran old new t u P Q r f = record { events = r.events; outcomes = r.outcom
 pub untold : {H : Type 0} (ran : H → List Event → List Outcome → H → Type 0) (old new : H) (t : List ℕ) (P : List Event → List Outcome → Type 0) → HasRun ran old new [] [] P → HasRun ran old new t t P
 untold ran old new t P r = record { events = r.events; outcomes = r.outcomes; led = r.led; moments_are = sym (append-nil t) ∙ ap (λ l. t ++ l) r.moments_are; holds = r.holds }
 
-module _ {S L : Type 0} (site_state : S → SiteState) (lacks : S → Change → ℕ → SiteFault → Type 0) (crash_states : S → CrashStates L) (stands : L → Site → Type 0)
+module _ {S L : Type 0} (site_state : S → SiteState) (lacks : S → Changes → SiteFault → Type 0) (crash_states : S → CrashStates L) (stands : L → Site → Type 0)
     (law : (k : S) (c : L) → IsTrue (site_state k).honest → (site_state k).usable ≡ true → may_crash_to (crash_states k) c → stands c (site_state k).site) where
   -- no event
   pub run_none : {bound : _} {ghosts : _} (hub : Hub S bound ghosts) (t : List ℕ) (P : List Event → List Outcome → Type 0) → P [] [] → HasRun (HubRun site_state lacks crash_states stands) hub hub t t P

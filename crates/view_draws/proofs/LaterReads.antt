@@ -4,6 +4,7 @@ use Rattle.std.specs.Prelude.{IsTrue, false, map, ◌==◌}
 use Rattle.std.specs.Map.{lookup}
 use Rattle.std.proofs.lemmas.Bool.{cases_lt}
 use Rattle.common_types.specs.CrashStates.{CrashStates, no_new_crash_state, adds_none_again}
+use Rattle.host_types.specs.AllChanges.{Changes}
 use Rattle.host_types.specs.SiteState.{SiteState, HasRead, LacksTheSame, IsReadFault, Rose}
 use Rattle.host_types.specs.Pins.{Pinned, Copied, Numbered, is_out, is_among, pinned_items, items_or_none}
 use Rattle.host_types.specs.declared.change.Change.{Change}
@@ -18,10 +19,10 @@ still_honest a b kept honest = subst IsTrue (sym kept.honest) honest
 nothing_read : (h : SiteState) → HasRead h h
 nothing_read h = record { site = λ honest. refl; honest = refl; usable = refl; free = λ honest. refl; reads = omega arith; writes = refl; pins = refl }
 
-pub only_none : {K L : Type 0} (site_state : K → SiteState) (lacks : K → Change → ℕ → SiteFault → Type 0) (crash_states : K → CrashStates L) (a : K) → ReadsOnly site_state lacks crash_states a a
+pub only_none : {K L : Type 0} (site_state : K → SiteState) (lacks : K → Changes → SiteFault → Type 0) (crash_states : K → CrashStates L) (a : K) → ReadsOnly site_state lacks crash_states a a
 only_none site_state lacks crash_states a = record {
   kept = nothing_read (site_state a);
-  lacking = record { after = λ change now fault lacks. lacks; before = λ change now fault lacks. lacks };
+  lacking = record { after = λ changes fault lacks. lacks; before = λ changes fault lacks. lacks };
   no_new_crash_state = λ honest. no_new_crash_state (crash_states a);
 }
 
@@ -36,13 +37,13 @@ read_on a b c first second = record {
   pins = second.pins ∙ first.pins;
 }
 
-lacking_on : (a b c : Change → ℕ → SiteFault → Type 0) → LacksTheSame a b → LacksTheSame b c → LacksTheSame a c
+lacking_on : (a b c : Changes → SiteFault → Type 0) → LacksTheSame a b → LacksTheSame b c → LacksTheSame a c
 lacking_on a b c first second = record {
-  after = λ change now fault lacks. second.after change now fault (first.after change now fault lacks);
-  before = λ change now fault lacks. first.before change now fault (second.before change now fault lacks);
+  after = λ changes fault lacks. second.after changes fault (first.after changes fault lacks);
+  before = λ changes fault lacks. first.before changes fault (second.before changes fault lacks);
 }
 
-pub only_on : {K L : Type 0} (site_state : K → SiteState) (lacks : K → Change → ℕ → SiteFault → Type 0) (crash_states : K → CrashStates L) (a b c : K) → ReadsOnly site_state lacks crash_states a b → ReadsOnly site_state lacks crash_states b c → ReadsOnly site_state lacks crash_states a c
+pub only_on : {K L : Type 0} (site_state : K → SiteState) (lacks : K → Changes → SiteFault → Type 0) (crash_states : K → CrashStates L) (a b c : K) → ReadsOnly site_state lacks crash_states a b → ReadsOnly site_state lacks crash_states b c → ReadsOnly site_state lacks crash_states a c
 only_on site_state lacks crash_states a b c first second = record {
   kept = read_on (site_state a) (site_state b) (site_state c) first.kept second.kept;
   lacking = lacking_on (lacks a) (lacks b) (lacks c) first.lacking second.lacking;

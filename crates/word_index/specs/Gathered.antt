@@ -1,6 +1,7 @@
 -- Words and finds that are gathered one by one.
-use Rattle.std.specs.Prelude.{ℕ, not, List, [], ◌∷◌, ◌++◌, ◌&&◌, length, nat_lt, fold, if◌then◌else◌}
+use Rattle.std.specs.Prelude.{ℕ, Bool, not, List, [], ◌∷◌, ◌++◌, ◌&&◌, length, nat_lt, fold, if◌then◌else◌}
 use Rattle.host_types.specs.declared.item.Item.{Item}
+use Rattle.host_types.specs.Visible.{is_fresh}
 use Rattle.host_types.specs.Words.{is_among}
 use Rattle.word_index.specs.Search.{is_found}
 
@@ -11,6 +12,10 @@ added words word = if nat_lt (length words) 200 && not (is_among words word) the
 abbrev pub gathered : List (List ℕ) → List (List ℕ) → List (List ℕ)
 gathered words more = fold added words more
 
+-- an item that is found, and has not expired
+abbrev pub is_sought : ℕ → List ℕ → List (List ℕ) → List ℕ × Item → Bool
+is_sought now scope asked e = is_found scope asked e && is_fresh now e
+
 -- the selector of an item that is found, while there is room
-unfoldable pub searched_at : List ℕ → List (List ℕ) → List (List ℕ) → List ℕ × Item → List (List ℕ)
-searched_at scope asked found e = if nat_lt (length found) 100 && is_found scope asked e then found ++ e.0 ∷ [] else found
+unfoldable pub searched_at : ℕ → List ℕ → List (List ℕ) → List (List ℕ) → List ℕ × Item → List (List ℕ)
+searched_at now scope asked found e = if nat_lt (length found) 100 && is_sought now scope asked e then found ++ e.0 ∷ [] else found

@@ -1,5 +1,5 @@
 -- Worked examples of words and searches.
-use Rattle.std.specs.Prelude.{◌≡◌, [], ◌∷◌, codes, replicate}
+use Rattle.std.specs.Prelude.{◌≡◌, [], ◌∷◌, codes, replicate, None}
 use Rattle.host_types.specs.Site.{Site, text_item}
 use Rattle.host_types.specs.declared.item.Body.TheVariants.{Moved, Search}
 use Rattle.host_types.specs.Words.{words_in, words_of}
@@ -8,9 +8,9 @@ use Rattle.word_index.specs.Search.{search_of}
 abbrev pub sample : Site
 sample = record {
   items =
-      ([], record { title = codes "Top"; stamp = 0; summary = codes "A last word"; body = Search [] })
+      ([], record { title = codes "Top"; stamp = 0; until = None; summary = codes "A last word"; body = Search [] })
       ∷ (codes "/about", text_item (codes "About us") 743878921 (codes "Hello\n.dot\nlast"))
-      ∷ (codes "/old", record { title = codes "Hello last"; stamp = 0; summary = []; body = Moved (codes "/about") })
+      ∷ (codes "/old", record { title = codes "Hello last"; stamp = 0; until = None; summary = []; body = Moved (codes "/about") })
       ∷ [];
   host = codes "localhost";
   port = 7070;

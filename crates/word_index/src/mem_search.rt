@@ -4,12 +4,13 @@ ghost use Rattle.std.specs.List.{list_all, starts_with};
 ghost use Rattle.host_types.specs.CrashStates.{no_new_crash_state, nothing};
 ghost use Rattle.word_index.specs.Gathered.{searched_at};
 ghost use Rattle.word_index.specs.Search as spec;
+ghost use Rattle.host_types.specs.Visible.{is_fresh, visible};
 ghost use Rattle.host_types.specs.Words as words;
 
 use crate::word::words_in;
 use crate::word_list::{is_among, words};
 use crate::{SearchKeeper, SelectorList};
-use host_types::{Item, LineList, Selector, SiteFault};
+use host_types::{Item, LineList, Selector, SiteFault, Stamp};
 use mem_site::MemSite;
 use std::alloc::{AllocError, Global};
 
@@ -58,11 +59,15 @@ pub fn look_at(
     found: &mut SelectorList,
     scope: &Selector,
     asked: &LineList,
+    now: Stamp,
     entry: (&Selector, &Item),
 ) -> Result<(), AllocError>
-    ensures { OnOk result (found.new ≡ searched_at scope.now asked.now found.old (entry.entry.0.now, entry.entry.1.now)) }
+    ensures { OnOk result (found.new ≡ searched_at now scope.now asked.now found.old (entry.entry.0.now, entry.entry.1.now)) }
 {
-    if found.as_slice().len() < MOST_FOUND && is_found(alloc, scope, asked, entry.0, entry.1)? {
+    if found.as_slice().len() < MOST_FOUND
+        && !entry.1.is_expired(now)
+        && is_found(alloc, scope, asked, entry.0, entry.1)?
+    {
         found.push(entry.0.clone()?)?;
     }
     Ok(())
@@ -75,34 +80,42 @@ fn search_in(
     entries: &[(&Selector, &Item)],
     scope: &Selector,
     asked: &LineList,
+    now: Stamp,
 ) -> Result<SelectorList, AllocError>
-    ensures { IfOk result (λ found. found ≡ map (λ e. e.0) (take 100 (filter (spec.is_found scope.now asked.now) (map (λ e. (e.0.now, e.1.now)) entries.now)))) }
+    ensures { IfOk result (λ found. found ≡ map (λ e. e.0) (take 100 (filter (spec.is_found scope.now asked.now) (filter (is_fresh now) (map (λ e. (e.0.now, e.1.now)) entries.now))))) }
 {
     let mut found = SelectorList::new(alloc);
     for entry in entries {
-        look_at(alloc, &mut found, scope, asked, *entry)?;
+        look_at(alloc, &mut found, scope, asked, now, *entry)?;
     }
     Ok(found)
 }
 
 /// The first items of a site that are found.
-#[tactic(auto, unfolding(crate::specs::Search::search_of))]
+#[tactic(auto, using(crate::proofs::FoundEntries::search_at), unfolding(crate::specs::Search::search_of))]
 fn search_all(
     alloc: Global,
     site: &MemSite,
     scope: &Selector,
     query: &[u8],
+    now: Stamp,
 ) -> Result<SelectorList, AllocError>
-    ensures { IfOk result (λ found. found ≡ spec.search_of site.now scope.now query.now) }
+    ensures { IfOk result (λ found. found ≡ spec.search_of (visible site.now now) scope.now query.now) }
 {
     let asked = words_in(alloc, query)?;
     let entries = entries(alloc, site)?;
-    search_in(alloc, &entries, scope, &asked)
+    site.in_order();
+    search_in(alloc, &entries, scope, &asked, now)
 }
 
 impl SearchKeeper for MemSite {
-    fn search(&mut self, scope: &Selector, query: &[u8]) -> Result<SelectorList, SiteFault> {
+    fn search(
+        &mut self,
+        scope: &Selector,
+        query: &[u8],
+        now: Stamp,
+    ) -> Result<SelectorList, SiteFault> {
         let alloc = self.alloc();
-        Ok(search_all(alloc, self, scope, query)?)
+        Ok(search_all(alloc, self, scope, query, now)?)
     }
 }

@@ -8,6 +8,7 @@ returns c = record {
   shows = refl;
   its_image = refl;
   it_is_taken = refl;
+  upgrades = refl;
   no_image = refl;
   no_command = refl;
   replays = refl;

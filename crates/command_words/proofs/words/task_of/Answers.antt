@@ -29,6 +29,11 @@ returns-in_err-image-in-compact c =
     let none = no_text (found_of c.args.matches.now) (codes "IMAGE") c.get_str-image.result c.get_str-image.ensures c.in_err-image-in-compact.was in
     gives_none _ _ c.from_residual-in_err-image-in-compact.ensures (no_image c.args.name.now (rows_of (found_of c.args.matches.now)) none (two_words c.args.name.now (codes "compact") (codes "replay") refl c.in-compact.is))
 
+pub returns-in_err-image-in-upgrade : goal.returns-in_err-image-in-upgrade
+returns-in_err-image-in-upgrade c =
+    let none = no_text (found_of c.args.matches.now) (codes "IMAGE") c.get_str-image.result c.get_str-image.ensures c.in_err-image-in-upgrade.was in
+    gives_none _ _ c.from_residual-in_err-image-in-upgrade.ensures (no_image c.args.name.now (rows_of (found_of c.args.matches.now)) none (two_words c.args.name.now (codes "upgrade") (codes "replay") refl c.in-upgrade.is))
+
 pub returns-in_err-image-in-serve : goal.returns-in_err-image-in-serve
 returns-in_err-image-in-serve c =
     let none = no_text (found_of c.args.matches.now) (codes "IMAGE") c.get_str-image.result c.get_str-image.ensures c.in_err-image-in-serve.was in
@@ -79,6 +84,10 @@ returns-in_ok-image-in-check c =
 pub returns-in_ok-image-in-compact : goal.returns-in_ok-image-in-compact
 returns-in_ok-image-in-compact c =
     (c.in-compact.is, found_text (found_of c.args.matches.now) (codes "IMAGE") c.get_str-image.result _ c.get_str-image.ensures c.in_ok-image-in-compact.was)
+
+pub returns-in_ok-image-in-upgrade : goal.returns-in_ok-image-in-upgrade
+returns-in_ok-image-in-upgrade c =
+    (c.in-upgrade.is, found_text (found_of c.args.matches.now) (codes "IMAGE") c.get_str-image.result _ c.get_str-image.ensures c.in_ok-image-in-upgrade.was)
 
 pub returns-in-replay : goal.returns-in-replay
 returns-in-replay c =

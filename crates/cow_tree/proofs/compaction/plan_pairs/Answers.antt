@@ -1,4 +1,6 @@
-use Rattle.std.proofs.Common.{length, refl, sym, ap, ◌∙◌, arith}
+use Rattle.std.proofs.Common.{subst, length, refl, sym, ap, ◌∙◌, arith}
+use Rattle.std.specs.Prelude.{IsTrue}
+use Rattle.page_store.specs.Content.{is_tree_version}
 use Rattle.std.proofs.lemmas.Result.{IfOk-weaker, IfErr-weaker}
 use Rattle.page_store.specs.declared.banner.Banner.{Banner}
 use Rattle.tree_nodes.specs.Growth.{owned_under}
@@ -30,7 +32,7 @@ returns-clause-planned c = λ view top held untaken seal.
     let ledger = c.retire_all.new.ledger in
     let only = c.retire_all.ensures.only in
     let counted = filled_counted slot view pairs ledger _ c.requires.map c.requires.few (only.marks.size ∙ c.requires.marked) c.retire_all.ensures.none (c.retire_all.ensures.untaken untaken) c.in_ok-tree.ensures (let size = c.len-keys.ensures in omega (arith, size, c.args.pairs.ok)) in
-    let version = ap (λ (b : Banner). b.version) c.in_ok-banner.ensures.cases ∙ c.requires.fitted.version in
+    let version = subst (λ (b : Banner). IsTrue (is_tree_version b.version)) (sym c.in_ok-banner.ensures.cases) c.requires.fitted.version in
     told_again c.plan_draft.result _ _ _ c.plan_draft.ensures.fault (c.plan_draft.ensures.planned view top edits pairs (held_still view slot top c.args.ledger.now ledger only.marks held) counted seal version)
 
 pub returns-clause-fault : goal.returns-clause-fault

@@ -11,6 +11,7 @@ returns c = record {
   put_over = refl;
   put_in_order = refl;
   root = refl;
+  no_lasting_root = refl;
   link = refl;
   post_name = refl;
   bare_document = refl;

@@ -9,6 +9,7 @@ returns c = record {
   formatted = refl;
   figures = refl;
   free = refl;
+  upgraded = refl;
   shown = refl;
   pages = refl;
   few_pages = refl;

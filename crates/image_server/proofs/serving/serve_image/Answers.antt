@@ -4,30 +4,40 @@ use Rattle.page_store.specs.Steps.{crash_states_of}
 use Rattle.site_store.specs.Seen.{keeper_of, seen_site}
 use Rattle.host_on_disk.proofs.Openings.{no_memory}
 use Rattle.host_on_disk.proofs.Runs.{survives}
-use Rattle.image_server.proofs.OtherRuns.{run_too, ok_too}
+use Rattle.image_server.proofs.OtherRuns.{run_too}
 use Rattle.image_server.proofs.serving.serve_image.Goals as goal
 
-pub returns-in-Ok-serve_over-clause-ran : goal.returns-in-Ok-serve_over-clause-ran
-returns-in-Ok-serve_over-clause-ran g c =
+pub returns-in-Ok-serve_over-clause-served : goal.returns-in-Ok-serve_over-clause-served
+returns-in-Ok-serve_over-clause-served g c =
     let state = g.D.Device.state in
     let opened = c.in-Ok.ensures in
     let back = c.into_device-in-Ok-serve_over.ensures ∙ ap (λ k. device_of k) c.into_keeper-in-Ok-serve_over.ensures in
-    run_too _ _ _ _ c.args.device c.into_device-in-Ok-serve_over.result
-    (λ events outcomes over. record {
-      calls = record {
-        opened = c.in-Ok.site;
-        closed = c.in-Ok-serve_over.site;
-        shows = opened.site;
-        counted = opened.counts;
-        usable = opened.usable;
-        runs = over.calls;
-        handed = back;
-      };
-      survives = λ honest. survives state (crash_states_of g.D.Device.moment g.D.Device.possible_since) c.args.device c.in-Ok.site.keeper.device c.in-Ok-serve_over.site.keeper.device c.into_device-in-Ok-serve_over.result 1 events outcomes (seen_site c.in-Ok.site)
-          (opened.site honest) (opened.alone honest) (opened.at_crash honest) (over.run (subst IsTrue (sym opened.honest) honest)) back;
-      honest = ap (λ d. (state d).honest) back ∙ over.honest ∙ opened.honest;
-    })
-    _ _ _ c.in-Ok-serve_over.ensures.ran
+    record {
+      run = run_too _ _ _ _ c.args.device c.into_device-in-Ok-serve_over.result
+          (λ events outcomes over. record {
+            calls = record {
+              opened = c.in-Ok.site;
+              closed = c.in-Ok-serve_over.site;
+              shows = opened.site;
+              counted = opened.counts;
+              usable = opened.usable;
+              runs = over.calls;
+              handed = back;
+            };
+            survives = λ honest. survives state (crash_states_of g.D.Device.moment g.D.Device.possible_since) c.args.device c.in-Ok.site.keeper.device c.in-Ok-serve_over.site.keeper.device c.into_device-in-Ok-serve_over.result 1 events outcomes (seen_site c.in-Ok.site)
+                (opened.site honest) (opened.alone honest) (opened.at_crash honest) (over.run (subst IsTrue (sym opened.honest) honest)) back;
+            honest = ap (λ d. (state d).honest) back ∙ over.honest ∙ opened.honest;
+          })
+          _ _ _ _
+          (λ events outcomes serves. record {
+            opened = c.in-Ok.site;
+            closed = c.in-Ok-serve_over.site;
+            shows = opened.site;
+            serves = serves;
+            handed = back;
+          })
+          c.in-Ok-serve_over.ensures.served.run;
+    }
 
 pub returns-clause-refused : goal.returns-clause-refused
 returns-clause-refused g c =
@@ -40,14 +50,3 @@ returns-clause-refused g c =
       honest = rw back opened.honest;
       no_new_crash_state = rw back opened.at_crash;
     }
-
-pub returns-in-Ok-serve_over-clause-serves : goal.returns-in-Ok-serve_over-clause-serves
-returns-in-Ok-serve_over-clause-serves g c = ok_too c.in-Ok-serve_over.served
-    (λ served is. record {
-      opened = c.in-Ok.site;
-      closed = c.in-Ok-serve_over.site;
-      shows = c.in-Ok.ensures.site;
-      serves = is;
-      handed = c.into_device-in-Ok-serve_over.ensures ∙ ap (λ k. device_of k) c.into_keeper-in-Ok-serve_over.ensures;
-    })
-    c.in-Ok-serve_over.ensures.serves

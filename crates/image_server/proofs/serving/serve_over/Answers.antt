@@ -4,11 +4,11 @@ use Rattle.session_core.specs.Hub.{world_of}
 use Rattle.session_core.proofs.CallLaws.{calls_run, calls_honest}
 use Rattle.host_on_disk.proofs.Runs.{handed_over, handed_on, closed_honest}
 use Rattle.image_sessions.specs.ImageRuns.{OverSite}
-use Rattle.image_server.proofs.OtherRuns.{run_too, ok_too}
+use Rattle.image_server.proofs.OtherRuns.{run_too}
 use Rattle.image_server.proofs.serving.serve_over.Goals as goal
 
-pub returns-clause-ran : goal.returns-clause-ran
-returns-clause-ran g c =
+pub returns-clause-served : goal.returns-clause-served
+returns-clause-served g c =
     let s = g.S.SiteKeeper in
     let is = c.in-Ok.ensures.keeper in
     let held = c.in-Ok.hub.site in
@@ -16,25 +16,24 @@ returns-clause-ran g c =
     let first = world_of s.site_state c.in-Ok.hub in
     let last = world_of s.site_state c.serve_on-served.new.hub in
     let usable : (s.site_state held).usable ≡ true = subst (λ x. (s.site_state x).usable ≡ true) (sym is) c.requires.usable in
-    run_too (HubRun s.site_state s.lacks s.crash_states s.represents) (OverSite s.site_state s.lacks s.crash_states s.represents) c.in-Ok.hub c.serve_on-served.new.hub c.args.site c.close.result
-    (λ events outcomes run. record {
-      calls = handed_on s.site_state s.lacks s.crash_states s.represents c.args.site held left c.close.result first last 1 events outcomes is c.in-Ok.ensures.world c.close.ensures.closed run.calls;
-      run = λ honest.
-          let honest1 : IsTrue (s.site_state held).honest = subst (λ x. IsTrue (s.site_state x).honest) (sym is) honest in
-          handed_over s.site_state s.represents s.crash_states c.args.site held left c.close.result first _ last events outcomes is c.in-Ok.ensures.world c.close.ensures.closed (subst IsTrue (sym (calls_honest s.site_state s.lacks s.crash_states s.represents first last held left events outcomes run.calls)) honest1)
-          (calls_run s.site_state s.lacks s.crash_states s.represents first last held left events outcomes honest1 run.calls) (run.at_crash honest1 usable);
-      honest = closed_honest s.site_state s.crash_states left c.close.result c.close.ensures.closed ∙ calls_honest s.site_state s.lacks s.crash_states s.represents first last held left events outcomes run.calls ∙ ap (λ x. (s.site_state x).honest) is;
-    })
-    _ _ _ c.serve_on-served.ensures.ran
-
-pub returns-clause-serves : goal.returns-clause-serves
-returns-clause-serves g c = ok_too c.serve_on-served.result
-    (λ served is. record {
-      first = c.in-Ok.hub;
-      last = c.serve_on-served.new.hub;
-      keeper = c.in-Ok.ensures.keeper;
-      world = c.in-Ok.ensures.world;
-      serves = is;
-      closes = c.close.ensures.closed;
-    })
-    c.serve_on-served.ensures.serves
+    record {
+      run = run_too (HubRun s.site_state s.lacks s.crash_states s.represents) (OverSite s.site_state s.lacks s.crash_states s.represents) c.in-Ok.hub c.serve_on-served.new.hub c.args.site c.close.result
+          (λ events outcomes run. record {
+            calls = handed_on s.site_state s.lacks s.crash_states s.represents c.args.site held left c.close.result first last 1 events outcomes is c.in-Ok.ensures.world c.close.ensures.closed run.calls;
+            run = λ honest.
+                let honest1 : IsTrue (s.site_state held).honest = subst (λ x. IsTrue (s.site_state x).honest) (sym is) honest in
+                handed_over s.site_state s.represents s.crash_states c.args.site held left c.close.result first _ last events outcomes is c.in-Ok.ensures.world c.close.ensures.closed (subst IsTrue (sym (calls_honest s.site_state s.lacks s.crash_states s.represents first last held left events outcomes run.calls)) honest1)
+                (calls_run s.site_state s.lacks s.crash_states s.represents first last held left events outcomes honest1 run.calls) (run.at_crash honest1 usable);
+            honest = closed_honest s.site_state s.crash_states left c.close.result c.close.ensures.closed ∙ calls_honest s.site_state s.lacks s.crash_states s.represents first last held left events outcomes run.calls ∙ ap (λ x. (s.site_state x).honest) is;
+          })
+          _ _ _ _
+          (λ events outcomes serves. record {
+            first = c.in-Ok.hub;
+            last = c.serve_on-served.new.hub;
+            keeper = c.in-Ok.ensures.keeper;
+            world = c.in-Ok.ensures.world;
+            serves = serves;
+            closes = c.close.ensures.closed;
+          })
+          c.serve_on-served.ensures;
+    }

@@ -9,8 +9,8 @@ use Rattle.image_server.proofs.OtherRuns.{run_too}
 use Rattle.image_server.proofs.Places.{place_of}
 use Rattle.image_server.proofs.visiting.serve_clients.Goals as goal
 
-pub returns-in-Ok-visits_over-clause-ran : goal.returns-in-Ok-visits_over-clause-ran
-returns-in-Ok-visits_over-clause-ran g c =
+pub returns-in-Ok-visits_over-clause-served : goal.returns-in-Ok-visits_over-clause-served
+returns-in-Ok-visits_over-clause-served g c =
     let state = g.D.Device.state in
     let opened = c.in-Ok.ensures in
     let back = c.into_device-in-Ok-visits_over.ensures ∙ ap (λ k. device_of k) c.into_keeper-in-Ok-visits_over.ensures in
@@ -29,7 +29,18 @@ returns-in-Ok-visits_over-clause-ran g c =
           (opened.site honest) (opened.alone honest) (opened.at_crash honest) (over.run (subst IsTrue (sym opened.honest) honest)) back;
       honest = ap (λ d. (state d).honest) back ∙ over.honest ∙ opened.honest;
     })
-    _ _ _ c.in-Ok-visits_over.ensures.ran
+    _ _ _ _
+    (λ events outcomes served. record {
+      opened = c.in-Ok.site;
+      closed = c.in-Ok-visits_over.site;
+      shows = opened.site;
+      first = c.in-Ok-open.room;
+      last = c.visits_over.new.room;
+      fresh = c.in-Ok-open.ensures.fresh;
+      served = served;
+      handed = back;
+    })
+    c.in-Ok-visits_over.ensures.served
 
 pub returns-clause-refused : goal.returns-clause-refused
 returns-clause-refused g c =
@@ -64,28 +75,16 @@ returns-in-Err-Net-clause-asked g c =
 pub returns-in-Err-Memory-clause-asked : goal.returns-in-Err-Memory-clause-asked
 returns-in-Err-Memory-clause-asked g c = inl ((rw c.in-Err-Memory.field-0-is at c.in-Err-Memory.ensures.asked) ∙ append-nil c.args.asked.now.calls)
 
-pub returns-in-Ok-visits_over-clause-served : goal.returns-in-Ok-visits_over-clause-served
-returns-in-Ok-visits_over-clause-served g c =
-    let opened = c.in-Ok.ensures in
-    let place = place_of (g.D.Device.state c.args.device) c.args.address c.given_or_own-at.result c.given_or_own.inside.port (seen_site c.in-Ok.site) c.given_or_own-at.ensures opened.site
-    (λ honest. ap (λ a. a.port) (c.given_or_own.view_is) ∙ ap (λ a. a.port) (c.front.ensures (subst IsTrue (sym opened.honest) honest))) in
-    record {
-      opened = c.in-Ok.site;
-      closed = c.in-Ok-visits_over.site;
-      shows = opened.site;
-      at = c.given_or_own-at.result;
-      place = place;
-      listened = c.in-Ok-open.ensures.asked;
-      first = c.in-Ok-open.room;
-      last = c.visits_over.new.room;
-      fresh = c.in-Ok-open.ensures.fresh;
-      served = c.in-Ok-visits_over.ensures.served;
-      handed = c.into_device-in-Ok-visits_over.ensures ∙ ap (λ k. device_of k) c.into_keeper-in-Ok-visits_over.ensures;
-    }
-
 pub returns-clause-asked : goal.returns-clause-asked
 returns-clause-asked g c =
     let opened = c.in-Ok.ensures in
     let place = place_of (g.D.Device.state c.args.device) c.args.address c.given_or_own-at.result c.given_or_own.inside.port (seen_site c.in-Ok.site) c.given_or_own-at.ensures opened.site
     (λ honest. ap (λ a. a.port) (c.given_or_own.view_is) ∙ ap (λ a. a.port) (c.front.ensures (subst IsTrue (sym opened.honest) honest))) in
     rw c.in-Err-visits_over.ensures.err.0 (inr (c.given_or_own-at.result, place, c.in-Ok-open.ensures.asked))
+
+pub returns-in-Ok-visits_over-clause-listened : goal.returns-in-Ok-visits_over-clause-listened
+returns-in-Ok-visits_over-clause-listened g c =
+    let opened = c.in-Ok.ensures in
+    let place = place_of (g.D.Device.state c.args.device) c.args.address c.given_or_own-at.result c.given_or_own.inside.port (seen_site c.in-Ok.site) c.given_or_own-at.ensures opened.site
+    (λ honest. ap (λ a. a.port) (c.given_or_own.view_is) ∙ ap (λ a. a.port) (c.front.ensures (subst IsTrue (sym opened.honest) honest))) in
+    (c.given_or_own-at.result, place, c.in-Ok-open.ensures.asked)

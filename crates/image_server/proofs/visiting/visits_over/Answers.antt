@@ -9,8 +9,8 @@ use Rattle.ready_sockets.specs.Rounds.{HasServed}
 use Rattle.image_server.proofs.OtherRuns.{run_too}
 use Rattle.image_server.proofs.visiting.visits_over.Goals as goal
 
-pub returns-clause-ran : goal.returns-clause-ran
-returns-clause-ran g c =
+pub returns-clause-served : goal.returns-clause-served
+returns-clause-served g c =
     let s = g.S.SiteKeeper in
     let is = c.in-Ok.ensures.keeper in
     let held = c.in-Ok.hub.site in
@@ -27,8 +27,7 @@ returns-clause-ran g c =
           (calls_run s.site_state s.lacks s.crash_states s.represents first last held left events outcomes honest1 run.calls) (run.at_crash honest1 usable);
       honest = closed_honest s.site_state s.crash_states left c.close.result c.close.ensures.closed ∙ calls_honest s.site_state s.lacks s.crash_states s.represents first last held left events outcomes run.calls ∙ ap (λ x. (s.site_state x).honest) is;
     })
-    _ _ _ c.serve_visits-ended.ensures.run
-
--- to end the hub leaves whether its site is usable
-pub returns-clause-served : goal.returns-clause-served
-returns-clause-served g c = subst (λ usable. HasServed c.serve_visits-ended.result usable c.args.room.now c.serve_visits-ended.new.room) (sym (ap (λ (h : SiteState). h.usable) c.close.ensures.closed.keeper.same)) c.serve_visits-ended.ensures.served
+    _ _ _ _
+    -- to end the hub leaves whether its site is usable
+    (λ events outcomes served. subst (λ usable. HasServed g.L.Write.contents c.serve_visits-ended.result usable (c.args.room.now, c.args.log.now) events outcomes (c.serve_visits-ended.new.room, c.serve_visits-ended.new.log)) (sym (ap (λ (h : SiteState). h.usable) c.close.ensures.closed.keeper.same)) served)
+    c.serve_visits-ended.ensures

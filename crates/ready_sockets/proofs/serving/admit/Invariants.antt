@@ -4,11 +4,8 @@ use Rattle.turns.specs.Runs.{HasRun}
 use Rattle.ready_sockets.proofs.ComingIn.{IsLettingIn}
 use Rattle.ready_sockets.proofs.serving.admit.Given as goal
 
--- what was done so far is a run, and so many came and are in
+-- what was done so far is a run, and by it so many came and are in
 abbrev pub invariant-loop-client : goal.invariant-loop-client
 invariant-loop-client g l =
     let s = g.S.SiteKeeper in
-    record {
-      run : HasRun (HubRun s.site_state s.lacks s.crash_states s.represents) l.fn.hub l.hub [] [] (λ es os. Unit {0});
-      let_in : IsLettingIn l.now l._client l.fn.room l.room;
-    }
+    HasRun (HubRun s.site_state s.lacks s.crash_states s.represents) l.fn.hub l.hub [] [] (λ es os. IsLettingIn l.now l._client l.fn.room es os l.room)

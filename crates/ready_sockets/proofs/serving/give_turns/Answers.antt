@@ -14,6 +14,6 @@ loop-pass-init g c = record {
 pub loop-pass-preserved : goal.loop-pass-preserved
 loop-pass-preserved g c = record {
   run = run_both _ _ _ _ g.met.S.SiteKeeper.crash_states_represent _ _ _ _ _ _ _ _ _ c.loop-pass.invariant.run c.pass.ensures.run
-      (λ es fs os ps p q. times_next c.loop-pass._pass (InOrder HadTurn) _ c.loop-pass.visits c.pass.new.visits es fs os ps p q);
+      (λ es fs os ps p q. times_next c.loop-pass._pass (InOrder (HadTurn c.args.now)) _ c.loop-pass.visits c.pass.new.visits es fs os ps p q);
   clients = c.pass.ensures.clients ∙ c.loop-pass.invariant.clients;
 }

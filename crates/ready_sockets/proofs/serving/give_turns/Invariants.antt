@@ -11,6 +11,6 @@ abbrev pub invariant-loop-pass : goal.invariant-loop-pass
 invariant-loop-pass g l =
     let s = g.S.SiteKeeper in
     record {
-      run : HasRun (HubRun s.site_state s.lacks s.crash_states s.represents) l.fn.hub l.hub (g.C.Clock.given l.fn.clock) (g.C.Clock.given l.clock) (λ es os. Times l._pass (InOrder HadTurn) l.fn.visits es os l.visits);
+      run : HasRun (HubRun s.site_state s.lacks s.crash_states s.represents) l.fn.hub l.hub (g.C.Clock.given l.fn.clock) (g.C.Clock.given l.clock) (λ es os. Times l._pass (InOrder (HadTurn l.now)) l.fn.visits es os l.visits);
       clients : map who l.visits ≡ map who l.fn.visits;
     }

@@ -11,6 +11,6 @@ abbrev pub invariant-loop-visit : goal.invariant-loop-visit
 invariant-loop-visit g l =
     let s = g.S.SiteKeeper in
     record {
-      run : HasRun (HubRun s.site_state s.lacks s.crash_states s.represents) l.fn.hub l.hub (g.C.Clock.given l.fn.clock) (g.C.Clock.given l.clock) (λ es os. IsDoneTo HadTurn l.visit-index l.fn.visits es os l.visits);
+      run : HasRun (HubRun s.site_state s.lacks s.crash_states s.represents) l.fn.hub l.hub (g.C.Clock.given l.fn.clock) (g.C.Clock.given l.clock) (λ es os. IsDoneTo (HadTurn l.now) l.visit-index l.fn.visits es os l.visits);
       clients : map who l.visits ≡ map who l.fn.visits;
     }

@@ -10,14 +10,14 @@ returns g c =
     let full = c.admit.new.room.visits in
     let after = c.serve_all.new.visits in
     let items = with_items_is full after (omega (arith, c.serve_all.auto.visits, c.deref_mut.ensures.len)) in
-    run_both _ _ _ _ g.met.S.SiteKeeper.crash_states_represent _ _ _ _ _ _ _ _ _ (untold _ _ _ _ _ c.admit.ensures.run) c.serve_all.ensures.run
+    run_both _ _ _ _ g.met.S.SiteKeeper.crash_states_represent _ _ _ _ _ _ _ _ _ (untold _ _ _ _ _ c.admit.ensures) c.serve_all.ensures.run
     (λ es fs os ps p q. record {
       full = c.admit.new.room;
       join_events = es;
       join_outcomes = os;
       turn_events = fs;
       turn_outcomes = ps;
-      let_in = c.admit.ensures.let_in;
+      let_in = p;
       served = subst (λ visits. WereServed c.args.now full.items fs ps visits) (sym items) (subst (λ visits. WereServed c.args.now visits fs ps after) c.deref_mut.ensures.value q);
       events_are = refl;
       outcomes_are = refl;

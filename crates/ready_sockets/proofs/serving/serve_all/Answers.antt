@@ -7,7 +7,7 @@ use Rattle.ready_sockets.proofs.serving.serve_all.Goals as goal
 
 pub returns-clause-run : goal.returns-clause-run
 returns-clause-run g c = run_both _ _ _ _ g.met.S.SiteKeeper.crash_states_represent _ _ _ _ _ _ _ _ _ c.give_turns.ensures.run (untold _ _ _ _ _ c.dismiss_late.ensures.run)
-    (λ es fs os ps p q. both_made HadPasses (InOrder (WasDismissed c.args.now)) _ _ _ es fs os ps p q)
+    (λ es fs os ps p q. both_made (HadPasses c.args.now) (InOrder (WasDismissed c.args.now)) _ _ _ es fs os ps p q)
 
 pub returns-clause-clients : goal.returns-clause-clients
 returns-clause-clients g c = c.dismiss_late.ensures.clients ∙ c.give_turns.ensures.clients

@@ -11,4 +11,4 @@ returns-clause-short c =
     let over = c.loop-view-test.false in
     let end = c.loop-view.auto.view-index-end in
     let e : c.loop-view.parts.items ≡ map (λ (v : View). v.bytes) views = c.loop-view.invariant ∙ ap (map (λ (v : View). v.bytes)) (take_all c.loop-view.view-index views (omega (arith, over, end))) in
-    subst (λ (l : List (List ℕ)). All (λ p. length p ≤ 65536) l) (sym e) (short_views views c.requires)
+    subst (λ (l : List (List ℕ)). All (λ p. length p ≤ 262144) l) (sym e) (short_views views c.requires)

@@ -1,5 +1,6 @@
 use Rattle.std.proofs.Common.{◌≡◌, take}
 use Rattle.std.specs.Prelude.{filter_map, IsTrue}
+use Rattle.host_types.specs.Visible.{visible}
 use Rattle.site_replies.specs.Reads.{ReadsOnly}
 use Rattle.site_replies.specs.Reply.{entry_block}
 use Rattle.site_replies.proofs.attributes.all_blocks.Given as goal
@@ -11,5 +12,5 @@ invariant-loop-entry g l =
     record {
       only : ReadsOnly site_state g.S.SiteKeeper.lacks g.S.SiteKeeper.crash_states l.fn.site l.site;
       none_failed : (site_state l.site).failed_reads ≡ (site_state l.fn.site).failed_reads;
-      blocks : IsTrue (site_state l.fn.site).honest → l.all ≡ filter_map (entry_block (site_state l.fn.site).site l.names) (take l.entry-index l.entries);
+      blocks : IsTrue (site_state l.fn.site).honest → l.all ≡ filter_map (entry_block (visible (site_state l.fn.site).site l.now) l.names) (take l.entry-index l.entries);
     }

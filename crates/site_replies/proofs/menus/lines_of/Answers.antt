@@ -2,6 +2,7 @@ use Rattle.std.proofs.Common.{◌≡◌, ◌+◌, ◌++◌, ◌∷◌, [], ◌�
 use Rattle.std.proofs.lemmas.Grind.{common_steps}
 use Rattle.std.specs.Option.{option_to_list}
 use Rattle.text_writer.specs.Menu.{entry_line}
+use Rattle.host_types.specs.Visible.{visible}
 use Rattle.site_replies.proofs.AfterReads.{only_on, ok_gives}
 use Rattle.site_replies.proofs.Picks.{picked_next}
 use Rattle.site_replies.proofs.menus.lines_of.Goals as goal
@@ -15,6 +16,6 @@ loop-entry-preserved g c =
       only = only_on site_state g.S.SiteKeeper.lacks g.S.SiteKeeper.crash_states c.args.site.now c.loop-entry.site c.line_of.new.site c.loop-entry.invariant.only c.line_of.ensures.line.only;
       none_failed = c.in_ok-line.ensures.line.counts ∙ c.loop-entry.invariant.none_failed;
       lines = λ honest.
-          picked_next (site_state c.args.site.now) (site_state c.loop-entry.site) entry_line _ _ _ c.loop-entry.lines c.add_any.new.lines c.in_ok-line.line
+          picked_next (site_state c.args.site.now) (site_state c.loop-entry.site) (λ s. entry_line (visible s c.args.now)) _ _ _ c.loop-entry.lines c.add_any.new.lines c.in_ok-line.line
           c.loop-entry.invariant.only.kept honest (c.loop-entry.invariant.lines honest) (ok_gives c.in_ok-line.line c.line_of.ensures.line c.in_ok-line.was) added more;
     }

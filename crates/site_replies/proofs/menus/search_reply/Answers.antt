@@ -1,6 +1,7 @@
 use Rattle.std.proofs.Common.{List, ℕ, ◌≡◌, arith, subst}
 use Rattle.std.specs.Prelude.{IfOk}
 use Rattle.std.proofs.lemmas.Grind.{common_steps}
+use Rattle.host_types.specs.Visible.{visible}
 use Rattle.word_index.specs.Search.{search_of}
 use Rattle.site_replies.specs.Reply.{menu_reply, locals}
 use Rattle.site_replies.proofs.AfterReads.{only_on, faults_since, counts_since}
@@ -14,8 +15,8 @@ returns g c =
     record {
       reply = record {
         gives = λ honest.
-            subst (λ (words : List ℕ). IfOk c.menu_reply.result (λ reply. reply ≡ menu_reply k.site c.args.is_plus (locals (search_of k.site c.args.scope.now words)))) c.words_asked.ensures
-            (searched k (site_state c.search.new.self) c.args.is_plus c.args.scope.now c.words_asked.result.now c.in_ok-found.found _ c.menu_reply.result
+            subst (λ (words : List ℕ). IfOk c.menu_reply.result (λ reply. reply ≡ menu_reply (visible k.site c.args.now) c.args.is_plus (locals (search_of (visible k.site c.args.now) c.args.scope.now words)))) c.words_asked.ensures
+            (searched k (site_state c.search.new.self) c.args.is_plus c.args.now c.args.scope.now c.words_asked.result.now c.in_ok-found.found _ c.menu_reply.result
             c.search.ensures.kept honest (c.in_ok-found.ensures.found honest) (grind (arith, common_steps)) c.menu_reply.ensures.reply.gives);
         only = only_on site_state g.S.SiteKeeper.lacks g.S.SiteKeeper.crash_states c.args.site.now c.search.new.self c.menu_reply.new.site
             (record { kept = c.search.ensures.kept; lacking = c.search.ensures.lacking; no_new_crash_state = c.search.ensures.at_crash }) c.menu_reply.ensures.reply.only;

@@ -9,5 +9,5 @@ loop-init g c =
     record {
       only = not_yet g.K.Keeper.store_state g.K.Keeper.may_need g.K.Keeper.crash_states keeper;
       none = refl;
-      left = λ honest s kept. first_left s c.args.scope.now c.args.asked.now c.new-found.result c.root-selector.result kept.valid c.new-found.ensures c.root-selector.ensures;
+      left = λ honest s kept. first_left c.args.now s c.args.scope.now c.args.asked.now c.new-found.result c.root-selector.result kept.valid c.new-found.ensures c.root-selector.ensures;
     }

@@ -12,7 +12,7 @@ returns-then-as_slice-ge-MOST_FOUND g c =
     record {
       further = done look.only look.none (λ honest s known.
           let left = known.1 in
-          stops_full s c.args.scope.now c.args.asked.now c.args.found.now c.look_in.new.found c.args.selector.now left (look.gives honest left.item (s, known.0, left.stands)) many);
+          stops_full c.args.now s c.args.scope.now c.args.asked.now c.args.found.now c.look_in.new.found c.args.selector.now left (look.gives honest left.item (s, known.0, left.stands)) many);
     }
 
 pub returns-in-Ok-Some : goal.returns-in-Ok-Some
@@ -24,7 +24,7 @@ returns-in-Ok-Some g c =
       further = done (read_on look.only next.only) (none_later (store_state c.args.keeper.now) (store_state c.look_in.new.keeper) (store_state c.selector_after.new.keeper) look.none next.none) (λ honest s known.
           let left = known.1 in
           let some : Some c.in-Ok-Some.next ≡ selector_after s c.args.selector.now = sym c.in-Ok-Some.field-0-is ∙ next.gives (look.only.read.honest ∙ honest) s (kept_after (store_state c.args.keeper.now) (store_state c.look_in.new.keeper) s look.only.read honest known.0) in
-          goes_further s c.args.scope.now c.args.asked.now c.args.found.now c.look_in.new.found c.args.selector.now c.in-Ok-Some.next known.0.valid left (look.gives honest left.item (s, known.0, left.stands)) some);
+          goes_further c.args.now s c.args.scope.now c.args.asked.now c.args.found.now c.look_in.new.found c.args.selector.now c.in-Ok-Some.next known.0.valid left (look.gives honest left.item (s, known.0, left.stands)) some);
     }
 
 pub returns-in-Ok-None : goal.returns-in-Ok-None
@@ -36,5 +36,5 @@ returns-in-Ok-None g c =
       further = done (read_on look.only next.only) (none_later (store_state c.args.keeper.now) (store_state c.look_in.new.keeper) (store_state c.selector_after.new.keeper) look.none next.none) (λ honest s known.
           let left = known.1 in
           let none : None ≡ selector_after s c.args.selector.now = sym c.in-Ok-None.field-0-is ∙ next.gives (look.only.read.honest ∙ honest) s (kept_after (store_state c.args.keeper.now) (store_state c.look_in.new.keeper) s look.only.read honest known.0) in
-          stops_last s c.args.scope.now c.args.asked.now c.args.found.now c.look_in.new.found c.args.selector.now left (look.gives honest left.item (s, known.0, left.stands)) none);
+          stops_last c.args.now s c.args.scope.now c.args.asked.now c.args.found.now c.look_in.new.found c.args.selector.now left (look.gives honest left.item (s, known.0, left.stands)) none);
     }

@@ -18,7 +18,7 @@ returns-then-branch-clause-site c =
     let banner = c.args.banner.now in
     let is = subst (λ (o : Option (List Pair × Banner)). MatchOption o (rises (map key_of pairs) ≡ false) (λ read. read ≡ (pairs, banner))) c.in-Some.is c.in_ok-read.ensures in
     let site = c.in_ok-site.ensures in
-    (c.in_ok-site.site, whole_site pairs banner c.in_ok-site.site c.in-Some.read c.site_of.new.read is site.same site.address (c.in_ok-has_layout.ensures.0 c.if-branch.true))
+    (c.in_ok-site.site, whole_site pairs banner c.in_ok-site.site c.in-Some.read c.site_of.new.read c.requires.version is site.same site.address (c.in_ok-has_layout.ensures.0 c.if-branch.true))
 
 pub returns-clause-fault : goal.returns-clause-fault
 returns-clause-fault c =

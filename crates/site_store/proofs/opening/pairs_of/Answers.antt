@@ -23,6 +23,7 @@ returns-in-Ok-None g c =
         closed = λ shut. let clash = last.closed (read.same.usable ∙ shut) in absurd (cc clash);
       };
       fit = inv.fit;
+      keys = inv.keys;
     }
 
 pub loop-preserved : goal.loop-preserved
@@ -40,6 +41,7 @@ loop-preserved g c =
           let more = first_more c.loop.pairs.items (store_state c.args.keeper.now).pairs c.in-Ok-Some.pair (g.met.K.Keeper.ordered c.args.keeper.now honest) (inv.first honest) found in
           rw c.in_ok-push-in-Ok-Some.ensures.items more;
       fit = rw c.in_ok-push-in-Ok-Some.ensures.items (All-push (λ p. length p.1 ≤ 1024) c.loop.pairs.items c.in-Ok-Some.pair inv.fit (subst (λ (o : Option Pair). IfSome o (λ p. length p.1 ≤ 1024)) c.in-Ok-Some.field-0-is c.in-Ok-Some.ensures.fit));
+      keys = rw c.in_ok-push-in-Ok-Some.ensures.items (All-push (λ p. length p.0 ≤ 300) c.loop.pairs.items c.in-Ok-Some.pair inv.keys (subst (λ (o : Option Pair). IfSome o (λ p. length p.0 ≤ 300)) c.in-Ok-Some.field-0-is c.in-Ok-Some.ensures.keys));
       shut = λ shut. let clash = next.closed (read.same.usable ∙ shut) in absurd (cc clash);
     }
 
@@ -50,4 +52,5 @@ returns g c = record {
     closed = λ shut. absurd (let none = c.loop.invariant.shut shut in omega (arith, none, c.loop-test.false));
   };
   fit = tt;
+  keys = tt;
 }

@@ -1,7 +1,7 @@
 use Rattle.std.proofs.Common.{◌≡◌, false}
 use Rattle.std.specs.Prelude.{IsTrue}
 use Rattle.site_store.specs.StoreReads.{ReadsOnly, NoneFailed}
-use Rattle.site_store.specs.Opening.{AreFirst, ValuesFit}
+use Rattle.site_store.specs.Opening.{AreFirst, ValuesFit, KeysFit}
 use Rattle.site_store.proofs.opening.pairs_of.Given as goal
 
 abbrev pub invariant-loop : goal.invariant-loop
@@ -12,5 +12,6 @@ invariant-loop g l =
       none : NoneFailed (store_state l.fn.keeper) (store_state l.keeper);
       first : IsTrue (store_state l.fn.keeper).honest → AreFirst l.pairs.items (store_state l.fn.keeper).pairs;
       fit : ValuesFit l.pairs.items;
+      keys : KeysFit l.pairs.items;
       shut : (store_state l.fn.keeper).usable ≡ false → l.counter ≡ 0;
     }

@@ -23,7 +23,7 @@ returns-in-Some g c =
     let asked : c.as_slice-asked.result.now ≡ words_in c.args.query.now = c.as_slice-asked.ensures ∙ c.in_ok-words.ensures in
     record {
       found = hands_on c.args.keeper.now c.search_in.new.keeper c.search_in.result c.search_in.ensures.found
-          (λ honest found is s kept. is s kept ∙ ap (all_found s c.args.scope.now) asked ∙ all_searched s c.args.scope.now c.args.query.now) (λ fault h. h);
+          (λ honest found is s kept. is s kept ∙ ap (all_found c.args.now s c.args.scope.now) asked ∙ all_searched c.args.now s c.args.scope.now c.args.query.now kept.valid) (λ fault h. h);
     }
 
 pub returns : goal.returns
@@ -31,5 +31,5 @@ returns g c =
     let asked : c.as_slice-asked.result.now ≡ words_in c.args.query.now = c.as_slice-asked.ensures ∙ c.in_ok-words.ensures in
     record {
       found = done (not_yet g.K.Keeper.store_state g.K.Keeper.may_need g.K.Keeper.crash_states c.args.keeper.now) refl (λ honest s kept.
-          c.new.ensures ∙ sym (finds_nothing s c.args.scope.now c.as_slice-asked.result.now c.in-None.ensures) ∙ ap (all_found s c.args.scope.now) asked ∙ all_searched s c.args.scope.now c.args.query.now);
+          c.new.ensures ∙ sym (finds_nothing c.args.now s c.args.scope.now c.as_slice-asked.result.now c.in-None.ensures) ∙ ap (all_found c.args.now s c.args.scope.now) asked ∙ all_searched c.args.now s c.args.scope.now c.args.query.now kept.valid);
     }

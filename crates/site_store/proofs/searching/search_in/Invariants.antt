@@ -12,5 +12,5 @@ invariant-loop g l =
     record {
       only : ReadsOnly store_state g.K.Keeper.may_need g.K.Keeper.crash_states l.fn.keeper l.keeper;
       none : NoneFailed (store_state l.fn.keeper) (store_state l.keeper);
-      left : IsTrue (store_state l.fn.keeper).honest → (s : Site) → RepresentedBy (store_state l.fn.keeper) s → IsLeft s l.scope l.word l.asked l.found l.last;
+      left : IsTrue (store_state l.fn.keeper).honest → (s : Site) → RepresentedBy (store_state l.fn.keeper) s → IsLeft l.now s l.scope l.word l.asked l.found l.last;
     }

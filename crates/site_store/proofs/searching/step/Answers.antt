@@ -12,7 +12,7 @@ returns-then-as_slice-ge-MOST_FOUND g c =
     let many : 100 ≤ length c.args.found.now = subst (λ (l : List (List ℕ)). 100 ≤ length l) c.as_slice.ensures c.if-as_slice-ge-MOST_FOUND.true in
     record {
       further = done (not_yet g.K.Keeper.store_state g.K.Keeper.may_need g.K.Keeper.crash_states c.args.keeper.now) refl (λ honest s known.
-          stops_full s c.args.scope.now c.args.word.now c.args.asked.now c.args.found.now c.args.last.now known.1 many);
+          stops_full c.args.now s c.args.scope.now c.args.word.now c.args.asked.now c.args.found.now c.args.last.now known.1 many);
     }
 
 pub returns-in-Ok-None : goal.returns-in-Ok-None
@@ -20,7 +20,7 @@ returns-in-Ok-None g c =
     let next = c.in-Ok-None.ensures.next.reads in
     record {
       further = done next.only next.none (λ honest s known.
-          stops_last s c.args.scope.now c.args.word.now c.args.asked.now c.args.found.now c.args.last.now known.1 (sym c.in-Ok-None.field-0-is ∙ next.gives honest s known.0 known.1.within));
+          stops_last c.args.now s c.args.scope.now c.args.word.now c.args.asked.now c.args.found.now c.args.last.now known.1 (sym c.in-Ok-None.field-0-is ∙ next.gives honest s known.0 known.1.within));
     }
 
 pub returns-in-Ok : goal.returns-in-Ok
@@ -34,7 +34,7 @@ returns-in-Ok g c =
           let sorted = kept_sorted s known.0.valid in
           let item = next_item s c.args.scope.now c.args.word.now c.args.last.now c.in-Ok-Some.next sorted (sym c.in-Ok-Some.field-0-is ∙ next.gives honest s known.0 known.1.within) in
           let after = kept_after (store_state c.args.keeper.now) (store_state c.next_with.new.keeper) s next.only.read honest known.0 in
-          goes_further s c.args.scope.now c.args.word.now c.args.asked.now c.args.found.now c.look_in.new.found c.args.last.now c.in-Ok-Some.next sorted c.requires.asked room known.1 item
+          goes_further c.args.now s c.args.scope.now c.args.word.now c.args.asked.now c.args.found.now c.look_in.new.found c.args.last.now c.in-Ok-Some.next sorted c.requires.asked room known.1 item
           (look.gives (next.only.read.honest ∙ honest) item.item ((s, after, item.stands), item.has)));
     }
 

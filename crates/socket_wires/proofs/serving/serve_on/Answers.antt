@@ -1,17 +1,21 @@
-use Rattle.std.proofs.Common.{refl, arith}
-use Rattle.std.proofs.lemmas.Grind.{common_steps}
+use Rattle.std.proofs.Common.{◌≡◌, refl, sym, ◌∙◌, arith, rules}
 use Rattle.turns.proofs.Runnings.{run_none, run_both, run_as}
-use Rattle.socket_wires.proofs.RoundsMade.{round_made, rounds_next}
+use Rattle.socket_wires.specs.Rounds.{none, more}
+use Rattle.socket_wires.proofs.RoundsMade.{round_made, run_with}
 use Rattle.socket_wires.proofs.serving.serve_on.Goals as goal
 
 pub loop-round-init : goal.loop-round-init
-loop-round-init g c = record { rounds = (refl, refl, refl); ran = run_none _ _ _ _ g.met.S.SiteKeeper.crash_states_represent _ _ _ tt }
+loop-round-init g c = run_none _ _ _ _ g.met.S.SiteKeeper.crash_states_represent _ _ _ (none _)
 
 pub loop-round-preserved : goal.loop-round-preserved
-loop-round-preserved g c = record {
-  rounds = rounds_next _ _ c.args.together c.loop-round._round _ c.loop-round.hub _ _ _ _ _ _ _ c.loop-round.invariant.rounds (record {
-    begins = grind (arith, common_steps);
-    run = run_as _ _ _ _ _ _ _ c.take_turns.ensures.serves (λ es os s. round_made c.args.together _ _ _ c.in_ok-connections.connections.items _ c.take_turns.new.connections es os c.in_ok-connections.ensures c.deref_mut.ensures.value s c.take_turns.ensures.count c.saturating_add-served.ensures);
-  });
-  ran = run_both _ _ _ _ g.met.S.SiteKeeper.crash_states_represent _ _ _ _ _ _ _ _ _ c.loop-round.invariant.ran c.take_turns.ensures.serves (λ es fs os ps p q. tt);
-}
+loop-round-preserved g c = run_both _ _ _ _ g.met.S.SiteKeeper.crash_states_represent _ _ _ _ _ _ _ _ _ c.loop-round.invariant (run_with _ _ _ _ _ _ c.take_turns.ensures.serves)
+    (λ es fs os ps p q. more _ _ _ _ _ _ es fs os ps p (sym c.is_usable.ensures ∙ c.if-not-is_usable.false) q.0
+    (round_made c.args.together _ _ _ c.in_ok-connections.connections.items _ c.take_turns.new.connections fs ps c.in_ok-connections.ensures.fresh c.deref_mut.ensures.value q.1 c.take_turns.ensures.count c.saturating_add-served.ensures))
+
+pub returns-then-not-is_usable : goal.returns-then-not-is_usable
+returns-then-not-is_usable g c = run_as _ _ _ _ _ _ _ c.loop-round.invariant (λ es os p. record { made = c.loop-round._round; count = c.loop-round.served; few = omega (arith, c.loop-round-test.true); are = p; ends = sym c.is_usable.ensures ∙ c.if-not-is_usable.true })
+
+pub returns-then-is_usable : goal.returns-then-is_usable
+returns-then-is_usable g c =
+    let all : c.loop-round._round ≡ c.args.rounds = omega (arith, c.loop-round-test.false, c.loop-round.auto._round-end) in
+    run_as _ _ _ _ _ _ _ c.loop-round.invariant (λ es os p. record { made = c.loop-round._round; count = c.loop-round.served; few = omega (arith, all); are = p; ends = (search rules, all, refl) })

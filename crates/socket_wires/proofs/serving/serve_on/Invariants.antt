@@ -8,7 +8,5 @@ use Rattle.socket_wires.proofs.serving.serve_on.Given as goal
 abbrev pub invariant-loop-round : goal.invariant-loop-round
 invariant-loop-round g l =
     let s = g.S.SiteKeeper in
-    record {
-      rounds : Rounds (HubRun s.site_state s.lacks s.crash_states s.represents) (λ h. (s.site_state (keeper_of h)).usable) l.together l._round l.fn.hub l.hub (g.C.Clock.given l.fn.clock) (g.C.Clock.given l.clock) 0 l.served;
-      ran : HasRun (HubRun s.site_state s.lacks s.crash_states s.represents) l.fn.hub l.hub (g.C.Clock.given l.fn.clock) (g.C.Clock.given l.clock) (λ es os. Unit {0});
-    }
+    HasRun (HubRun s.site_state s.lacks s.crash_states s.represents) l.fn.hub l.hub (g.C.Clock.given l.fn.clock) (g.C.Clock.given l.clock) (λ es os.
+    Rounds (HubRun s.site_state s.lacks s.crash_states s.represents) (λ h. (s.site_state (keeper_of h)).usable) l.together l._round l.fn.hub es os l.hub l.served)

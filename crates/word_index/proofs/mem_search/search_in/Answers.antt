@@ -9,5 +9,5 @@ pub returns : goal.returns
 returns c =
     let all : take c.loop-entry.entry-index c.args.entries.now ≡ c.args.entries.now = grind (arith, common_steps) in
     c.loop-entry.invariant
-    ∙ ap (λ l. fold (searched_at c.args.scope.now c.args.asked.now) [] (map (λ e. (e.0.now, e.1.now)) l)) all
-    ∙ found_all c.args.scope.now c.args.asked.now (map (λ e. (e.0.now, e.1.now)) c.args.entries.now)
+    ∙ ap (λ l. fold (searched_at c.args.now c.args.scope.now c.args.asked.now) [] (map (λ e. (e.0.now, e.1.now)) l)) all
+    ∙ found_all c.args.now c.args.scope.now c.args.asked.now (map (λ e. (e.0.now, e.1.now)) c.args.entries.now)

@@ -4,7 +4,7 @@ use Rattle.common_types.specs.CrashStates.{may_crash_to, no_new_crash_state, add
 use Rattle.sector_device.specs.Disk.{Disk}
 use Rattle.page_alloc.specs.LedgerState.{LedgerState}
 use Rattle.page_store.specs.Sectors.{Image}
-use Rattle.page_store.specs.Content.{Found}
+use Rattle.page_store.specs.Content.{not_flat, Found}
 use Rattle.page_store.specs.Batch.{updated}
 use Rattle.page_store.specs.Steps.{crash_states_of}
 use Rattle.page_store.specs.StoreState.{HasStayed}
@@ -49,7 +49,7 @@ returns-in-Err-clause-fault g c =
     let rise = reads_rise c.in-Err.fault old.failed_reads mid.failed_reads c.in-Err.ensures.reads.reads in
     let stayed = subst (λ (l : LedgerState). HasStayed (tree_holding old k.slot k.ledger k.top k.usable k.pinned) (tree_holding mid k.slot l k.top k.usable k.pinned)) (sym c.in-Err.ensures.refused) (has_read old mid k.slot k.ledger k.top k.usable k.pinned only rise).same in
     commit_fault (tree_holding old k.slot k.ledger k.top k.usable k.pinned) (tree_holding mid k.slot c.plan_commit.new.ledger k.top k.usable k.pinned) (length batch) (MayNeed k.slot old batch) k.slot (MayBeTooDeep k.slot (length batch)) _ _ c.in-Err.fault stayed c.in-Err.ensures.reads.reads
-    (λ keeps. c.in-Err.ensures.planned keeps k.top pairs (held_by keeps) (first keeps) refl version) (λ deep. ((let v = k.fitted.version in omega (arith, v)), deep)) c.in-Err.ensures.fault (λ n f keeps again. f keeps pairs (first keeps))
+    (λ keeps. c.in-Err.ensures.planned keeps k.top pairs (held_by keeps) (first keeps) refl version) (λ deep. (not_flat k.slot.root.banner.version k.fitted.version, deep)) c.in-Err.ensures.fault (λ n f keeps again. f keeps pairs (first keeps))
 
 pub returns-in-Err-clause-tried : goal.returns-in-Err-clause-tried
 returns-in-Err-clause-tried g c =

@@ -1,0 +1,5 @@
+use Rattle.group_world.proofs.CountedPosts.{later_replies_are_known}
+use Rattle.group_world.proofs.laws.later_replies_are_known.Goals as goal
+
+pub returns : goal.returns
+returns c = later_replies_are_known

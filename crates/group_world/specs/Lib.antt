@@ -1,0 +1,8 @@
+pub mod World
+pub mod Step
+pub mod Run
+pub mod CrashStates
+pub mod Calls
+pub mod Laws
+pub mod PlainHubs
+pub mod GroupExamples
