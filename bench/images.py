@@ -11,6 +11,9 @@ CHUNK = 1000
 BODY = 65536
 ROOT_PART = 488
 FIRST_GENERATION = 1
+# the version of images, and the one before it, in whose records no item has an end
+VERSION, FIRST_VERSION = 2, 1
+NEVER = b"\xff" * 8
 RARE, RARE_AT = "lighthouse", 7
 HOST, ADMIN, TITLE = "localhost", "Ada <ada@localhost>", "Top"
 
@@ -93,7 +96,7 @@ def index_words(title, body):
 
 
 def record(letter, title, rest):
-    return letter + number(int(time.time()), 8) + short(title) + number(0, 2) + rest
+    return letter + number(int(time.time()), 8) + NEVER + short(title) + number(0, 2) + rest
 
 
 def document_pairs(selector, title, body):
@@ -167,20 +170,27 @@ def tree_pages(pairs):
         groups = [(key, [child(b"", first + start), *entries[1:]]) for start, (key, entries) in zip(starts, runs)]
 
 
-def root_page(pages, tree, height, pairs, port):
+def lowered(key, value):
+    """What stands at a key in version 1: a record without the eight bytes that say from when on its item isn't found."""
+    return value[:9] + value[17:] if key.startswith(b"I") else value
+
+
+def root_page(pages, tree, height, pairs, port, version):
     banner = short(HOST.encode()) + number(port, 2) + short(ADMIN.encode())
-    kept = (number(1, 2) + number(pages, 4) + number(tree, 4) + number(height, 2) + number(pairs, 8) + banner).ljust(8 * ROOT_PART, b"\0")
+    kept = (number(version, 2) + number(pages, 4) + number(tree, 4) + number(height, 2) + number(pairs, 8) + banner).ljust(8 * ROOT_PART, b"\0")
     parts = (kept[place : place + ROOT_PART] for place in range(0, len(kept), ROOT_PART))
     return b"".join(b"GOPHROOT" + number(place, 8) + number(FIRST_GENERATION, 8) + part for place, part in enumerate(parts))
 
 
-def put_image(image, pages, port, pairs):
+def put_image(image, pages, port, pairs, version=VERSION):
     """Writes an image of a tree with these pairs. Returns how many pages and levels the tree has."""
+    if version == FIRST_VERSION:
+        pairs = [(key, lowered(key, value)) for key, value in pairs]
     tree, height = tree_pages(pairs)
     if len(tree) > pages - 2:
         raise SystemExit(f"bench: {len(tree)} pages of a tree do not fit into {pages} pages")
     with open(image, "wb") as it:
-        it.write(root_page(pages, 1 + len(tree), height, len(pairs), port) + bytes(PAGE) + b"".join(tree))
+        it.write(root_page(pages, 1 + len(tree), height, len(pairs), port, version) + bytes(PAGE) + b"".join(tree))
         it.truncate(pages * PAGE)
     return len(tree), height
 
@@ -192,11 +202,11 @@ def written(image, pages, port, bytes_of_pairs):
     return documents
 
 
-def written_items(image, pages, port, items):
+def written_items(image, pages, port, items, version=VERSION):
     """Writes an image with so many short documents, of which one alone has the rare word, under an empty top menu. Returns how many pages and levels its tree has."""
     source, vocabulary = random.Random(items), [f"word{place}".encode() for place in range(2000)]
     pairs = [(b"I", record(b"M", TITLE.encode(), number(0, 4))), (b"W" + short(TITLE.lower().encode()), b"")]
     for place in range(items):
         body = b" ".join(source.choices(vocabulary, k=20) + [RARE.encode()] * (place == RARE_AT))
         pairs += document_pairs(f"/d/{place:05}".encode(), f"Document {place}".encode(), body)
-    return put_image(image, pages, port, sorted(pairs))
+    return put_image(image, pages, port, sorted(pairs), version)

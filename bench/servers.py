@@ -3,23 +3,20 @@ import contextlib
 import os
 import shutil
 import signal
-import socket
 import subprocess
+import sys
 import time
 
 HERE = os.path.dirname(os.path.realpath(__file__))
 TOP = os.path.dirname(HERE)
+sys.path.append(f"{TOP}/tests")
+# for the scripts of this folder too
+from common import asked, free_port, wait_for
+from common import host as program
+
 ENDLESS = "4294967295"
 GREATEST = "2147483647"
 SHARED_MEMORY = "0xbeeb0008"
-
-
-def program():
-    """The program itself: the one that GOPHER_HOST names, else this clone's, which is built first."""
-    if named := os.environ.get("GOPHER_HOST"):
-        return os.path.abspath(named)
-    subprocess.run([f"{TOP}/gopher_host", "--version"], check=True, stdout=subprocess.DEVNULL)
-    return f"{TOP}/crates/gopher_host/out/gopher_host"
 
 
 def is_daily(host):
@@ -35,30 +32,6 @@ def compiled(folder):
         made[name] = f"{folder}/{name}"
         subprocess.run(["cc", "-O2", "-o", made[name], f"{HERE}/{name}.c"], check=True, timeout=60)
     return made
-
-
-def free_port():
-    with socket.socket() as it:
-        it.bind(("127.0.0.1", 0))
-        return it.getsockname()[1]
-
-
-def asked(port, request):
-    with socket.create_connection(("127.0.0.1", port), timeout=10) as it:
-        it.sendall(request)
-        return b"".join(iter(lambda: it.recv(1 << 16), b""))
-
-
-def wait_for(server, port, patience):
-    """Waits until the server takes connections."""
-    end_of_patience = time.monotonic() + patience
-    while time.monotonic() < end_of_patience:
-        if server.poll() is not None:
-            raise SystemExit(f"bench: {server.args} ended with {server.returncode}")
-        with contextlib.suppress(OSError), socket.create_connection(("127.0.0.1", port), timeout=10):
-            return
-        time.sleep(0.001)
-    raise TimeoutError(f"{server.args} takes no connections")
 
 
 def end(server):

@@ -1,0 +1,116 @@
+"""Sessions of a script over a site, written once more by the document SCRIPT: nothing of the program is read here."""
+import re
+
+from .replies import plain_error, reply_of
+from .requests import Bad, request_of
+from .site import GREATEST_MOMENT, Item, Refused, selector_of, title_of
+
+MOST_SESSIONS = 32
+ESCAPE = re.compile(rb"\\(?:x([0-9a-fA-F]{2})|([0nrt\\]))")
+LETTERS = {b"0": b"\0", b"n": b"\n", b"r": b"\r", b"t": b"\t", b"\\": b"\\"}
+SIGNS = {0: "\\0", 10: "\\n", 13: "\\r", 9: "\\t", 92: "\\\\"}
+
+
+def unescaped(field):
+    return ESCAPE.sub(lambda it: bytes.fromhex(it[1].decode()) if it[1] else LETTERS[it[2]], field.encode())
+
+
+# a letter past ASCII, as UTF-8 writes it
+WIDE = re.compile(
+    rb"[\xC2-\xDF][\x80-\xBF]|\xE0[\xA0-\xBF][\x80-\xBF]|[\xE1-\xEC\xEE\xEF][\x80-\xBF]{2}|\xED[\x80-\x9F][\x80-\xBF]"
+    rb"|\xF0[\x90-\xBF][\x80-\xBF]{2}|[\xF1-\xF3][\x80-\xBF]{3}|\xF4[\x80-\x8F][\x80-\xBF]{2}"
+)
+
+
+def escaped(text):
+    """ASCII that prints stands for itself, and so does a letter past ASCII; all else stands for its escape, byte by byte."""
+    shown, at = [], 0
+    while at < len(text):
+        wide = WIDE.match(text, at)
+        if wide:
+            shown.append(wide[0].decode())
+            at = wide.end()
+        else:
+            byte = text[at]
+            shown.append(SIGNS.get(byte) or (chr(byte) if 33 <= byte <= 126 else f"\\x{byte:02X}"))
+            at += 1
+    return "".join(shown)
+
+
+class Session:
+    def __init__(self):
+        self.heard = b""
+        # what is left of the reply, or none before there is one
+        self.reply = None
+        self.has_ended = False
+
+
+class Sessions:
+    """Sessions over one site, at the moment that the last line `now` said."""
+
+    def __init__(self, site):
+        self.site, self.now, self.all, self.last = site, 0, {}, 0
+
+    def heard(self, it, ended):
+        """What a session is answered to a piece, or to the end of input."""
+        if it.reply is None and not it.has_ended:
+            try:
+                request = request_of(it.heard, ended)
+                it.reply = None if request is None else reply_of(self.site, request, self.now)
+            except Bad as bad:
+                it.reply = plain_error(bad.args[0])
+            it.has_ended = ended and it.reply is None
+        return "ready" if it.reply is not None else "finished" if it.has_ended else "more"
+
+    def drawn(self, it, room):
+        if it.has_ended or it.reply == b"":
+            return "finished"
+        if it.reply is None:
+            return "fault NotReady"
+        piece, it.reply = it.reply[:room], it.reply[room:]
+        return "drawn " + escaped(piece)
+
+    def put_text(self, selector, title, body):
+        view = (b"Text/plain", b"", unescaped(body))
+        try:
+            selector = selector_of(unescaped(selector))
+            item = Item(title_of(unescaped(title)), self.now, None, b"", ("views", b"0", [view]))
+            self.site.put(selector, item, self.now)
+        except Refused as refused:
+            return f"fault {refused.name}"
+        return "ok"
+
+    def join(self):
+        if len(self.all) == MOST_SESSIONS:
+            return "fault Crowded"
+        self.last += 1
+        self.all[self.last] = Session()
+        return f"id {self.last}"
+
+    def of_session(self, word, number, rest):
+        it = self.all.get(number)
+        if it is None:
+            return "fault Unknown"
+        if word == "bytes":
+            if it.reply is None and not it.has_ended:
+                it.heard += unescaped(rest[0])
+            return self.heard(it, False)
+        if word == "end":
+            return self.heard(it, True)
+        if word == "draw":
+            return self.drawn(it, int(rest[0]))
+        del self.all[number]
+        return "ok"
+
+    def answer(self, line):
+        """What a line prints."""
+        word, *fields = line.split(" ")
+        if word == "now":
+            self.now = int(fields[0])
+            assert self.now <= GREATEST_MOMENT
+            return "ok"
+        if word == "text":
+            return self.put_text(*fields)
+        if word == "join":
+            return self.join()
+        return self.of_session(word, int(fields[0]), fields[1:])
