@@ -1,0 +1,3 @@
+pub mod OneEvent
+pub mod Runs
+pub mod Crashes
