@@ -64,8 +64,9 @@ abbrev pub PossibleSince : List FileCall → ℕ → List (List ℕ) → Type 0
 PossibleSince [] t image = (t ≤ 0) × IsImage (disk_of []) image
 PossibleSince (call ∷ earlier) t image = PossibleSince earlier t image ⊎ ((t ≤ suc (length earlier)) × IsImage (disk_of (call ∷ earlier)) image)
 
--- A device over a file: the calls that were made of it, the newest first, and how many writes and syncs failed.
+-- A device over a file: the name by which it was opened, the calls that were made of it, the newest first, and how many writes and syncs failed.
 pub record FileHistory : Type 0 where
+  pub path : List ℕ
   pub calls : List FileCall
   pub failed_writes : ℕ
 

@@ -20,6 +20,8 @@ use std::marker::Model;
 /// A file as a disk. Its length div 512 is its count of sectors.
 #[derive(Drop)]
 pub struct FileDevice {
+    /// By which it was opened.
+    path: String,
     file: ImageFile,
     view: Vec<[u8; 512]>,
     /// No write and no sync has failed. Once one has, the file is asked for nothing more, since the system may have dropped what was written.
@@ -28,11 +30,12 @@ pub struct FileDevice {
 }
 
 impl Model for FileDevice {
+    ghost use Rattle.std.specs.String.{string_bytes};
     ghost use Rattle.file_device.specs.FileCalls.{FileHistory, IsCopy};
 
     ghost Value = { FileHistory };
 
-    ghost view = { λ f. record { calls = f.file.made.calls; failed_writes = f.failed_writes } };
+    ghost view = { λ f. record { path = string_bytes f.path; calls = f.file.made.calls; failed_writes = f.failed_writes } };
 
     ghost invariant = { λ f. IsCopy f.file.made.calls f.view.items f.is_sound };
 }
@@ -101,6 +104,7 @@ impl FileDevice {
         path: &str,
     ) -> Result<FileDevice, DeviceFault>
         ensures opened { IfOk result (λ d. IsOpened (Lock ∷ Open ∷ []) d) }
+        ensures named { IfOk result (λ d. d.path ≡ path.now) }
         ensures unused { IfOk result (λ d. IsUnused d) }
         ensures fault { IfErr result (λ e. (e ≡ NoFile) ⊎ (e ≡ Memory)) }
     {
@@ -110,7 +114,7 @@ impl FileDevice {
         if file.lock().is_err() {
             return Err(DeviceFault::NoFile);
         }
-        FileDevice::over(rt.alloc(), file)
+        FileDevice::over(rt.alloc(), path, file)
     }
 
     /// Opens a file, as `open` does, which is made where it isn't there, and has this many sectors from then on: what it had within them stays, and what is
@@ -121,6 +125,7 @@ impl FileDevice {
         sectors: u64,
     ) -> Result<FileDevice, DeviceFault>
         ensures opened { IfOk result (λ d. IsOpened (SetLength (512 * sectors) ∷ Lock ∷ Create ∷ []) d) }
+        ensures named { IfOk result (λ d. d.path ≡ path.now) }
         ensures unused { IfOk result (λ d. IsUnused d) }
         ensures size { IfOk result (λ d. length (disk_of d.calls).base ≡ sectors) }
         ensures fault { IfErr result (λ e. (e ≡ NoFile) ⊎ (e ≡ Memory)) }
@@ -134,7 +139,7 @@ impl FileDevice {
         if file.lock().is_err() || file.set_length(length).is_err() {
             return Err(DeviceFault::NoFile);
         }
-        let device = FileDevice::over(rt.alloc(), file)?;
+        let device = FileDevice::over(rt.alloc(), path, file)?;
         if device.sectors() != sectors {
             return Err(DeviceFault::NoFile);
         }
@@ -142,12 +147,16 @@ impl FileDevice {
     }
 
     /// Makes sure of a file of which no sector was read yet, reads all of it, and has the system keep it by small pieces.
-    fn over(alloc: Global, file: ImageFile) -> Result<FileDevice, DeviceFault>
+    fn over(alloc: Global, path: &str, file: ImageFile) -> Result<FileDevice, DeviceFault>
         requires { IsUnread file.made.calls }
         ensures opened { IfOk result (λ d. IsOpened file.made.calls d) }
+        ensures named { IfOk result (λ d. d.path ≡ path.now) }
         ensures unused { IfOk result (λ d. IsUnused d) }
         ensures fault { IfErr result (λ e. (e ≡ NoFile) ⊎ (e ≡ Memory)) }
     {
+        let Ok(path) = String::from_str(alloc, path) else {
+            return Err(DeviceFault::Memory);
+        };
         let mut file = file;
         let Ok(length) = sync_and_measure(&mut file) else {
             return Err(DeviceFault::NoFile);
@@ -157,6 +166,7 @@ impl FileDevice {
             return Err(DeviceFault::NoFile);
         };
         Ok(FileDevice {
+            path,
             file,
             view,
             is_sound: true,

@@ -27,17 +27,17 @@ printed P (Ok given) text contents old new (Err fault) gives is = tt
 printed P (Err refused) text contents old new (Ok x) gives is = absurd gives
 printed P (Err refused) text contents old new (Err fault) gives is = tt
 
-pub on_file : {X : Type 0} (Holds : FileHistory → Type 0) (device : FileHistory) (result : Result X Fault) → IsOpened (Lock ∷ Open ∷ []) device → IsUnused device → OnOk result (Holds device) → OnOk result (OnImageFile Holds)
-on_file Holds device (Ok x) opened unused holds = (device, opened, unused, holds)
-on_file Holds device (Err fault) opened unused holds = tt
+pub on_file : {X : Type 0} (image : List ℕ) (Holds : FileHistory → Type 0) (device : FileHistory) (result : Result X Fault) → device.path ≡ image → IsOpened (Lock ∷ Open ∷ []) device → IsUnused device → OnOk result (Holds device) → OnOk result (OnImageFile image Holds)
+on_file image Holds device (Ok x) named opened unused holds = (device, named, opened, unused, holds)
+on_file image Holds device (Err fault) named opened unused holds = tt
 
 -- or its fault is answered
-pub ends_for : {A W X : Type 0} (IsCause : State → State → ImageFault → Type 0) (device : FileHistory) (given : Result (A × FileHistory) (ImageFault × FileHistory)) (text : A → List ℕ) (contents : W → Option (List ℕ)) (old new : W) (result : Result X Fault) →
-    IsOpened (Lock ∷ Open ∷ []) device → IsUnused device → Gives given text contents old new result → IfErr given (λ e. IsCause (file_state device) (file_state e.1) e.0) → IfErr result (EndsFor IsCause old new)
-ends_for IsCause device (Ok given) text contents old new (Ok x) opened unused gives is = tt
-ends_for IsCause device (Ok given) text contents old new (Err fault) opened unused gives is = inl gives
-ends_for IsCause device (Err refused) text contents old new (Ok x) opened unused gives is = tt
-ends_for IsCause device (Err refused) text contents old new (Err fault) opened unused gives is = inr (refused.0, gives.0, gives.1, inr (device, opened, unused, (refused.1, is)))
+pub ends_for : {A W X : Type 0} (image : List ℕ) (IsCause : State → State → ImageFault → Type 0) (device : FileHistory) (given : Result (A × FileHistory) (ImageFault × FileHistory)) (text : A → List ℕ) (contents : W → Option (List ℕ)) (old new : W) (result : Result X Fault) →
+    device.path ≡ image → IsOpened (Lock ∷ Open ∷ []) device → IsUnused device → Gives given text contents old new result → IfErr given (λ e. IsCause (file_state device) (file_state e.1) e.0) → IfErr result (EndsFor image IsCause old new)
+ends_for image IsCause device (Ok given) text contents old new (Ok x) named opened unused gives is = tt
+ends_for image IsCause device (Ok given) text contents old new (Err fault) named opened unused gives is = inl gives
+ends_for image IsCause device (Err refused) text contents old new (Ok x) named opened unused gives is = tt
+ends_for image IsCause device (Err refused) text contents old new (Err fault) named opened unused gives is = inr (refused.0, gives.0, gives.1, inr (device, named, opened, unused, (refused.1, is)))
 
 -- a fault but that of the output comes with nothing printed
 pub nothing_printed : {I E T W X : Type 0} (given : Result (Result ℕ I × T) (E × T)) (line : ℕ → List ℕ) (inner : I → Fault) (outer : E → Fault) (contents : W → Option (List ℕ)) (old new : W) (result : Result X Fault) →

@@ -1,7 +1,6 @@
 -- What commands do with the image in a file, and what they print.
-use Rattle.std.specs.Prelude.{◌≡◌, ◌⊎◌, ◌++◌, ℕ, List, [], ◌∷◌, length, Option, Some, Ok, IsUtf8}
+use Rattle.std.specs.Prelude.{◌≡◌, ◌⊎◌, ◌++◌, ℕ, List, [], ◌∷◌, length, Option, Some, Result, Ok, Err, IsUtf8}
 use Rattle.std.specs.Io.KnownBytes.{Appends}
-use Rattle.std.specs.declared.net.socket_addr.SocketAddr.{SocketAddr}
 use Rattle.common_types.specs.CrashStates.{CrashStates}
 use Rattle.sector_device.specs.Device.{State}
 use Rattle.page_store.specs.Sectors.{Image}
@@ -19,8 +18,6 @@ use Rattle.image_commands.specs.Upgraded.{IsUpgradedImage}
 use Rattle.image_commands.specs.Listing.{IsShown}
 use Rattle.image_commands.specs.declared.fault.ImageFault.{ImageFault}
 use Rattle.image_commands.specs.declared.fault.ImageFault.TheVariants.{NoFile, Memory}
-use Rattle.image_server.specs.Visiting.{IsPlace}
-use Rattle.ready_sockets.specs.DoorCalls.{DoorCall, Listened}
 use Rattle.gopher_host.specs.Faults.{ended, output_fault}
 use Rattle.gopher_host.specs.declared.fault.Fault.{Fault}
 use Rattle.gopher_host.specs.declared.fault.Fault.TheVariants as faults
@@ -28,9 +25,9 @@ use Rattle.gopher_host.specs.declared.fault.Fault.TheVariants as faults
 abbrev pub file_crash_states : FileHistory → CrashStates Image
 file_crash_states = crash_states_of (λ (device : FileHistory). length device.calls) (λ device. PossibleSince device.calls)
 
--- The file of an image was opened, and this holds of it.
-abbrev pub OnImageFile : (FileHistory → Type 0) → Type 0
-OnImageFile Holds = (device : FileHistory) × IsOpened (Lock ∷ Open ∷ []) device × IsUnused device × Holds device
+-- The file of this name was opened, and this holds of it.
+abbrev pub OnImageFile : List ℕ → (FileHistory → Type 0) → Type 0
+OnImageFile image Holds = (device : FileHistory) × (device.path ≡ image) × IsOpened (Lock ∷ Open ∷ []) device × IsUnused device × Holds device
 
 -- ---- what is printed, and nothing else
 
@@ -67,13 +64,11 @@ abbrev pub IsNotThere : ImageFault → Type 0
 IsNotThere fault = (fault ≡ NoFile) ⊎ (fault ≡ Memory)
 
 -- Standard output took no more. Or nothing was printed, since the file is not there; or since it was opened, and such a fault came.
-abbrev pub EndsFor : {W : Type 0} → (State → State → ImageFault → Type 0) → W → W → Fault → Type 0
-EndsFor IsCause old new e =
+abbrev pub EndsFor : {W : Type 0} → List ℕ → (State → State → ImageFault → Type 0) → W → W → Fault → Type 0
+EndsFor image IsCause old new e =
     (e ≡ output_fault)
-    ⊎ ((fault : ImageFault) × (e ≡ faults.Image fault) × (new ≡ old) × (IsNotThere fault ⊎ OnImageFile (λ device. (left : FileHistory) × IsCause (file_state device) (file_state left) fault)))
+    ⊎ ((fault : ImageFault) × (e ≡ faults.Image fault) × (new ≡ old) × (IsNotThere fault ⊎ OnImageFile image (λ device. (left : FileHistory) × IsCause (file_state device) (file_state left) fault)))
 
--- ---- listening
-
--- A listener was asked for once, and had: at the address that is given, or else at the site's own port on 127.0.0.1.
-abbrev pub Listens : Option SocketAddr → List DoorCall → List DoorCall → FileHistory → Type 0
-Listens listen before now device = (at : SocketAddr) × IsPlace (file_state device) listen at × (now ≡ before ++ Listened at ∷ [])
+-- There is no such file that can be had: that is answered, and nothing is done. Or the file was opened, and this holds of it.
+abbrev pub OpensThen : {X : Type 0} → List ℕ → Result X Fault → Type 0 → (FileHistory → Type 0) → Type 0
+OpensThen image result Untouched Holds = ((fault : ImageFault) × IsNotThere fault × (result ≡ Err (faults.Image fault)) × Untouched) ⊎ OnImageFile image Holds

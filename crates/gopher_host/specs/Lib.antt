@@ -4,3 +4,5 @@ pub mod NewImages
 pub mod ImageFiles
 pub mod Tasks
 pub mod ProgressTexts
+pub mod Served
+pub mod Kept

@@ -1,5 +1,5 @@
 -- What `format` is asked for, and what it makes.
-use Rattle.std.specs.Prelude.{◌≡◌, ◌⊎◌, ◌==◌, ℕ, ◌*◌, [], ◌∷◌, Result, Ok, Err, if◌then◌else◌}
+use Rattle.std.specs.Prelude.{◌≡◌, ◌⊎◌, ◌==◌, ℕ, ◌*◌, [], ◌∷◌, Result, Ok, Err, if◌then◌else◌, List}
 use Rattle.common_types.specs.Names.{stamp_of}
 use Rattle.common_types.specs.declared.refused.Refused.{Refused as Refusal}
 use Rattle.common_types.specs.declared.refused.Refused.TheVariants.{BadName}
@@ -51,22 +51,24 @@ asked_at site pages now = behind (moment_of now) (asked_for site pages)
 
 -- ---- what is made
 
--- A file was created with as many sectors as the pages have. Reads of it give the first image of just this site, and so does a crash at any moment from then on.
-pub record IsMade (site : NewSite) (pages now : ℕ) : Type 0 where
+-- A file of this name was created with as many sectors as the pages have. Reads of it give the first image of just this site, and so does a crash at any moment from then on.
+pub record IsMade (image : List ℕ) (site : NewSite) (pages now : ℕ) : Type 0 where
   pub names : SiteNames
   pub sectors : ℕ
   pub asked : asked_for site pages ≡ Ok (names, sectors)
   pub created : FileHistory
+  pub named : created.path ≡ image
   pub file : IsOpened (SetLength (512 * sectors) ∷ Lock ∷ Create ∷ []) created
   pub device : FileHistory
   pub formatted : IsFormatted (file_state device).disk.view pages (first_site names site.port now)
   pub sure : AllAre (file_crash_states device) (file_state device).disk.view
 
--- A file was created with as many sectors as the pages have, and an image could not be made there, for this cause.
-pub record IsNotFormatted (pages : ℕ) (fault : ImageFault) : Type 0 where
+-- A file of this name was created with as many sectors as the pages have, and an image could not be made there, for this cause.
+pub record IsNotFormatted (image : List ℕ) (pages : ℕ) (fault : ImageFault) : Type 0 where
   pub sectors : ℕ
   pub fits : sectors_of pages ≡ Ok sectors
   pub created : FileHistory
+  pub named : created.path ≡ image
   pub file : IsOpened (SetLength (512 * sectors) ∷ Lock ∷ Create ∷ []) created
   pub unused : IsUnused created
   pub left : FileHistory
@@ -75,5 +77,5 @@ pub record IsNotFormatted (pages : ℕ) (fault : ImageFault) : Type 0 where
   pub caused : IsFormatFault pages (file_state created) (file_state left) cause
 
 -- Why no image was made: what is asked for is wrong; there is no such file, or no memory; or the file was had, and an image could not be made there.
-abbrev pub IsNotMade : NewSite → ℕ → ImageFault → Type 0
-IsNotMade site pages fault = (asked_for site pages ≡ Err fault) ⊎ ((fault ≡ NoFile) ⊎ ((fault ≡ Memory) ⊎ IsNotFormatted pages fault))
+abbrev pub IsNotMade : List ℕ → NewSite → ℕ → ImageFault → Type 0
+IsNotMade image site pages fault = (asked_for site pages ≡ Err fault) ⊎ ((fault ≡ NoFile) ⊎ ((fault ≡ Memory) ⊎ IsNotFormatted image pages fault))

@@ -1,4 +1,4 @@
-// The commands, over an image in a file or a site in memory.
+// The commands that make, change and show the image in a file.
 ghost use Rattle.std.specs.Prelude.{◌≡◌, ◌≢◌, ◌⊎◌, ℕ, true, [], ◌∷◌, Some, None, Ok, Err, OnOk, IfOk, IfErr, IsOkAnd, IsUtf8};
 ghost use Rattle.std.specs.Io.KnownBytes.{Appends};
 ghost use Rattle.std.specs.IoError.{error_kind};
@@ -11,35 +11,30 @@ ghost use Rattle.image_commands.specs.Faults.{IsReadingFault};
 ghost use Rattle.image_commands.specs.Lines as lines;
 ghost use Rattle.image_commands.specs.declared.fault.ImageFault.{ImageFault as Refusal};
 ghost use Rattle.image_commands.specs.Upgraded.{IsUpgradingFault};
-ghost use Rattle.image_server.specs.Lines as serving;
 ghost use Rattle.gopher_host.specs.Faults.{ended, output_fault};
-ghost use Rattle.gopher_host.specs.ImageFiles.{IsNotThere, EndsFor, OnImageFile, PrintsApplied, PrintsFigures, PrintsFree, PrintsListing, PrintsUpgraded, Listens};
+ghost use Rattle.gopher_host.specs.ImageFiles.{IsNotThere, EndsFor, OnImageFile, OpensThen, PrintsApplied, PrintsFigures, PrintsFree, PrintsListing, PrintsUpgraded};
+ghost use Rattle.gopher_host.specs.Kept.{ReadsThen, Applies, Stays, StaysEither};
 ghost use Rattle.gopher_host.specs.NewImages.{moment_of, asked_at, IsMade, IsNotMade};
 ghost use Rattle.gopher_host.specs.declared.fault.Fault.TheVariants as faults;
 
-use crate::ending::{all_written, replay_ended, serving_ended};
 use crate::fault::Fault;
 use crate::new_image::{made, moment};
-use crate::printing::{print_applied, print_given, print_line, print_listing, print_served};
+use crate::printing::{print_applied, print_given, print_line, print_listing};
 use crate::progress::Shown;
+use crate::reading::whole_file;
 use change_file::{ChangeFileFault, FileChange, read_changes};
 use command_words::NewSite;
 use file_device::FileDevice;
-use host_script::small_site;
 use image_changes::apply_on;
 use image_commands::{ImageFault, check_image, compact_image, show_image, upgrade_image};
-use image_server::{serve_clients, serve_image};
-use image_sessions::{replay_on, replay_over};
-use ready_sockets::DoorLog;
-use socket_wires::SystemClock;
 use std::alloc::Global;
-use std::io::{BufWriter, ErrorKind, Read, Write};
-use std::net::SocketAddr;
-use std::{fs, io};
+use std::io;
+use std::io::{ErrorKind, Write};
 
 /// The image in a file.
-fn open(rt: &HostRuntime, image: &str) -> Result<FileDevice, ImageFault>
+pub(crate) fn open(rt: &HostRuntime, image: &str) -> Result<FileDevice, ImageFault>
     ensures opened { IfOk result (λ device. IsOpened (Lock ∷ Open ∷ []) device) }
+    ensures named { IfOk result (λ device. device.path ≡ image.now) }
     ensures unused { IfOk result (λ device. IsUnused device) }
     ensures fault { IfErr result IsNotThere }
 {
@@ -57,8 +52,8 @@ pub fn format<W: Write>(
 ) -> Result<(), Fault>
     ensures asked { (e : Refusal) → asked_at site.entry pages now ≡ Err e → (result ≡ Err (faults.Image e)) × (writer.new ≡ writer.old) }
     ensures printed { OnOk result (Appends (W.contents writer.old) (W.contents writer.new) (ended (lines.formatted_line pages))) }
-    ensures made { OnOk result (IsMade site.entry pages now) }
-    ensures fault { IfErr result (λ e. ((e ≡ output_fault) × IsMade site.entry pages now) ⊎ (writer.new ≡ writer.old)) }
+    ensures made { OnOk result (IsMade image.now site.entry pages now) }
+    ensures fault { IfErr result (λ e. ((e ≡ output_fault) × IsMade image.now site.entry pages now) ⊎ (writer.new ≡ writer.old)) }
 {
     let now = moment(now)?;
     let line = made(rt, image, site, pages, now)?;
@@ -89,11 +84,12 @@ pub fn apply<W: Write>(
     writer: &mut W,
 ) -> Result<(), Fault>
     ensures moment { (e : Refusal) → moment_of now ≡ Err e → (result ≡ Err (faults.Image e)) × (writer.new ≡ writer.old) }
-    ensures printed { OnOk result (OnImageFile (PrintsApplied now (W.contents writer.old) (W.contents writer.new))) }
+    ensures image { OnOk (moment_of now) (ReadsThen result (writer.new ≡ writer.old) (λ changes. OpensThen image.now result (writer.new ≡ writer.old) (Applies W.contents now writer.old writer.new result changes))) }
+    ensures printed { OnOk result (OnImageFile image.now (PrintsApplied now (W.contents writer.old) (W.contents writer.new))) }
     ensures fault { IfErr result (λ e. (e ≡ output_fault) ⊎ (writer.new ≡ writer.old)) }
 {
     let now = moment(now)?;
-    let changes = said(rt.alloc(), fs::read(rt, file))?;
+    let changes = said(rt.alloc(), whole_file(rt, file))?;
     let device = open(rt, image)?;
     let mut progress = Shown::new(rt);
     let applied = apply_on(rt.alloc(), device, changes, now, &mut progress);
@@ -103,8 +99,8 @@ pub fn apply<W: Write>(
 
 /// Prints a line for each item of an image.
 pub fn show<W: Write>(rt: &HostRuntime, image: &str, writer: &mut W) -> Result<(), Fault>
-    ensures printed { OnOk result (OnImageFile (PrintsListing (W.contents writer.old) (W.contents writer.new))) }
-    ensures fault { IfErr result (EndsFor IsReadingFault writer.old writer.new) }
+    ensures printed { OnOk result (OnImageFile image.now (PrintsListing (W.contents writer.old) (W.contents writer.new))) }
+    ensures fault { IfErr result (EndsFor image.now IsReadingFault writer.old writer.new) }
 {
     let device = open(rt, image)?;
     print_listing(show_image(rt.alloc(), device), writer)
@@ -112,8 +108,8 @@ pub fn show<W: Write>(rt: &HostRuntime, image: &str, writer: &mut W) -> Result<(
 
 /// Prints the line of an image's figures.
 pub fn check<W: Write>(rt: &HostRuntime, image: &str, writer: &mut W) -> Result<(), Fault>
-    ensures printed { OnOk result (OnImageFile (PrintsFigures (W.contents writer.old) (W.contents writer.new))) }
-    ensures fault { IfErr result (EndsFor IsReadingFault writer.old writer.new) }
+    ensures printed { OnOk result (OnImageFile image.now (PrintsFigures (W.contents writer.old) (W.contents writer.new))) }
+    ensures fault { IfErr result (EndsFor image.now IsReadingFault writer.old writer.new) }
 {
     let device = open(rt, image)?;
     print_given(check_image(rt.alloc(), device), writer)
@@ -121,8 +117,9 @@ pub fn check<W: Write>(rt: &HostRuntime, image: &str, writer: &mut W) -> Result<
 
 /// Writes an image anew, and prints the line of the pages that are free then.
 pub fn compact<W: Write>(rt: &HostRuntime, image: &str, writer: &mut W) -> Result<(), Fault>
-    ensures printed { OnOk result (OnImageFile (PrintsFree (W.contents writer.old) (W.contents writer.new))) }
-    ensures fault { IfErr result (EndsFor IsCompactingFault writer.old writer.new) }
+    ensures printed { OnOk result (OnImageFile image.now (PrintsFree (W.contents writer.old) (W.contents writer.new))) }
+    ensures image { OpensThen image.now result (writer.new ≡ writer.old) Stays }
+    ensures fault { IfErr result (EndsFor image.now IsCompactingFault writer.old writer.new) }
 {
     let device = open(rt, image)?;
     print_given(compact_image(rt.alloc(), device), writer)
@@ -130,90 +127,10 @@ pub fn compact<W: Write>(rt: &HostRuntime, image: &str, writer: &mut W) -> Resul
 
 /// Takes over an image of version 1, and prints how many records were written.
 pub fn upgrade<W: Write>(rt: &HostRuntime, image: &str, writer: &mut W) -> Result<(), Fault>
-    ensures printed { OnOk result (OnImageFile (PrintsUpgraded (W.contents writer.old) (W.contents writer.new))) }
-    ensures fault { IfErr result (EndsFor IsUpgradingFault writer.old writer.new) }
+    ensures printed { OnOk result (OnImageFile image.now (PrintsUpgraded (W.contents writer.old) (W.contents writer.new))) }
+    ensures image { OpensThen image.now result (writer.new ≡ writer.old) StaysEither }
+    ensures fault { IfErr result (EndsFor image.now IsUpgradingFault writer.old writer.new) }
 {
     let device = open(rt, image)?;
     print_given(upgrade_image(rt.alloc(), device), writer)
-}
-
-/// A script over a site in memory, or over that of an image.
-fn replay_from<R: Read, W: Write>(
-    rt: &HostRuntime,
-    image: Option<&str>,
-    reader: &mut R,
-    writer: &mut W,
-) -> Result<(), Fault> {
-    let alloc = rt.alloc();
-    match image {
-        Some(image) => {
-            let device = open(rt, image)?;
-            replay_ended(replay_on(alloc, device, reader, writer))
-        }
-        None => {
-            let Ok(site) = small_site(alloc) else {
-                return Err(Fault::of_memory());
-            };
-            replay_ended(replay_over(alloc, site, reader, writer))
-        }
-    }
-}
-
-/// A script on standard input over a site in memory, or over that of an image. What was printed before a fault stays printed.
-pub fn replay(rt: &HostRuntime, image: Option<&str>) -> Result<(), Fault> {
-    let Ok(mut writer) = BufWriter::new(rt.alloc(), io::writer(rt)) else {
-        return Err(Fault::of_memory());
-    };
-    let ended = replay_from(rt, image, &mut rt.reader(), &mut writer);
-    let written = writer.flush();
-    all_written(ended, written)
-}
-
-/// Serves so many rounds of connections over the site of an image, at the site's port on 127.0.0.1, and prints how many replies were written whole.
-pub fn serve_rounds<W: Write>(
-    rt: &HostRuntime,
-    image: &str,
-    together: u32,
-    rounds: u32,
-    writer: &mut W,
-) -> Result<(), Fault>
-    ensures printed { OnOk result ((served : ℕ) × Appends (W.contents writer.old) (W.contents writer.new) (ended (serving.served_line served))) }
-    ensures fault { IfErr result (λ e. (e ≡ output_fault) ⊎ (writer.new ≡ writer.old)) }
-{
-    let device = open(rt, image)?;
-    let mut clock = SystemClock::new(rt);
-    let served = serve_image(rt.alloc(), rt, device, &mut clock, together, rounds);
-    print_served(rt.alloc(), served, writer)
-}
-
-/// Serves whoever comes over the site of an image, at an address or else the site's port on 127.0.0.1, until that can't go on. The log gets a line for each
-/// client that has gone, unless that is not wanted. What is asked of the system for a listener is noted.
-pub fn serve<L: Write>(
-    rt: &HostRuntime,
-    image: &str,
-    listen: Option<SocketAddr>,
-    quiet: bool,
-    asked: &mut DoorLog,
-    log: &mut L,
-) -> Result<(), Fault>
-    ensures quiet { quiet ≡ true → log.new ≡ log.old }
-    ensures listens { OnOk result (OnImageFile (Listens listen asked.old.calls asked.new.calls)) }
-{
-    let device = open(rt, image)?;
-    let alloc = rt.alloc();
-    let mut clock = SystemClock::new(rt);
-    let served = if quiet {
-        serve_clients(
-            alloc,
-            rt,
-            device,
-            listen,
-            asked,
-            &mut clock,
-            &mut io::sink(),
-        )
-    } else {
-        serve_clients(alloc, rt, device, listen, asked, &mut clock, log)
-    };
-    serving_ended(served)
 }

@@ -1,8 +1,12 @@
 //! A host of a Gopher site, as a program.
 #![tactic(auto)]
 
-ghost use Rattle.std.specs.Prelude.{OnOk};
-ghost use Rattle.gopher_host.specs.Tasks.{IsDone};
+ghost use Rattle.std.specs.Prelude.{◌≡◌, OnOk, IfOk, IfErr, IsOkAnd};
+ghost use Rattle.std.specs.Process.{exit_status};
+ghost use Rattle.cow_tree.specs.TreeSeen.{device_of};
+ghost use Rattle.site_store.specs.Seen.{keeper_of};
+ghost use Rattle.gopher_host.specs.Faults.{Tells};
+ghost use Rattle.gopher_host.specs.Tasks.{IsDone, IsNotDone, RunsSessions};
 
 mod commands;
 mod ending;
@@ -10,17 +14,32 @@ mod fault;
 mod new_image;
 mod printing;
 mod progress;
+mod reading;
+mod sessions;
 
 use command_words::{Task, given, read};
+use cow_tree::TreeKeeper;
 use fault::Fault;
+use file_device::FileDevice;
+use host_types::SiteKeeper;
+use image_server::ListenLog;
 use ready_sockets::DoorLog;
+use site_store::DiskSite;
+use std::alloc::Global;
 use std::io;
-use std::io::Write;
+use std::io::{Sink, Write};
 use std::process::ExitCode;
 
-/// Does a task, and prints on the writer what it prints.
-fn run<W: Write>(rt: &HostRuntime, task: Task<'_>, writer: &mut W) -> Result<(), Fault>
-    ensures { OnOk result (IsDone task.entry (W.contents writer.old) (W.contents writer.new)) }
+/// Does a task, and prints on the writer what it prints. The log is where clients are told of that have gone.
+fn run<W: Write, L: Write>(
+    rt: &HostRuntime,
+    task: Task<'_>,
+    writer: &mut W,
+    log: &mut L,
+) -> Result<(), Fault>
+    ensures done { OnOk result (IsDone task.entry (W.contents writer.old) (W.contents writer.new)) }
+    ensures fault { IfErr result (IsNotDone task.entry writer.old writer.new) }
+    ensures sessions { let k = ⟦<DiskSite<TreeKeeper<FileDevice>> as SiteKeeper>⟧ in RunsSessions k W.contents L.contents ⟦<Sink as Write>⟧.contents (λ d. device_of (keeper_of d)) k.site_state k.lacks k.crash_states k.represents task.entry writer.old writer.new log.old log.new result }
 {
     match task {
         Task::Format {
@@ -34,24 +53,28 @@ fn run<W: Write>(rt: &HostRuntime, task: Task<'_>, writer: &mut W) -> Result<(),
         Task::Check { image } => commands::check(rt, image, writer),
         Task::Compact { image } => commands::compact(rt, image, writer),
         Task::Upgrade { image } => commands::upgrade(rt, image, writer),
-        Task::Replay { image } => commands::replay(rt, image),
+        Task::Replay { image } => sessions::replay(rt, image),
         Task::ServeRounds {
             image,
             together,
             rounds,
-        } => commands::serve_rounds(rt, image, together, rounds, writer),
+        } => sessions::serve_rounds(rt, image, together, rounds, &mut ListenLog::new(), writer),
         Task::ServeClients {
             image,
             listen,
             quiet,
-        } => commands::serve(
-            rt,
-            image,
-            listen,
-            quiet,
-            &mut DoorLog::new(),
-            &mut rt.stderr(),
-        ),
+        } => sessions::serve(rt, image, listen, quiet, &mut DoorLog::new(), log),
+    }
+}
+
+/// The status by which a task ends: 0 where it is done, and 1 where its fault is told.
+fn status<L: Write>(alloc: Global, ended: Result<(), Fault>, log: &mut L) -> io::Result<ExitCode>
+    ensures done { OnOk ended (IsOkAnd result (λ code. exit_status code ≡ 0) × (log.new ≡ log.old)) }
+    ensures fault { IfErr ended (λ e. IfOk result (λ code. (exit_status code ≡ 1) × Tells e (L.contents log.old) (L.contents log.new))) }
+{
+    match ended {
+        Ok(()) => Ok(ExitCode::SUCCESS),
+        Err(fault) => fault.tell(alloc, log),
     }
 }
 
@@ -64,8 +87,6 @@ fn main(rt: HostRuntime) -> io::Result<ExitCode> {
         Ok(task) => task,
         Err(misread) => return misread.tell(&rt),
     };
-    match run(&rt, task, &mut io::writer(&rt)) {
-        Ok(()) => Ok(ExitCode::SUCCESS),
-        Err(fault) => fault.tell(rt.alloc(), &mut rt.stderr()),
-    }
+    let ended = run(&rt, task, &mut io::writer(&rt), &mut rt.stderr());
+    status(rt.alloc(), ended, &mut rt.stderr())
 }

@@ -50,8 +50,8 @@ pub fn made(
 ) -> Result<String, ImageFault>
     ensures asked { (e : Refusal) → spec.asked_for site.entry pages ≡ Err e → result ≡ Err e }
     ensures line { IfOk result (λ line. string_bytes line ≡ lines.formatted_line pages) }
-    ensures made { OnOk result (IsMade site.entry pages now) }
-    ensures fault { IfErr result (IsNotMade site.entry pages) }
+    ensures made { OnOk result (IsMade image.now site.entry pages now) }
+    ensures fault { IfErr result (IsNotMade image.now site.entry pages) }
 {
     let (names, sectors) = asked_for(site, pages)?;
     let line = formatted_line(rt.alloc(), pages)?;

@@ -1,3 +1,4 @@
 pub mod Serving
 pub mod Visiting
 pub mod Lines
+pub mod Listening

@@ -1,4 +1,4 @@
--- Clients that are served as they come, over the site of an image: where they are listened for, and what is asked of the system.
+-- Clients that are served as they come, over the site of an image; and where connections are listened for, and what is asked of the system.
 use Rattle.std.specs.Prelude.{◌≡◌, ◌⊎◌, ℕ, List, [], ◌∷◌, ◌++◌, Option, Some, None, Result, IsTrue}
 use Rattle.std.specs.Net.Socket.{socket_ip, socket_port}
 use Rattle.std.specs.declared.net.ip_addr.IpAddr.TheVariants.{V4}
@@ -16,10 +16,10 @@ use Rattle.turns.specs.Runs.{HasRun}
 use Rattle.host_on_disk.specs.ImageSites.{ImageRepresents}
 use Rattle.image_sessions.specs.ImageRuns.{OverSite, OnImage}
 use Rattle.host_on_disk.specs.declared.open_fault.OpenFault.TheVariants as opening
-use Rattle.ready_sockets.specs.DoorCalls.{DoorCall, Listened, NotListened}
 use Rattle.ready_sockets.specs.Rounds.{HasServed}
 use Rattle.ready_sockets.specs.Visits.{IsFresh}
 use Rattle.ready_sockets.specs.declared.room.Room.{Room}
+use Rattle.ready_sockets.specs.declared.stopwatch.Reading.{Reading}
 use Rattle.ready_sockets.specs.declared.room.VisitFault.{VisitFault}
 use Rattle.image_server.specs.declared.serving.ServingFault.{ServingFault}
 use Rattle.image_server.specs.declared.serving.ServingFault.TheVariants.{Image, Net}
@@ -35,34 +35,34 @@ pub record IsPlace (device : State) (address : Option SocketAddr) (at : SocketAd
   pub is : IsGivenOrOwn address port at
   pub own : IsTrue device.honest → (s : Site) × ImageRepresents device.disk.view s × (port ≡ s.port)
 
--- A listener was asked for once, and had.
-abbrev pub IsListened : State → Option SocketAddr → List DoorCall → List DoorCall → Type 0
-IsListened device address before now = (at : SocketAddr) × IsPlace device address at × (now ≡ before ++ Listened at ∷ [])
+-- A listener was asked for once, and had. It is noted so.
+abbrev pub IsListened : {C : Type 0} → (SocketAddr → C) → State → Option SocketAddr → List C → List C → Type 0
+IsListened had device address before now = (at : SocketAddr) × IsPlace device address at × (now ≡ before ++ had at ∷ [])
 
--- A device was opened as the site that it shows. In a room in which nobody was, clients were served by these events until that ended; and the device was handed back.
-pub record ServesClients {D S Log X : Type 0} (contents : Log → Option (List ℕ)) (state : D → State) (device : S → D) (site_state : S → SiteState) (old new : D) (log_before log_now : Log) (result : Result X VisitFault) (es : List Event) (os : List Outcome) : Type 0 where
+-- A device was opened as the site that it shows. In a room in which nobody was, clients were served by these events until that ended; and the device was handed back. With the log stand the readings of a watch.
+pub record ServesClients {D S Log X : Type 0} (contents : Log → Option (List ℕ)) (state : D → State) (device : S → D) (site_state : S → SiteState) (old new : D) (log_before log_now : Log × List Reading) (result : Result X VisitFault) (es : List Event) (os : List Outcome) : Type 0 where
   pub opened : S
   pub closed : S
   pub shows : IsTrue (state old).honest → ImageRepresents (state old).disk.view (site_state opened).site
   pub first : Room
   pub last : Room
   pub fresh : IsFresh first
-  pub served : HasServed contents result (site_state closed).usable (first, log_before) es os (last, log_now)
+  pub served : HasServed contents result (site_state closed).usable (first, log_before.0, log_before.1) es os (last, log_now.0, log_now.1)
   pub handed : new ≡ device closed
 
 -- All that was done to a site is a run, by the events of the clients that were served in a room.
-abbrev pub VisitedOver : {S L Log X : Type 0} → (S → SiteState) → (S → Changes → SiteFault → Type 0) → (S → CrashStates L) → (L → Site → Type 0) → (Log → Option (List ℕ)) → Result X VisitFault → S → S → Room × Log → Room × Log → List ℕ → List ℕ → Type 0
+abbrev pub VisitedOver : {S L Log X : Type 0} → (S → SiteState) → (S → Changes → SiteFault → Type 0) → (S → CrashStates L) → (L → Site → Type 0) → (Log → Option (List ℕ)) → Result X VisitFault → S → S → Room × Log × List Reading → Room × Log × List Reading → List ℕ → List ℕ → Type 0
 VisitedOver site_state lacks crash_states stands contents result old new first last told_before told_now =
     HasRun (OverSite site_state lacks crash_states stands) old new told_before told_now (λ es os. HasServed contents result (site_state new).usable first es os last)
 
 -- And all that was done to a device.
-abbrev pub VisitedImage : {D S L Log X : Type 0} → (Log → Option (List ℕ)) → (D → State) → (S → D) → (S → SiteState) → (S → Changes → SiteFault → Type 0) → (S → CrashStates L) → (L → Site → Type 0) → (D → CrashStates Content) → Result X VisitFault → D → D → Log → Log → List ℕ → List ℕ → Type 0
+abbrev pub VisitedImage : {D S L Log X : Type 0} → (Log → Option (List ℕ)) → (D → State) → (S → D) → (S → SiteState) → (S → Changes → SiteFault → Type 0) → (S → CrashStates L) → (L → Site → Type 0) → (D → CrashStates Content) → Result X VisitFault → D → D → Log × List Reading → Log × List Reading → List ℕ → List ℕ → Type 0
 VisitedImage contents state device site_state lacks site_crash_states stands crash_states result old new log_before log_now told_before told_now =
     HasRun (OnImage state device site_state lacks site_crash_states stands crash_states) old new told_before told_now (λ es os. ServesClients contents state device site_state old new log_before log_now result es os)
 
 -- What was asked of the system where no client is served: `Net` comes where a listener was not had; lack of memory before one was asked for, or behind one that was had; all else before.
-abbrev pub IsAskedInVain : State → Option SocketAddr → List DoorCall → List DoorCall → ServingFault → Type 0
-IsAskedInVain device address before now Net = (at : SocketAddr) × IsPlace device address at × (now ≡ before ++ NotListened at ∷ [])
-IsAskedInVain device address before now (Image opening.Memory) = (now ≡ before) ⊎ IsListened device address before now
-IsAskedInVain device address before now (Image opening.BadRecord) = now ≡ before
-IsAskedInVain device address before now (Image (opening.Keeper fault)) = now ≡ before
+abbrev pub IsAskedInVain : {C : Type 0} → (SocketAddr → C) → (SocketAddr → C) → State → Option SocketAddr → List C → List C → ServingFault → Type 0
+IsAskedInVain had not_had device address before now Net = (at : SocketAddr) × IsPlace device address at × (now ≡ before ++ not_had at ∷ [])
+IsAskedInVain had not_had device address before now (Image opening.Memory) = (now ≡ before) ⊎ IsListened had device address before now
+IsAskedInVain had not_had device address before now (Image opening.BadRecord) = now ≡ before
+IsAskedInVain had not_had device address before now (Image (opening.Keeper fault)) = now ≡ before

@@ -1,11 +1,15 @@
 // Serves connections over a site that is handed in, and over the site of an image.
-ghost use Rattle.std.specs.Prelude.{◌≡◌, true, [], IfOk, IfErr};
+ghost use Rattle.std.specs.Prelude.{◌≡◌, true, [], None, IfOk, IfErr, OnOk};
 ghost use Rattle.page_store.specs.Steps.{crash_states_of};
 ghost use Rattle.cow_tree.specs.TreeSeen.{device_of};
 ghost use Rattle.site_store.specs.Seen.{keeper_of};
 ghost use Rattle.host_on_disk.specs.OpenFaults.{HandsBack};
 ghost use Rattle.image_server.specs.Serving.{ServedOver, ServedImage, IsServingFault};
+ghost use Rattle.image_server.specs.Visiting.{IsListened, IsAskedInVain};
+ghost use Rattle.image_server.specs.declared.listening.ListenCall.TheVariants.{Listened, NotListened};
 
+use crate::listening::{ListenLog, listen};
+use crate::visiting::given_or_own;
 use cow_tree::TreeKeeper;
 use host_on_disk::{OpenFault, open_site};
 use host_types::SiteKeeper;
@@ -54,16 +58,19 @@ pub fn serve_over<S: SearchKeeper, C: Clock>(
 /// Opens the image on a device, serves so many rounds of connections over its site, at the site's port on 127.0.0.1, and hands the device back. It answers how many replies were written whole.
 ///
 /// What a crash at any moment leaves on the device represents the site after some of the events that the connections made, with each change that was acknowledged by
-/// then, or the one with the change in flight, unacknowledged.
+/// then, or the one with the change in flight, unacknowledged. What is asked of the system for a listener is noted.
 pub fn serve_image<D: Device, R: Net<Listener = TcpListener, Stream = TcpStream>, C: Clock>(
     alloc: Global,
     net: &R,
     device: D,
+    asked: &mut ListenLog,
     clock: &mut C,
     together: u32,
     rounds: u32,
 ) -> Result<(Result<u64, ServeFault>, D), (ServingFault, D)>
     ensures served { let k = ⟦<DiskSite<TreeKeeper<D>> as SiteKeeper>⟧ in IfOk result (λ r. ServedImage k D.state (λ d. device_of (keeper_of d)) k.site_state k.lacks k.crash_states k.represents (crash_states_of D.moment D.possible_since) together rounds r.0 device r.1 (C.given clock.old) (C.given clock.new)) }
+    ensures listened { OnOk result (IsListened Listened (D.state device) None asked.old.calls asked.new.calls) }
+    ensures asked { IfErr result (λ e. IsAskedInVain Listened NotListened (D.state device) None asked.old.calls asked.new.calls e.0) }
     ensures refused { IfErr result (λ e. HandsBack IsServingFault D.state (crash_states_of D.moment D.possible_since) device e.1 e.0) }
     ensures untold { IfErr result (λ e. clock.new ≡ clock.old) }
 {
@@ -71,8 +78,8 @@ pub fn serve_image<D: Device, R: Net<Listener = TcpListener, Stream = TcpStream>
         Ok(site) => site,
         Err((fault, device)) => return Err((ServingFault::Image(fault), device)),
     };
-    let port = site.front().port;
-    let Ok(listener) = TcpListener::bind(net, ("127.0.0.1", port)) else {
+    let at = given_or_own(None, site.front().port);
+    let Ok(listener) = listen(net, at, asked) else {
         return Err((ServingFault::Net, site.into_keeper().into_device()));
     };
     match serve_over(alloc, site, &listener, clock, together, rounds) {

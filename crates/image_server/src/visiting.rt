@@ -4,6 +4,7 @@ ghost use Rattle.page_store.specs.Steps.{crash_states_of};
 ghost use Rattle.cow_tree.specs.TreeSeen.{device_of};
 ghost use Rattle.site_store.specs.Seen.{keeper_of};
 ghost use Rattle.host_on_disk.specs.OpenFaults.{HandsBack};
+ghost use Rattle.ready_sockets.specs.DoorCalls.{Listened, NotListened};
 ghost use Rattle.image_server.specs.Serving.{IsServingFault, of_visits};
 ghost use Rattle.image_server.specs.Visiting.{IsGivenOrOwn, VisitedOver, VisitedImage, IsListened, IsAskedInVain};
 
@@ -12,7 +13,7 @@ use cow_tree::TreeKeeper;
 use host_on_disk::{OpenFault, open_site};
 use host_types::SiteKeeper;
 use page_store::KeeperFault;
-use ready_sockets::{DoorLog, Room, VisitFault, serve_visits};
+use ready_sockets::{DoorLog, Room, Stopwatch, VisitFault, serve_visits};
 use sector_device::Device;
 use session_core::Hub;
 use site_store::DiskSite;
@@ -35,8 +36,8 @@ impl From<VisitFault> for ServingFault {
     }
 }
 
-/// Where clients are listened for: at an address that is given, or else at a site's own port on 127.0.0.1.
-fn given_or_own(address: Option<SocketAddr>, port: u16) -> SocketAddr
+/// Where connections are listened for: at an address that is given, or else at a site's own port on 127.0.0.1.
+pub(crate) fn given_or_own(address: Option<SocketAddr>, port: u16) -> SocketAddr
     ensures { IsGivenOrOwn address port result }
 {
     match address {
@@ -51,14 +52,15 @@ pub fn visits_over<S: SearchKeeper, C: Clock, R: Time, L: Write>(
     alloc: Global,
     site: S,
     rt: &R,
+    watch: &mut Stopwatch,
     room: &mut Room,
     clock: &mut C,
     log: &mut L,
 ) -> Result<(Result<(), VisitFault>, S), (OpenFault, S)>
     requires usable { (S.site_state site).usable ≡ true }
     requires unpinned { (S.site_state site).pins ≡ [] }
-    ensures served { IfOk result (λ r. VisitedOver S.site_state S.lacks S.crash_states S.represents L.contents r.0 site r.1 (room.old, log.old) (room.new, log.new) (C.given clock.old) (C.given clock.new)) }
-    ensures unasked { OnErr result ((room.new ≡ room.old) × (log.new ≡ log.old)) }
+    ensures served { IfOk result (λ r. VisitedOver S.site_state S.lacks S.crash_states S.represents L.contents r.0 site r.1 (room.old, log.old, watch.old.read.readings) (room.new, log.new, watch.new.read.readings) (C.given clock.old) (C.given clock.new)) }
+    ensures unasked { OnErr result ((room.new ≡ room.old) × (log.new ≡ log.old) × (watch.new ≡ watch.old)) }
     ensures unpinned { IfOk result (λ r. (S.site_state r.1).pins ≡ []) }
     ensures err { IfErr result (λ e. (e.0 ≡ OpenFault.Memory) × (e.1 ≡ site)) }
     ensures untold { IfErr result (λ e. clock.new ≡ clock.old) }
@@ -67,7 +69,7 @@ pub fn visits_over<S: SearchKeeper, C: Clock, R: Time, L: Write>(
         Ok(hub) => hub,
         Err((_, site)) => return Err((OpenFault::Memory, site)),
     };
-    let ended = serve_visits(alloc, rt, room, &mut hub, clock, log);
+    let ended = serve_visits(alloc, rt, watch, room, &mut hub, clock, log);
     Ok((ended, hub.close()))
 }
 
@@ -82,12 +84,13 @@ pub fn serve_clients<D: Device, R: Net + Time, C: Clock, L: Write>(
     device: D,
     address: Option<SocketAddr>,
     asked: &mut DoorLog,
+    watch: &mut Stopwatch,
     clock: &mut C,
     log: &mut L,
 ) -> Result<(Result<(), VisitFault>, D), (ServingFault, D)>
-    ensures served { let k = ⟦<DiskSite<TreeKeeper<D>> as SiteKeeper>⟧ in IfOk result (λ r. VisitedImage L.contents D.state (λ d. device_of (keeper_of d)) k.site_state k.lacks k.crash_states k.represents (crash_states_of D.moment D.possible_since) r.0 device r.1 log.old log.new (C.given clock.old) (C.given clock.new)) }
-    ensures listened { OnOk result (IsListened (D.state device) address asked.old.calls asked.new.calls) }
-    ensures asked { IfErr result (λ e. IsAskedInVain (D.state device) address asked.old.calls asked.new.calls e.0) }
+    ensures served { let k = ⟦<DiskSite<TreeKeeper<D>> as SiteKeeper>⟧ in IfOk result (λ r. VisitedImage L.contents D.state (λ d. device_of (keeper_of d)) k.site_state k.lacks k.crash_states k.represents (crash_states_of D.moment D.possible_since) r.0 device r.1 (log.old, watch.old.read.readings) (log.new, watch.new.read.readings) (C.given clock.old) (C.given clock.new)) }
+    ensures listened { OnOk result (IsListened Listened (D.state device) address asked.old.calls asked.new.calls) }
+    ensures asked { IfErr result (λ e. IsAskedInVain Listened NotListened (D.state device) address asked.old.calls asked.new.calls e.0) }
     ensures refused { IfErr result (λ e. HandsBack IsServingFault D.state (crash_states_of D.moment D.possible_since) device e.1 e.0) }
     ensures untold { IfErr result (λ e. clock.new ≡ clock.old) }
 {
@@ -105,7 +108,7 @@ pub fn serve_clients<D: Device, R: Net + Time, C: Clock, L: Write>(
         Err(VisitFault::Net) => return Err((ServingFault::Net, site.into_keeper().into_device())),
         Err(VisitFault::Failed) => unreachable!(),
     };
-    match visits_over(alloc, site, rt, &mut room, clock, log) {
+    match visits_over(alloc, site, rt, watch, &mut room, clock, log) {
         Ok((ended, site)) => Ok((ended, site.into_keeper().into_device())),
         Err((fault, site)) => Err((ServingFault::Image(fault), site.into_keeper().into_device())),
     }

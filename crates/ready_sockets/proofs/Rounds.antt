@@ -6,11 +6,12 @@ use Rattle.session_core.specs.declared.event.Outcome.{Outcome}
 use Rattle.ready_sockets.specs.Rounds.{HasHadRounds, HasServed}
 use Rattle.ready_sockets.specs.Visits.{HasNotWaited}
 use Rattle.ready_sockets.specs.declared.room.Room.{Room}
+use Rattle.ready_sockets.specs.declared.stopwatch.Reading.{Reading}
 use Rattle.ready_sockets.specs.declared.room.VisitFault.{VisitFault}
 use Rattle.ready_sockets.specs.declared.room.VisitFault.TheVariants.{Net}
 
-pub wait_failed : {L X : Type 0} (contents : L → Option (List ℕ)) (result : Result X VisitFault) (fault : VisitFault) (usable : Bool) (rounds : ℕ) (old : Room × L) (last new : Room) (log : L) (es : List Event) (os : List Outcome) →
-    IsErrAnd result (λ e. e ≡ fault) → fault ≡ Net → usable ≡ true → HasHadRounds contents rounds old es os (last, log) → HasNotWaited last new → HasServed contents result usable old es os (new, log)
-wait_failed contents (Ok x) fault usable rounds old last new log es os is net was had failed = absurd is
-wait_failed {X = X} contents (Err e) fault usable rounds old last new log es os is net was had failed =
-    subst (λ f. HasServed {X = X} contents (Err f) usable old es os (new, log)) (sym (is ∙ net)) (record { rounds = rounds; last = last; had = had; ends = (was, failed) })
+pub wait_failed : {L X : Type 0} (contents : L → Option (List ℕ)) (result : Result X VisitFault) (fault : VisitFault) (usable : Bool) (rounds : ℕ) (old : Room × L × List Reading) (last new : Room) (log : L) (readings : List Reading) (es : List Event) (os : List Outcome) →
+    IsErrAnd result (λ e. e ≡ fault) → fault ≡ Net → usable ≡ true → HasHadRounds contents rounds old es os (last, log, readings) → HasNotWaited last new → HasServed contents result usable old es os (new, log, readings)
+wait_failed contents (Ok x) fault usable rounds old last new log readings es os is net was had failed = absurd is
+wait_failed {X = X} contents (Err e) fault usable rounds old last new log readings es os is net was had failed =
+    subst (λ f. HasServed {X = X} contents (Err f) usable old es os (new, log, readings)) (sym (is ∙ net)) (record { rounds = rounds; last = last; had = had; ends = (was, failed) })

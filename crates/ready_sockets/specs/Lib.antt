@@ -9,3 +9,4 @@ pub mod Due
 pub mod Logged
 pub mod Rounds
 pub mod Examples
+pub mod Readings

@@ -17,8 +17,10 @@ use Rattle.session_core.specs.declared.event.Outcome.{Outcome}
 use Rattle.turns.specs.Runs.{HasRun}
 use Rattle.ready_sockets.specs.DoorCalls.{DoorCall, Came, NoneCame, NotHad}
 use Rattle.ready_sockets.specs.Logged.{IsLogged}
+use Rattle.ready_sockets.specs.Readings.{seconds_of}
 use Rattle.ready_sockets.specs.Visits.{has_gone, asks, AreNew, HasWaited, HasNotWaited, WereServed}
 use Rattle.ready_sockets.specs.declared.room.Room.{Room}
+use Rattle.ready_sockets.specs.declared.stopwatch.Reading.{Reading}
 use Rattle.ready_sockets.specs.declared.room.VisitFault.{VisitFault}
 use Rattle.ready_sockets.specs.declared.room.VisitFault.TheVariants.{Net, Failed, Memory}
 use Rattle.ready_sockets.specs.declared.visit.Visit.{Visit}
@@ -77,23 +79,24 @@ pub record HasSeenOff (old new : Room) : Type 0 where
   pub may_accept : new.may_accept ≡ old.may_accept
 
 module _ {L : Type 0} (contents : L → Option (List ℕ)) where
-  -- A round of a room with its log: one wait, then turns with whoever is at the door, by these events, then those go out who have gone, and of each the log gets a line.
-  pub record HasHadRound (old : Room × L) (es : List Event) (os : List Outcome) (new : Room × L) : Type 0 where
+  -- A round of a room with its log, and with a watch that is read once: one wait, then turns with whoever is at the door, by these events and at the moment that was read, then those go out who have gone, and of each the log gets a line.
+  pub record HasHadRound (old : Room × L × List Reading) (es : List Event) (os : List Outcome) (new : Room × L × List Reading) : Type 0 where
     pub called : List SocketEvent
-    pub now : ℕ
+    pub reading : Reading
     pub waited : Room
     pub turned : Room
     pub given_before : List ℕ
     pub given_now : List ℕ
     pub wait : HasWaited called old.0 waited
-    pub turns : HasHadTurns now waited es os turned
+    pub read : new.2 ≡ old.2 ++ reading ∷ []
+    pub turns : HasHadTurns (seconds_of reading) waited es os turned
     pub seen_off : HasSeenOff turned new.0
     pub logged : IsLogged contents given_before given_now turned.visits.items old.1 new.1
 
   -- so many rounds, one after another, by these events
-  pub data HasHadRounds : ℕ → Room × L → List Event → List Outcome → Room × L → Type 0 where
-    none : (room : Room × L) → HasHadRounds 0 room [] [] room
-    more : (rounds : ℕ) (old mid new : Room × L) (es fs : List Event) (os ps : List Outcome) → HasHadRounds rounds old es os mid → HasHadRound mid fs ps new → HasHadRounds (rounds + 1) old (es ++ fs) (os ++ ps) new
+  pub data HasHadRounds : ℕ → Room × L × List Reading → List Event → List Outcome → Room × L × List Reading → Type 0 where
+    none : (room : Room × L × List Reading) → HasHadRounds 0 room [] [] room
+    more : (rounds : ℕ) (old mid new : Room × L × List Reading) (es fs : List Event) (os ps : List Outcome) → HasHadRounds rounds old es os mid → HasHadRound mid fs ps new → HasHadRounds (rounds + 1) old (es ++ fs) (os ++ ps) new
 
 -- Why it ends behind so many rounds, by whether the site is still usable: all were had, the next wait failed, or the site is not usable.
 abbrev pub EndsServing : {X : Type 0} → Result X VisitFault → Bool → ℕ → Room → Room → Type 0
@@ -103,13 +106,13 @@ EndsServing (Err Failed) usable rounds last new = (usable ≡ false) × (new ≡
 EndsServing (Err Memory) usable rounds last new = ⊥
 
 -- Rounds were had by these events, and why it ended; behind the last of them the log gets nothing.
-pub record HasServed {L X : Type 0} (contents : L → Option (List ℕ)) (result : Result X VisitFault) (usable : Bool) (old : Room × L) (es : List Event) (os : List Outcome) (new : Room × L) : Type 0 where
+pub record HasServed {L X : Type 0} (contents : L → Option (List ℕ)) (result : Result X VisitFault) (usable : Bool) (old : Room × L × List Reading) (es : List Event) (os : List Outcome) (new : Room × L × List Reading) : Type 0 where
   pub rounds : ℕ
   pub last : Room
-  pub had : HasHadRounds contents rounds old es os (last, new.1)
+  pub had : HasHadRounds contents rounds old es os (last, new.1, new.2)
   pub ends : EndsServing result usable rounds last new.0
 
 -- All that was done to a hub is a run, by the events of these rounds.
-abbrev pub ServesVisits : {S L Log X : Type 0} {bound : _} {ghosts : _} → (S → SiteState) → (S → Changes → SiteFault → Type 0) → (S → CrashStates L) → (L → Site → Type 0) → (Log → Option (List ℕ)) → Result X VisitFault → Hub S bound ghosts → Hub S bound ghosts → Room × Log → Room × Log → List ℕ → List ℕ → Type 0
+abbrev pub ServesVisits : {S L Log X : Type 0} {bound : _} {ghosts : _} → (S → SiteState) → (S → Changes → SiteFault → Type 0) → (S → CrashStates L) → (L → Site → Type 0) → (Log → Option (List ℕ)) → Result X VisitFault → Hub S bound ghosts → Hub S bound ghosts → Room × Log × List Reading → Room × Log × List Reading → List ℕ → List ℕ → Type 0
 ServesVisits site_state lacks crash_states stands contents result old new first last told_before told_now = HasRun (HubRun site_state lacks crash_states stands) old new told_before told_now (λ es os.
     HasServed contents result (site_state (keeper_of new)).usable first es os last)

@@ -10,6 +10,7 @@ mod lines;
 mod ready_socket;
 mod room;
 mod serving;
+mod stopwatch;
 mod visit;
 mod waking;
 
@@ -21,3 +22,4 @@ pub use lines::{Record, log_line};
 pub use ready_socket::ReadySocket;
 pub use room::{MOST_VISITS, Room, VisitFault};
 pub use serving::serve_visits;
+pub use stopwatch::{Reading, ReadingLog, Stopwatch};

@@ -1,5 +1,5 @@
 // Serves whoever comes.
-ghost use Rattle.std.specs.Prelude.{◌≡◌, ◌<◌, ◌≤◌, true, [], ◌∷◌, ◌++◌, map, vec_len, vec_capacity, Option, None, IfSome};
+ghost use Rattle.std.specs.Prelude.{◌≡◌, ◌<◌, ◌≤◌, true, [], ◌∷◌, ◌++◌, map, vec_len, vec_capacity};
 ghost use Rattle.std.specs.Io.KnownBytes.{Appends};
 ghost use Rattle.session_core.specs.Calls.{HubRun};
 ghost use Rattle.turns.specs.Runs.{HasRun};
@@ -10,6 +10,7 @@ ghost use Rattle.ready_sockets.specs.Logged.{line_of, IsTold, AreTold, IsLogged}
 
 use crate::ReadySocket;
 use crate::room::{MOST_VISITS, Room, VisitFault};
+use crate::stopwatch::Stopwatch;
 use crate::visit::Visit;
 use crate::waking::all_wait;
 use host_types::Stamp;
@@ -21,7 +22,7 @@ use socket_wires::SystemClock;
 use std::alloc::Global;
 use std::io::Write;
 use std::net::IpAddr;
-use std::time::{Clock as Time, Duration, Instant};
+use std::time::Clock as Time;
 use turns::Clock;
 use word_index::SearchKeeper;
 
@@ -192,45 +193,26 @@ fn round<S: SearchKeeper, C: Clock>(room: &mut Room, hub: &mut Hub<S>, clock: &m
     serve_all(&mut room.visits, hub, clock, now);
 }
 
-/// Whole seconds of a time that was measured, or 0 where none could be.
-fn seconds_in(time: Option<Duration>) -> u64
-    ensures seconds { IfSome time (λ t. result ≡ t.secs) }
-    ensures none { time ≡ None → result ≡ 0 }
-{
-    match time {
-        Some(time) => time.as_secs(),
-        None => 0,
-    }
-}
-
-/// The seconds since a moment, on a clock that only goes forward; 0 where it can't be read.
-fn seconds_since<R: Time>(rt: &R, start: &Option<Instant>) -> u64 {
-    let Some(start) = start else {
-        return seconds_in(None);
-    };
-    seconds_in(start.elapsed(rt).ok())
-}
-
 /// Serves whoever comes, up to 32 clients at a time, until a write or a sync of what the site is kept on has failed, or no socket can be waited for.
-/// For each client that has gone the log gets a line, but for one that finds no memory or can't be written.
+/// For each client that has gone the log gets a line, but for one that finds no memory or can't be written. The watch is read once a round.
 pub fn serve_visits<S: SearchKeeper, C: Clock, R: Time, L: Write>(
     alloc: Global,
     rt: &R,
+    watch: &mut Stopwatch,
     room: &mut Room,
     hub: &mut Hub<S>,
     clock: &mut C,
     log: &mut L,
 ) -> Result<(), VisitFault>
-    ensures { ServesVisits S.site_state S.lacks S.crash_states S.represents L.contents result hub.old hub.new (room.old, log.old) (room.new, log.new) (C.given clock.old) (C.given clock.new) }
+    ensures { ServesVisits S.site_state S.lacks S.crash_states S.represents L.contents result hub.old hub.new (room.old, log.old, watch.old.read.readings) (room.new, log.new, watch.new.read.readings) (C.given clock.old) (C.given clock.new) }
 {
-    let start = Instant::now(rt).ok();
     let mut moments = SystemClock::new(rt);
     for _round in 0..u64::MAX {
         if !hub.is_usable() {
             return Err(VisitFault::Failed);
         }
         room.wait()?;
-        round(room, hub, clock, seconds_since(rt, &start));
+        round(room, hub, clock, watch.seconds(rt));
         see_off(alloc, room, &mut moments, log);
     }
     Ok(())

@@ -7,4 +7,4 @@ mod system_clock;
 
 pub use serving::{ServeFault, serve_on};
 pub use socket_wire::SocketWire;
-pub use system_clock::{SystemClock, moment_of};
+pub use system_clock::{ClockLog, ClockReading, SystemClock};

@@ -1,10 +1,12 @@
-use Rattle.std.proofs.Common.{sym, subst, ap, ◌∙◌, IsTrue}
+use Rattle.std.proofs.Common.{inr, sym, subst, ap, ◌∙◌, IsTrue}
 use Rattle.cow_tree.specs.TreeSeen.{device_of}
 use Rattle.page_store.specs.Steps.{crash_states_of}
 use Rattle.site_store.specs.Seen.{keeper_of, seen_site}
 use Rattle.host_on_disk.proofs.Openings.{no_memory}
 use Rattle.host_on_disk.proofs.Runs.{survives}
 use Rattle.image_server.proofs.OtherRuns.{run_too}
+use Rattle.image_server.proofs.Places.{place_of}
+use Rattle.std.specs.Prelude.{None}
 use Rattle.image_server.proofs.serving.serve_image.Goals as goal
 
 pub returns-in-Ok-serve_over-clause-served : goal.returns-in-Ok-serve_over-clause-served
@@ -50,3 +52,24 @@ returns-clause-refused g c =
       honest = rw back opened.honest;
       no_new_crash_state = rw back opened.at_crash;
     }
+
+pub returns-in_default-clause-asked : goal.returns-in_default-clause-asked
+returns-in_default-clause-asked g c =
+    let opened = c.in-Ok.ensures in
+    let place = place_of (g.D.Device.state c.args.device) None c.given_or_own-at.result c.given_or_own.inside.port (seen_site c.in-Ok.site) c.given_or_own-at.ensures opened.site
+    (λ honest. ap (λ a. a.port) (c.given_or_own.view_is) ∙ ap (λ a. a.port) (c.front.ensures (subst IsTrue (sym opened.honest) honest))) in
+    (c.given_or_own-at.result, place, c.in_default.ensures)
+
+pub returns-clause-asked : goal.returns-clause-asked
+returns-clause-asked g c =
+    let opened = c.in-Ok.ensures in
+    let place = place_of (g.D.Device.state c.args.device) None c.given_or_own-at.result c.given_or_own.inside.port (seen_site c.in-Ok.site) c.given_or_own-at.ensures opened.site
+    (λ honest. ap (λ a. a.port) (c.given_or_own.view_is) ∙ ap (λ a. a.port) (c.front.ensures (subst IsTrue (sym opened.honest) honest))) in
+    rw c.in-Err-serve_over.ensures.err.0 (inr (c.given_or_own-at.result, place, c.in-Ok-listen.ensures))
+
+pub returns-in-Ok-serve_over-clause-listened : goal.returns-in-Ok-serve_over-clause-listened
+returns-in-Ok-serve_over-clause-listened g c =
+    let opened = c.in-Ok.ensures in
+    let place = place_of (g.D.Device.state c.args.device) None c.given_or_own-at.result c.given_or_own.inside.port (seen_site c.in-Ok.site) c.given_or_own-at.ensures opened.site
+    (λ honest. ap (λ a. a.port) (c.given_or_own.view_is) ∙ ap (λ a. a.port) (c.front.ensures (subst IsTrue (sym opened.honest) honest))) in
+    (c.given_or_own-at.result, place, c.in-Ok-listen.ensures)

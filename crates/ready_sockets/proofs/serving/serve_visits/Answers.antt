@@ -12,13 +12,14 @@ pub loop-round-preserved : goal.loop-round-preserved
 loop-round-preserved g c = run_both _ _ _ _ g.met.S.SiteKeeper.crash_states_represent _ _ _ _ _ _ _ _ _ c.loop-round.invariant c.round.ensures
     (λ es fs os ps p q. more _ _ _ _ es fs os ps p (record {
       called = items c.wait.new.self.door.events;
-      now = _;
+      reading = c.seconds.ensures.0;
+      read = c.seconds.ensures.1;
       waited = c.wait.new.self;
       turned = c.round.new.room;
       given_before = _;
       given_now = _;
       wait = c.in_ok-wait.ensures.woken;
-      turns = q;
+      turns = rw (← c.seconds.ensures.2) q;
       seen_off = c.see_off.ensures.gone;
       logged = c.see_off.ensures.logged;
     }))
@@ -33,7 +34,7 @@ returns-then-not-is_usable g c = run_as _ _ _ _ _ _ _ c.loop-round.invariant (λ
 
 pub returns-in_err-wait : goal.returns-in_err-wait
 returns-in_err-wait g c = run_as _ _ _ _ _ _ _ c.loop-round.invariant
-    (λ es os p. wait_failed g.L.Write.contents c.from_residual.result _ _ c.loop-round._round _ c.loop-round.room c.wait.new.self c.loop-round.log es os c.from_residual.ensures.1 c.in_err-wait.ensures.fault (sym c.is_usable.ensures ∙ c.if-not-is_usable.false) p c.in_err-wait.ensures.not_waited)
+    (λ es os p. wait_failed g.L.Write.contents c.from_residual.result _ _ c.loop-round._round _ c.loop-round.room c.wait.new.self c.loop-round.log c.loop-round.watch.read.readings es os c.from_residual.ensures.1 c.in_err-wait.ensures.fault (sym c.is_usable.ensures ∙ c.if-not-is_usable.false) p c.in_err-wait.ensures.not_waited)
 
 pub returns : goal.returns
 returns g c = run_as _ _ _ _ _ _ _ c.loop-round.invariant (λ es os p. record {

@@ -1,0 +1,21 @@
+use Rattle.std.proofs.Common.{ap}
+use Rattle.gopher_host.proofs.Opens.{opens_too}
+use Rattle.gopher_host.proofs.run.Goals as goal
+
+pub returns-in-ServeRounds-clause-sessions : goal.returns-in-ServeRounds-clause-sessions
+returns-in-ServeRounds-clause-sessions g c = rw c.in-ServeRounds.is (record {
+  rounds = (c.new.result.calls, c.serve_rounds.new.asked.calls, c.new.ensures, opens_too _ _ _ (λ u. (ap (λ a. a.calls) u.0, u.1)) c.serve_rounds.ensures);
+  logged = tt;
+  unlogged = tt;
+  script = tt;
+})
+
+pub returns-in-ServeClients-clause-sessions : goal.returns-in-ServeClients-clause-sessions
+returns-in-ServeClients-clause-sessions g c =
+    let new = c.new-in-ServeClients in
+    rw c.in-ServeClients.is (record {
+      rounds = tt;
+      logged = λ is. (new.result.calls, c.serve.new.asked.calls, new.ensures, opens_too _ _ _ (λ u. (ap (λ a. a.calls) u.0, u.1)) (c.serve.ensures.logged is));
+      unlogged = λ is. (c.serve.ensures.quiet is, new.result.calls, c.serve.new.asked.calls, new.ensures, opens_too _ _ _ (λ u. ap (λ a. a.calls) u) (c.serve.ensures.unlogged is));
+      script = tt;
+    })
