@@ -1,3 +1,4 @@
 pub mod OneEvent
 pub mod Runs
 pub mod Crashes
+pub mod Courses

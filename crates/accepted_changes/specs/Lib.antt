@@ -2,3 +2,4 @@ pub mod Accepted
 pub mod Laws
 pub mod Examples
 pub mod UpgradedStarts
+pub mod Courses

@@ -1,5 +1,6 @@
 // What accepted changes are, as laws of the definitions.
 ghost use Rattle.page_store.specs.Steps.{crash_states_of};
+ghost use Rattle.accepted_changes.specs.Courses.{CoursesAreRuns, CrashesLeaveCommits};
 ghost use Rattle.accepted_changes.specs.Examples.{AcceptedExamples};
 ghost use Rattle.accepted_changes.specs.UpgradedStarts.{UpgradedImagesAreStarts};
 ghost use Rattle.accepted_changes.specs.Laws.{AcceptedAreValid, AcceptedAreInOrder, CrashesLeaveAPrefix, ImagesHoldTheAcknowledged, NextOpeningsFindThem};
@@ -16,6 +17,12 @@ pub fn accepted_are_valid()
 /// What a crash at any moment of a run leaves represents the site of the first so many accepted changes, with each one that was acknowledged by then.
 pub fn crashes_leave_a_prefix<S: SiteKeeper>()
     ensures { CrashesLeaveAPrefix S.crash_states S.represents }
+{}
+
+/// A run has a course: its worlds, and its commits, each of which is one change. What a crash leaves represents the site of the first so many commits, with each that was acknowledged by then.
+pub fn runs_have_courses<S: SiteKeeper>()
+    ensures runs { CoursesAreRuns }
+    ensures at_crash { CrashesLeaveCommits S.crash_states S.represents }
 {}
 
 /// The same of the images that a crash leaves of a device which was opened as a site and run over.

@@ -58,7 +58,7 @@ stays_without_forms : (s : Site) (sessions : List (ℕ × Phase)) (id : ℕ) (re
 stays_without_forms s [] id rest h = h
 stays_without_forms s (x ∷ sessions) id rest h = with_own x rest sessions (without_forms s sessions) (without_form s x.1) id (form_stays s x.1 rest) (stays_without_forms s sessions id rest) h
 
-stays_taken : (s : Site) (choices : List Bool) (sessions : List (ℕ × Phase)) (id : ℕ) (rest : List ℕ) → phase_in sessions id ≡ Some (Reply rest) → phase_in (taken s choices sessions).sessions id ≡ Some (Reply rest)
+pub stays_taken : (s : Site) (choices : List Bool) (sessions : List (ℕ × Phase)) (id : ℕ) (rest : List ℕ) → phase_in sessions id ≡ Some (Reply rest) → phase_in (taken s choices sessions).sessions id ≡ Some (Reply rest)
 stays_taken s [] sessions id rest h = h
 stays_taken s (takes ∷ choices) [] id rest h = h
 stays_taken s (true ∷ choices) (x ∷ sessions) id rest h = with_own x rest sessions (taken (site_from s x.1) choices sessions).sessions (answered_from s x.1) id (answered_stays s x.1 rest) (stays_taken (site_from s x.1) choices sessions id rest) h

@@ -3,3 +3,7 @@ pub mod CountedPosts
 pub mod PlainHubs
 pub mod SplitGroups
 pub mod BoardCounts
+pub mod Phases
+pub mod Continuing
+pub mod Places
+pub mod Crashes

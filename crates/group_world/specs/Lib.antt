@@ -4,5 +4,6 @@ pub mod Run
 pub mod CrashStates
 pub mod Calls
 pub mod Laws
+pub mod Continuing
 pub mod PlainHubs
 pub mod GroupExamples

@@ -1,7 +1,14 @@
 // What groups of posts rest on, as laws of the definitions.
+ghost use Rattle.host_types.specs.AllChanges.{Changes};
+ghost use Rattle.group_world.specs.Calls.{MaySplit};
 ghost use Rattle.group_world.specs.GroupExamples.{GroupExamples};
+ghost use Rattle.group_world.specs.Run.{changes_in};
+ghost use Rattle.group_world.specs.CrashStates.{CallsLeave};
+ghost use Rattle.group_world.specs.Continuing.{Continues, ContinuesFromItsPlace, ContinuesWhatWasFound, PostsWait};
 ghost use Rattle.group_world.specs.PlainHubs.{PlainHubsStay};
 ghost use Rattle.group_world.specs.Laws.{FindsItsPlace, GroupsAreRight, LaterRepliesAreKnown, PostsCountOn, RepliesStay};
+
+use host_types::SiteKeeper;
 
 /// Worked examples of what sessions are answered whose posts wait.
 pub fn worked_examples()
@@ -36,4 +43,22 @@ pub fn plain_hubs_stay()
 /// The reply to a later post of a group is known before those before it are made: by the card of its board, counted on by the posts on it before.
 pub fn later_replies_are_known()
     ensures { LaterRepliesAreKnown }
+{}
+
+/// A post waits until a flush, or until its session leaves.
+pub fn posts_wait()
+    ensures { PostsWait }
+{}
+
+/// What a session draws goes on from where it stood. From the request on it is the text of the site which that found; of a post that has waited it is the text of the site at its place in the group.
+pub fn continues()
+    ensures rest { Continues }
+    ensures found { ContinuesWhatWasFound }
+    ensures place { ContinuesFromItsPlace }
+{}
+
+/// What a crash at any moment of a run leaves, by what its calls leave: the site behind some of the events, at least all that were answered, or with what was in flight. A group is there whole or not at all, but
+/// where it may not go in one step.
+pub fn calls_leave<S: SiteKeeper>()
+    ensures { CallsLeave S.crash_states S.represents (λ k w e. MaySplit (S.lacks k) (S.site_state k) (changes_in w e)) }
 {}

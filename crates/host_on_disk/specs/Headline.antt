@@ -50,6 +50,14 @@ pub record RunsOn {D S L : Type 0} (state : D → State) (device : S → D) (sit
   pub runs : RunsOver site_state lacks crash_states stands opened closed first events outcomes
   pub handed : new ≡ device closed
 
+-- A device is run over, and what survives a crash of it: both speak of one opening, as one site.
+pub record RunsAndSurvives {D S L : Type 0} (state : D → State) (device : S → D) (site_state : S → SiteState) (lacks : S → Changes → SiteFault → Type 0) (site_crash_states : S → CrashStates L) (stands : L → Site → Type 0) (crash_states : D → CrashStates Image) (old new : D) (first : ℕ) (events : List Event) (outcomes : List Outcome) : Type 0 where
+  pub calls : RunsOn state device site_state lacks site_crash_states stands old new first events outcomes
+  pub survives : IsTrue (state old).honest → Survives state crash_states old new first events outcomes
+  pub opened : (honest : IsTrue (state old).honest) → (survives honest).opened ≡ device calls.opened
+  pub site : (honest : IsTrue (state old).honest) → (survives honest).site ≡ (site_state calls.opened).site
+  pub honest : (state new).honest ≡ (state old).honest
+
 -- ---- any number of crashes in turn
 
 -- One run in a row of runs: its device before and after, and the image that a crash of it left.

@@ -6,7 +6,7 @@ ghost use Rattle.site_store.specs.Seen.{keeper_of};
 ghost use Rattle.session_core.specs.World.{World, started};
 ghost use Rattle.session_core.specs.Run.{Run};
 ghost use Rattle.session_core.specs.RunCrashStates.{HasCrashStates};
-ghost use Rattle.host_on_disk.specs.Headline.{Survives, RunsOver, RunsOn};
+ghost use Rattle.host_on_disk.specs.Headline.{RunsOver, RunsAndSurvives};
 ghost use Rattle.host_on_disk.specs.OpenFaults.{IsOpeningFault, HandsBack};
 ghost use Rattle.host_on_disk.specs.declared.open_fault.OpenFault.TheVariants.{Memory};
 
@@ -55,9 +55,7 @@ pub fn run_on<D: Device>(
     first: u64,
     events: &[Event],
 ) -> Result<(OutcomeList, D), (OpenFault, D)>
-    ensures calls { IfOk result (λ r. RunsOn D.state (λ d. device_of (keeper_of d)) ⟦<DiskSite<TreeKeeper<D>> as SiteKeeper>⟧.site_state ⟦<DiskSite<TreeKeeper<D>> as SiteKeeper>⟧.lacks ⟦<DiskSite<TreeKeeper<D>> as SiteKeeper>⟧.crash_states ⟦<DiskSite<TreeKeeper<D>> as SiteKeeper>⟧.represents device r.1 first events.now r.0) }
-    ensures survives { IsTrue (D.state device).honest → IfOk result (λ r. Survives D.state (crash_states_of D.moment D.possible_since) device r.1 first events.now r.0) }
-    ensures honest { IfOk result (λ r. (D.state r.1).honest ≡ (D.state device).honest) }
+    ensures ran { let k = ⟦<DiskSite<TreeKeeper<D>> as SiteKeeper>⟧ in IfOk result (λ r. RunsAndSurvives D.state (λ d. device_of (keeper_of d)) k.site_state k.lacks k.crash_states k.represents (crash_states_of D.moment D.possible_since) device r.1 first events.now r.0) }
     ensures refused { IfErr result (λ e. HandsBack IsOpeningFault D.state (crash_states_of D.moment D.possible_since) device e.1 e.0) }
 {
     let site = match open_site(alloc, device) {

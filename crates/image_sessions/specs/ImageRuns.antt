@@ -16,7 +16,7 @@ use Rattle.session_core.specs.declared.event.Outcome.{Outcome}
 use Rattle.host_script.specs.Lines.{Ran, RanSo, IsReplayed, IsRunInPart, start}
 use Rattle.host_script.specs.declared.fault.Fault.{Fault}
 use Rattle.host_script.specs.declared.fault.Fault.TheVariants.{Script}
-use Rattle.host_on_disk.specs.Headline.{Survives, RunsOver, RunsOn}
+use Rattle.host_on_disk.specs.Headline.{RunsOver, RunsAndSurvives}
 
 -- A site is handed in and back, and in between these events had these outcomes in one hub, whose sessions count from 1: the calls, on any device; and over an honest one they are a run of the world, with what a crash at any moment of it leaves.
 pub record OverSite {S L : Type 0} (site_state : S → SiteState) (lacks : S → Changes → SiteFault → Type 0) (crash_states : S → CrashStates L) (stands : L → Site → Type 0) (old : S) (events : List Event) (outcomes : List Outcome) (new : S) : Type 0 where
@@ -25,10 +25,8 @@ pub record OverSite {S L : Type 0} (site_state : S → SiteState) (lacks : S →
   pub honest : (site_state new).honest ≡ (site_state old).honest
 
 -- The same of a device that is opened as the site which it shows, and what survives a crash at any moment of it.
-pub record OnImage {D S L : Type 0} (state : D → State) (device : S → D) (site_state : S → SiteState) (lacks : S → Changes → SiteFault → Type 0) (site_crash_states : S → CrashStates L) (stands : L → Site → Type 0) (crash_states : D → CrashStates Image) (old : D) (events : List Event) (outcomes : List Outcome) (new : D) : Type 0 where
-  pub calls : RunsOn state device site_state lacks site_crash_states stands old new 1 events outcomes
-  pub survives : IsTrue (state old).honest → Survives state crash_states old new 1 events outcomes
-  pub honest : (state new).honest ≡ (state old).honest
+abbrev pub OnImage : {D S L : Type 0} → (D → State) → (S → D) → (S → SiteState) → (S → Changes → SiteFault → Type 0) → (S → CrashStates L) → (L → Site → Type 0) → (D → CrashStates Image) → Ran D
+OnImage state device site_state lacks site_crash_states stands crash_states old events outcomes new = RunsAndSurvives state device site_state lacks site_crash_states stands crash_states old new 1 events outcomes
 
 -- What a script did: where it was run to its end, all of it was; where a line ended it, what stands before that was; and whatever it answered, some events led from `old` to `new`.
 pub record Replays {H : Type 0} (ran : Ran H) (old new : H) (script given took : Option (List ℕ)) (result : Result (Unit {0}) Fault) : Type 0 where

@@ -100,6 +100,12 @@ module _ {S L : Type 0} (site_state : S → SiteState) (lacks : S → Changes �
         let all = further w m v k j l es fs os ps (length es) (crash_states j).moment r (omega arith) r.is_now (subst IsTrue (sym (calls_honest w m k j es os first)) honest) second in
         all.0.each (length es) c (omega (arith, length-append es fs)) (subst (λ t. (crash_states l).possible_since t c) (sym all.1) left)
 
+    -- a crash within the front of a run leaves what the front allows
+    pub calls_fronts : (w v : World) (k l : S) (es fs : List Event) (os ps : List Outcome) → length os ≡ length es → IsTrue (site_state k).honest → (site_state k).usable ≡ true → w.site ≡ (site_state k).site → All w k (es ++ fs) (os ++ ps) v l →
+        (m : World) × (j : S) × HasCrashStates stands w m (crash_states k) (crash_states j) es os × All m j fs ps v l
+    calls_fronts w v k l es fs os ps n honest usable site run =
+        let part = calls_part w v k l es fs os ps n run in (part.0, part.1, calls_have_crash_states w part.0 k part.1 es os honest usable site part.2, part.3)
+
     -- ---- of hubs
 
     pub hub_run : {bound : _} {ghosts : _} (old new : Hub S bound ghosts) (es : List Event) (os : List Outcome) → HubCalls site_state lacks crash_states stands old es os new → HubRun site_state lacks crash_states stands old es os new

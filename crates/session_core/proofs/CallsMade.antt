@@ -10,7 +10,7 @@ use Rattle.host_types.specs.declared.change.Change.{Change}
 use Rattle.host_types.specs.declared.site_fault.SiteFault.{SiteFault}
 use Rattle.session_core.specs.World.{World, Phase}
 use Rattle.session_core.specs.Step.{Next, then_is, answer, failed_answer, step}
-use Rattle.session_core.specs.Run.{Step, StepBy, IsAnswer, IsFaulty, may_work, may_read, has_change}
+use Rattle.session_core.specs.Run.{Step, StepBy, IsAnswer, IsFaulty, is_there, may_work, may_read, has_change}
 use Rattle.session_core.specs.RunCrashStates.{RepresentsBy}
 use Rattle.session_core.specs.Calls.{IfFault, IsCause, StaysClosed, IsSteady, IsAcknowledged, Call}
 use Rattle.session_core.specs.Understood.{IsPostFault, IsDrawFault}
@@ -34,6 +34,7 @@ use Rattle.session_core.proofs.CountedCalls.{drawn_counts}
 use Rattle.session_core.proofs.StepOutcomes.{answer_so}
 use Rattle.session_core.proofs.Steps.{no_fault, answered_by}
 use Rattle.session_core.proofs.Hearings.{weaker}
+use Rattle.session_core.proofs.UnknownSessions.{nobody_there}
 
 exact_by : (b : Bool) (w v : World) (e : Event) (o : Outcome) → (IsFaulty w e o v → ⊥) → StepBy b w e o v → IsAnswer w e o v
 exact_by true w v e o none is = is
@@ -70,16 +71,18 @@ steady site_state w k e o v is flag = record {
   failed = λ fails. flag ∙ runs_by w.failed w e (sym is.0 ∙ fails);
   next = λ fault fails. ap (λ (x : World). x.next) (is.1 ∙ by_keeps w.failed w e fault (sym fails ∙ is.0));
   sessions = λ fault fails. ap (λ (x : World). x.sessions) (is.1 ∙ by_keeps w.failed w e fault (sym fails ∙ is.0));
+  unknown = λ fails. nobody_there w.failed w e (sym fails ∙ is.0);
 }
 
 -- a fault in which the hub stays as it is, and isn't failed
-pub steady_fault : {S : Type 0} (site_state : S → SiteState) (w : World) (k : S) (e : Event) (fault : HubFault) → w.failed ≡ false → (fault ≡ hub.Failed → ⊥) → IsSteady site_state w k e (Fault fault) w k
-steady_fault site_state w k e fault off other = record {
+pub steady_fault : {S : Type 0} (site_state : S → SiteState) (w : World) (k : S) (e : Event) (fault : HubFault) → w.failed ≡ false → (fault ≡ hub.Failed → ⊥) → (fault ≡ hub.Unknown → is_there w e ≡ false) → IsSteady site_state w k e (Fault fault) w k
+steady_fault site_state w k e fault off other nobody = record {
   closed = λ shut. absurd (both w.failed w.failed off shut refl);
   shuts = λ no on. absurd (both w.failed w.failed no on refl);
   failed = λ fails. absurd (other (cc fails));
   next = λ any is. refl;
   sessions = λ any is. refl;
+  unknown = λ fails. nobody (cc fails);
 }
 
 -- what is acknowledged where an answer is no fault
@@ -157,6 +160,7 @@ heard_steady site_state w k e v l lacking post now (Ok h) off usable flag next s
   failed = λ fails. absurd (never_fault h hub.Failed fails);
   next = λ fault fails. next;
   sessions = λ fault fails. absurd (never_fault h fault fails);
+  unknown = λ fails. absurd (never_fault h hub.Unknown fails);
 }
 heard_steady site_state w k e v l lacking post now (Err fault) off usable flag next seats unchanged is = record {
   closed = λ shut. absurd (both w.failed w.failed off shut refl);
@@ -164,6 +168,7 @@ heard_steady site_state w k e v l lacking post now (Err fault) off usable flag n
   failed = λ fails. flag ∙ ap not (shut_by (site_state k) (site_state l) lacking post now fault (cc fails) is);
   next = λ any fails. next;
   sessions = λ any fails. seats;
+  unknown = λ fails. (let same : fault ≡ hub.Unknown = cc fails in let no : IsPostFault lacking post now (site_state k) (site_state l) hub.Unknown = subst (IsPostFault lacking post now (site_state k) (site_state l)) same is in absurd no);
 }
 
 -- a hub that has failed says so
@@ -204,6 +209,7 @@ left_call site_state lacks crash_states stands w k id v l crash_states_represent
         failed = λ fails. absurd (cc fails);
         next = λ fault fails. absurd (cc fails);
         sessions = λ fault fails. absurd (cc fails);
+        unknown = λ fails. absurd (cc fails);
       };
       acknowledged = λ honest. acknowledged_of site_state crash_states stands outcomes.Gone v l crash_states_represent (subst IsTrue (sym honest_is) honest) site flag;
       leaves = λ honest. adds_none (crash_states k) (crash_states l) (λ c. RepresentsBy stands w (Leave id) outcomes.Gone v c) (only honest);
@@ -240,6 +246,7 @@ drawn_steady site_state w k id room v l phase (Ok d) out off flags next seats is
   failed = λ fails. absurd (never_drawn_fault d out hub.Failed fails);
   next = λ fault fails. next;
   sessions = λ fault fails. absurd (never_drawn_fault d out fault fails);
+  unknown = λ fails. absurd (never_drawn_fault d out hub.Unknown fails);
 }
 drawn_steady site_state w k id room v l phase (Err fault) out off flags next seats is = record {
   closed = λ shut. absurd (both w.failed w.failed off shut refl);
@@ -247,6 +254,7 @@ drawn_steady site_state w k id room v l phase (Err fault) out off flags next sea
   failed = λ fails. (let same : fault ≡ hub.Failed = cc fails in let no : IsDrawFault (site_state k) (site_state l) phase hub.Failed = subst (IsDrawFault (site_state k) (site_state l) phase) same is in absurd no);
   next = λ any fails. next;
   sessions = λ any fails. seats;
+  unknown = λ fails. (let same : fault ≡ hub.Unknown = cc fails in let no : IsDrawFault (site_state k) (site_state l) phase hub.Unknown = subst (IsDrawFault (site_state k) (site_state l) phase) same is in absurd no);
 }
 
 -- a session that draws

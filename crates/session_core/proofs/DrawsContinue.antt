@@ -25,7 +25,7 @@ abbrev Has : World → ℕ → List ℕ → Type 0
 Has w id reply = phase_of w id ≡ Some (Reply reply)
 
 -- another session's phase
-other_phase : (ss : List (ℕ × Phase)) (n id : ℕ) (p : Phase) → (n == id) ≡ false → phase_in (moved_in ss n p) id ≡ phase_in ss id
+pub other_phase : (ss : List (ℕ × Phase)) (n id : ℕ) (p : Phase) → (n == id) ≡ false → phase_in (moved_in ss n p) id ≡ phase_in ss id
 other_phase [] n id p other = refl
 other_phase (s ∷ ss) n id p other =
     elim (cases_Bool (s.0 == n)) [
@@ -43,7 +43,7 @@ own_phase (s ∷ ss) id p q h =
       | inr n ↦ rw n (rw n (own_phase ss id p q (sym (rw n refl) ∙ h)))
     ]
 
-gone_phase : (ss : List (ℕ × Phase)) (n id : ℕ) → (n == id) ≡ false → phase_in (others_in ss n) id ≡ phase_in ss id
+pub gone_phase : (ss : List (ℕ × Phase)) (n id : ℕ) → (n == id) ≡ false → phase_in (others_in ss n) id ≡ phase_in ss id
 gone_phase [] n id other = refl
 gone_phase (s ∷ ss) n id other =
     elim (cases_Bool (s.0 == n)) [
@@ -51,7 +51,7 @@ gone_phase (s ∷ ss) n id other =
       | inr o ↦ rw o (elim (cases_Bool (s.0 == id)) [ inl i ↦ rw i refl | inr i ↦ rw i (gone_phase ss n id other) ])
     ]
 
-more_phase : (ss ts : List (ℕ × Phase)) (id : ℕ) (q : Phase) → phase_in ss id ≡ Some q → phase_in (ss ++ ts) id ≡ Some q
+pub more_phase : (ss ts : List (ℕ × Phase)) (id : ℕ) (q : Phase) → phase_in ss id ≡ Some q → phase_in (ss ++ ts) id ≡ Some q
 more_phase [] ts id q h = absurd (cc h)
 more_phase (s ∷ ss) ts id q h =
     elim (cases_Bool (s.0 == id)) [

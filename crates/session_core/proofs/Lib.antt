@@ -8,11 +8,14 @@ pub mod Steps
 pub mod FaultsKeep
 pub mod DrawsContinue
 pub mod RequestTexts
+pub mod SessionNumbers
+pub mod AskedFor
 pub mod StepOutcomes
 pub mod MoreEvents
 pub mod Hearings
 pub mod CountedCalls
 pub mod Runs
+pub mod UnknownSessions
 pub mod CallsMade
 pub mod CallLaws
 pub mod CountedRuns

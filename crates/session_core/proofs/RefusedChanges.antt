@@ -109,6 +109,7 @@ module _ {S L : Type 0} (site_state : S → SiteState) (lacks : S → Changes �
           failed = λ fails. absurd (cc fails);
           next = λ any fails. refl;
           sessions = λ any fails. refl;
+          unknown = λ fails. absurd (cc fails);
         };
         acknowledged = λ honest. tt;
         leaves = λ honest. weaker (crash_states k) (crash_states l) (may_crash_to (crash_states k)) (λ c. may_crash_to (crash_states k) c ⊎ RepresentsBy stands w e (Fault (hub.Refused refused)) v c) (none honest (stays.usable ∙ usable)) (λ c left. inl left);

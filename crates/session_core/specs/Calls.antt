@@ -7,7 +7,7 @@ use Rattle.host_types.specs.CrashStates.{CrashStates, AddsOnly, AddsNone, may_cr
 use Rattle.host_types.specs.declared.site_fault.SiteFault.{SiteFault}
 use Rattle.session_core.specs.World.{World}
 use Rattle.session_core.specs.Step.{step}
-use Rattle.session_core.specs.Run.{Step, IsAnswer, change_in}
+use Rattle.session_core.specs.Run.{Step, IsAnswer, change_in, is_there}
 use Rattle.session_core.specs.RunCrashStates.{RepresentsBy, RepresentsFrom, HasCrashStates}
 use Rattle.session_core.specs.Counting.{CountsCall, result_of, reads_in, writes_in}
 use Rattle.session_core.specs.Causes.{IsLacking, IsHeardCause, IsDrawCause, IsAdminCause}
@@ -18,7 +18,7 @@ use Rattle.session_core.specs.declared.event.Event.TheVariants.{Join, Bytes, End
 use Rattle.session_core.specs.declared.event.Outcome.{Outcome}
 use Rattle.session_core.specs.declared.event.Outcome.TheVariants.{Fault}
 use Rattle.session_core.specs.declared.fault.HubFault.{HubFault}
-use Rattle.session_core.specs.declared.fault.HubFault.TheVariants.{Failed}
+use Rattle.session_core.specs.declared.fault.HubFault.TheVariants.{Failed, Unknown}
 use Rattle.session_core.specs.declared.hub.Hub.{Hub}
 
 -- the fault, where the outcome is one
@@ -40,13 +40,14 @@ abbrev pub StaysClosed : {S : Type 0} → (S → SiteState) → S → Event → 
 StaysClosed site_state k (Leave id) l = MayGiveBack (site_state k) (site_state l)
 StaysClosed site_state k e l = l ≡ k
 
--- What is known of an answer on any device, one that is not honest too: a hub that has failed stays as it is, but for sessions that leave; `Failed` marks it, and nothing else does; and a fault moves no session.
+-- What is known of an answer on any device, one that is not honest too: a hub that has failed stays as it is, but for sessions that leave; `Failed` marks it, and nothing else does; a fault moves no session; and `Unknown` comes only where the session isn't there.
 pub record IsSteady {S : Type 0} (site_state : S → SiteState) (w : World) (k : S) (e : Event) (o : Outcome) (v : World) (l : S) : Type 0 where
   pub closed : w.failed ≡ true → IsAnswer w e o v × StaysClosed site_state k e l
   pub shuts : w.failed ≡ false → v.failed ≡ true → o ≡ Fault Failed
   pub failed : o ≡ Fault Failed → v.failed ≡ true
   pub next : (fault : HubFault) → o ≡ Fault fault → v.next ≡ w.next
   pub sessions : (fault : HubFault) → o ≡ Fault fault → v.sessions ≡ w.sessions
+  pub unknown : o ≡ Fault Unknown → is_there w e ≡ false
 
 -- What an answer that isn't a fault tells: whatever a crash leaves from then on represents the new site.
 abbrev pub IsAcknowledged : {S L : Type 0} → (S → CrashStates L) → (L → Site → Type 0) → Outcome → World → S → Type 0
@@ -111,6 +112,12 @@ CallsMoments {S = S} {L = L} site_state lacks crash_states stands = (w m v : Wor
 abbrev pub CallsCrash : {S L : Type 0} → (S → SiteState) → (S → Changes → SiteFault → Type 0) → (S → CrashStates L) → (L → Site → Type 0) → Type 0
 CallsCrash {S = S} site_state lacks crash_states stands = (w v : World) (k l : S) (events : List Event) (outcomes : List Outcome) →
     IsTrue (site_state k).honest → (site_state k).usable ≡ true → w.site ≡ (site_state k).site → Calls site_state lacks crash_states stands w k events outcomes v l → HasCrashStates stands w v (crash_states k) (crash_states l) events outcomes
+
+-- A crash within a run, before some of its events have come, leaves what those before them allow, and nothing of later ones.
+abbrev pub CallsFronts : {S L : Type 0} → (S → SiteState) → (S → Changes → SiteFault → Type 0) → (S → CrashStates L) → (L → Site → Type 0) → Type 0
+CallsFronts {S = S} site_state lacks crash_states stands = (w v : World) (k l : S) (events later : List Event) (outcomes further : List Outcome) → length outcomes ≡ length events →
+    IsTrue (site_state k).honest → (site_state k).usable ≡ true → w.site ≡ (site_state k).site → Calls site_state lacks crash_states stands w k (events ++ later) (outcomes ++ further) v l →
+    (m : World) × (j : S) × HasCrashStates stands w m (crash_states k) (crash_states j) events outcomes × Calls site_state lacks crash_states stands m j later further v l
 
 -- The outcomes of a run tell what it has counted: each read that failed, of an honest site.
 abbrev pub CallsCountReads : {S L : Type 0} → (S → SiteState) → (S → Changes → SiteFault → Type 0) → (S → CrashStates L) → (L → Site → Type 0) → Type 0

@@ -7,7 +7,7 @@ use Rattle.common_types.specs.declared.refused.Refused.{Refused}
 use Rattle.session_core.specs.World.{World, Phase, Heard, Reply, phase_of}
 use Rattle.session_core.specs.Step.{StepResult, listens, ends, with_change, step}
 use Rattle.session_core.specs.declared.event.Event.{Event}
-use Rattle.session_core.specs.declared.event.Event.TheVariants.{Bytes, End, Draw, Admin}
+use Rattle.session_core.specs.declared.event.Event.TheVariants.{Bytes, End, Draw, Leave, Admin}
 use Rattle.session_core.specs.declared.event.Outcome.{Outcome}
 use Rattle.session_core.specs.declared.event.Outcome.TheVariants.{Fault}
 use Rattle.session_core.specs.declared.fault.HubFault.{HubFault}
@@ -20,6 +20,14 @@ is_hearing phase = false
 abbrev pub has_bytes_left : Option Phase → Bool
 has_bytes_left (Some (Reply (b ∷ rest))) = true
 has_bytes_left phase = false
+
+-- The session is there that the event is about, where it is about one.
+abbrev pub is_there : World → Event → Bool
+is_there w (Bytes id piece now) = is_some (phase_of w id)
+is_there w (End id now) = is_some (phase_of w id)
+is_there w (Draw id room) = is_some (phase_of w id)
+is_there w (Leave id) = is_some (phase_of w id)
+is_there w e = true
 
 -- The event may lack memory: while a session hears, or where the administrator changes the site.
 abbrev pub may_work : World → Event → Bool

@@ -1,5 +1,5 @@
 // What moves one session that draws its reply.
-ghost use Rattle.std.specs.Prelude.{◌≡◌, true, [], length, take, drop, OnErr, OnOk, IfOk, IfErr, IfSome, IsTrue};
+ghost use Rattle.std.specs.Prelude.{◌≡◌, ◌≤◌, true, [], length, take, drop, OnErr, OnOk, IfOk, IfErr, IfSome, IsTrue};
 ghost use Rattle.host_types.specs.Pins.{is_out};
 ghost use Rattle.host_types.specs.SiteState.{HasRead, IsUnchangedBehind};
 ghost use Rattle.host_types.specs.CrashStates.{AddsNone};
@@ -24,6 +24,7 @@ use std::mem;
 fn draw_bytes(replying: &mut Replying, out: &mut [u8]) -> Drawn
     ensures gives { drawn_outcome result out.new ≡ (draws (length out.old) (world.Reply (drop replying.old.drawn replying.old.bytes))).outcome }
     ensures phase { world.Reply (drop replying.new.drawn replying.new.bytes) ≡ (draws (length out.old) (world.Reply (drop replying.old.drawn replying.old.bytes))).phase }
+    ensures within { drawn_length result ≤ length out.old }
     ensures behind { IsUnchangedBehind (drawn_length result) out.old out.new }
 {
     let rest = &replying.bytes.as_slice()[replying.drawn..];
@@ -55,6 +56,7 @@ fn draw_view<S: SiteKeeper>(
     ensures fault { IfErr result (IsDrawFault (S.site_state site.old) (S.site_state site.new) (phase_of S.pinned (S.site_state site.old) (phases.Drawing drawing.old))) }
     ensures counts { CountsCall result (S.site_state site.old) (S.site_state site.new) }
     ensures at_crash { IsTrue (S.site_state site.old).honest → AddsNone (S.crash_states site.old) (S.crash_states site.new) }
+    ensures within { IfOk result (λ r. r.0 ≤ length out.old) }
     ensures behind { IfOk result (λ r. IsUnchangedBehind r.0 out.old out.new) }
     ensures begun { OnErr result (HasBegun (S.site_state site.old).honest (phase_of S.pinned (S.site_state site.old) (phases.Drawing drawing.old)) out.old out.new) }
 {
@@ -82,6 +84,7 @@ pub fn draw<S: SiteKeeper>(
     ensures fault { IfErr result (IsDrawFault (S.site_state site.old) (S.site_state site.new) (phase_of S.pinned (S.site_state site.old) phase.old)) }
     ensures counts { CountsCall result (S.site_state site.old) (S.site_state site.new) }
     ensures at_crash { IsTrue (S.site_state site.old).honest → AddsNone (S.crash_states site.old) (S.crash_states site.new) }
+    ensures within { IfOk result (λ drawn. drawn_length drawn ≤ length out.old) }
     ensures behind { IfOk result (λ drawn. IsUnchangedBehind (drawn_length drawn) out.old out.new) }
     ensures begun { OnErr result (HasBegun (S.site_state site.old).honest (phase_of S.pinned (S.site_state site.old) phase.old) out.old out.new) }
     ensures untouched { IfErr result (λ e. e ≡ NotReady → out.new ≡ out.old) }

@@ -164,6 +164,7 @@ impl<S: SearchKeeper> Hub<S> {
         ensures kept { OnErr result (seats_of self.new ≡ seats_of self.old) }
         ensures keeper { KeepsSite (S.site_state (keeper_of self.old)) (S.site_state (keeper_of self.new)) }
         ensures closed { (S.site_state (keeper_of self.old)).usable ≡ false → keeper_of self.new ≡ keeper_of self.old }
+        ensures within { IfOk result (λ drawn. drawn_length drawn ≤ length out.old) }
         ensures behind { IfOk result (λ drawn. IsUnchangedBehind (drawn_length drawn) out.old out.new) }
         ensures untouched { IfErr result (λ e. (e ≡ Broken → ⊥) → out.new ≡ out.old) }
         ensures begun { OnErr result ((rest : List ℕ) → phase_of (world_of S.site_state self.old) id ≡ Some (Reply rest) → HasBegun (S.site_state (keeper_of self.old)).honest (Reply rest) out.old out.new) }

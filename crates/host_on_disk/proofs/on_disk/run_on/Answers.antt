@@ -1,4 +1,4 @@
-use Rattle.std.proofs.Common.{sym, subst, ap, ◌∙◌, IsTrue}
+use Rattle.std.proofs.Common.{refl, sym, subst, ap, ◌∙◌, IsTrue}
 use Rattle.cow_tree.specs.TreeSeen.{device_of}
 use Rattle.page_store.specs.Steps.{crash_states_of}
 use Rattle.site_store.specs.Seen.{keeper_of, seen_site}
@@ -6,13 +6,27 @@ use Rattle.host_on_disk.proofs.Openings.{no_memory}
 use Rattle.host_on_disk.proofs.Runs.{survives}
 use Rattle.host_on_disk.proofs.on_disk.run_on.Goals as goal
 
-pub returns-in-Ok-run_over-clause-survives : goal.returns-in-Ok-run_over-clause-survives
-returns-in-Ok-run_over-clause-survives g c = λ honest.
+pub returns-in-Ok-run_over-clause-ran : goal.returns-in-Ok-run_over-clause-ran
+returns-in-Ok-run_over-clause-ran g c =
+    let state = g.D.Device.state in
     let opened = c.in-Ok.ensures in
     let back = c.into_device.ensures ∙ ap (λ k. device_of k) c.into_keeper.ensures in
-    let unchanged : IsTrue (g.D.Device.state c.in-Ok.site.keeper.device).honest = subst IsTrue (sym opened.honest) honest in
-    survives g.D.Device.state (crash_states_of g.D.Device.moment g.D.Device.possible_since) c.args.device c.in-Ok.site.keeper.device c.in-Ok-run_over.site.keeper.device c.into_device.result c.args.first c.args.events.now c.in-Ok-run_over.outcomes (seen_site c.in-Ok.site)
-    (opened.site honest) (opened.alone honest) (opened.at_crash honest) (c.in-Ok-run_over.ensures.run unchanged) back
+    record {
+      calls = record {
+        opened = c.in-Ok.site;
+        closed = c.in-Ok-run_over.site;
+        shows = opened.site;
+        counted = opened.counts;
+        usable = opened.usable;
+        runs = c.in-Ok-run_over.ensures.calls;
+        handed = back;
+      };
+      survives = λ honest. survives state (crash_states_of g.D.Device.moment g.D.Device.possible_since) c.args.device c.in-Ok.site.keeper.device c.in-Ok-run_over.site.keeper.device c.into_device.result c.args.first c.args.events.now c.in-Ok-run_over.outcomes (seen_site c.in-Ok.site)
+          (opened.site honest) (opened.alone honest) (opened.at_crash honest) (c.in-Ok-run_over.ensures.run (subst IsTrue (sym opened.honest) honest)) back;
+      opened = λ honest. refl;
+      site = λ honest. refl;
+      honest = ap (λ d. (state d).honest) back ∙ c.in-Ok-run_over.ensures.honest ∙ opened.honest;
+    }
 
 pub returns-in-Err-run_over-clause-refused : goal.returns-in-Err-run_over-clause-refused
 returns-in-Err-run_over-clause-refused g c =
@@ -25,14 +39,3 @@ returns-in-Err-run_over-clause-refused g c =
       honest = rw back opened.honest;
       no_new_crash_state = rw back opened.at_crash;
     }
-
-pub returns-in-Ok-run_over-clause-calls : goal.returns-in-Ok-run_over-clause-calls
-returns-in-Ok-run_over-clause-calls g c = record {
-  opened = c.in-Ok.site;
-  closed = c.in-Ok-run_over.site;
-  shows = c.in-Ok.ensures.site;
-  counted = c.in-Ok.ensures.counts;
-  usable = c.in-Ok.ensures.usable;
-  runs = c.in-Ok-run_over.ensures.calls;
-  handed = c.into_device.ensures ∙ ap (λ k. device_of k) c.into_keeper.ensures;
-}

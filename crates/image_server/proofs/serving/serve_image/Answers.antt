@@ -1,4 +1,4 @@
-use Rattle.std.proofs.Common.{inr, sym, subst, ap, ◌∙◌, IsTrue}
+use Rattle.std.proofs.Common.{refl, inr, sym, subst, ap, ◌∙◌, IsTrue}
 use Rattle.cow_tree.specs.TreeSeen.{device_of}
 use Rattle.page_store.specs.Steps.{crash_states_of}
 use Rattle.site_store.specs.Seen.{keeper_of, seen_site}
@@ -28,6 +28,8 @@ returns-in-Ok-serve_over-clause-served g c =
             };
             survives = λ honest. survives state (crash_states_of g.D.Device.moment g.D.Device.possible_since) c.args.device c.in-Ok.site.keeper.device c.in-Ok-serve_over.site.keeper.device c.into_device-in-Ok-serve_over.result 1 events outcomes (seen_site c.in-Ok.site)
                 (opened.site honest) (opened.alone honest) (opened.at_crash honest) (over.run (subst IsTrue (sym opened.honest) honest)) back;
+            opened = λ honest. refl;
+            site = λ honest. refl;
             honest = ap (λ d. (state d).honest) back ∙ over.honest ∙ opened.honest;
           })
           _ _ _ _

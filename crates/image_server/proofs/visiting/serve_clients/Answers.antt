@@ -1,4 +1,4 @@
-use Rattle.std.proofs.Common.{inl, inr, sym, subst, ap, ◌∙◌, IsTrue}
+use Rattle.std.proofs.Common.{refl, inl, inr, sym, subst, ap, ◌∙◌, IsTrue}
 use Rattle.std.proofs.lemmas.List.{append-nil}
 use Rattle.cow_tree.specs.TreeSeen.{device_of}
 use Rattle.page_store.specs.Steps.{crash_states_of}
@@ -27,6 +27,8 @@ returns-in-Ok-visits_over-clause-served g c =
       };
       survives = λ honest. survives state (crash_states_of g.D.Device.moment g.D.Device.possible_since) c.args.device c.in-Ok.site.keeper.device c.in-Ok-visits_over.site.keeper.device c.into_device-in-Ok-visits_over.result 1 events outcomes (seen_site c.in-Ok.site)
           (opened.site honest) (opened.alone honest) (opened.at_crash honest) (over.run (subst IsTrue (sym opened.honest) honest)) back;
+      opened = λ honest. refl;
+      site = λ honest. refl;
       honest = ap (λ d. (state d).honest) back ∙ over.honest ∙ opened.honest;
     })
     _ _ _ _

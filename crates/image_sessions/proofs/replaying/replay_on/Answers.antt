@@ -1,4 +1,4 @@
-use Rattle.std.proofs.Common.{sym, subst, ap, ◌∙◌, IsTrue}
+use Rattle.std.proofs.Common.{refl, sym, subst, ap, ◌∙◌, IsTrue}
 use Rattle.cow_tree.specs.TreeSeen.{device_of}
 use Rattle.page_store.specs.Steps.{crash_states_of}
 use Rattle.site_store.specs.Seen.{keeper_of, seen_site}
@@ -25,6 +25,8 @@ returns-in-Ok-replay_over-clause-replayed g c =
       };
       survives = λ honest. survives state (crash_states_of g.D.Device.moment g.D.Device.possible_since) c.args.device c.in-Ok.site.keeper.device c.in-Ok-replay_over.site.keeper.device c.into_device.result 1 events outcomes (seen_site c.in-Ok.site)
           (opened.site honest) (opened.alone honest) (opened.at_crash honest) (over.run (subst IsTrue (sym opened.honest) honest)) back;
+      opened = λ honest. refl;
+      site = λ honest. refl;
       honest = ap (λ d. (state d).honest) back ∙ over.honest ∙ opened.honest;
     })
     _ _ _ _ c.in-Ok-replay_over.ensures.replayed

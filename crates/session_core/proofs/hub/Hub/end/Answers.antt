@@ -1,5 +1,5 @@
 use Rattle.std.proofs.Common.{◌≡◌, true, false, refl, sym, ap, subst, ◌∙◌, rules, arith, inl}
-use Rattle.std.specs.Prelude.{◌==◌, not, IsTrue}
+use Rattle.std.specs.Prelude.{◌==◌, not, IsTrue, is_some}
 use Rattle.std.specs.List.{position}
 use Rattle.session_core.specs.Step.{ends, with_change}
 use Rattle.session_core.specs.Hub.{world_of}
@@ -73,7 +73,7 @@ returns-in_default g c =
         honest = refl;
         site = refl;
         flag = refl;
-        steady = steady_fault g.S.SiteKeeper.site_state _ _ (End c.args.id c.args.now) Unknown (ap not usable) (λ is. cc is);
+        steady = steady_fault g.S.SiteKeeper.site_state _ _ (End c.args.id c.args.now) Unknown (ap not usable) (λ is. cc is) (λ is. ap is_some (nobody g.S.SiteKeeper.pinned k items c.args.id found));
         acknowledged = λ honest. tt;
         leaves = λ honest. stays_none_added _ _;
       };

@@ -1,0 +1,12 @@
+use Rattle.group_world.proofs.Continuing.{continues}
+use Rattle.group_world.proofs.Places.{continues_found, continues_from_its_place}
+use Rattle.group_world.proofs.laws.continues.Goals as goal
+
+pub returns-clause-rest : goal.returns-clause-rest
+returns-clause-rest c = continues
+
+pub returns-clause-found : goal.returns-clause-found
+returns-clause-found c = continues_found
+
+pub returns-clause-place : goal.returns-clause-place
+returns-clause-place c = continues_from_its_place
