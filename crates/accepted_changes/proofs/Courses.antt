@@ -1,5 +1,5 @@
 -- The course of a run.
-use Rattle.std.proofs.Common.{◌≡◌, ◌≤◌, ℕ, zero, suc, List, [], ◌∷◌, ◌++◌, length, take, map, refl, sym, ap, subst, ◌∙◌}
+use Rattle.std.proofs.Common.{◌≡◌, ◌≤◌, ℕ, zero, suc, List, [], ◌∷◌, take, map, refl, sym, ap, subst}
 use Rattle.std.specs.Prelude.{Ok}
 use Rattle.std.proofs.lemmas.List.{length-map}
 use Rattle.common_types.specs.CrashStates.{CrashStates}
@@ -12,7 +12,7 @@ use Rattle.session_core.specs.RunCrashStates.{after}
 use Rattle.session_core.specs.declared.event.Event.{Event}
 use Rattle.session_core.specs.declared.event.Outcome.{Outcome}
 use Rattle.session_core.proofs.StepOutcomes.{step_after}
-use Rattle.accepted_changes.specs.Accepted.{acknowledged, accepted, HoldsAcknowledged}
+use Rattle.accepted_changes.specs.Accepted.{accepted, HoldsAcknowledged}
 use Rattle.accepted_changes.specs.Courses.{Commit, changes_of, worlds_of, course_of, AreSteps, HoldsCommits, CoursesAreRuns, CrashesLeaveCommits}
 use Rattle.accepted_changes.proofs.Crashes.{crashes_leave_a_prefix}
 
@@ -58,7 +58,7 @@ holds stands old events outcomes k left h =
       count = h.count;
       site = h.site;
       at_least = h.at_least;
-      at_most = subst (λ (n : ℕ). h.count ≤ n) (sym (length-map alone all)) h.at_most;
+      at_most = subst (λ (n : ℕ). h.count ≤ n) (sym (length-map all alone)) h.at_most;
       made = subst (λ (l : Changes). all_applied old.site l ≡ Ok h.site) (sym (first_are h.count all)) h.made;
       represented = h.represented;
     }

@@ -1,5 +1,5 @@
 -- What a session draws goes on from where it stood, whatever else happens, and whoever waits.
-use Rattle.std.proofs.Common.{◌≡◌, ◌⊎◌, ℕ, ◌+◌, ◌-◌, ◌^◌, Bool, true, false, not, List, [], ◌∷◌, ◌++◌, ◌==◌, take, drop, length, nat_le, refl, sym, ap, ◌∙◌, inl, inr, eqb-true, append_assoc, if◌then◌else◌}
+use Rattle.std.proofs.Common.{◌≡◌, ℕ, ◌-◌, ◌^◌, Bool, true, false, not, List, [], ◌∷◌, ◌++◌, ◌==◌, drop, length, nat_le, refl, sym, ap, ◌∙◌, inl, inr, eqb-true, append_assoc, if◌then◌else◌}
 use Rattle.std.specs.Prelude.{Option, Some, None, Result, Ok, Err, ◌&&◌}
 use Rattle.std.proofs.lemmas.Bool.{cases_Bool, not-true}
 use Rattle.std.proofs.lemmas.List.{take-append-drop}
@@ -7,12 +7,11 @@ use Rattle.host_types.specs.Site.{Site}
 use Rattle.host_types.specs.Change.{apply}
 use Rattle.common_types.specs.declared.refused.Refused.{Refused}
 use Rattle.request_reader.specs.Request.{Request}
-use Rattle.session_core.specs.declared.fault.HubFault.{HubFault}
 use Rattle.session_core.specs.declared.fault.HubFault.TheVariants as hub
-use Rattle.group_world.specs.World.{World, Phase, Heard, Waits, Reply, Early, phase_in, phase_of, moved_in, others_in, with_phase, with_site, with_waiting, without_session, count_waiting}
-use Rattle.group_world.specs.Step.{StepResult, Next, Event, Join, Bytes, End, Draw, Leave, Admin, Flush, Outcome, Joined, More, Ready, Finished, Waiting, Drawn, Gone, Done, Flushed, Fault, then_is, at_session, at_hearing, heard_by, settled, moves, most_waiting, listens, ends, draws, joined, left, changed, answer, failed_answer, all_of, flushed_by}
-use Rattle.group_world.specs.Run.{Step, StepBy, IsAnswer, IsFaulty, IsSplit, IsTakenSingly, RunBy}
-use Rattle.group_world.specs.Continuing.{drawn_in, drawn_by, is_leave, is_flush, stays_in, last_of, Continues, PostsWait}
+use Rattle.group_world.specs.World.{World, Phase, Heard, Waits, Reply, Early, phase_in, phase_of, others_in, with_phase, count_waiting}
+use Rattle.group_world.specs.Step.{StepResult, Next, Event, Join, Bytes, End, Draw, Leave, Admin, Flush, Outcome, Joined, More, Ready, Finished, Waiting, Drawn, Gone, Done, Flushed, Fault, at_session, at_hearing, settled, most_waiting, listens, ends, draws, joined, left, changed, answer, failed_answer, all_of, flushed, flushed_by}
+use Rattle.group_world.specs.Run.{StepBy, IsAnswer, IsFaulty, IsSplit, IsTakenSingly}
+use Rattle.group_world.specs.Continuing.{drawn_in, drawn_by, is_leave, is_flush, stays_in, Continues, PostsWait}
 use Rattle.group_world.proofs.Groups.{replies_stay}
 use Rattle.group_world.proofs.Phases.{other_phase, own_phase, gone_phase, more_phase}
 
@@ -250,18 +249,26 @@ draw_keeps : (w : World) (n id room : ℕ) (reply : List ℕ) → Has w id (Repl
 draw_keeps w n id room reply has =
     elim (cases_Bool (n == id)) [
       | inl same ↦ (let at : phase_of w n ≡ Some (Reply reply) = ap (phase_of w) (eqb-true n id same) ∙ has in rw at (own_draw w n id room reply same has))
-      | inr other ↦ unchanged id reply (Draw n room) _ _ (others_draw n id room _ other) (other_draws w n id room (phase_of w n) (Reply reply) other has)
+      | inr other ↦ unchanged id reply (Draw n room) _ (at_session w n (draws room) (phase_of w n)).world (others_draw n id room _ other) (other_draws w n id room (phase_of w n) (Reply reply) other has)
     ]
 
+next_unchanged : (id : ℕ) (reply : List ℕ) (e : Event) (next : Next) → drawn_in id e next.outcome ≡ [] → Has next.world id (Reply reply) → KeepsNext id reply e next
+next_unchanged id reply e next none has = unchanged id reply e next.outcome next.world none has
+
 answer_keeps : (w : World) (e : Event) (id : ℕ) (reply : List ℕ) → Has w id (Reply reply) → not (is_leave id e) ≡ true → KeepsNext id reply e (answer w e)
-answer_keeps w Join id reply has stays = unchanged id reply Join _ _ refl (joined_keeps w id (Reply reply) has)
+answer_keeps w Join id reply has stays = next_unchanged id reply Join (joined w) refl (joined_keeps w id (Reply reply) has)
 answer_keeps w (Bytes n piece now) id reply has stays =
-    let u = reply_unmoved reply in unchanged id reply (Bytes n piece now) _ _ refl (hears_keep w n id now (listens w.grouped w.site now piece) (Reply reply) u.0 (u.1 w.grouped w.site now piece) has)
-answer_keeps w (End n now) id reply has stays = let u = reply_unmoved reply in unchanged id reply (End n now) _ _ refl (hears_keep w n id now (ends w.grouped w.site now) (Reply reply) u.0 (u.2 w.grouped w.site now) has)
+    let u = reply_unmoved reply in
+    let f : Phase → StepResult = listens w.grouped w.site now piece in
+    next_unchanged id reply (Bytes n piece now) (at_hearing w n now f (phase_of w n)) refl (hears_keep w n id now f (Reply reply) u.0 (u.1 w.grouped w.site now piece) has)
+answer_keeps w (End n now) id reply has stays =
+    let u = reply_unmoved reply in
+    let f : Phase → StepResult = ends w.grouped w.site now in
+    next_unchanged id reply (End n now) (at_hearing w n now f (phase_of w n)) refl (hears_keep w n id now f (Reply reply) u.0 (u.2 w.grouped w.site now) has)
 answer_keeps w (Draw n room) id reply has stays = draw_keeps w n id room reply has
-answer_keeps w (Leave n) id reply has stays = unchanged id reply (Leave n) _ _ refl (leave_keeps w n id (phase_of w n) (Reply reply) (not-true (n == id) stays) has)
-answer_keeps w (Admin change now) id reply has stays = unchanged id reply (Admin change now) _ _ refl (admin_keeps w id (apply w.site change now) (Reply reply) has)
-answer_keeps w Flush id reply has stays = unchanged id reply Flush _ _ refl (replies_stay w (all_of w.sessions) id reply has)
+answer_keeps w (Leave n) id reply has stays = next_unchanged id reply (Leave n) (left w n (phase_of w n)) refl (leave_keeps w n id (phase_of w n) (Reply reply) (not-true (n == id) stays) has)
+answer_keeps w (Admin change now) id reply has stays = next_unchanged id reply (Admin change now) (changed w (apply w.site change now)) refl (admin_keeps w id (apply w.site change now) (Reply reply) has)
+answer_keeps w Flush id reply has stays = next_unchanged id reply Flush (flushed w) refl (replies_stay w (all_of w.sessions) id reply has)
 
 not_drawn : (id : ℕ) (w : World) (e : Event) → drawn_in id e (failed_answer w e).outcome ≡ []
 not_drawn id w Join = refl
@@ -273,14 +280,14 @@ not_drawn id w (Admin change now) = refl
 not_drawn id w Flush = refl
 
 by_keeps : (b : Bool) (w : World) (e : Event) (id : ℕ) (reply : List ℕ) → Has w id (Reply reply) → not (is_leave id e) ≡ true → KeepsNext id reply e (if b then failed_answer w e else answer w e)
-by_keeps true w e id reply has stays = unchanged id reply e _ _ (not_drawn id w e) (failed_keeps w e id (Reply reply) has (not-true (is_leave id e) stays))
+by_keeps true w e id reply has stays = next_unchanged id reply e (failed_answer w e) (not_drawn id w e) (failed_keeps w e id (Reply reply) has (not-true (is_leave id e) stays))
 by_keeps false w e id reply has stays = answer_keeps w e id reply has stays
 
 is_answer_keeps : (w new : World) (e : Event) (o : Outcome) (id : ℕ) (reply : List ℕ) → Has w id (Reply reply) → not (is_leave id e) ≡ true → IsAnswer w e o new → Keeps id reply e o new
 is_answer_keeps w new e o id reply has stays is = rw (is.0, is.1) (by_keeps w.failed w e id reply has stays)
 
 split_keeps : (w new : World) (e : Event) (o : Outcome) (id : ℕ) (reply : List ℕ) → Has w id (Reply reply) → IsSplit w e o new → Keeps id reply e o new
-split_keeps w new Flush o id reply has is = unchanged id reply Flush o new refl (ap (λ (ss : List (ℕ × Phase)). phase_in ss id) (split_sessions w new is.1 o is.2).1 ∙ replies_stay w is.1 id reply has)
+split_keeps w new Flush o id reply has is = unchanged id reply Flush o new refl (ap (λ (ss : List (ℕ × Phase)). phase_in ss id) (split_sessions w new is.1.0 o is.1.1).1 ∙ replies_stay w is.1.0 id reply has)
 split_keeps w new Join o id reply has is = absurd is
 split_keeps w new (Bytes n piece now) o id reply has is = absurd is
 split_keeps w new (End n now) o id reply has is = absurd is

@@ -1,11 +1,11 @@
 -- What a crash at any moment of a run leaves, by its calls.
-use Rattle.std.proofs.Common.{◌≡◌, ◌⊎◌, inl, inr, ⊎_elim, ℕ, zero, suc, ◌≤◌, Bool, true, false, List, [], ◌∷◌, length, map, refl, sym, subst, arith}
+use Rattle.std.proofs.Common.{◌≡◌, ◌⊎◌, inl, inr, ⊎_elim, ℕ, zero, suc, ◌≤◌, false, List, [], ◌∷◌, length, map, refl, sym, subst, arith}
 use Rattle.std.proofs.lemmas.Bool.{cases_Bool}
 use Rattle.host_types.specs.Site.{Site}
-use Rattle.common_types.specs.CrashStates.{CrashStates, AddsOnly, AddsNone, may_crash_to}
+use Rattle.common_types.specs.CrashStates.{CrashStates, may_crash_to}
 use Rattle.group_world.specs.World.{World}
 use Rattle.group_world.specs.Step.{Event, Outcome}
-use Rattle.group_world.specs.CrashStates.{IsUnacknowledged, IsSwitch, RepresentsBy, RepresentsFrom, HasCrashStates, Link, Leaves, LeavesInTurn, splits_at, last_keeper, CallsLeave}
+use Rattle.group_world.specs.CrashStates.{IsUnacknowledged, RepresentsBy, RepresentsFrom, Link, Leaves, LeavesInTurn, splits_at, last_keeper, CallsLeave}
 
 module _ {S L : Type 0} (crash_states : S → CrashStates L) (stands : L → Site → Type 0) (split : S → World → Event → Type 0) where
   abbrev All : World → S → List (Link S) → Type 0
@@ -22,7 +22,7 @@ module _ {S L : Type 0} (crash_states : S → CrashStates L) (stands : L → Sit
 
   -- ---- moments
 
-  at : S → List (Link S) → ℕ → ℕ
+  abbrev at : S → List (Link S) → ℕ → ℕ
   at k [] n = (crash_states k).moment
   at k (l ∷ ls) zero = (crash_states k).moment
   at k (l ∷ ls) (suc n) = at l.keeper ls n
@@ -98,11 +98,9 @@ module _ {S L : Type 0} (crash_states : S → CrashStates L) (stands : L → Sit
 
   since : (w : World) (k : S) (ls : List (Link S)) (P : L → Type 0) → All w k ls → Starts w k P → (t : ℕ) (c : L) → t ≤ (crash_states k).moment → (crash_states (last_keeper k ls)).possible_since t c → (crash_states k).possible_since t c ⊎ Or w k ls P 0 c
   since w k [] P all start t c le left = inl left
-  since w k (l ∷ ls) P all start t c le left = ⊎_elim earlier (λ later. inr (lift_or w k l ls P 0 0 c (omega arith) later)) then
+  since w k (l ∷ ls) P all start t c le left =
+      ⊎_elim earlier (λ later. inr (lift_or w k l ls P 0 0 c (omega arith) later)) (since l.world l.keeper ls (InFlightThen w l P) all.1 (then_starts w k l P all.0 start) t c (omega (arith, le, all.0.adds.later)) left)
     where
-      then : (crash_states l.keeper).possible_since t c ⊎ Or l.world l.keeper ls (InFlightThen w l P) 0 c
-      then = since l.world l.keeper ls (InFlightThen w l P) all.1 (then_starts w k l P all.0 start) t c (omega (arith, le, all.0.adds.later)) left
-
       now : may_crash_to (crash_states k) c ⊎ RepresentsBy stands (split k w l.event) w l.event l.outcome l.world c → (crash_states k).possible_since t c ⊎ Or w k (l ∷ ls) P 0 c
       now (inl may) = inr (at_start w k (l ∷ ls) P c (start c may))
       now (inr by) = inr (inl (first_of w k l ls c by))
@@ -122,7 +120,7 @@ module _ {S L : Type 0} (crash_states : S → CrashStates L) (stands : L → Sit
 
   only_from : (w : World) (k : S) (ls : List (Link S)) (n : ℕ) (c : L) → Or w k ls (λ x. ⊥) n c → From w k ls n c
   only_from w k ls n c (inl from) = from
-  only_from w k ls n c (inr no) = absurd no
+  only_from w k ls n c (inr never) = absurd never
 
   pub calls_leave : CallsLeave crash_states stands split
   calls_leave w k ls start all =

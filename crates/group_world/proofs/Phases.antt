@@ -1,6 +1,6 @@
 -- Where a session is, as the others move.
-use Rattle.std.proofs.Common.{◌≡◌, ℕ, Bool, true, false, List, [], ◌∷◌, ◌++◌, ◌==◌, refl, sym, ap, ◌∙◌, inl, inr, eqb-true, eq-eqb}
-use Rattle.std.specs.Prelude.{Option, Some, None}
+use Rattle.std.proofs.Common.{◌≡◌, ℕ, false, List, [], ◌∷◌, ◌++◌, ◌==◌, refl, sym, ap, ◌∙◌, inl, inr, eqb-true, eq-eqb}
+use Rattle.std.specs.Prelude.{Some}
 use Rattle.std.proofs.lemmas.Bool.{cases_Bool}
 use Rattle.group_world.specs.World.{Phase, phase_in, moved_in, others_in}
 

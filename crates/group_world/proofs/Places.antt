@@ -9,7 +9,7 @@ use Rattle.request_reader.specs.Verdict.{Verdict, Open, Early as EndedEarly, Who
 use Rattle.site_replies.specs.Reply.{WholeAnswer, reply}
 use Rattle.group_world.specs.World.{World, Phase, Heard, Waits, Reply, Early, phase_in, phase_of, count_waiting}
 use Rattle.group_world.specs.Step.{StepResult, Event, Join, Bytes, End, Draw, Leave, Admin, Flush, Outcome, Ready, waits_or, settles, understood, listens, ends, most_waiting, settled, at_hearing, answer, failed_answer, is_form_in, without_form, without_forms, all_of, flushed_by}
-use Rattle.group_world.specs.Run.{Step, StepBy, IsAnswer, IsFaulty, IsSplit}
+use Rattle.group_world.specs.Run.{StepBy}
 use Rattle.group_world.specs.Continuing.{text_by, text_heard, text_found, is_flush, IsTakenBy, IsOfItsPlace, ContinuesWhatWasFound, ContinuesFromItsPlace}
 use Rattle.group_world.proofs.Groups.{stays_taken, finds_its_place}
 use Rattle.group_world.proofs.Phases.{own_phase}
@@ -155,7 +155,7 @@ step_place : (b : Bool) (old mid : World) (o : Outcome) (id : ℕ) (request : Re
 step_place true old mid o id request now text is waits has = answered_place old.failed old mid id request now text is.1 waits has
 step_place false old mid o id request now text (inl is) waits has = answered_place old.failed old mid id request now text is.1 waits has
 step_place false old mid o id request now text (inr (inl is)) waits has = absurd (still_waits old mid id request now text (faulty_sessions old mid Flush o is) waits has)
-step_place false old mid o id request now text (inr (inr is)) waits has = of_its_place old mid is.1 id request now text (split_sessions old mid is.1 o is.2) waits has
+step_place false old mid o id request now text (inr (inr is)) waits has = of_its_place old mid is.1.0 id request now text (split_sessions old mid is.1.0 o is.1.1) waits has
 
 pub continues_from_its_place : ContinuesFromItsPlace
 continues_from_its_place old mid o events outcomes worlds id request now text waits step has stays run = (step_place old.failed old mid o id request now text step waits has, continues mid events outcomes worlds id text has stays run)

@@ -8,6 +8,6 @@ mod laws;
 pub use board_count::posts_on;
 pub use group_commit::{GroupCommit, commit_group};
 pub use laws::{
-    calls_leave, continues, finds_its_place, groups_are_right, later_replies_are_known, plain_hubs_stay,
-    posts_count_on, posts_wait, replies_stay, worked_examples,
+    calls_leave, continues, finds_its_place, groups_are_right, later_replies_are_known,
+    plain_hubs_stay, posts_count_on, posts_wait, replies_stay, worked_examples,
 };

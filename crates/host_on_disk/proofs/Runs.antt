@@ -2,7 +2,6 @@
 use Rattle.std.proofs.Common.{◌≡◌, ⊎_elim, inl, inr, ℕ, List, IsTrue, refl, ap, sym, subst, arith}
 use Rattle.host_types.specs.AllChanges.{Changes}
 use Rattle.host_types.specs.SiteState.{SiteState}
-use Rattle.host_types.specs.declared.change.Change.{Change}
 use Rattle.host_types.specs.declared.site_fault.SiteFault.{SiteFault}
 use Rattle.session_core.specs.Calls.{Calls, IsClosed}
 use Rattle.host_types.specs.Site.{Site}
@@ -53,12 +52,12 @@ handed_on site_state lacks crash_states stands site held new result old last fir
 }
 
 -- what is left represents a site that is found
-found_at : (old : World) (events : List Event) (outcomes : List Outcome) (k : ℕ) (image : Image) → RepresentsFrom ImageRepresents old events outcomes k image → (s : Site) × ImageRepresents image s × IsFound old events outcomes k s
+pub found_at : (old : World) (events : List Event) (outcomes : List Outcome) (k : ℕ) (image : Image) → RepresentsFrom ImageRepresents old events outcomes k image → (s : Site) × ImageRepresents image s × IsFound old events outcomes k s
 found_at old events outcomes k image (inl (j, least, most, stands)) = (_, stands, inl (j, least, most, refl))
 found_at old events outcomes k image (inr (t, is, stands)) = (t, stands, inr (t, is, refl))
 
 -- a device is opened, runs, and is given back
-pub survives : {D : Type 0} (state : D → State) (crash_states : D → CrashStates Image) (old opened new result : D) (first : ℕ) (events : List Event) (outcomes : List Outcome) (site : Site) →
+unfoldable pub survives : {D : Type 0} (state : D → State) (crash_states : D → CrashStates Image) (old opened new result : D) (first : ℕ) (events : List Event) (outcomes : List Outcome) (site : Site) →
     ImageRepresents (state old).disk.view site →
     ((s : Site) → ImageRepresents (state old).disk.view s → s ≡ site) →
     AddsNone (crash_states old) (crash_states opened) →

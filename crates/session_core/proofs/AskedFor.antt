@@ -1,5 +1,5 @@
 -- What a session draws was asked for before.
-use Rattle.std.proofs.Common.{◌≡◌, ◌⊎◌, ⊎_elim, inl, inr, ℕ, Bool, true, false, not, List, [], ◌∷◌, ◌++◌, ◌==◌, length, take, drop, nat_le, ◌+◌, ◌-◌, ◌^◌, refl, sym, ap, subst, ◌∙◌, eqb-true, eq-eqb, append_assoc, arith, if◌then◌else◌}
+use Rattle.std.proofs.Common.{◌≡◌, ◌⊎◌, ⊎_elim, inl, inr, ℕ, Bool, true, false, not, List, [], ◌∷◌, ◌++◌, ◌==◌, length, take, drop, nat_le, ◌-◌, ◌^◌, refl, sym, ap, subst, ◌∙◌, eqb-true, eq-eqb, append_assoc, arith, if◌then◌else◌}
 use Rattle.std.specs.Prelude.{Option, Some, None, Result, Ok, Err, ◌&&◌}
 use Rattle.std.proofs.lemmas.Bool.{cases_Bool}
 use Rattle.std.proofs.lemmas.List.{take-append-drop}
@@ -15,7 +15,7 @@ use Rattle.session_core.specs.Laws.{drawn_by, is_leave, stays_in, text_by, text_
 use Rattle.session_core.specs.declared.event.Event.{Event}
 use Rattle.session_core.specs.declared.event.Event.TheVariants.{Join, Bytes, End, Draw, Leave, Admin}
 use Rattle.session_core.specs.declared.event.Outcome.{Outcome}
-use Rattle.session_core.specs.declared.event.Outcome.TheVariants.{Ready, Drawn, Fault}
+use Rattle.session_core.specs.declared.event.Outcome.TheVariants.{Ready, Drawn}
 use Rattle.session_core.proofs.Steps.{no_fault}
 use Rattle.session_core.proofs.DrawsContinue.{own_phase, other_phase, gone_phase, more_phase}
 use Rattle.session_core.proofs.RequestTexts.{continues_found}

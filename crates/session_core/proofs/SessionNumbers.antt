@@ -1,13 +1,13 @@
 -- No two sessions have one number, and each number is below the next.
-use Rattle.std.proofs.Common.{◌≡◌, ℕ, ◌+◌, ◌-◌, ◌^◌, ◌<◌, Bool, true, false, List, [], ◌∷◌, ◌++◌, ◌==◌, length, nat_le, refl, sym, ap, subst, ◌∙◌, inl, inr, eqb-true, eq-eqb, arith, if◌then◌else◌}
+use Rattle.std.proofs.Common.{◌≡◌, ℕ, ◌+◌, ◌-◌, ◌^◌, ◌<◌, Bool, true, false, List, [], ◌∷◌, ◌++◌, ◌==◌, length, nat_le, refl, sym, ap, subst, ◌∙◌, inl, inr, eqb-true, arith, if◌then◌else◌}
 use Rattle.std.specs.Prelude.{Option, Some, None, Result, Ok, Err}
 use Rattle.std.proofs.lemmas.Bool.{cases_Bool, ne_eqb}
 use Rattle.host_types.specs.Site.{Site}
 use Rattle.host_types.specs.Change.{apply}
 use Rattle.common_types.specs.declared.refused.Refused.{Refused}
-use Rattle.session_core.specs.World.{World, Phase, Heard, phase_in, phase_of, moved_in, others_in, started}
+use Rattle.session_core.specs.World.{World, Phase, Heard, phase_in, phase_of, moved_in, others_in}
 use Rattle.session_core.specs.Step.{StepResult, Next, listens, ends, draws, at_session, at_hearing, joined, left, changed, answer, failed_answer}
-use Rattle.session_core.specs.Run.{StepBy, IsAnswer, IsFaulty}
+use Rattle.session_core.specs.Run.{StepBy, IsFaulty}
 use Rattle.session_core.specs.declared.event.Event.{Event}
 use Rattle.session_core.specs.declared.event.Event.TheVariants.{Join, Bytes, End, Draw, Leave, Admin}
 use Rattle.session_core.specs.declared.event.Outcome.{Outcome}

@@ -6,7 +6,7 @@ use Rattle.host_types.specs.Site.{Site}
 use Rattle.host_types.specs.Change.{apply}
 use Rattle.common_types.specs.declared.refused.Refused.{Refused}
 use Rattle.session_core.specs.World.{World, Phase, Heard, Reply, Early, phase_of}
-use Rattle.session_core.specs.Step.{StepResult, Next, listens, ends, draws, at_session, at_hearing, joined, left, changed, answer, failed_answer}
+use Rattle.session_core.specs.Step.{StepResult, listens, ends, draws, at_session, at_hearing, joined, left, changed, answer, failed_answer}
 use Rattle.session_core.specs.Run.{is_there}
 use Rattle.session_core.specs.declared.event.Event.{Event}
 use Rattle.session_core.specs.declared.event.Event.TheVariants.{Join, Bytes, End, Draw, Leave, Admin}

@@ -1,4 +1,3 @@
-use Rattle.page_store.specs.Steps.{crash_states_of}
 use Rattle.host_on_disk.proofs.RunsInTurn.{found_in_turn}
 use Rattle.accepted_changes.proofs.laws.upgraded_images_are_starts.Goals as goal
 

@@ -7,6 +7,7 @@ use Rattle.host_on_disk.proofs.Runs.{survives}
 use Rattle.host_on_disk.proofs.on_disk.run_on.Goals as goal
 
 pub returns-in-Ok-run_over-clause-ran : goal.returns-in-Ok-run_over-clause-ran
+unfolding survives
 returns-in-Ok-run_over-clause-ran g c =
     let state = g.D.Device.state in
     let opened = c.in-Ok.ensures in

@@ -10,6 +10,7 @@ use Rattle.std.specs.Prelude.{None}
 use Rattle.image_server.proofs.serving.serve_image.Goals as goal
 
 pub returns-in-Ok-serve_over-clause-served : goal.returns-in-Ok-serve_over-clause-served
+unfolding survives
 returns-in-Ok-serve_over-clause-served g c =
     let state = g.D.Device.state in
     let opened = c.in-Ok.ensures in

@@ -10,6 +10,7 @@ use Rattle.image_server.proofs.Places.{place_of}
 use Rattle.image_server.proofs.visiting.serve_clients.Goals as goal
 
 pub returns-in-Ok-visits_over-clause-served : goal.returns-in-Ok-visits_over-clause-served
+unfolding survives
 returns-in-Ok-visits_over-clause-served g c =
     let state = g.D.Device.state in
     let opened = c.in-Ok.ensures in

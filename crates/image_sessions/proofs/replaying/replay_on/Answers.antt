@@ -8,6 +8,7 @@ use Rattle.image_sessions.proofs.OtherRuns.{replays_too}
 use Rattle.image_sessions.proofs.replaying.replay_on.Goals as goal
 
 pub returns-in-Ok-replay_over-clause-replayed : goal.returns-in-Ok-replay_over-clause-replayed
+unfolding survives
 returns-in-Ok-replay_over-clause-replayed g c =
     let state = g.D.Device.state in
     let opened = c.in-Ok.ensures in
