@@ -101,26 +101,26 @@ failed_keeps w (Admin change now) id p has stays = has
 failed_keeps w Flush id p has stays = has
 
 -- a fault in place of the answer moves no session
-pub faulty_sessions : (w new : World) (e : Event) (o : Outcome) → IsFaulty w e o new → new.sessions ≡ w.sessions
-faulty_sessions w new e (Fault hub.Failed) is = ap (λ (x : World). x.sessions) is.1
-faulty_sessions w new e (Fault hub.Unknown) is = ap (λ (x : World). x.sessions) is.1
-faulty_sessions w new e (Fault hub.Crowded) is = ap (λ (x : World). x.sessions) is.1
-faulty_sessions w new e (Fault hub.Spent) is = ap (λ (x : World). x.sessions) is.1
-faulty_sessions w new e (Fault hub.Deep) is = ap (λ (x : World). x.sessions) is.1
-faulty_sessions w new e (Fault (hub.Refused r)) is = ap (λ (x : World). x.sessions) is.1
-faulty_sessions w new e (Fault (hub.Full need free)) is = ap (λ (x : World). x.sessions) is.1
-faulty_sessions w new e (Fault hub.Broken) is = ap (λ (x : World). x.sessions) is.1
-faulty_sessions w new e (Fault hub.Memory) is = ap (λ (x : World). x.sessions) is.1
-faulty_sessions w new e (Fault hub.NotReady) is = ap (λ (x : World). x.sessions) is.1
-faulty_sessions w new e (Joined k) is = absurd is
-faulty_sessions w new e More is = absurd is
-faulty_sessions w new e Ready is = absurd is
-faulty_sessions w new e Finished is = absurd is
-faulty_sessions w new e Waiting is = absurd is
-faulty_sessions w new e (Drawn bytes) is = absurd is
-faulty_sessions w new e Gone is = absurd is
-faulty_sessions w new e Done is = absurd is
-faulty_sessions w new e (Flushed answered left) is = absurd is
+pub faulty_stays : (w new : World) (e : Event) (o : Outcome) → IsFaulty w e o new → (new.next ≡ w.next) × (new.sessions ≡ w.sessions)
+faulty_stays w new e (Fault hub.Failed) is = (ap (λ (x : World). x.next) is.1, ap (λ (x : World). x.sessions) is.1)
+faulty_stays w new e (Fault hub.Unknown) is = (ap (λ (x : World). x.next) is.1, ap (λ (x : World). x.sessions) is.1)
+faulty_stays w new e (Fault hub.Crowded) is = (ap (λ (x : World). x.next) is.1, ap (λ (x : World). x.sessions) is.1)
+faulty_stays w new e (Fault hub.Spent) is = (ap (λ (x : World). x.next) is.1, ap (λ (x : World). x.sessions) is.1)
+faulty_stays w new e (Fault hub.Deep) is = (ap (λ (x : World). x.next) is.1, ap (λ (x : World). x.sessions) is.1)
+faulty_stays w new e (Fault (hub.Refused r)) is = (ap (λ (x : World). x.next) is.1, ap (λ (x : World). x.sessions) is.1)
+faulty_stays w new e (Fault (hub.Full need free)) is = (ap (λ (x : World). x.next) is.1, ap (λ (x : World). x.sessions) is.1)
+faulty_stays w new e (Fault hub.Broken) is = (ap (λ (x : World). x.next) is.1, ap (λ (x : World). x.sessions) is.1)
+faulty_stays w new e (Fault hub.Memory) is = (ap (λ (x : World). x.next) is.1, ap (λ (x : World). x.sessions) is.1)
+faulty_stays w new e (Fault hub.NotReady) is = (ap (λ (x : World). x.next) is.1, ap (λ (x : World). x.sessions) is.1)
+faulty_stays w new e (Joined k) is = absurd is
+faulty_stays w new e More is = absurd is
+faulty_stays w new e Ready is = absurd is
+faulty_stays w new e Finished is = absurd is
+faulty_stays w new e Waiting is = absurd is
+faulty_stays w new e (Drawn bytes) is = absurd is
+faulty_stays w new e Gone is = absurd is
+faulty_stays w new e Done is = absurd is
+faulty_stays w new e (Flushed answered left) is = absurd is
 
 -- and draws nothing
 fault_draws : (id : ℕ) (e : Event) (o : Outcome) (w new : World) → IsFaulty w e o new → drawn_in id e o ≡ []
@@ -142,26 +142,26 @@ fault_draws id (Admin change now) o w new is = refl
 fault_draws id Flush o w new is = refl
 
 -- posts that are taken one at a time
-pub split_sessions : (w new : World) (choices : List Bool) (o : Outcome) → IsTakenSingly w choices o new → (new.site ≡ (flushed_by w choices).site) × (new.sessions ≡ (flushed_by w choices).sessions)
-split_sessions w new choices (Fault hub.Failed) is = (ap (λ (x : World). x.site) is.0, ap (λ (x : World). x.sessions) is.0)
-split_sessions w new choices (Flushed answered left) is = (ap (λ (x : World). x.site) is.3, ap (λ (x : World). x.sessions) is.3)
-split_sessions w new choices (Fault hub.Unknown) is = absurd is
-split_sessions w new choices (Fault hub.Crowded) is = absurd is
-split_sessions w new choices (Fault hub.Spent) is = absurd is
-split_sessions w new choices (Fault hub.Deep) is = absurd is
-split_sessions w new choices (Fault (hub.Refused r)) is = absurd is
-split_sessions w new choices (Fault (hub.Full need free)) is = absurd is
-split_sessions w new choices (Fault hub.Broken) is = absurd is
-split_sessions w new choices (Fault hub.Memory) is = absurd is
-split_sessions w new choices (Fault hub.NotReady) is = absurd is
-split_sessions w new choices (Joined k) is = absurd is
-split_sessions w new choices More is = absurd is
-split_sessions w new choices Ready is = absurd is
-split_sessions w new choices Finished is = absurd is
-split_sessions w new choices Waiting is = absurd is
-split_sessions w new choices (Drawn bytes) is = absurd is
-split_sessions w new choices Gone is = absurd is
-split_sessions w new choices Done is = absurd is
+pub split_stays : (w new : World) (choices : List Bool) (o : Outcome) → IsTakenSingly w choices o new → (new.site ≡ (flushed_by w choices).site) × (new.sessions ≡ (flushed_by w choices).sessions) × (new.next ≡ w.next)
+split_stays w new choices (Fault hub.Failed) is = (ap (λ (x : World). x.site) is.0, ap (λ (x : World). x.sessions) is.0, ap (λ (x : World). x.next) is.0)
+split_stays w new choices (Flushed answered left) is = (ap (λ (x : World). x.site) is.3, ap (λ (x : World). x.sessions) is.3, ap (λ (x : World). x.next) is.3)
+split_stays w new choices (Fault hub.Unknown) is = absurd is
+split_stays w new choices (Fault hub.Crowded) is = absurd is
+split_stays w new choices (Fault hub.Spent) is = absurd is
+split_stays w new choices (Fault hub.Deep) is = absurd is
+split_stays w new choices (Fault (hub.Refused r)) is = absurd is
+split_stays w new choices (Fault (hub.Full need free)) is = absurd is
+split_stays w new choices (Fault hub.Broken) is = absurd is
+split_stays w new choices (Fault hub.Memory) is = absurd is
+split_stays w new choices (Fault hub.NotReady) is = absurd is
+split_stays w new choices (Joined k) is = absurd is
+split_stays w new choices More is = absurd is
+split_stays w new choices Ready is = absurd is
+split_stays w new choices Finished is = absurd is
+split_stays w new choices Waiting is = absurd is
+split_stays w new choices (Drawn bytes) is = absurd is
+split_stays w new choices Gone is = absurd is
+split_stays w new choices Done is = absurd is
 
 -- ---- a post that waits
 
@@ -199,7 +199,7 @@ no_split w new (Admin change now) o calm is = is
 step_waits : (b : Bool) (w new : World) (e : Event) (o : Outcome) (id : ℕ) (request : Request) (at : ℕ) → Has w id (Waits request at) → is_leave id e ≡ false → is_flush e ≡ false → StepBy b w e o new → Has new id (Waits request at)
 step_waits true w new e o id request at has stays calm is = ap (λ (x : World). phase_of x id) is.1 ∙ by_waits w.failed w e id request at has stays calm
 step_waits false w new e o id request at has stays calm (inl is) = ap (λ (x : World). phase_of x id) is.1 ∙ by_waits w.failed w e id request at has stays calm
-step_waits false w new e o id request at has stays calm (inr (inl is)) = ap (λ (ss : List (ℕ × Phase)). phase_in ss id) (faulty_sessions w new e o is) ∙ has
+step_waits false w new e o id request at has stays calm (inr (inl is)) = ap (λ (ss : List (ℕ × Phase)). phase_in ss id) (faulty_stays w new e o is).1 ∙ has
 step_waits false w new e o id request at has stays calm (inr (inr is)) = absurd (no_split w new e o calm is)
 
 pub posts_wait : PostsWait
@@ -287,7 +287,7 @@ is_answer_keeps : (w new : World) (e : Event) (o : Outcome) (id : ℕ) (reply : 
 is_answer_keeps w new e o id reply has stays is = rw (is.0, is.1) (by_keeps w.failed w e id reply has stays)
 
 split_keeps : (w new : World) (e : Event) (o : Outcome) (id : ℕ) (reply : List ℕ) → Has w id (Reply reply) → IsSplit w e o new → Keeps id reply e o new
-split_keeps w new Flush o id reply has is = unchanged id reply Flush o new refl (ap (λ (ss : List (ℕ × Phase)). phase_in ss id) (split_sessions w new is.1.0 o is.1.1).1 ∙ replies_stay w is.1.0 id reply has)
+split_keeps w new Flush o id reply has is = unchanged id reply Flush o new refl (ap (λ (ss : List (ℕ × Phase)). phase_in ss id) (split_stays w new is.1.0 o is.1.1).1 ∙ replies_stay w is.1.0 id reply has)
 split_keeps w new Join o id reply has is = absurd is
 split_keeps w new (Bytes n piece now) o id reply has is = absurd is
 split_keeps w new (End n now) o id reply has is = absurd is
@@ -298,7 +298,7 @@ split_keeps w new (Admin change now) o id reply has is = absurd is
 step_keeps : (b : Bool) (w new : World) (e : Event) (o : Outcome) (id : ℕ) (reply : List ℕ) → Has w id (Reply reply) → not (is_leave id e) ≡ true → StepBy b w e o new → Keeps id reply e o new
 step_keeps true w new e o id reply has stays is = is_answer_keeps w new e o id reply has stays is
 step_keeps false w new e o id reply has stays (inl is) = is_answer_keeps w new e o id reply has stays is
-step_keeps false w new e o id reply has stays (inr (inl is)) = unchanged id reply e o new (fault_draws id e o w new is) (ap (λ (ss : List (ℕ × Phase)). phase_in ss id) (faulty_sessions w new e o is) ∙ has)
+step_keeps false w new e o id reply has stays (inr (inl is)) = unchanged id reply e o new (fault_draws id e o w new is) (ap (λ (ss : List (ℕ × Phase)). phase_in ss id) (faulty_stays w new e o is).1 ∙ has)
 step_keeps false w new e o id reply has stays (inr (inr is)) = split_keeps w new e o id reply has is
 
 and_first : (a b : Bool) → (a && b) ≡ true → a ≡ true

@@ -6,4 +6,7 @@ pub mod BoardCounts
 pub mod Phases
 pub mod Continuing
 pub mod Places
+pub mod SessionNumbers
+pub mod AskedFor
+pub mod AskedInRuns
 pub mod Crashes

@@ -13,7 +13,7 @@ use Rattle.group_world.specs.Run.{StepBy}
 use Rattle.group_world.specs.Continuing.{text_by, text_heard, text_found, is_flush, IsTakenBy, IsOfItsPlace, ContinuesWhatWasFound, ContinuesFromItsPlace}
 use Rattle.group_world.proofs.Groups.{stays_taken, finds_its_place}
 use Rattle.group_world.proofs.Phases.{own_phase}
-use Rattle.group_world.proofs.Continuing.{Has, faulty_sessions, split_sessions, no_split, continues}
+use Rattle.group_world.proofs.Continuing.{Has, faulty_stays, split_stays, no_split, continues}
 
 -- ---- a request that is answered at once
 
@@ -101,7 +101,7 @@ found_calm w (Leave n) id text is = refl
 found_calm w (Admin change now) id text is = refl
 found_calm w Flush id text is = absurd (cc is)
 
-step_text : (b : Bool) (old mid : World) (e : Event) (id : ℕ) (text : List ℕ) → text_found old id e ≡ Some text → StepBy b old e Ready mid → Has mid id (Reply text)
+pub step_text : (b : Bool) (old mid : World) (e : Event) (id : ℕ) (text : List ℕ) → text_found old id e ≡ Some text → StepBy b old e Ready mid → Has mid id (Reply text)
 step_text true old mid e id text is a = ap (λ (w : World). phase_of w id) a.1 ∙ by_text old.failed old e id text is a.0
 step_text false old mid e id text is (inl a) = ap (λ (w : World). phase_of w id) a.1 ∙ by_text old.failed old e id text is a.0
 step_text false old mid e id text is (inr (inl f)) = absurd f
@@ -151,11 +151,11 @@ answered_place true old mid id request now text same waits has = absurd (still_w
 answered_place false old mid id request now text same waits has =
     of_its_place old mid (all_of old.sessions) id request now text (ap (λ (w : World). w.site) same, ap (λ (w : World). w.sessions) same) waits has
 
-step_place : (b : Bool) (old mid : World) (o : Outcome) (id : ℕ) (request : Request) (now : ℕ) (text : List ℕ) → StepBy b old Flush o mid → phase_of old id ≡ Some (Waits request now) → phase_of mid id ≡ Some (Reply text) → IsOfItsPlace old mid request now text
+pub step_place : (b : Bool) (old mid : World) (o : Outcome) (id : ℕ) (request : Request) (now : ℕ) (text : List ℕ) → StepBy b old Flush o mid → phase_of old id ≡ Some (Waits request now) → phase_of mid id ≡ Some (Reply text) → IsOfItsPlace old mid request now text
 step_place true old mid o id request now text is waits has = answered_place old.failed old mid id request now text is.1 waits has
 step_place false old mid o id request now text (inl is) waits has = answered_place old.failed old mid id request now text is.1 waits has
-step_place false old mid o id request now text (inr (inl is)) waits has = absurd (still_waits old mid id request now text (faulty_sessions old mid Flush o is) waits has)
-step_place false old mid o id request now text (inr (inr is)) waits has = of_its_place old mid is.1.0 id request now text (split_sessions old mid is.1.0 o is.1.1) waits has
+step_place false old mid o id request now text (inr (inl is)) waits has = absurd (still_waits old mid id request now text (faulty_stays old mid Flush o is).1 waits has)
+step_place false old mid o id request now text (inr (inr is)) waits has = of_its_place old mid is.1.0 id request now text (let taken = split_stays old mid is.1.0 o is.1.1 in (taken.0, taken.1)) waits has
 
 pub continues_from_its_place : ContinuesFromItsPlace
 continues_from_its_place old mid o events outcomes worlds id request now text waits step has stays run = (step_place old.failed old mid o id request now text step waits has, continues mid events outcomes worlds id text has stays run)

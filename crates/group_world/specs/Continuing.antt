@@ -4,7 +4,7 @@ use Rattle.host_types.specs.Site.{Site, item_at}
 use Rattle.request_reader.specs.Request.{Request}
 use Rattle.request_reader.specs.Verdict.{Verdict, Open, Early as EndedEarly, Whole, Bad, verdict}
 use Rattle.site_replies.specs.Reply.{reply, bad_reply}
-use Rattle.group_world.specs.World.{World, Phase, Heard, Waits, Reply, phase_of}
+use Rattle.group_world.specs.World.{World, Phase, Heard, Waits, Reply, phase_of, started_as}
 use Rattle.group_world.specs.Step.{Event, Bytes, End, Draw, Leave, Flush, Outcome, Ready, Drawn, is_form_in, flushed_by}
 use Rattle.group_world.specs.Run.{Step, RunBy}
 
@@ -92,3 +92,37 @@ abbrev pub ContinuesFromItsPlace : Type 0
 ContinuesFromItsPlace = (old mid : World) (o : Outcome) (events : List Event) (outcomes : List Outcome) (worlds : List World) (id : ℕ) (request : Request) (now : ℕ) (text : List ℕ) →
     phase_of old id ≡ Some (Waits request now) → Step old Flush o mid → phase_of mid id ≡ Some (Reply text) → stays_in id events ≡ true → RunBy mid events outcomes worlds →
     IsOfItsPlace old mid request now text × GoesOn mid events outcomes id text (last_of mid worlds)
+
+-- ---- and back to the request
+
+-- An event gives a session its text: it completes a request that is answered at once, or it is a flush that answers its post.
+abbrev pub GivesText : World → ℕ → Event → Outcome → World → List ℕ → Type 0
+GivesText old id e o new text =
+    ((text_found old id e ≡ Some text) × (o ≡ Ready))
+    ⊎ ((request : Request) × (now : ℕ) × (e ≡ Flush) × (phase_of old id ≡ Some (Waits request now)) × IsOfItsPlace old new request now text)
+
+-- A session that is to draw these bytes after some events has asked for them: one of the events gave it its text, from then on it has stayed, and with what it drew since, the bytes continue that text.
+pub record WasAskedFor (first : World) (events : List Event) (outcomes : List Outcome) (worlds : List World) (id : ℕ) (bytes : List ℕ) : Type 0 where
+  pub before : List Event
+  pub answers : List Outcome
+  pub passed : List World
+  pub event : Event
+  pub answer : Outcome
+  pub world : World
+  pub since : List Event
+  pub further : List Outcome
+  pub later : List World
+  pub parts : events ≡ before ++ event ∷ since
+  pub answered : outcomes ≡ answers ++ answer ∷ further
+  pub through : worlds ≡ passed ++ world ∷ later
+  pub begins : RunBy first before answers passed
+  pub text : List ℕ
+  pub found : GivesText (last_of first passed) id event answer world text
+  pub stays : stays_in id since ≡ true
+  pub rest : List ℕ
+  pub continues : text ≡ drawn_by id since further ++ bytes ++ rest
+
+-- Every byte that a session of a new hub draws was asked for.
+abbrev pub DrawsWereAskedFor : Type 0
+DrawsWereAskedFor = (grouped : Bool) (site : Site) (first : ℕ) (new : World) (events : List Event) (outcomes : List Outcome) (worlds : List World) (id room : ℕ) (bytes : List ℕ) →
+    RunBy (started_as grouped site first) events outcomes worlds → Step (last_of (started_as grouped site first) worlds) (Draw id room) (Drawn bytes) new → WasAskedFor (started_as grouped site first) events outcomes worlds id bytes

@@ -4,7 +4,7 @@ ghost use Rattle.group_world.specs.Calls.{MaySplit};
 ghost use Rattle.group_world.specs.GroupExamples.{GroupExamples};
 ghost use Rattle.group_world.specs.Run.{changes_in};
 ghost use Rattle.group_world.specs.CrashStates.{CallsLeave};
-ghost use Rattle.group_world.specs.Continuing.{Continues, ContinuesFromItsPlace, ContinuesWhatWasFound, PostsWait};
+ghost use Rattle.group_world.specs.Continuing.{Continues, ContinuesFromItsPlace, ContinuesWhatWasFound, DrawsWereAskedFor, PostsWait};
 ghost use Rattle.group_world.specs.PlainHubs.{PlainHubsStay};
 ghost use Rattle.group_world.specs.Laws.{FindsItsPlace, GroupsAreRight, LaterRepliesAreKnown, PostsCountOn, RepliesStay};
 
@@ -51,10 +51,12 @@ pub fn posts_wait()
 {}
 
 /// What a session draws goes on from where it stood. From the request on it is the text of the site which that found; of a post that has waited it is the text of the site at its place in the group.
+/// And whatever is drawn was asked for so.
 pub fn continues()
     ensures rest { Continues }
     ensures found { ContinuesWhatWasFound }
     ensures place { ContinuesFromItsPlace }
+    ensures asked_for { DrawsWereAskedFor }
 {}
 
 /// What a crash at any moment of a run leaves, by what its calls leave: the site behind some of the events, at least all that were answered, or with what was in flight. A group is there whole or not at all, but
