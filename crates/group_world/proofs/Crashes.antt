@@ -1,24 +1,57 @@
 -- What a crash at any moment of a run leaves, by its calls.
-use Rattle.std.proofs.Common.{◌≡◌, ◌⊎◌, inl, inr, ⊎_elim, ℕ, zero, suc, ◌≤◌, false, List, [], ◌∷◌, length, map, refl, sym, subst, arith}
+use Rattle.std.proofs.Common.{◌≡◌, ◌⊎◌, inl, inr, ⊎_elim, ℕ, zero, suc, ◌+◌, ◌≤◌, true, false, List, [], ◌∷◌, ◌++◌, length, take, refl, sym, ap, subst, ◌∙◌, arith, append_assoc, length-append}
 use Rattle.std.proofs.lemmas.Bool.{cases_Bool}
+use Rattle.std.proofs.lemmas.List.{append-nil, take-append-le, take_all}
 use Rattle.host_types.specs.Site.{Site}
 use Rattle.common_types.specs.CrashStates.{CrashStates, may_crash_to}
 use Rattle.group_world.specs.World.{World}
-use Rattle.group_world.specs.Step.{Event, Outcome}
-use Rattle.group_world.specs.CrashStates.{IsUnacknowledged, RepresentsBy, RepresentsFrom, Link, Leaves, LeavesInTurn, splits_at, last_keeper, CallsLeave}
+use Rattle.group_world.specs.Step.{Event}
+use Rattle.group_world.specs.CrashStates.{Commit, with_changes, with_commits, Link, acknowledged, in_flight, accepted, HoldsCommits, IsRightlyStored, Leaves, LeavesInTurn, last_keeper, CallsLeave}
+use Rattle.group_world.proofs.Stored.{what_is_stored_is_right}
+
+-- ---- commits in a row
+
+both_made : (s : Site) (first more : List Commit) → with_commits s (first ++ more) ≡ with_commits (with_commits s first) more
+both_made s [] more = refl
+both_made s (c ∷ first) more = both_made (with_changes s c) first more
+
+take_past : (n m : ℕ) (first more : List Commit) → m ≡ length first + n → take m (first ++ more) ≡ first ++ take n more
+take_past n m [] more is = (let same : m ≡ n = omega (arith, is) in ap (λ (k : ℕ). take k more) same)
+take_past n zero (c ∷ first) more is = absurd (omega (arith, is))
+take_past n (suc m) (c ∷ first) more is = ap (λ (l : List Commit). c ∷ l) (take_past n m first more (omega (arith, is)))
+
+module _ {L : Type 0} (stands : L → Site → Type 0) where
+  -- further commits change nothing of what is left
+  more_come : (s : Site) (commits more : List Commit) (a b : ℕ) (c : L) → b ≤ a → HoldsCommits stands s commits a c → HoldsCommits stands s (commits ++ more) b c
+  more_come s commits more a b c le h = record {
+    count = h.count;
+    at_least = omega (arith, le, h.at_least);
+    at_most = omega (arith, h.at_most, length-append commits more);
+    represented = subst (λ (l : List Commit). stands c (with_commits s l)) (sym (take-append-le h.count commits more h.at_most)) h.represented;
+  }
+
+  -- what is left after the commits of an event
+  comes_after : (s t : Site) (first more : List Commit) (a b : ℕ) (c : L) → t ≡ with_commits s first → b ≤ length first + a → HoldsCommits stands t more a c → HoldsCommits stands s (first ++ more) b c
+  comes_after s t first more a b c made le h = record {
+    count = length first + h.count;
+    at_least = omega (arith, le, h.at_least);
+    at_most = omega (arith, h.at_most, length-append first more);
+    represented = subst (stands c) (ap (λ (x : Site). with_commits x (take h.count more)) made ∙ sym (both_made s first (take h.count more)) ∙ ap (with_commits s) (sym (take_past h.count (length first + h.count) first more refl))) h.represented;
+  }
+
+  -- the site as it stands
+  stands_now : (s : Site) (commits : List Commit) (c : L) → stands c s → HoldsCommits stands s commits 0 c
+  stands_now s commits c here = record { count = 0; at_least = omega arith; at_most = omega arith; represented = here }
 
 module _ {S L : Type 0} (crash_states : S → CrashStates L) (stands : L → Site → Type 0) (split : S → World → Event → Type 0) where
   abbrev All : World → S → List (Link S) → Type 0
   All w k ls = LeavesInTurn crash_states stands split w k ls
 
-  abbrev events_of : List (Link S) → List Event
-  events_of ls = map (λ (l : Link S). l.event) ls
+  abbrev One : World → S → Link S → Type 0
+  One w k l = Leaves stands (split k w l.event) w l (crash_states k) (crash_states l.keeper)
 
-  abbrev outcomes_of : List (Link S) → List Outcome
-  outcomes_of ls = map (λ (l : Link S). l.outcome) ls
-
-  abbrev From : World → S → List (Link S) → ℕ → L → Type 0
-  From w k ls n c = RepresentsFrom stands (splits_at split w k ls) w (events_of ls) (outcomes_of ls) (map (λ (l : Link S). l.world) ls) n c
+  right : (w : World) (k : S) (l : Link S) → One w k l → IsRightlyStored w l.world l.stored
+  right w k l call = what_is_stored_is_right (split k w l.event) w l.world l.event l.outcome l.stored call.stored
 
   -- ---- moments
 
@@ -31,11 +64,7 @@ module _ {S L : Type 0} (crash_states : S → CrashStates L) (stands : L → Sit
   at_first k [] = refl
   at_first k (l ∷ ls) = refl
 
-  each_has : (ls : List (Link S)) → length (outcomes_of ls) ≡ length (events_of ls)
-  each_has [] = refl
-  each_has (l ∷ ls) = omega (arith, each_has ls)
-
-  last_is : (k : S) (ls : List (Link S)) → at k ls (length (events_of ls)) ≡ (crash_states (last_keeper k ls)).moment
+  last_is : (k : S) (ls : List (Link S)) → at k ls (length ls) ≡ (crash_states (last_keeper k ls)).moment
   last_is k [] = refl
   last_is k (l ∷ ls) = last_is l.keeper ls
 
@@ -54,84 +83,151 @@ module _ {S L : Type 0} (crash_states : S → CrashStates L) (stands : L → Sit
   keeps w k [] all t c le left = left
   keeps w k (l ∷ ls) all t c le left = keeps l.world l.keeper ls all.1 t c (omega (arith, le, all.0.adds.later)) (all.0.adds.keeps t c le left)
 
+  -- ---- a hub that has failed
+
+  none_later : (w : World) (k : S) (ls : List (Link S)) → All w k ls → w.failed ≡ true → (acknowledged ls ≡ []) × (in_flight ls ≡ [])
+  none_later w k [] all failed = (refl, refl)
+  none_later w k (l ∷ ls) all failed =
+      let none = (right w k l all.0).none failed in
+      let later = none_later l.world l.keeper ls all.1 none.2 in
+      (ap (λ (x : List Commit). x ++ acknowledged ls) none.0 ∙ later.0, ap (λ (x : List Commit). x ++ in_flight ls) none.1 ∙ later.1)
+
+  -- the accepted commits are those of the first event, with what was in flight in it, and those of the others
+  accepted_are : (w : World) (k : S) (l : Link S) (ls : List (Link S)) → One w k l → All l.world l.keeper ls → accepted (l ∷ ls) ≡ (l.stored.commits ++ l.stored.flying) ++ accepted ls
+  accepted_are w k l ls call all = by (right w k l call).one
+    where
+      by : (l.stored.flying ≡ []) ⊎ (l.world.failed ≡ true) → accepted (l ∷ ls) ≡ (l.stored.commits ++ l.stored.flying) ++ accepted ls
+      by (inl none) = rw none (append_assoc l.stored.commits (acknowledged ls) (in_flight ls) ∙ ap (λ (x : List Commit). x ++ (acknowledged ls ++ in_flight ls)) (sym (append-nil l.stored.commits)))
+      by (inr failed) =
+          let later = none_later l.world l.keeper ls all failed in
+          rw (later.0, later.1) (ap (λ (x : List Commit). x ++ (l.stored.flying ++ [])) (append-nil l.stored.commits) ∙ sym (append_assoc l.stored.commits l.stored.flying []))
+
   -- ---- one call in front of others
 
-  -- what was in flight before, or is since this call
+  abbrev Holds : Site → List Commit → ℕ → L → Type 0
+  Holds s commits a c = HoldsCommits stands s commits a c
+
+  -- the commits of one event
+  abbrev own : Link S → List Commit
+  own l = l.stored.commits ++ l.stored.flying
+
+  -- what was left before, or with what was in flight in this call
   abbrev InFlightThen : World → Link S → (L → Type 0) → L → Type 0
-  InFlightThen w l P c = P c ⊎ ((s : Site) × (w.failed ≡ false) × IsUnacknowledged w l.event l.outcome l.world s × stands c s)
+  InFlightThen w l P c = P c ⊎ ((l.world.failed ≡ true) × Holds w.site (own l) (length l.stored.commits) c)
 
   abbrev Starts : World → S → (L → Type 0) → Type 0
   Starts w k P = (c : L) → may_crash_to (crash_states k) c → stands c w.site ⊎ P c
 
-  then_starts : (w : World) (k : S) (l : Link S) (P : L → Type 0) → Leaves stands (split k w l.event) w l.event l.outcome l.world (crash_states k) (crash_states l.keeper) → Starts w k P → Starts l.world l.keeper (InFlightThen w l P)
+  -- all commits of a call, where nothing is in flight
+  all_made : (w : World) (l : Link S) (c : L) → l.world.site ≡ with_commits w.site l.stored.commits → l.stored.flying ≡ [] → Holds w.site (own l) (length l.stored.commits) c → stands c l.world.site
+  all_made w l c made none h =
+      let same : own l ≡ l.stored.commits = ap (λ (x : List Commit). l.stored.commits ++ x) none ∙ append-nil l.stored.commits in
+      let most : h.count ≤ length l.stored.commits = subst (λ (x : List Commit). h.count ≤ length x) same h.at_most in
+      let all : take h.count (own l) ≡ l.stored.commits = ap (take h.count) same ∙ take_all h.count l.stored.commits (omega (arith, h.at_least, most)) in
+      subst (stands c) (ap (with_commits w.site) all ∙ sym made) h.represented
+
+  then_starts : (w : World) (k : S) (l : Link S) (P : L → Type 0) → One w k l → Starts w k P → Starts l.world l.keeper (InFlightThen w l P)
   then_starts w k l P call start c left =
       elim (cases_Bool w.failed) [
-        | inl failed ↦ (let shut = call.shut failed in ⊎_elim (λ here. inl (subst (stands c) (sym shut.1) here)) (λ was. inr (inl was)) (start c (shut.0.now c left)))
-        | inr usable ↦ ⊎_elim (λ here. inl here) (λ flies. inr (inr (flies.0, usable, flies.1, flies.2))) (call.behind usable c left)
+        | inl failed ↦
+            let stored = right w k l call in
+            let none = stored.none failed in
+            let same : w.site ≡ l.world.site = sym (stored.made ∙ ap (with_commits w.site) none.0) in
+            ⊎_elim (λ here. inl (subst (stands c) same here)) (λ was. inr (inl was)) (start c ((call.shut failed).now c left))
+        | inr usable ↦ behind usable
       ]
+    where
+      behind : w.failed ≡ false → stands c l.world.site ⊎ InFlightThen w l P c
+      behind usable =
+          let h = call.behind usable c left in
+          let stored = right w k l call in
+          ⊎_elim (λ none. inl (all_made w l c stored.made none h)) (λ failed. inr (inr (failed, h))) stored.one
 
-  abbrev Or : World → S → List (Link S) → (L → Type 0) → ℕ → L → Type 0
-  Or w k ls P n c = From w k ls n c ⊎ P c
+  abbrev Or : World → List (Link S) → (L → Type 0) → ℕ → L → Type 0
+  Or w ls P a c = Holds w.site (accepted ls) a c ⊎ P c
 
-  lift : (w : World) (k : S) (l : Link S) (ls : List (Link S)) (n m : ℕ) (c : L) → m ≤ suc n → From l.world l.keeper ls n c → From w k (l ∷ ls) m c
-  lift w k l ls n m c le (inl (i, least, most, is)) = inl (suc i, omega (arith, le, least), omega (arith, most), is)
-  lift w k l ls n m c le (inr (inl (i, s, least, most, splits, switch, is))) = inr (inl (suc i, s, omega (arith, le, least), omega (arith, most), splits, switch, is))
-  lift w k l ls n m c le (inr (inr (s, flies, is))) = inr (inr (s, inr flies, is))
+  lift_or : (w : World) (k : S) (l : Link S) (ls : List (Link S)) (P : L → Type 0) (a b : ℕ) (c : L) → One w k l → All l.world l.keeper ls → b ≤ length l.stored.commits + a → a ≤ length (acknowledged ls)
+      → Or l.world ls (InFlightThen w l P) a c → Or w (l ∷ ls) P b c
+  lift_or w k l ls P a b c call all le most (inl from) = inl (subst (λ (x : List Commit). Holds w.site x b c) (sym (accepted_are w k l ls call all)) (by (right w k l call).one))
+    where
+      made : l.world.site ≡ with_commits w.site l.stored.commits
+      made = (right w k l call).made
 
-  lift_or : (w : World) (k : S) (l : Link S) (ls : List (Link S)) (P : L → Type 0) (n m : ℕ) (c : L) → m ≤ suc n → Or l.world l.keeper ls (InFlightThen w l P) n c → Or w k (l ∷ ls) P m c
-  lift_or w k l ls P n m c le (inl from) = inl (lift w k l ls n m c le from)
-  lift_or w k l ls P n m c le (inr (inl was)) = inr was
-  lift_or w k l ls P n m c le (inr (inr (s, usable, is, here))) = inl (inr (inr (s, inl (usable, is), here)))
+      by : (l.stored.flying ≡ []) ⊎ (l.world.failed ≡ true) → Holds w.site (own l ++ accepted ls) b c
+      by (inl none) =
+          let same : own l ≡ l.stored.commits = ap (λ (x : List Commit). l.stored.commits ++ x) none ∙ append-nil l.stored.commits in
+          subst (λ (x : List Commit). Holds w.site (x ++ accepted ls) b c) (sym same) (comes_after stands w.site l.world.site l.stored.commits (accepted ls) a b c made le from)
+      by (inr failed) =
+          let later = none_later l.world l.keeper ls all failed in
+          let nothing : accepted ls ≡ [] = ap (λ (x : List Commit). x ++ in_flight ls) later.0 ∙ later.1 in
+          let rest : List Commit = l.stored.flying ++ accepted ls in
+          let still : Holds l.world.site rest a c = record {
+            count = from.count;
+            at_least = from.at_least;
+            at_most = (let most : from.count ≤ 0 = subst (λ (x : List Commit). from.count ≤ length x) nothing from.at_most in omega (arith, most));
+            represented =
+                let none : from.count ≡ 0 = (let most : from.count ≤ 0 = subst (λ (x : List Commit). from.count ≤ length x) nothing from.at_most in omega (arith, most)) in
+                subst (λ (n : ℕ). stands c (with_commits l.world.site (take n rest))) (sym none) (subst (λ (n : ℕ). stands c (with_commits l.world.site (take n (accepted ls)))) none from.represented);
+          } in
+          subst (λ (x : List Commit). Holds w.site x b c) (sym (append_assoc l.stored.commits l.stored.flying (accepted ls))) (comes_after stands w.site l.world.site l.stored.commits rest a b c made le still)
+  lift_or w k l ls P a b c call all le most (inr (inl was)) = inr was
+  lift_or w k l ls P a b c call all le most (inr (inr (failed, h))) =
+      let later = none_later l.world l.keeper ls all failed in
+      let none : length (acknowledged ls) ≡ 0 = ap (λ (x : List Commit). length x) later.0 in
+      inl (subst (λ (x : List Commit). Holds w.site x b c) (sym (accepted_are w k l ls call all)) (more_come stands w.site (own l) (accepted ls) (length l.stored.commits) b c (omega (arith, le, most, none)) h))
 
-  -- what the first call allows
-  first_of : (w : World) (k : S) (l : Link S) (ls : List (Link S)) (c : L) → RepresentsBy stands (split k w l.event) w l.event l.outcome l.world c → From w k (l ∷ ls) 0 c
-  first_of w k l ls c (inl old) = inl (0, omega arith, omega arith, old)
-  first_of w k l ls c (inr (inl new)) = inl (1, omega arith, omega arith, new)
-  first_of w k l ls c (inr (inr (inl (s, usable, is, here)))) = inr (inr (s, inl (usable, is), here))
-  first_of w k l ls c (inr (inr (inr (splits, (s, switch, here))))) = inr (inl (0, s, omega arith, omega arith, splits, switch, here))
+  -- what the first call leaves
+  first_of : (w : World) (k : S) (l : Link S) (ls : List (Link S)) (c : L) → One w k l → All l.world l.keeper ls → Holds w.site (own l) 0 c → Holds w.site (accepted (l ∷ ls)) 0 c
+  first_of w k l ls c call all h = subst (λ (x : List Commit). Holds w.site x 0 c) (sym (accepted_are w k l ls call all)) (more_come stands w.site (own l) (accepted ls) 0 0 c (omega arith) h)
 
-  at_start : (w : World) (k : S) (ls : List (Link S)) (P : L → Type 0) (c : L) → stands c w.site ⊎ P c → Or w k ls P 0 c
-  at_start w k ls P c (inl here) = inl (inl (0, omega arith, omega arith, here))
-  at_start w k ls P c (inr was) = inr was
+  at_start : (w : World) (ls : List (Link S)) (P : L → Type 0) (c : L) → stands c w.site ⊎ P c → Or w ls P 0 c
+  at_start w ls P c (inl here) = inl (stands_now stands w.site (accepted ls) c here)
+  at_start w ls P c (inr was) = inr was
 
   -- ---- a run that begins with something in flight
 
-  since : (w : World) (k : S) (ls : List (Link S)) (P : L → Type 0) → All w k ls → Starts w k P → (t : ℕ) (c : L) → t ≤ (crash_states k).moment → (crash_states (last_keeper k ls)).possible_since t c → (crash_states k).possible_since t c ⊎ Or w k ls P 0 c
+  since : (w : World) (k : S) (ls : List (Link S)) (P : L → Type 0) → All w k ls → Starts w k P → (t : ℕ) (c : L) → t ≤ (crash_states k).moment → (crash_states (last_keeper k ls)).possible_since t c → (crash_states k).possible_since t c ⊎ Or w ls P 0 c
   since w k [] P all start t c le left = inl left
   since w k (l ∷ ls) P all start t c le left =
-      ⊎_elim earlier (λ later. inr (lift_or w k l ls P 0 0 c (omega arith) later)) (since l.world l.keeper ls (InFlightThen w l P) all.1 (then_starts w k l P all.0 start) t c (omega (arith, le, all.0.adds.later)) left)
+      ⊎_elim earlier (λ later. inr (lift_or w k l ls P 0 0 c all.0 all.1 (omega arith) (omega arith) later)) (since l.world l.keeper ls (InFlightThen w l P) all.1 (then_starts w k l P all.0 start) t c (omega (arith, le, all.0.adds.later)) left)
     where
-      now : may_crash_to (crash_states k) c ⊎ RepresentsBy stands (split k w l.event) w l.event l.outcome l.world c → (crash_states k).possible_since t c ⊎ Or w k (l ∷ ls) P 0 c
-      now (inl may) = inr (at_start w k (l ∷ ls) P c (start c may))
-      now (inr by) = inr (inl (first_of w k l ls c by))
+      now : may_crash_to (crash_states k) c ⊎ Holds w.site (own l) 0 c → (crash_states k).possible_since t c ⊎ Or w (l ∷ ls) P 0 c
+      now (inl may) = inr (at_start w (l ∷ ls) P c (start c may))
+      now (inr by) = inr (inl (first_of w k l ls c all.0 all.1 by))
 
-      earlier : (crash_states l.keeper).possible_since t c → (crash_states k).possible_since t c ⊎ Or w k (l ∷ ls) P 0 c
+      earlier : (crash_states l.keeper).possible_since t c → (crash_states k).possible_since t c ⊎ Or w (l ∷ ls) P 0 c
       earlier was = ⊎_elim (λ before. inl before) now (all.0.adds.nothing_else t c le was)
 
-  from_now : (w : World) (k : S) (ls : List (Link S)) (P : L → Type 0) → All w k ls → Starts w k P → (c : L) → (crash_states (last_keeper k ls)).possible_since (crash_states k).moment c → Or w k ls P 0 c
-  from_now w k ls P all start c left = ⊎_elim (λ may. at_start w k ls P c (start c may)) (λ from. from) (since w k ls P all start (crash_states k).moment c (omega arith) left)
+  from_now : (w : World) (k : S) (ls : List (Link S)) (P : L → Type 0) → All w k ls → Starts w k P → (c : L) → (crash_states (last_keeper k ls)).possible_since (crash_states k).moment c → Or w ls P 0 c
+  from_now w k ls P all start c left = ⊎_elim (λ may. at_start w ls P c (start c may)) (λ from. from) (since w k ls P all start (crash_states k).moment c (omega arith) left)
 
-  each : (w : World) (k : S) (ls : List (Link S)) (P : L → Type 0) → All w k ls → Starts w k P → (n : ℕ) (c : L) → n ≤ length (events_of ls) → (crash_states (last_keeper k ls)).possible_since (at k ls n) c → Or w k ls P n c
+  fewer : (ls : List (Link S)) (n : ℕ) → length (acknowledged (take n ls)) ≤ length (acknowledged ls)
+  fewer [] zero = omega arith
+  fewer [] (suc n) = omega arith
+  fewer (l ∷ ls) zero = omega arith
+  fewer (l ∷ ls) (suc n) = omega (arith, fewer ls n, length-append l.stored.commits (acknowledged (take n ls)), length-append l.stored.commits (acknowledged ls))
+
+  each : (w : World) (k : S) (ls : List (Link S)) (P : L → Type 0) → All w k ls → Starts w k P → (n : ℕ) (c : L) → n ≤ length ls → (crash_states (last_keeper k ls)).possible_since (at k ls n) c → Or w ls P (length (acknowledged (take n ls))) c
   each w k [] P all start zero c within left = from_now w k [] P all start c left
   each w k [] P all start (suc n) c within left = absurd (omega (arith, within))
   each w k (l ∷ ls) P all start zero c within left = from_now w k (l ∷ ls) P all start c left
   each w k (l ∷ ls) P all start (suc n) c within left =
-      lift_or w k l ls P n (suc n) c (omega arith) (each l.world l.keeper ls (InFlightThen w l P) all.1 (then_starts w k l P all.0 start) n c (omega (arith, within)) left)
+      lift_or w k l ls P (length (acknowledged (take n ls))) (length (acknowledged (take (suc n) (l ∷ ls)))) c all.0 all.1 (omega (arith, length-append l.stored.commits (acknowledged (take n ls)))) (fewer ls n)
+      (each l.world l.keeper ls (InFlightThen w l P) all.1 (then_starts w k l P all.0 start) n c (omega (arith, within)) left)
 
-  only_from : (w : World) (k : S) (ls : List (Link S)) (n : ℕ) (c : L) → Or w k ls (λ x. ⊥) n c → From w k ls n c
-  only_from w k ls n c (inl from) = from
-  only_from w k ls n c (inr never) = absurd never
+  only_from : (w : World) (ls : List (Link S)) (a : ℕ) (c : L) → Or w ls (λ x. ⊥) a c → Holds w.site (accepted ls) a c
+  only_from w ls a c (inl from) = from
+  only_from w ls a c (inr never) = absurd never
 
   pub calls_leave : CallsLeave crash_states stands split
   calls_leave w k ls start all =
       let starts : Starts w k (λ x. ⊥) = λ c may. inl (start c may) in
       record {
-        count = each_has ls;
         at = at k ls;
         begins = at_first k ls;
         is_now = last_is k ls;
-        rises = λ m n le within. rises w k ls m n all le;
-        each = λ n c within left. only_from w k ls n c (each w k ls (λ x. ⊥) all starts n c within left);
+        rises = λ m n le. rises w k ls m n all le;
+        each = λ n c within left. only_from w ls (length (acknowledged (take n ls))) c (each w k ls (λ x. ⊥) all starts n c within left);
         keeps = keeps w k ls all;
-        since = λ t c le left. ⊎_elim (λ before. inl before) (λ from. inr (only_from w k ls 0 c from)) (since w k ls (λ x. ⊥) all starts t c le left);
+        since = λ t c le left. ⊎_elim (λ before. inl before) (λ from. inr (only_from w ls 0 c from)) (since w k ls (λ x. ⊥) all starts t c le left);
       }

@@ -9,4 +9,5 @@ pub mod Places
 pub mod SessionNumbers
 pub mod AskedFor
 pub mod AskedInRuns
+pub mod Stored
 pub mod Crashes

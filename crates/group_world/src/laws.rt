@@ -3,7 +3,9 @@ ghost use Rattle.host_types.specs.AllChanges.{Changes};
 ghost use Rattle.group_world.specs.Calls.{MaySplit};
 ghost use Rattle.group_world.specs.GroupExamples.{GroupExamples};
 ghost use Rattle.group_world.specs.Run.{changes_in};
-ghost use Rattle.group_world.specs.CrashStates.{CallsLeave};
+ghost use Rattle.group_world.specs.Step.{Event};
+ghost use Rattle.group_world.specs.World.{World};
+ghost use Rattle.group_world.specs.CrashStates.{CallsLeave, WhatIsStoredIsRight};
 ghost use Rattle.group_world.specs.Continuing.{Continues, ContinuesFromItsPlace, ContinuesWhatWasFound, DrawsWereAskedFor, PostsWait};
 ghost use Rattle.group_world.specs.PlainHubs.{PlainHubsStay};
 ghost use Rattle.group_world.specs.Laws.{FindsItsPlace, GroupsAreRight, LaterRepliesAreKnown, PostsCountOn, RepliesStay};
@@ -59,8 +61,9 @@ pub fn continues()
     ensures asked_for { DrawsWereAskedFor }
 {}
 
-/// What a crash at any moment of a run leaves, by what its calls leave: the site behind some of the events, at least all that were answered, or with what was in flight. A group is there whole or not at all, but
-/// where it may not go in one step.
+/// What an event stores makes the site behind it; one commit is in flight only where the hub has failed by then. And what a crash at any moment of a run leaves, by what its calls leave, is the site of the first so many commits, at
+/// least all that were acknowledged by then: a commit is there whole or not at all.
 pub fn calls_leave<S: SiteKeeper>()
-    ensures { CallsLeave S.crash_states S.represents (λ k w e. MaySplit (S.lacks k) (S.site_state k) (changes_in w e)) }
+    ensures stored { (k : S) (w : World) (e : Event) → WhatIsStoredIsRight (MaySplit (S.lacks k) (S.site_state k) (changes_in w e)) }
+    ensures at_crash { CallsLeave S.crash_states S.represents (λ k w e. MaySplit (S.lacks k) (S.site_state k) (changes_in w e)) }
 {}
