@@ -1,5 +1,5 @@
 -- Rounds of connections over a site that is handed in and back, and over the site of an image; and why nothing is served.
-use Rattle.std.specs.Prelude.{◌≡◌, ℕ, List, Result, IsTrue}
+use Rattle.std.specs.Prelude.{◌≡◌, ℕ, List, [], Result, IsTrue}
 use Rattle.host_types.specs.AllChanges.{Changes}
 use Rattle.host_types.specs.Site.{Site}
 use Rattle.host_types.specs.SiteState.{SiteState}
@@ -22,30 +22,32 @@ use Rattle.ready_sockets.specs.declared.room.VisitFault.TheVariants as visits
 use Rattle.image_sessions.specs.ImageRuns.{OverSite, OnImage}
 use Rattle.turns.specs.Runs.{HasRun}
 use Rattle.socket_wires.specs.Rounds.{IsServing}
+use Rattle.socket_wires.specs.declared.gate.Taken.{Taken}
 use Rattle.socket_wires.specs.declared.serving.ServeFault.{ServeFault}
 use Rattle.image_server.specs.declared.serving.ServingFault.{ServingFault}
 use Rattle.image_server.specs.declared.serving.ServingFault.TheVariants.{Image, Net}
 
--- A site is handed to a hub whose sessions count from 1, rounds are served by it, by these events, and the hub ends: the pins that its sessions still held are given back, and the site is handed back with nothing else changed.
-pub record ServesOver {S L Pin : Type 0} (ghosts : _) (site_state : S → SiteState) (lacks : S → Changes → SiteFault → Type 0) (crash_states : S → CrashStates L) (stands : L → Site → Type 0) (together rounds : ℕ) (result : Result ℕ ServeFault) (old : S) (es : List Event) (os : List Outcome) (new : S) : Type 0 where
+-- A site is handed to a hub whose sessions count from 1, rounds are served by it, by these events and of the connections that were taken, and the hub ends: the pins that its sessions still held are given back, and the site is handed back with nothing else changed.
+pub record ServesOver {S L Pin : Type 0} (ghosts : _) (site_state : S → SiteState) (lacks : S → Changes → SiteFault → Type 0) (crash_states : S → CrashStates L) (stands : L → Site → Type 0) (together rounds : ℕ) (result : Result ℕ ServeFault) (taken_before taken_now : List Taken) (old : S) (es : List Event) (os : List Outcome) (new : S) : Type 0 where
   pub first : Hub S Pin ghosts
   pub last : Hub S Pin ghosts
   pub keeper : keeper_of first ≡ old
   pub world : world_of site_state first ≡ started (site_state old).site 1
-  pub serves : IsServing (HubRun site_state lacks crash_states stands) (λ hub. (site_state (keeper_of hub)).usable) together rounds result first es os last
+  pub serves : IsServing (HubRun site_state lacks crash_states stands) (λ hub. (site_state (keeper_of hub)).usable) together rounds result taken_before taken_now first es os last
   pub closes : IsClosed site_state crash_states (keeper_of last) new
 
--- The same over the site that a device shows.
+-- The same over the site that a device shows, at a listener that was asked for no connection before.
 pub record ServesImage {D S L Pin : Type 0} (ghosts : _) (state : D → State) (device : S → D) (site_state : S → SiteState) (lacks : S → Changes → SiteFault → Type 0) (crash_states : S → CrashStates L) (stands : L → Site → Type 0) (together rounds : ℕ) (result : Result ℕ ServeFault) (old : D) (es : List Event) (os : List Outcome) (new : D) : Type 0 where
   pub opened : S
   pub closed : S
   pub shows : IsTrue (state old).honest → ImageRepresents (state old).disk.view (site_state opened).site
-  pub serves : ServesOver {Pin = Pin} ghosts site_state lacks crash_states stands together rounds result opened es os closed
+  pub taken : List Taken
+  pub serves : ServesOver {Pin = Pin} ghosts site_state lacks crash_states stands together rounds result [] taken opened es os closed
   pub handed : new ≡ device closed
 
 -- All that was done to a site is a run, by the events of these rounds.
-pub record ServedOver {S L Pin : Type 0} (ghosts : _) (site_state : S → SiteState) (lacks : S → Changes → SiteFault → Type 0) (crash_states : S → CrashStates L) (stands : L → Site → Type 0) (together rounds : ℕ) (result : Result ℕ ServeFault) (old new : S) (told_before told_now : List ℕ) : Type 0 where
-  pub run : HasRun (OverSite site_state lacks crash_states stands) old new told_before told_now (λ es os. ServesOver {Pin = Pin} ghosts site_state lacks crash_states stands together rounds result old es os new)
+pub record ServedOver {S L Pin : Type 0} (ghosts : _) (site_state : S → SiteState) (lacks : S → Changes → SiteFault → Type 0) (crash_states : S → CrashStates L) (stands : L → Site → Type 0) (together rounds : ℕ) (result : Result ℕ ServeFault) (taken_before taken_now : List Taken) (old new : S) (told_before told_now : List ℕ) : Type 0 where
+  pub run : HasRun (OverSite site_state lacks crash_states stands) old new told_before told_now (λ es os. ServesOver {Pin = Pin} ghosts site_state lacks crash_states stands together rounds result taken_before taken_now old es os new)
 
 -- And all that was done to a device.
 pub record ServedImage {D S L Pin : Type 0} (ghosts : _) (state : D → State) (device : S → D) (site_state : S → SiteState) (lacks : S → Changes → SiteFault → Type 0) (site_crash_states : S → CrashStates L) (stands : L → Site → Type 0) (crash_states : D → CrashStates Content) (together rounds : ℕ) (result : Result ℕ ServeFault) (old new : D) (told_before told_now : List ℕ) : Type 0 where

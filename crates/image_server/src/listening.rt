@@ -1,9 +1,10 @@
 // A listener for rounds of connections, and the log of where one was asked for.
-ghost use Rattle.std.specs.Prelude.{◌≡◌, List, [], ◌∷◌, ◌++◌};
+ghost use Rattle.std.specs.Prelude.{◌≡◌, IfOk, List, [], ◌∷◌, ◌++◌};
 ghost use Rattle.std.specs.Borrow.{ftrue};
 ghost use Rattle.image_server.specs.Listening.{listen_call};
 ghost use Rattle.image_server.specs.declared.listening.ListenCall.{ListenCall as Call};
 
+use socket_wires::Gate;
 use std::io;
 use std::marker::Model;
 use std::net::{Net, SocketAddr, TcpListener, TcpStream};
@@ -55,13 +56,14 @@ pub(crate) fn listen<R: Net<Listener = TcpListener, Stream = TcpStream>>(
     net: &R,
     at: SocketAddr,
     asked: &mut ListenLog,
-) -> io::Result<TcpListener>
-    ensures { asked.new.calls ≡ asked.old.calls ++ listen_call at result ∷ [] }
+) -> io::Result<Gate>
+    ensures asked { asked.new.calls ≡ asked.old.calls ++ listen_call at result ∷ [] }
+    ensures untaken { IfOk result (λ gate. gate.taken.calls ≡ []) }
 {
     match TcpListener::bind(net, at) {
         Ok(listener) => {
             asked.note(ListenCall::Listened(at));
-            Ok(listener)
+            Ok(Gate::new(listener))
         }
         Err(error) => {
             asked.note(ListenCall::NotListened(at));

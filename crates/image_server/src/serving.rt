@@ -16,7 +16,7 @@ use host_types::SiteKeeper;
 use sector_device::Device;
 use session_core::Hub;
 use site_store::DiskSite;
-use socket_wires::{ServeFault, serve_on};
+use socket_wires::{Gate, ServeFault, serve_on};
 use std::alloc::Global;
 use std::net::{Net, TcpListener, TcpStream};
 use turns::Clock;
@@ -35,23 +35,23 @@ pub enum ServingFault {
 pub fn serve_over<S: SearchKeeper, C: Clock>(
     alloc: Global,
     site: S,
-    listener: &TcpListener,
+    gate: &mut Gate,
     clock: &mut C,
     together: u32,
     rounds: u32,
 ) -> Result<(Result<u64, ServeFault>, S), (OpenFault, S)>
     requires usable { (S.site_state site).usable ≡ true }
     requires unpinned { (S.site_state site).pins ≡ [] }
-    ensures served { IfOk result (λ r. ServedOver ⟦<S as SiteKeeper>⟧ S.site_state S.lacks S.crash_states S.represents together rounds r.0 site r.1 (C.given clock.old) (C.given clock.new)) }
+    ensures served { IfOk result (λ r. ServedOver ⟦<S as SiteKeeper>⟧ S.site_state S.lacks S.crash_states S.represents together rounds r.0 gate.old.taken.calls gate.new.taken.calls site r.1 (C.given clock.old) (C.given clock.new)) }
     ensures unpinned { IfOk result (λ r. (S.site_state r.1).pins ≡ []) }
     ensures err { IfErr result (λ e. (e.0 ≡ OpenFault.Memory) × (e.1 ≡ site)) }
-    ensures untold { IfErr result (λ e. clock.new ≡ clock.old) }
+    ensures untold { IfErr result (λ e. (clock.new ≡ clock.old) × (gate.new ≡ gate.old)) }
 {
     let mut hub = match Hub::new(alloc, site, 1) {
         Ok(hub) => hub,
         Err((_, site)) => return Err((OpenFault::Memory, site)),
     };
-    let served = serve_on(alloc, listener, &mut hub, clock, together, rounds);
+    let served = serve_on(alloc, gate, &mut hub, clock, together, rounds);
     Ok((served, hub.close()))
 }
 
@@ -79,10 +79,10 @@ pub fn serve_image<D: Device, R: Net<Listener = TcpListener, Stream = TcpStream>
         Err((fault, device)) => return Err((ServingFault::Image(fault), device)),
     };
     let at = given_or_own(None, site.front().port);
-    let Ok(listener) = listen(net, at, asked) else {
+    let Ok(mut gate) = listen(net, at, asked) else {
         return Err((ServingFault::Net, site.into_keeper().into_device()));
     };
-    match serve_over(alloc, site, &listener, clock, together, rounds) {
+    match serve_over(alloc, site, &mut gate, clock, together, rounds) {
         Ok((served, site)) => Ok((served, site.into_keeper().into_device())),
         Err((fault, site)) => Err((ServingFault::Image(fault), site.into_keeper().into_device())),
     }

@@ -12,9 +12,9 @@ use Rattle.session_core.specs.declared.event.Outcome.TheVariants as outcomes
 use Rattle.ready_turns.specs.Seats.{SeatState, IsSeated, Dismissed, For, joined_state, ending_of}
 use Rattle.ready_turns.specs.declared.seat.Seat.{Seat}
 use Rattle.ready_sockets.specs.declared.ready_socket.ReadySocket.{ReadySocket}
-use Rattle.ready_sockets.specs.DoorCalls.{Came, NoneCame, NotHad}
-use Rattle.ready_sockets.specs.Rounds.{came_call, may_not, none_came, not_had, HasLetIn}
-use Rattle.ready_sockets.specs.Visits.{asks, asked_calls, AreNew, ComesIn, ComesInOrNot, IsNew, comes, turned_away}
+use Rattle.ready_sockets.specs.DoorCalls.{DoorCall, Came, NotHad, both_ways}
+use Rattle.ready_sockets.specs.Rounds.{came_call, may_not, none_had, HasLetIn}
+use Rattle.ready_sockets.specs.Visits.{asks, HasAsked, AreNew, ComesIn, ComesInOrNot, IsNew, comes, turned_away}
 use Rattle.ready_sockets.specs.declared.room.Room.{Room}
 use Rattle.ready_sockets.specs.declared.visit.Visit.{Visit}
 
@@ -102,14 +102,19 @@ full_up may count full = grind (arith, nat_tests)
 not_both : {X : Type 0} (b : Bool) → b ≡ true → b ≡ false → X
 not_both b is is_not = absurd cc
 
-one_comes : (now count : ℕ) (old mid asked new : Room) (next : TcpStream × IpAddr × Token) (es fs : List Event) (os ps : List Outcome) → asked.visits ≡ mid.visits → length mid.visits.items < 32 → (mid.may_accept ≡ true) × (asked.may_accept ≡ true) → asked.door.made.calls ≡ mid.door.made.calls ++ asked_calls (asks mid) asked.may_accept (Some next) → new.door ≡ asked.door → new.may_accept ≡ asked.may_accept → IsLettingIn now count old es os mid → ComesIn next.1 next.2 now asked.visits.items fs ps new.visits.items → IsLettingIn now (count + 1) old (es ++ fs) (os ++ ps) new
+-- a client that came was asked for by one call
+came_by : (asked may : Bool) (next : TcpStream × IpAddr × Token) (made : List DoorCall) → asked ≡ true → HasAsked asked may (Some next) made → made ≡ Came next.1 next.2 both_ways ∷ []
+came_by true may next made is h = h
+came_by false may next made is h = absurd cc
+
+one_comes : (now count : ℕ) (old mid asked new : Room) (next : TcpStream × IpAddr × Token) (es fs : List Event) (os ps : List Outcome) → asked.visits ≡ mid.visits → length mid.visits.items < 32 → (mid.may_accept ≡ true) × (asked.may_accept ≡ true) → (made : List DoorCall) × (asked.door.made.calls ≡ mid.door.made.calls ++ made) × HasAsked (asks mid) asked.may_accept (Some next) made → new.door ≡ asked.door → new.may_accept ≡ asked.may_accept → IsLettingIn now count old es os mid → ComesIn next.1 next.2 now asked.visits.items fs ps new.visits.items → IsLettingIn now (count + 1) old (es ++ fs) (os ++ ps) new
 one_comes now count old mid asked new next es fs os ps same room may calls door kept before one = record {
   came = before.came ++ one.visit ∷ [];
   made =
       let asked_is : asks mid ≡ true = asks_if mid.may_accept (length mid.visits.items) may.0 room in
-      let calls_are : asked.door.made.calls ≡ mid.door.made.calls ++ Came next.1 next.2 ∷ [] = calls ∙ ap (λ b. mid.door.made.calls ++ asked_calls b asked.may_accept (Some next)) asked_is in
-      let call_is : Came next.1 next.2 ≡ came_call one.visit = cc (one.from_is, one.token_is) in
-      ap (λ d. d.made.calls) door ∙ calls_are ∙ ap (λ l. l ++ Came next.1 next.2 ∷ []) before.made ∙ append_assoc old.door.made.calls (map came_call before.came) (Came next.1 next.2 ∷ [])
+      let calls_are : asked.door.made.calls ≡ mid.door.made.calls ++ Came next.1 next.2 both_ways ∷ [] = calls.1 ∙ ap (λ l. mid.door.made.calls ++ l) (came_by (asks mid) asked.may_accept next calls.0 asked_is calls.2) in
+      let call_is : Came next.1 next.2 both_ways ≡ came_call one.visit = cc (one.from_is, one.token_is) in
+      ap (λ d. d.made.calls) door ∙ calls_are ∙ ap (λ l. l ++ Came next.1 next.2 both_ways ∷ []) before.made ∙ append_assoc old.door.made.calls (map came_call before.came) (Came next.1 next.2 both_ways ∷ [])
       ∙ ap (λ call. old.door.made.calls ++ (map came_call before.came ++ call ∷ [])) call_is ∙ ap (λ l. old.door.made.calls ++ l) (sym (map-append came_call before.came (one.visit ∷ [])));
   count_is = omega (arith, before.count_is, length-append before.came (one.visit ∷ []));
   may_accept = cc (may.0, may.1, before.may_accept);
@@ -122,14 +127,14 @@ one_comes now count old mid asked new next es fs os ps same room may calls door 
 }
 
 -- one more came
-pub one_more : (now count : ℕ) (old mid asked new : Room) (next : TcpStream × IpAddr × Token) (has_space : Type 0) (es fs : List Event) (os ps : List Outcome) → has_space → asked.visits ≡ mid.visits → length mid.visits.items < 32 → (mid.may_accept ≡ true) × (asked.may_accept ≡ true) → asked.door.made.calls ≡ mid.door.made.calls ++ asked_calls (asks mid) asked.may_accept (Some next) → new.door ≡ asked.door → new.may_accept ≡ asked.may_accept → IsLettingIn now count old es os mid → ComesInOrNot has_space next.1 next.2 now asked.visits.items fs ps new.visits.items → IsLettingIn now (count + 1) old (es ++ fs) (os ++ ps) new
+pub one_more : (now count : ℕ) (old mid asked new : Room) (next : TcpStream × IpAddr × Token) (has_space : Type 0) (es fs : List Event) (os ps : List Outcome) → has_space → asked.visits ≡ mid.visits → length mid.visits.items < 32 → (mid.may_accept ≡ true) × (asked.may_accept ≡ true) → (made : List DoorCall) × (asked.door.made.calls ≡ mid.door.made.calls ++ made) × HasAsked (asks mid) asked.may_accept (Some next) made → new.door ≡ asked.door → new.may_accept ≡ asked.may_accept → IsLettingIn now count old es os mid → ComesInOrNot has_space next.1 next.2 now asked.visits.items fs ps new.visits.items → IsLettingIn now (count + 1) old (es ++ fs) (os ++ ps) new
 one_more now count old mid asked new next has_space es fs os ps space same room may calls door kept before came = one_comes now count old mid asked new next es fs os ps same room may calls door kept before (comes_surely came space)
 
-nobody_more : (now count : ℕ) (old mid new : Room) (es : List Event) (os : List Outcome) (asked may : Bool) → asks mid ≡ asked → new.may_accept ≡ may → IsLettingIn now count old es os mid → count < 32 → new.visits ≡ mid.visits → new.door.made.calls ≡ mid.door.made.calls ++ asked_calls {W = TcpStream} asked may None → (asks mid ≡ false → new ≡ mid) → HasLetIn now old es os new
-nobody_more now count old mid new es os false may asked_is may_is before few same calls unasked = record {
+nobody_more : (now count : ℕ) (old mid new : Room) (es : List Event) (os : List Outcome) (asked : Bool) (made : List DoorCall) → asks mid ≡ asked → IsLettingIn now count old es os mid → count < 32 → new.visits ≡ mid.visits → new.door.made.calls ≡ mid.door.made.calls ++ made → HasAsked {W = TcpStream} asked new.may_accept None made → (asks mid ≡ false → new ≡ mid) → HasLetIn now old es os new
+nobody_more now count old mid new es os false made asked_is before few same calls none unasked = record {
   came = before.came;
   last = [];
-  made = calls ∙ append-nil mid.door.made.calls ∙ before.made ∙ ap (λ l. old.door.made.calls ++ l) (sym (append-nil (map came_call before.came)));
+  made = calls ∙ ap (λ l. mid.door.made.calls ++ l) none ∙ append-nil mid.door.made.calls ∙ before.made ∙ ap (λ l. old.door.made.calls ++ l) (sym (append-nil (map came_call before.came)));
   most = omega (arith, before.count_is);
   ends = may_not (ap asks (unasked asked_is) ∙ asked_is) (ap (λ r. r.may_accept) (unasked asked_is) ∙ before.may_accept);
   unasked = λ h. unasked asked_is ∙ before.unasked h;
@@ -138,24 +143,12 @@ nobody_more now count old mid new es os false may asked_is may_is before few sam
   events_are = before.events_are;
   few = λ h. omega (arith, before.few h, ap (λ v. length v.items) same);
 }
-nobody_more now count old mid new es os true false asked_is may_is before few same calls unasked = record {
+nobody_more now count old mid new es os true made asked_is before few same calls none unasked = record {
   came = before.came;
-  last = NoneCame ∷ [];
-  made = calls ∙ ap (λ l. l ++ NoneCame ∷ []) before.made ∙ append_assoc old.door.made.calls (map came_call before.came) (NoneCame ∷ []);
+  last = NotHad none.0 ∷ [];
+  made = calls ∙ ap (λ l. mid.door.made.calls ++ l) none.1 ∙ ap (λ l. l ++ NotHad none.0 ∷ []) before.made ∙ append_assoc old.door.made.calls (map came_call before.came) (NotHad none.0 ∷ []);
   most = omega (arith, before.count_is);
-  ends = none_came may_is;
-  unasked = λ h. not_both (asks mid) asked_is (ap asks (before.unasked h) ∙ h);
-  is = ap (λ v. v.items) same ∙ before.is;
-  new_ones = before.new_ones;
-  events_are = before.events_are;
-  few = λ h. omega (arith, before.few h, ap (λ v. length v.items) same);
-}
-nobody_more now count old mid new es os true true asked_is may_is before few same calls unasked = record {
-  came = before.came;
-  last = NotHad ∷ [];
-  made = calls ∙ ap (λ l. l ++ NotHad ∷ []) before.made ∙ append_assoc old.door.made.calls (map came_call before.came) (NotHad ∷ []);
-  most = omega (arith, before.count_is);
-  ends = not_had may_is;
+  ends = none_had none.0 none.2;
   unasked = λ h. not_both (asks mid) asked_is (ap asks (before.unasked h) ∙ h);
   is = ap (λ v. v.items) same ∙ before.is;
   new_ones = before.new_ones;
@@ -164,8 +157,8 @@ nobody_more now count old mid new es os true true asked_is may_is before few sam
 }
 
 -- nobody more came
-pub no_more : (now count : ℕ) (old mid new : Room) (es : List Event) (os : List Outcome) → IsLettingIn now count old es os mid → count < 32 → new.visits ≡ mid.visits → new.door.made.calls ≡ mid.door.made.calls ++ asked_calls {W = TcpStream} (asks mid) new.may_accept None → (asks mid ≡ false → new ≡ mid) → HasLetIn now old es os new
-no_more now count old mid new es os = nobody_more now count old mid new es os (asks mid) new.may_accept refl refl
+pub no_more : (now count : ℕ) (old mid new : Room) (es : List Event) (os : List Outcome) → IsLettingIn now count old es os mid → count < 32 → new.visits ≡ mid.visits → (made : List DoorCall) × (new.door.made.calls ≡ mid.door.made.calls ++ made) × HasAsked {W = TcpStream} (asks mid) new.may_accept None made → (asks mid ≡ false → new ≡ mid) → HasLetIn now old es os new
+no_more now count old mid new es os before few same calls = nobody_more now count old mid new es os (asks mid) calls.0 refl before few same calls.1 calls.2
 
 -- as many came as are in at most
 pub all_came : (now : ℕ) (old new : Room) (es : List Event) (os : List Outcome) → IsLettingIn now 32 old es os new → HasLetIn now old es os new

@@ -1,6 +1,7 @@
 pub mod ComingIn
 pub mod Dues
 pub mod HeadsKept
+pub mod LogWrites
 pub mod Passes
 pub mod Rounds
 pub mod SameClients

@@ -1,10 +1,12 @@
 -- What the log gets for clients that have gone.
-use Rattle.std.specs.Prelude.{◌≡◌, ℕ, true, false, Option, Some, List, [], ◌∷◌, ◌++◌}
+use Rattle.std.specs.Prelude.{◌≡◌, ℕ, Bool, true, false, Option, Some, List, [], ◌∷◌, ◌++◌, flat_map, codes}
 use Rattle.std.specs.List.{list_any}
 use Rattle.std.specs.Io.KnownBytes.{Appends}
 use Rattle.std.specs.Net.Text.{ip_text}
+use Rattle.turns.specs.WireCalls.{WireCall, HasMade, IsSent}
 use Rattle.ready_turns.specs.Seats.{ending_of}
 use Rattle.ready_turns.specs.declared.seat.Ending.{Ending}
+use Rattle.ready_sockets.specs.Due.{bytes_by}
 use Rattle.ready_sockets.specs.Lines.{log_line}
 use Rattle.ready_sockets.specs.Sent.{asked_by, taken_by}
 use Rattle.ready_sockets.specs.Visits.{has_gone}
@@ -14,20 +16,32 @@ use Rattle.ready_sockets.specs.declared.visit.Visit.{Visit}
 abbrev pub line_of : ℕ → Visit → Ending → List ℕ
 line_of moment visit ending = log_line moment (ip_text visit.from) (asked_by visit.seat.wire.made.calls) ending (taken_by visit.seat.wire.made.calls)
 
-module _ {L : Type 0} (contents : L → Option (List ℕ)) (moment : ℕ) where
-  -- What the log gets for a client: nothing while it is in; else its line and an LF, but where there is no memory for the line, and where the log does not take it whole.
-  pub data IsTold (visit : Visit) (old new : L) : Type 0 where
-    in_still : has_gone visit ≡ false → new ≡ old → IsTold visit old new
-    told : (ending : Ending) → ending_of visit.seat.stage ≡ Some ending → Appends (contents old) (contents new) (line_of moment visit ending ++ 10 ∷ []) → IsTold visit old new
-    no_memory : has_gone visit ≡ true → new ≡ old → IsTold visit old new
-    not_taken : has_gone visit ≡ true → IsTold visit old new
+-- what stands in its place where there is no memory for it
+abbrev pub no_memory_line : List ℕ
+no_memory_line = codes "memory"
+
+module _ {L : Type 0} (contents : L → Option (List ℕ)) where
+  -- Bytes were written to a log by some writes, each of which was offered all that was left; `whole` says whether all were taken, and else the last write failed or took none. The log has what they took behind what it had, and nothing else. With the log stand its writes.
+  pub record IsWritten (old new : L × List WireCall) (bytes : List ℕ) (whole : Bool) : Type 0 where
+    pub sent : HasMade old.1 new.1 (λ made. IsSent bytes made whole)
+    pub has : HasMade old.1 new.1 (λ made. Appends (contents old.0) (contents new.0) (flat_map bytes_by made))
+
+  -- What the log gets for a client: nothing while it is in; else its line and an LF, or that there was no memory for it; of that it has a front where a write fails or takes none.
+  pub data IsTold (moment : ℕ) (visit : Visit) (old new : L × List WireCall) : Type 0 where
+    in_still : has_gone visit ≡ false → new ≡ old → IsTold moment visit old new
+    told : (ending : Ending) (whole : Bool) → ending_of visit.seat.stage ≡ Some ending → IsWritten old new (line_of moment visit ending ++ 10 ∷ []) whole → IsTold moment visit old new
+    no_memory : (whole : Bool) → has_gone visit ≡ true → IsWritten old new (no_memory_line ++ 10 ∷ []) whole → IsTold moment visit old new
 
   -- what it gets for each of some clients, in order
-  abbrev pub AreTold : List Visit → L → L → Type 0
-  AreTold [] old new = new ≡ old
-  AreTold (visit ∷ visits) old new = (mid : L) × IsTold visit old mid × AreTold visits mid new
+  abbrev pub AreTold : ℕ → List Visit → L × List WireCall → L × List WireCall → Type 0
+  AreTold moment [] old new = new ≡ old
+  AreTold moment (visit ∷ visits) old new = (mid : L × List WireCall) × IsTold moment visit old mid × AreTold moment visits mid new
 
--- What the log gets where those go out who have gone: nothing where nobody has; else what it gets for each, at one moment that a clock gave.
-pub data IsLogged {L : Type 0} (contents : L → Option (List ℕ)) (given_old given_new : List ℕ) (visits : List Visit) (old new : L) : Type 0 where
-  nobody : list_any has_gone visits ≡ false → given_new ≡ given_old → new ≡ old → IsLogged contents given_old given_new visits old new
-  at : (moment : ℕ) → given_new ≡ given_old ++ moment ∷ [] → AreTold contents moment visits old new → IsLogged contents given_old given_new visits old new
+  -- What the log gets where those go out who have gone: nothing where nobody has; else what it gets for each, at one moment that a clock gave.
+  pub data IsLogged (given_old given_new : List ℕ) (visits : List Visit) (old new : L × List WireCall) : Type 0 where
+    nobody : list_any has_gone visits ≡ false → given_new ≡ given_old → new ≡ old → IsLogged given_old given_new visits old new
+    at : (moment : ℕ) → given_new ≡ given_old ++ moment ∷ [] → AreTold moment visits old new → IsLogged given_old given_new visits old new
+
+-- What writes take of bytes that are sent is a front of them; and all of them, where the last write did not fail and took some.
+abbrev pub TakesAFront : Type 0
+TakesAFront = (bytes : List ℕ) (made : List WireCall) (whole : Bool) → IsSent bytes made whole → (left : List ℕ) × (bytes ≡ flat_map bytes_by made ++ left) × (whole ≡ true → left ≡ [])

@@ -15,10 +15,12 @@ use Rattle.session_core.specs.declared.event.Event.{Event}
 use Rattle.session_core.specs.declared.event.Event.TheVariants as events
 use Rattle.session_core.specs.declared.event.Outcome.{Outcome}
 use Rattle.turns.specs.Runs.{HasRun}
-use Rattle.ready_sockets.specs.DoorCalls.{DoorCall, Came, NoneCame, NotHad}
+use Rattle.turns.specs.WireCalls.{WireCall}
+use Rattle.ready_sockets.specs.DoorCalls.{DoorCall, Came, NotHad, both_ways, is_nobody}
 use Rattle.ready_sockets.specs.Logged.{IsLogged}
 use Rattle.ready_sockets.specs.Readings.{seconds_of}
 use Rattle.ready_sockets.specs.Visits.{has_gone, asks, AreNew, HasWaited, HasNotWaited, WereServed}
+use Rattle.ready_sockets.specs.declared.door_log.Missed.{Missed}
 use Rattle.ready_sockets.specs.declared.room.Room.{Room}
 use Rattle.ready_sockets.specs.declared.stopwatch.Reading.{Reading}
 use Rattle.ready_sockets.specs.declared.room.VisitFault.{VisitFault}
@@ -29,13 +31,12 @@ use Rattle.ready_sockets.specs.declared.visit.Visit.{Visit}
 
 -- the call by which a client came
 abbrev pub came_call : Visit → DoorCall
-came_call visit = Came visit.from visit.token
+came_call visit = Came visit.from visit.token both_ways
 
--- Why no more clients are asked for, with the last call: no more may come in, nobody was at the door, or one could not be had.
+-- Why no more clients are asked for, with the last call: no more may come in; or none was had, and somebody may still be at the door, but where nobody was there.
 pub data EndsAsking (old new : Room) : List DoorCall → Type 0 where
   may_not : asks new ≡ false → new.may_accept ≡ old.may_accept → EndsAsking old new []
-  none_came : new.may_accept ≡ false → EndsAsking old new (NoneCame ∷ [])
-  not_had : new.may_accept ≡ true → EndsAsking old new (NotHad ∷ [])
+  none_had : (missed : Missed) → new.may_accept ≡ not (is_nobody missed) → EndsAsking old new (NotHad missed ∷ [])
 
 -- Clients were asked for, one by one and 32 times at most, until no more are. Who was in is in, in front and as before; behind them, in order, are those who came at the
 -- door, each with the session that joined for it, and no other session joined; and no more than 32 are in, where there were no more. Nothing is done where none is to be asked for.
@@ -78,9 +79,13 @@ pub record HasSeenOff (old new : Room) : Type 0 where
   pub door : new.door ≡ old.door
   pub may_accept : new.may_accept ≡ old.may_accept
 
+-- A room, a log with the writes that were made of it, and the readings of a watch.
+abbrev pub House : Type 0 → Type 0
+House L = Room × (L × List WireCall) × List Reading
+
 module _ {L : Type 0} (contents : L → Option (List ℕ)) where
   -- A round of a room with its log, and with a watch that is read once: one wait, then turns with whoever is at the door, by these events and at the moment that was read, then those go out who have gone, and of each the log gets a line.
-  pub record HasHadRound (old : Room × L × List Reading) (es : List Event) (os : List Outcome) (new : Room × L × List Reading) : Type 0 where
+  pub record HasHadRound (old : House L) (es : List Event) (os : List Outcome) (new : House L) : Type 0 where
     pub called : List SocketEvent
     pub reading : Reading
     pub waited : Room
@@ -94,9 +99,9 @@ module _ {L : Type 0} (contents : L → Option (List ℕ)) where
     pub logged : IsLogged contents given_before given_now turned.visits.items old.1 new.1
 
   -- so many rounds, one after another, by these events
-  pub data HasHadRounds : ℕ → Room × L × List Reading → List Event → List Outcome → Room × L × List Reading → Type 0 where
-    none : (room : Room × L × List Reading) → HasHadRounds 0 room [] [] room
-    more : (rounds : ℕ) (old mid new : Room × L × List Reading) (es fs : List Event) (os ps : List Outcome) → HasHadRounds rounds old es os mid → HasHadRound mid fs ps new → HasHadRounds (rounds + 1) old (es ++ fs) (os ++ ps) new
+  pub data HasHadRounds : ℕ → House L → List Event → List Outcome → House L → Type 0 where
+    none : (room : House L) → HasHadRounds 0 room [] [] room
+    more : (rounds : ℕ) (old mid new : House L) (es fs : List Event) (os ps : List Outcome) → HasHadRounds rounds old es os mid → HasHadRound mid fs ps new → HasHadRounds (rounds + 1) old (es ++ fs) (os ++ ps) new
 
 -- Why it ends behind so many rounds, by whether the site is still usable: all were had, the next wait failed, or the site is not usable.
 abbrev pub EndsServing : {X : Type 0} → Result X VisitFault → Bool → ℕ → Room → Room → Type 0
@@ -105,11 +110,12 @@ EndsServing (Err Net) usable rounds last new = (usable ≡ true) × HasNotWaited
 EndsServing (Err Failed) usable rounds last new = (usable ≡ false) × (new ≡ last)
 EndsServing (Err Memory) usable rounds last new = ⊥
 
--- Rounds were had by these events, and why it ended; behind the last of them the log gets nothing.
+-- Rounds were had by these events, and why it ended; behind the last of them the log gets nothing. What is written to the log is written by the writes that are noted, from the first on.
 pub record HasServed {L X : Type 0} (contents : L → Option (List ℕ)) (result : Result X VisitFault) (usable : Bool) (old : Room × L × List Reading) (es : List Event) (os : List Outcome) (new : Room × L × List Reading) : Type 0 where
   pub rounds : ℕ
   pub last : Room
-  pub had : HasHadRounds contents rounds old es os (last, new.1, new.2)
+  pub written : List WireCall
+  pub had : HasHadRounds contents rounds (old.0, (old.1, []), old.2) es os (last, (new.1, written), new.2)
   pub ends : EndsServing result usable rounds last new.0
 
 -- All that was done to a hub is a run, by the events of these rounds.

@@ -11,9 +11,10 @@ use Rattle.session_core.specs.declared.event.Outcome.{Outcome}
 use Rattle.turns.specs.Turns.{Both, InOrder, Times}
 use Rattle.ready_turns.specs.Seats.{For, Turn, Dismissed, IsSeated, ending_of, joined_state, state_of}
 use Rattle.ready_turns.specs.declared.seat.Seat.{Seat}
-use Rattle.ready_sockets.specs.DoorCalls.{DoorCall, Waited, WaitFailed, Came, NoneCame, NotHad}
+use Rattle.ready_sockets.specs.DoorCalls.{DoorCall, Waited, WaitFailed, Came, NotHad, both_ways, is_nobody}
 use Rattle.ready_sockets.specs.Doors.{listener_token, HasSameListener}
 use Rattle.ready_sockets.specs.Limits.{is_over}
+use Rattle.ready_sockets.specs.declared.door_log.Missed.{Missed}
 use Rattle.ready_sockets.specs.declared.ready_socket.ReadySocket.{ReadySocket}
 use Rattle.ready_sockets.specs.declared.visit.Visit.{Visit}
 use Rattle.ready_sockets.specs.declared.room.Room.{Room}
@@ -179,9 +180,8 @@ pub data ComesInOrNot (has_space : Type 0) (from : IpAddr) (token : Token) (now 
 abbrev pub asks : Room → Bool
 asks room = room.may_accept && nat_lt (length room.visits.items) 32
 
--- the call by which it was asked for, if any: a client came; or none did, and whether somebody may be at the door afterwards tells nobody there from one that can't be had
-abbrev pub asked_calls : {W : Type 0} → Bool → Bool → Option (W × IpAddr × Token) → List DoorCall
-asked_calls false may_accept next = []
-asked_calls true may_accept (Some next) = Came next.1 next.2 ∷ []
-asked_calls true false None = NoneCame ∷ []
-asked_calls true true None = NotHad ∷ []
+-- The call by which it was asked for, if any: a client came; or none did, and somebody may be at the door afterwards, but where nobody was there.
+abbrev pub HasAsked : {W : Type 0} → Bool → Bool → Option (W × IpAddr × Token) → List DoorCall → Type 0
+HasAsked false may_accept next made = made ≡ []
+HasAsked true may_accept (Some next) made = made ≡ Came next.1 next.2 both_ways ∷ []
+HasAsked true may_accept None made = (missed : Missed) × (made ≡ NotHad missed ∷ []) × (may_accept ≡ not (is_nobody missed))

@@ -1,29 +1,31 @@
-// The calls of the system at the door: a listener, waits, and connections that are taken. `listen`, `wait` and `accept` note each of their calls. That they make the call
+// The calls of the system at the door: a listener, waits, and connections that are taken. `listen`, `wait` and `take` note each of their calls. That they make the call
 // which they note, no clause can say: so each is short, and tests on real connections hold it.
-ghost use Rattle.std.specs.Prelude.{◌≡◌, ◌++◌, ◌<◌, IfErr};
-ghost use Rattle.ready_sockets.specs.DoorCalls.{listen_calls};
+ghost use Rattle.std.specs.Prelude.{◌≡◌, ◌++◌, ◌<◌, IfErr, IfSome};
+ghost use Rattle.ready_sockets.specs.DoorCalls.{for_reading, listen_calls};
 ghost use Rattle.ready_sockets.specs.declared.room.VisitFault.TheVariants.{Net as NoSocket};
 
-use crate::door_log::{DoorKind, DoorLog};
+use crate::door_log::{DoorKind, DoorLog, Missed};
 use crate::room::VisitFault;
 use mio::net::{TcpListener, TcpStream};
 use mio::{Events, Interest, Poll, Token};
 use std::alloc::Global;
-use std::io::{self, ErrorKind};
+use std::io;
 use std::net::{IpAddr, Net, SocketAddr};
 use std::time::Duration;
 
 /// The token of the listener.
 pub(crate) const LISTENER: Token = Token(0);
 
-/// A listener at an address, and the wait for whoever is ready, which tells of it.
-fn listener_at<R: Net>(rt: &R, address: SocketAddr) -> Option<(Poll, TcpListener)> {
+/// A listener at an address, and the wait for whoever is ready, which tells of it in this interest.
+fn listener_at<R: Net>(rt: &R, address: SocketAddr) -> Option<(Poll, TcpListener, Interest)>
+    ensures { IfSome result (λ had. had.2 ≡ for_reading) }
+{
     let (Ok(poll), Ok(mut listener)) = (Poll::new(rt), TcpListener::bind(rt, address)) else {
         return None;
     };
     let readable = Interest::READABLE;
     match poll.registry().register(&mut listener, LISTENER, readable) {
-        Ok(()) => Some((poll, listener)),
+        Ok(()) => Some((poll, listener, readable)),
         Err(_) => None,
     }
 }
@@ -39,9 +41,9 @@ fn listen<R: Net>(
     ensures fault { IfErr result (λ fault. fault ≡ NoSocket) }
 {
     match listener_at(rt, address) {
-        Some(had) => {
-            asked.note(DoorKind::Listened(address), events);
-            Ok(had)
+        Some((poll, listener, interest)) => {
+            asked.note(DoorKind::Listened(address, interest), events);
+            Ok((poll, listener))
         }
         None => {
             asked.note(DoorKind::NotListened(address), events);
@@ -63,10 +65,9 @@ pub(crate) struct Door {
 
 impl Door {
     ghost use Rattle.std.specs.Prelude.{◌≡◌, ◌≢◌, ◌⊎◌, [], ◌∷◌, ◌++◌, option_map, IfOk, IfErr};
-    ghost use Rattle.std.specs.Option.{ForSome};
     ghost use Rattle.std.specs.Duration.{as_nanos};
     ghost use Rattle.mio.specs.Events.{items};
-    ghost use Rattle.ready_sockets.specs.DoorCalls.{listen_calls, wait_call, accept_call};
+    ghost use Rattle.ready_sockets.specs.DoorCalls.{both_ways, listen_calls, wait_call, take_call};
     ghost use Rattle.ready_sockets.specs.Doors.{listener_token, HasSameListener};
     ghost use Rattle.ready_sockets.specs.declared.room.VisitFault.TheVariants as faults;
 
@@ -116,45 +117,45 @@ impl Door {
         Ok(())
     }
 
-    /// Has waits tell of a connection under the next token.
-    fn name(&mut self, stream: &mut TcpStream) -> io::Result<Token>
+    /// Has waits tell of a connection under the next token, and says in which interest they do.
+    fn name(&mut self, stream: &mut TcpStream) -> io::Result<(Token, Interest)>
         ensures made { self.new.made ≡ self.old.made }
-        ensures token { IfOk result (λ token. token.0 ≡ self.old.next_token) }
+        ensures token { IfOk result (λ named. (named.0).0 ≡ self.old.next_token) }
+        ensures interest { IfOk result (λ named. named.1 ≡ both_ways) }
     {
         stream.set_nodelay(true)?;
         let token = Token(self.next_token);
         self.next_token = self.next_token.wrapping_add(1).max(1);
         let both = Interest::READABLE | Interest::WRITABLE;
         self.poll.registry().register(stream, token, both)?;
-        Ok(token)
+        Ok((token, both))
     }
 
-    /// The next connection, with its client's address and its token, or none where nobody is at the door.
-    pub(crate) fn accept(&mut self) -> io::Result<Option<(TcpStream, IpAddr, Token)>>
-        ensures made { self.new.made.calls ≡ self.old.made.calls ++ accept_call result ∷ [] }
-        ensures token { IfOk result (λ came. ForSome came (λ next. next.2 ≢ listener_token)) }
+    /// Asks for the next connection, and notes who came: with its client's address and its token.
+    pub(crate) fn take(&mut self) -> Result<(TcpStream, IpAddr, Token), Missed>
+        ensures made { self.new.made.calls ≡ self.old.made.calls ++ take_call result ∷ [] }
+        ensures token { IfOk result (λ next. next.2 ≢ listener_token) }
     {
         match self.listener.accept() {
             Ok((mut stream, address)) => {
                 let from = address.ip();
                 match self.name(&mut stream) {
-                    Ok(token) => {
-                        self.made.note(DoorKind::Came(from, token), &self.events);
-                        Ok(Some((stream, from, token)))
+                    Ok((token, interest)) => {
+                        self.made
+                            .note(DoorKind::Came(from, token, interest), &self.events);
+                        Ok((stream, from, token))
                     }
-                    Err(error) => {
-                        self.made.note(DoorKind::NotHad, &self.events);
-                        Err(error)
+                    Err(_) => {
+                        self.made
+                            .note(DoorKind::NotHad(Missed::Unwatched), &self.events);
+                        Err(Missed::Unwatched)
                     }
                 }
             }
-            Err(error) if error.kind() == ErrorKind::WouldBlock => {
-                self.made.note(DoorKind::NoneCame, &self.events);
-                Ok(None)
-            }
             Err(error) => {
-                self.made.note(DoorKind::NotHad, &self.events);
-                Err(error)
+                let missed = Missed::Refused(error.kind());
+                self.made.note(DoorKind::NotHad(missed), &self.events);
+                Err(missed)
             }
         }
     }

@@ -2,30 +2,50 @@
 ghost use Rattle.std.specs.Prelude.{◌≡◌, List, [], ◌∷◌, ◌++◌};
 ghost use Rattle.std.specs.Borrow.{ftrue};
 ghost use Rattle.mio.specs.Events.{items};
-ghost use Rattle.ready_sockets.specs.DoorCalls.{DoorCall, call_of};
+ghost use Rattle.ready_sockets.specs.DoorCalls.{DoorCall, call_of, is_nobody};
 
-use mio::{Events, Token};
+use mio::{Events, Interest, Token};
+use std::io::ErrorKind;
 use std::marker::Model;
 use std::net::{IpAddr, SocketAddr};
 use std::time::Duration;
 
+/// Why no client was had.
+#[derive(Clone, Copy)]
+pub enum Missed {
+    /// The listener answered with an error of this kind.
+    Refused(ErrorKind),
+    /// One came, and waits could not be made to tell of it.
+    Unwatched,
+}
+
+impl Missed {
+    /// Nobody was at the door: the listener would have had to wait.
+    pub(crate) fn is_nobody(self) -> bool
+        ensures { result ≡ is_nobody self }
+    {
+        match self {
+            Missed::Refused(kind) => kind == ErrorKind::WouldBlock,
+            Missed::Unwatched => false,
+        }
+    }
+}
+
 /// Which call of the system it was, without the events of a wait.
 #[derive(Clone, Copy)]
 pub(crate) enum DoorKind {
-    /// A listener at this address was had, and waits tell of it.
-    Listened(SocketAddr),
+    /// A listener at this address was had, and waits tell of it in this interest.
+    Listened(SocketAddr, Interest),
     /// A listener at this address was not had.
     NotListened(SocketAddr),
     /// A wait with this patience ended.
     Waited(Option<Duration>),
     /// A wait with this patience failed.
     WaitFailed(Option<Duration>),
-    /// A client of this address came, under this token.
-    Came(IpAddr, Token),
-    /// Nobody was at the door.
-    NoneCame,
-    /// A connection could not be had.
-    NotHad,
+    /// A client of this address came, and waits tell of it under this token, in this interest.
+    Came(IpAddr, Token, Interest),
+    /// No client was had.
+    NotHad(Missed),
 }
 
 /// The calls at the door, in order.

@@ -3,6 +3,7 @@ ghost use Rattle.std.specs.Prelude.{◌≡◌, ℕ, Bool, List, ◌++◌, take};
 ghost use Rattle.mio.specs.declared.event.event.Event.{Event as SocketEvent};
 ghost use Rattle.ready_sockets.specs.Due.{GivesWhatIsDue};
 ghost use Rattle.ready_sockets.specs.Examples.{VisitExamples};
+ghost use Rattle.ready_sockets.specs.Logged.{TakesAFront};
 ghost use Rattle.ready_sockets.specs.Visits.{woken_by, IsSameClient};
 ghost use Rattle.ready_sockets.specs.declared.visit.Visit.{Visit};
 
@@ -19,6 +20,11 @@ pub fn wait_keeps_clients()
 /// What a client is given is what was drawn for its session, in order, or that it is to try again later, and nothing else.
 pub fn gives_what_is_due()
     ensures { GivesWhatIsDue }
+{}
+
+/// A log has a front of each line that is written to it, and all of it where the writes say so.
+pub fn takes_a_front()
+    ensures { TakesAFront }
 {}
 
 /// Worked examples.

@@ -13,10 +13,13 @@ mod serving;
 mod stopwatch;
 mod visit;
 mod waking;
+mod written;
 
-pub use door_log::DoorLog;
+pub use door_log::{DoorLog, Missed};
 pub use head::Head;
-pub use laws::{gives_what_is_due, head_of_pieces, wait_keeps_clients, worked_examples};
+pub use laws::{
+    gives_what_is_due, head_of_pieces, takes_a_front, wait_keeps_clients, worked_examples,
+};
 pub use limits::{LONGEST_SILENCE, LONGEST_VISIT, is_over};
 pub use lines::{Record, log_line};
 pub use ready_socket::ReadySocket;

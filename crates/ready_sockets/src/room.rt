@@ -42,13 +42,13 @@ pub struct Room {
 }
 
 impl Room {
-    ghost use Rattle.std.specs.Prelude.{◌≡◌, ◌≢◌, ◌⊎◌, ◌++◌, ◌<◌, true, false, not, [], length, filter, map, option_map, IfOk, IfErr, IfSome, OnErr};
+    ghost use Rattle.std.specs.Prelude.{◌≡◌, ◌≢◌, ◌⊎◌, ◌++◌, ◌<◌, true, false, not, List, [], length, filter, map, option_map, IfOk, IfErr, IfSome, OnErr};
     ghost use Rattle.std.specs.List.{list_any};
     ghost use Rattle.std.specs.Duration.{as_nanos};
     ghost use Rattle.mio.specs.Events.{items};
-    ghost use Rattle.ready_sockets.specs.DoorCalls.{listen_calls};
+    ghost use Rattle.ready_sockets.specs.DoorCalls.{DoorCall, listen_calls};
     ghost use Rattle.ready_sockets.specs.Doors.{listener_token};
-    ghost use Rattle.ready_sockets.specs.Visits.{has_gone, woken, patience, asks, asked_calls, IsFresh, HasWoken, HasWaited, HasNotWaited};
+    ghost use Rattle.ready_sockets.specs.Visits.{has_gone, woken, patience, asks, HasAsked, IsFresh, HasWoken, HasWaited, HasNotWaited};
     ghost use Rattle.ready_sockets.specs.declared.room.VisitFault.TheVariants as faults;
 
     /// Listens at an address, with nobody in. Whether a listener was had there is noted.
@@ -131,19 +131,20 @@ impl Room {
         ensures token { IfSome result (λ next. next.2 ≢ listener_token) }
         ensures may_accept { IfSome result (λ _. (self.old.may_accept ≡ true) × (self.new.may_accept ≡ true)) }
         ensures shut { (self.new.may_accept ≡ self.old.may_accept) ⊎ (self.new.may_accept ≡ false) }
-        ensures asked { self.new.door.made.calls ≡ self.old.door.made.calls ++ asked_calls (asks self.old) self.new.may_accept result }
+        ensures asked { (made : List DoorCall) × (self.new.door.made.calls ≡ self.old.door.made.calls ++ made) × HasAsked (asks self.old) self.new.may_accept result made }
         ensures unasked { asks self.old ≡ false → self.new ≡ self.old }
     {
         if !self.may_accept || self.visits.len() >= MOST_VISITS {
             return None;
         }
-        match self.door.accept() {
-            Ok(Some(next)) => Some(next),
-            Ok(None) => {
-                self.may_accept = false;
+        match self.door.take() {
+            Ok(next) => Some(next),
+            Err(missed) => {
+                if missed.is_nobody() {
+                    self.may_accept = false;
+                }
                 None
             }
-            Err(_) => None,
         }
     }
 

@@ -1,9 +1,10 @@
 // Serves whoever comes.
-ghost use Rattle.std.specs.Prelude.{◌≡◌, ◌<◌, ◌≤◌, true, [], ◌∷◌, ◌++◌, map, vec_len, vec_capacity};
-ghost use Rattle.std.specs.Io.KnownBytes.{Appends};
+ghost use Rattle.std.specs.Prelude.{◌≡◌, ◌<◌, ◌≤◌, Some, [], ◌∷◌, ◌++◌, map, vec_len, vec_capacity, IfOk};
+ghost use Rattle.std.specs.String.{string_bytes};
 ghost use Rattle.session_core.specs.Calls.{HubRun};
 ghost use Rattle.turns.specs.Runs.{HasRun};
 ghost use Rattle.turns.specs.Turns.{InOrder};
+ghost use Rattle.ready_turns.specs.Seats.{ending_of};
 ghost use Rattle.ready_sockets.specs.Rounds.{who, HasLetIn, HasHadTurns, HasSeenOff, ServesVisits};
 ghost use Rattle.ready_sockets.specs.Visits.{HadTurn, WasDismissed, HadPasses, WereServed, ComesInOrNot};
 ghost use Rattle.ready_sockets.specs.Logged.{line_of, IsTold, AreTold, IsLogged};
@@ -13,17 +14,18 @@ use crate::room::{MOST_VISITS, Room, VisitFault};
 use crate::stopwatch::Stopwatch;
 use crate::visit::Visit;
 use crate::waking::all_wait;
+use crate::written::write_out;
 use host_types::Stamp;
 use mio::Token;
 use mio::net::TcpStream;
 use ready_turns::{Ending, dismiss, join, take_turn};
 use session_core::Hub;
 use socket_wires::SystemClock;
-use std::alloc::Global;
+use std::alloc::{AllocError, Global};
 use std::io::Write;
 use std::net::IpAddr;
 use std::time::Clock as Time;
-use turns::Clock;
+use turns::{CallLog, Clock};
 use word_index::SearchKeeper;
 
 /// How many turns each client has before others are let in, at most.
@@ -141,31 +143,69 @@ fn serve_all<S: SearchKeeper, C: Clock>(
     dismiss_late(visits, hub, now);
 }
 
-/// Whether the log got the line of a client whose session ended so, and an LF.
-fn tell<L: Write>(alloc: Global, visit: &Visit, ending: Ending, moment: Stamp, log: &mut L) -> bool
-    ensures { result ≡ true → Appends (L.contents log.old) (L.contents log.new) (line_of moment visit.now ending ++ 10 ∷ []) }
+/// The line of a client whose session ended so, with its LF.
+fn line_with_end(
+    alloc: Global,
+    visit: &Visit,
+    ending: Ending,
+    moment: Stamp,
+) -> Result<String, AllocError>
+    ensures { IfOk result (λ text. string_bytes text ≡ line_of moment visit.now ending ++ 10 ∷ []) }
 {
-    let Ok(mut line) = visit.line(alloc, moment, ending) else {
-        return false;
-    };
-    line.push('\n').is_ok() && log.write_all(line.as_bytes()).is_ok()
+    let mut line = visit.line(alloc, moment, ending)?;
+    line.push('\n')?;
+    Ok(line)
 }
 
-/// A line of the log for a client that has gone. One that can't be written is not.
-fn tell_if_gone<L: Write>(alloc: Global, visit: &Visit, moment: Stamp, log: &mut L)
-    ensures { IsTold L.contents moment visit.now log.old log.new }
+/// The line of a client is written to the log. Where there is no memory for it, the log says so.
+fn tell<L: Write>(
+    alloc: Global,
+    visit: &Visit,
+    ending: Ending,
+    moment: Stamp,
+    log: &mut L,
+    written: &mut CallLog,
+)
+    requires { ending_of visit.now.seat.stage ≡ Some ending }
+    ensures { IsTold L.contents moment visit.now (log.old, written.old.calls) (log.new, written.new.calls) }
+{
+    match line_with_end(alloc, visit, ending, moment) {
+        Ok(line) => {
+            write_out(log, written, line.as_bytes());
+        }
+        Err(_) => {
+            write_out(log, written, b"memory\n");
+        }
+    }
+}
+
+/// A line of the log for a client that has gone.
+fn tell_if_gone<L: Write>(
+    alloc: Global,
+    visit: &Visit,
+    moment: Stamp,
+    log: &mut L,
+    written: &mut CallLog,
+)
+    ensures { IsTold L.contents moment visit.now (log.old, written.old.calls) (log.new, written.new.calls) }
 {
     if let Some(ending) = visit.seat.stage().ending() {
-        tell(alloc, visit, ending, moment, log);
+        tell(alloc, visit, ending, moment, log, written);
     }
 }
 
 /// A line of the log for each client that has gone.
-fn tell_gone<L: Write>(alloc: Global, visits: &[Visit], moment: Stamp, log: &mut L)
-    ensures { AreTold L.contents moment visits.now log.old log.new }
+fn tell_gone<L: Write>(
+    alloc: Global,
+    visits: &[Visit],
+    moment: Stamp,
+    log: &mut L,
+    written: &mut CallLog,
+)
+    ensures { AreTold L.contents moment visits.now (log.old, written.old.calls) (log.new, written.new.calls) }
 {
     for visit in visits.iter() {
-        tell_if_gone(alloc, visit, moment, log);
+        tell_if_gone(alloc, visit, moment, log, written);
     }
 }
 
@@ -175,12 +215,13 @@ fn see_off<R: Time, L: Write>(
     room: &mut Room,
     moments: &mut SystemClock<'_, R>,
     log: &mut L,
+    written: &mut CallLog,
 )
     ensures gone { HasSeenOff room.old room.new }
-    ensures logged { IsLogged L.contents moments.old.given.moments moments.new.given.moments room.old.visits.items log.old log.new }
+    ensures logged { IsLogged L.contents moments.old.given.moments moments.new.given.moments room.old.visits.items (log.old, written.old.calls) (log.new, written.new.calls) }
 {
     if room.has_closed() {
-        tell_gone(alloc, &room.visits, moments.now(), log);
+        tell_gone(alloc, &room.visits, moments.now(), log, written);
         room.sweep();
     }
 }
@@ -194,7 +235,7 @@ fn round<S: SearchKeeper, C: Clock>(room: &mut Room, hub: &mut Hub<S>, clock: &m
 }
 
 /// Serves whoever comes, up to 32 clients at a time, until a write or a sync of what the site is kept on has failed, or no socket can be waited for.
-/// For each client that has gone the log gets a line, but for one that finds no memory or can't be written. The watch is read once a round.
+/// For each client that has gone the log gets a line, as far as it takes it. The watch is read once a round.
 pub fn serve_visits<S: SearchKeeper, C: Clock, R: Time, L: Write>(
     alloc: Global,
     rt: &R,
@@ -207,13 +248,14 @@ pub fn serve_visits<S: SearchKeeper, C: Clock, R: Time, L: Write>(
     ensures { ServesVisits S.site_state S.lacks S.crash_states S.represents L.contents result hub.old hub.new (room.old, log.old, watch.old.read.readings) (room.new, log.new, watch.new.read.readings) (C.given clock.old) (C.given clock.new) }
 {
     let mut moments = SystemClock::new(rt);
+    let mut written = CallLog::new();
     for _round in 0..u64::MAX {
         if !hub.is_usable() {
             return Err(VisitFault::Failed);
         }
         room.wait()?;
         round(room, hub, clock, watch.seconds(rt));
-        see_off(alloc, room, &mut moments, log);
+        see_off(alloc, room, &mut moments, log, &mut written);
     }
     Ok(())
 }

@@ -1,17 +1,17 @@
 // The time since serving began, on a clock that only goes forward.
-ghost use Rattle.std.specs.Prelude.{◌≡◌, List, [], ◌∷◌, ◌++◌};
+ghost use Rattle.std.specs.Prelude.{◌≡◌, All, List, [], ◌∷◌, ◌++◌};
 ghost use Rattle.std.specs.Borrow.{ftrue};
-ghost use Rattle.ready_sockets.specs.Readings.{seconds_of};
+ghost use Rattle.ready_sockets.specs.Readings.{seconds_of, IsFrom};
 ghost use Rattle.ready_sockets.specs.declared.stopwatch.Reading.{Reading as OneReading};
 
 use std::marker::Model;
-use std::time::{Clock as Time, Duration, Instant};
+use std::time::{Clock as Time, Instant};
 
 /// What a clock told when it was read.
 #[derive(Clone, Copy)]
 pub enum Reading {
-    /// So much time since the start.
-    Since(Duration),
+    /// The moment of its start, and the one that it tells.
+    Since(Instant, Instant),
     /// It could not be read.
     Unread,
 }
@@ -54,6 +54,7 @@ impl ReadingLog {
 pub struct Stopwatch {
     start: Option<Instant>,
     pub read: ReadingLog,
+    ghost one_start: { All (IsFrom start) read.readings },
 }
 
 impl Stopwatch {
@@ -68,13 +69,12 @@ impl Stopwatch {
     }
 
     /// Reads the clock. That this is what the clock tells no clause can say.
-    fn reading<R: Time>(&self, rt: &R) -> Reading {
-        let Some(start) = self.start else {
-            return Reading::Unread;
-        };
-        match start.elapsed(rt) {
-            Ok(since) => Reading::Since(since),
-            Err(_) => Reading::Unread,
+    fn reading<R: Time>(&self, rt: &R) -> Reading
+        ensures { IsFrom self.now.start result }
+    {
+        match (self.start, Instant::now(rt)) {
+            (Some(start), Ok(now)) => Reading::Since(start, now),
+            _ => Reading::Unread,
         }
     }
 
@@ -85,7 +85,7 @@ impl Stopwatch {
         let reading = self.reading(rt);
         self.read.note(reading);
         match reading {
-            Reading::Since(since) => since.as_secs(),
+            Reading::Since(start, now) => now.duration_since(start).as_secs(),
             Reading::Unread => 0,
         }
     }

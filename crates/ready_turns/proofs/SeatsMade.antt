@@ -12,7 +12,7 @@ use Rattle.session_core.specs.declared.event.Outcome.{Outcome}
 use Rattle.session_core.specs.declared.fault.HubFault.{HubFault}
 use Rattle.session_core.specs.Outcomes.{join_outcome}
 use Rattle.turns.specs.WireCalls.{WireCall, HasMade, Read, ReadWaited, Wrote}
-use Rattle.turns.specs.Turns.{Trace, trace, nothing, heard_event}
+use Rattle.turns.specs.Turns.{Trace, trace, nothing, heard_event, drawn_bytes}
 use Rattle.ready_turns.specs.Tries.{write_try, read_try}
 use Rattle.ready_turns.specs.declared.seat.Seat.{Seat}
 use Rattle.ready_turns.specs.declared.seat.Stage.{Stage}
@@ -71,8 +71,8 @@ finishes_more ending (b ∷ bytes) t before after some is w = subst (λ s. Write
 pub joined_at : (result : Result ℕ HubFault) (stage : Stage) (unsent : List ℕ) → at stage [] false ≡ joined_state (join_outcome result) → unsent ≡ [] → at stage unsent false ≡ joined_state (join_outcome result)
 joined_at result stage unsent is none = ap (λ u. at stage u false) none ∙ is
 
-pub drawn_made : (id : ℕ) (outcome : Outcome) (after : SeatState) → after ≡ drawn_state id outcome → Draws id (trace [] (events.Draw id 4096 ∷ []) (outcome ∷ [])) after
-drawn_made id outcome after is = record { outcome = outcome; is = refl; after_is = is }
+pub drawn_made : (id : ℕ) (outcome : Outcome) (after : SeatState) → length (drawn_bytes outcome) ≤ 4096 → after ≡ drawn_state id outcome → Draws id (trace [] (events.Draw id 4096 ∷ []) (outcome ∷ [])) after
+drawn_made id outcome after room is = record { outcome = outcome; room = room; is = refl; after_is = is }
 
 pub heard_made : (id : ℕ) (unsent : List ℕ) (old new : List WireCall) (piece : List ℕ) (now : ℕ) (outcome : Outcome) (after : SeatState) → length piece ≤ 512 → new ≡ old ++ Read 512 piece ∷ [] → after ≡ heard_state id outcome →
     HasMade old new (λ made. Listens id unsent (trace made (heard_event id piece now ∷ []) (outcome ∷ [])) after)

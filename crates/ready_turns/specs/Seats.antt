@@ -8,7 +8,7 @@ use Rattle.session_core.specs.declared.event.Outcome.{Outcome}
 use Rattle.session_core.specs.declared.event.Outcome.TheVariants as outcomes
 use Rattle.session_core.specs.declared.fault.HubFault.TheVariants as faults
 use Rattle.turns.specs.WireCalls.{WireCall, Read, ReadFailed, ReadWaited, Wrote, WriteFailed, WriteWaited, Closed}
-use Rattle.turns.specs.Turns.{Trace, trace, nothing, then, heard_event}
+use Rattle.turns.specs.Turns.{Trace, trace, nothing, then, heard_event, drawn_bytes}
 use Rattle.ready_turns.specs.declared.seat.Ending.{Ending}
 use Rattle.ready_turns.specs.declared.seat.Ending.TheVariants.{Served, Full, Failed, Cut, Late}
 use Rattle.ready_turns.specs.declared.seat.Stage.{Stage}
@@ -83,6 +83,7 @@ Waits call before t after = (t ≡ trace (call ∷ []) [] []) × (after ≡ at b
 -- One draw of at most 4,096 bytes, which are to be sent.
 pub record Draws (id : ℕ) (t : Trace) (after : SeatState) : Type 0 where
   pub outcome : Outcome
+  pub room : length (drawn_bytes outcome) ≤ 4096
   pub is : t ≡ trace [] (events.Draw id 4096 ∷ []) (outcome ∷ [])
   pub after_is : after ≡ drawn_state id outcome
 

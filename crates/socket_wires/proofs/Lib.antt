@@ -1,1 +1,2 @@
+pub mod TakenOnes
 pub mod RoundsMade

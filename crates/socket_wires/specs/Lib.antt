@@ -1,2 +1,3 @@
 pub mod Moments
+pub mod Taking
 pub mod Rounds

@@ -1,12 +1,12 @@
 // Rounds of connections.
-ghost use Rattle.std.specs.Prelude.{◌≡◌, ◌⊎◌, IfOk, IfErr};
-ghost use Rattle.socket_wires.specs.declared.serving.ServeFault.TheVariants as faults;
+ghost use Rattle.std.specs.Prelude.{◌≡◌, List, ◌++◌, map, IfOk, IfErr};
 ghost use Rattle.socket_wires.specs.Rounds.{IsFresh, ServesRounds};
+ghost use Rattle.socket_wires.specs.Taking.{had, IsShort};
+ghost use Rattle.socket_wires.specs.declared.gate.Taken.{Taken};
 
-use crate::SocketWire;
+use crate::{Gate, SocketWire};
 use session_core::Hub;
 use std::alloc::Global;
-use std::net::{OpenListener, TcpListener};
 use thiserror::Error;
 use turns::{Clock, Connection, take_turns};
 use word_index::SearchKeeper;
@@ -24,21 +24,19 @@ pub enum ServeFault {
     Memory,
 }
 
-/// So many connections.
+/// So many connections, and no other is taken.
 fn accept(
     alloc: Global,
-    listener: &TcpListener,
+    gate: &mut Gate,
     together: u32,
 ) -> Result<Vec<Connection<SocketWire>>, ServeFault>
     ensures fresh { IfOk result (λ connections. IsFresh together connections.items) }
-    ensures fault { IfErr result (λ fault. (fault ≡ faults.Net) ⊎ (fault ≡ faults.Memory)) }
+    ensures taken { IfOk result (λ connections. gate.new.taken.calls ≡ gate.old.taken.calls ++ map had connections.items) }
+    ensures fault { IfErr result (λ fault. (rest : List Taken) × (gate.new.taken.calls ≡ gate.old.taken.calls ++ rest) × IsShort together fault rest) }
 {
     let mut connections = Vec::new(alloc);
     for _ in 0..together {
-        let Ok((stream, _from)) = listener.accept() else {
-            return Err(ServeFault::Net);
-        };
-        let Ok(wire) = SocketWire::new(stream) else {
+        let Ok(wire) = gate.next() else {
             return Err(ServeFault::Net);
         };
         if connections.push(Connection::new(wire)).is_err() {
@@ -52,20 +50,20 @@ fn accept(
 /// greatest u64; or `Failed`, and no round more, once a write or a sync of what the site is kept on has failed.
 pub fn serve_on<S: SearchKeeper, C: Clock>(
     alloc: Global,
-    listener: &TcpListener,
+    gate: &mut Gate,
     hub: &mut Hub<S>,
     clock: &mut C,
     together: u32,
     rounds: u32,
 ) -> Result<u64, ServeFault>
-    ensures { ServesRounds S.site_state S.lacks S.crash_states S.represents together rounds result hub.old hub.new (C.given clock.old) (C.given clock.new) }
+    ensures { ServesRounds S.site_state S.lacks S.crash_states S.represents together rounds result gate.old.taken.calls gate.new.taken.calls hub.old hub.new (C.given clock.old) (C.given clock.new) }
 {
     let mut served = 0u64;
     for _round in 0..rounds {
         if !hub.is_usable() {
             return Err(ServeFault::Failed);
         }
-        let mut connections = accept(alloc, listener, together)?;
+        let mut connections = accept(alloc, gate, together)?;
         served = served.saturating_add(take_turns(hub, &mut connections, clock));
     }
     if hub.is_usable() {

@@ -6,7 +6,7 @@ ghost use Rattle.socket_wires.specs.declared.system_clock.ClockReading.{ClockRea
 
 use host_types::Stamp;
 use std::marker::Model;
-use std::time::{Clock as Time, Duration, SystemTime, UNIX_EPOCH};
+use std::time::{Clock as Time, SystemTime, UNIX_EPOCH};
 use turns::{Clock, MomentLog};
 
 /// The last second of the year 9999.
@@ -15,11 +15,9 @@ const LAST_MOMENT: u64 = 253_402_300_799;
 /// What the clock of the system told when it was read.
 #[derive(Clone, Copy)]
 pub enum ClockReading {
-    /// So much time since the start of 1970.
-    Since(Duration),
-    /// A moment before that.
-    Before,
-    /// It could not be read.
+    /// This time.
+    At(SystemTime),
+    /// It could not be read, as where it is set before 1970.
     Unread,
 }
 
@@ -79,12 +77,15 @@ impl<'a, R: Time> SystemClock<'a, R> {
     }
 }
 
-/// The moment of a reading: one past the year 9999 is its last second; one before 1970, and one that could not be read, is 0.
+/// The moment of a reading: one past the year 9999 is its last second, and one that could not be read is 0.
 fn moment_of(reading: ClockReading) -> Stamp
     ensures { result ≡ moment_at reading }
 {
-    let ClockReading::Since(since) = reading else {
+    let ClockReading::At(time) = reading else {
         return Stamp::start();
+    };
+    let Ok(since) = time.duration_since(UNIX_EPOCH) else {
+        unreachable!();
     };
     match Stamp::new(since.as_secs().min(LAST_MOMENT)) {
         Ok(stamp) => stamp,
@@ -94,12 +95,9 @@ fn moment_of(reading: ClockReading) -> Stamp
 
 /// Reads the clock of the system. That this is what it tells no clause can say.
 fn reading<R: Time>(rt: &R) -> ClockReading {
-    let Ok(now) = SystemTime::now(rt) else {
-        return ClockReading::Unread;
-    };
-    match now.duration_since(UNIX_EPOCH) {
-        Ok(since) => ClockReading::Since(since),
-        Err(_) => ClockReading::Before,
+    match SystemTime::now(rt) {
+        Ok(time) => ClockReading::At(time),
+        Err(_) => ClockReading::Unread,
     }
 }
 

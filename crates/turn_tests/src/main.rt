@@ -10,7 +10,7 @@ mod visits;
 use memory_wire::{MemoryWire, StandingClock};
 use session_core::Hub;
 use site::{NotReady, test_site};
-use socket_wires::{SystemClock, serve_on};
+use socket_wires::{Gate, SystemClock, serve_on};
 use std::alloc::Global;
 use std::io;
 use std::io::{Read, Write};
@@ -130,7 +130,8 @@ fn show_loopback(rt: &HostRuntime) -> io::Result<()> {
         return Err(io::ErrorKind::OutOfMemory.into());
     };
     let mut clock = SystemClock::new(rt);
-    let served = serve_on(rt.alloc(), &listener, &mut hub, &mut clock, 1, 1);
+    let mut gate = Gate::new(listener);
+    let served = serve_on(rt.alloc(), &mut gate, &mut hub, &mut clock, 1, 1);
     let _ = hub.close();
     let mut reply = Vec::new(rt.alloc());
     let _ = client.read_to_end(&mut reply)?;

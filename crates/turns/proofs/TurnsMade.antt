@@ -1,6 +1,6 @@
 -- What is done in a turn, put together.
 use Rattle.std.proofs.Common.{◌≡◌, ◌⊎◌, inl, inr, ⊎_elim, ℕ, suc, ◌+◌, ◌≤◌, ◌<◌, add-one, Bool, true, false, List, [], ◌∷◌, ◌++◌, length, take, refl, sym, ap, subst, ◌∙◌, append_assoc, arith, Result, Ok, Err, min}
-use Rattle.std.proofs.lemmas.List.{append-nil, take_all}
+use Rattle.std.proofs.lemmas.List.{append-nil, take_all, length-take}
 use Rattle.std.proofs.lemmas.Bool.{cases_lt}
 use Rattle.session_core.specs.declared.event.Event.{Event}
 use Rattle.session_core.specs.declared.event.Event.TheVariants as events
@@ -60,8 +60,8 @@ pub heard_nothing : (id : ℕ) (old new : List WireCall) (after : Stage) → new
 heard_nothing id old new after read is = (ReadFailed 512 ∷ [], read, inr (record { is = refl; after_is = is }))
 
 -- a draw, and its sending
-pub replied_made : (id : ℕ) (old new : List WireCall) (outcome : Outcome) (whole : Bool) (after : Stage) → HasMade old new (λ made. IsSent (drawn_bytes outcome) made whole) → after ≡ replied_stage id outcome whole → HasMade old new (λ made. Replies id (trace made (events.Draw id 512 ∷ []) (outcome ∷ [])) after)
-replied_made id old new outcome whole after sent is = (sent.0, sent.1, record { outcome = outcome; whole = whole; events_are = refl; outcomes_are = refl; sent = sent.2; after_is = is })
+pub replied_made : (id : ℕ) (old new : List WireCall) (outcome : Outcome) (whole : Bool) (after : Stage) → length (drawn_bytes outcome) ≤ 512 → HasMade old new (λ made. IsSent (drawn_bytes outcome) made whole) → after ≡ replied_stage id outcome whole → HasMade old new (λ made. Replies id (trace made (events.Draw id 512 ∷ []) (outcome ∷ [])) after)
+replied_made id old new outcome whole after room sent is = (sent.0, sent.1, record { outcome = outcome; whole = whole; room = room; events_are = refl; outcomes_are = refl; sent = sent.2; after_is = is })
 
 pub left_made : (id : ℕ) (old new : List WireCall) (outcome : Outcome) → new ≡ old ++ Closed ∷ [] → HasMade old new (λ made. Leaves id (trace made (events.Leave id ∷ []) (outcome ∷ [])))
 left_made id old new outcome closed = (Closed ∷ [], closed, record { outcome = outcome; is = refl })
@@ -120,24 +120,30 @@ ok_of d = Ok d
 pub drawn_is : (result : Result Drawn HubFault) (d : Drawn) (count : ℕ) (buffer : List ℕ) → result ≡ Ok d → d ≡ drawn.Bytes count → draw_outcome result buffer ≡ outcomes.Drawn (take count buffer)
 drawn_is result d count buffer is which = ap (λ r. draw_outcome r buffer) is ∙ ap (λ (x : Drawn). draw_outcome (ok_of x) buffer) which
 
+-- no more bytes are drawn than there is room for
+pub draws_few : (room : ℕ) (result : Result Drawn HubFault) (buffer : List ℕ) → length buffer ≡ room → length (drawn_bytes (draw_outcome result buffer)) ≤ room
+draws_few room (Ok (drawn.Bytes n)) buffer size = omega (arith, size, length-take n buffer)
+draws_few room (Ok drawn.Finished) buffer size = omega arith
+draws_few room (Err fault) buffer size = omega arith
+
 -- as many as fit
 pub take_min : (count room : ℕ) (buffer : List ℕ) → length buffer ≡ room → take (min count room) buffer ≡ take count buffer
 take_min count room buffer size = ⊎_elim (λ (lt : room < count). ap (λ n. take n buffer) (omega arith) ∙ take_all room buffer (omega (arith, size)) ∙ sym (take_all count buffer (omega (arith, size)))) (λ (le : count ≤ room). ap (λ n. take n buffer) (omega arith)) (cases_lt room count)
 
-pub replied_drawn : (id : ℕ) (old new : List WireCall) (outcome : Outcome) (bytes : List ℕ) (whole : Bool) (after : Stage) → outcome ≡ outcomes.Drawn bytes → HasMade old new (λ made. IsSent bytes made whole) → after ≡ replied_stage id (outcomes.Drawn bytes) whole →
+pub replied_drawn : (id : ℕ) (old new : List WireCall) (outcome : Outcome) (bytes : List ℕ) (whole : Bool) (after : Stage) → length (drawn_bytes outcome) ≤ 512 → outcome ≡ outcomes.Drawn bytes → HasMade old new (λ made. IsSent bytes made whole) → after ≡ replied_stage id (outcomes.Drawn bytes) whole →
     HasMade old new (λ made. Replies id (trace made (events.Draw id 512 ∷ []) (outcome ∷ [])) after)
-replied_drawn id old new outcome bytes whole after is sent so =
-    replied_made id old new outcome whole after (sent.0, sent.1, subst (λ b. IsSent b sent.0 whole) (sym (ap drawn_bytes is)) sent.2) (so ∙ ap (λ o. replied_stage id o whole) (sym is))
+replied_drawn id old new outcome bytes whole after room is sent so =
+    replied_made id old new outcome whole after room (sent.0, sent.1, subst (λ b. IsSent b sent.0 whole) (sym (ap drawn_bytes is)) sent.2) (so ∙ ap (λ o. replied_stage id o whole) (sym is))
 
-pub replied_finished : (id : ℕ) (calls : List WireCall) (outcome : Outcome) → outcome ≡ outcomes.Finished → HasMade calls calls (λ made. Replies id (trace made (events.Draw id 512 ∷ []) (outcome ∷ [])) Served)
-replied_finished id calls outcome is =
+pub replied_finished : (id : ℕ) (calls : List WireCall) (outcome : Outcome) → length (drawn_bytes outcome) ≤ 512 → outcome ≡ outcomes.Finished → HasMade calls calls (λ made. Replies id (trace made (events.Draw id 512 ∷ []) (outcome ∷ [])) Served)
+replied_finished id calls outcome room is =
     let sent = sent_none calls in
-    replied_made id calls calls outcome true Served (sent.0, sent.1, subst (λ b. IsSent b sent.0 true) (sym (ap drawn_bytes is)) sent.2) (ap (λ o. replied_stage id o true) (sym is))
+    replied_made id calls calls outcome true Served room (sent.0, sent.1, subst (λ b. IsSent b sent.0 true) (sym (ap drawn_bytes is)) sent.2) (ap (λ o. replied_stage id o true) (sym is))
 
-pub replied_fault : (id : ℕ) (calls : List WireCall) (outcome : Outcome) (fault : HubFault) → outcome ≡ outcomes.Fault fault → HasMade calls calls (λ made. Replies id (trace made (events.Draw id 512 ∷ []) (outcome ∷ [])) Left)
-replied_fault id calls outcome fault is =
+pub replied_fault : (id : ℕ) (calls : List WireCall) (outcome : Outcome) (fault : HubFault) → length (drawn_bytes outcome) ≤ 512 → outcome ≡ outcomes.Fault fault → HasMade calls calls (λ made. Replies id (trace made (events.Draw id 512 ∷ []) (outcome ∷ [])) Left)
+replied_fault id calls outcome fault room is =
     let sent = sent_none calls in
-    replied_made id calls calls outcome true Left (sent.0, sent.1, subst (λ b. IsSent b sent.0 true) (sym (ap drawn_bytes is)) sent.2) (ap (λ o. replied_stage id o true) (sym is))
+    replied_made id calls calls outcome true Left room (sent.0, sent.1, subst (λ b. IsSent b sent.0 true) (sym (ap drawn_bytes is)) sent.2) (ap (λ o. replied_stage id o true) (sym is))
 
 -- ---- connections for which nothing is done
 

@@ -106,6 +106,7 @@ replied_stage id outcome whole = Left
 pub record Replies (id : ℕ) (t : Trace) (after : Stage) : Type 0 where
   pub outcome : Outcome
   pub whole : Bool
+  pub room : length (drawn_bytes outcome) ≤ 512
   pub events_are : t.events ≡ events.Draw id 512 ∷ []
   pub outcomes_are : t.outcomes ≡ outcome ∷ []
   pub sent : IsSent (drawn_bytes outcome) t.calls whole

@@ -38,7 +38,8 @@ returns-in-Ok-serve_over-clause-served g c =
             opened = c.in-Ok.site;
             closed = c.in-Ok-serve_over.site;
             shows = opened.site;
-            serves = serves;
+            taken = c.serve_over.new.gate.taken.calls;
+            serves = rw (← c.in-Ok-listen.ensures.untaken) serves;
             handed = back;
           })
           c.in-Ok-serve_over.ensures.served.run;
@@ -61,18 +62,18 @@ returns-in_default-clause-asked g c =
     let opened = c.in-Ok.ensures in
     let place = place_of (g.D.Device.state c.args.device) None c.given_or_own-at.result c.given_or_own.inside.port (seen_site c.in-Ok.site) c.given_or_own-at.ensures opened.site
     (λ honest. ap (λ a. a.port) (c.given_or_own.view_is) ∙ ap (λ a. a.port) (c.front.ensures (subst IsTrue (sym opened.honest) honest))) in
-    (c.given_or_own-at.result, place, c.in_default.ensures)
+    (c.given_or_own-at.result, place, c.in_default.ensures.asked)
 
 pub returns-clause-asked : goal.returns-clause-asked
 returns-clause-asked g c =
     let opened = c.in-Ok.ensures in
     let place = place_of (g.D.Device.state c.args.device) None c.given_or_own-at.result c.given_or_own.inside.port (seen_site c.in-Ok.site) c.given_or_own-at.ensures opened.site
     (λ honest. ap (λ a. a.port) (c.given_or_own.view_is) ∙ ap (λ a. a.port) (c.front.ensures (subst IsTrue (sym opened.honest) honest))) in
-    rw c.in-Err-serve_over.ensures.err.0 (inr (c.given_or_own-at.result, place, c.in-Ok-listen.ensures))
+    rw c.in-Err-serve_over.ensures.err.0 (inr (c.given_or_own-at.result, place, c.in-Ok-listen.ensures.asked))
 
 pub returns-in-Ok-serve_over-clause-listened : goal.returns-in-Ok-serve_over-clause-listened
 returns-in-Ok-serve_over-clause-listened g c =
     let opened = c.in-Ok.ensures in
     let place = place_of (g.D.Device.state c.args.device) None c.given_or_own-at.result c.given_or_own.inside.port (seen_site c.in-Ok.site) c.given_or_own-at.ensures opened.site
     (λ honest. ap (λ a. a.port) (c.given_or_own.view_is) ∙ ap (λ a. a.port) (c.front.ensures (subst IsTrue (sym opened.honest) honest))) in
-    (c.given_or_own-at.result, place, c.in-Ok-listen.ensures)
+    (c.given_or_own-at.result, place, c.in-Ok-listen.ensures.asked)

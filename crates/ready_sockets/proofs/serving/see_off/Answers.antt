@@ -15,4 +15,4 @@ pub returns-else-has_closed-clause-logged : goal.returns-else-has_closed-clause-
 returns-else-has_closed-clause-logged g c = nobody (sym c.has_closed.ensures ∙ c.if-has_closed.false) refl refl
 
 pub returns-then-has_closed-clause-logged : goal.returns-then-has_closed-clause-logged
-returns-then-has_closed-clause-logged g c = at c.now.result c.now.ensures (subst (λ visits. AreTold g.L.Write.contents c.now.result visits c.args.log.now c.tell_gone.new.log) c.deref.ensures.value c.tell_gone.ensures)
+returns-then-has_closed-clause-logged g c = at c.now.result c.now.ensures (subst (λ visits. AreTold g.L.Write.contents c.now.result visits (c.args.log.now, c.args.written.now.calls) (c.tell_gone.new.log, c.tell_gone.new.written.calls)) c.deref.ensures.value c.tell_gone.ensures)

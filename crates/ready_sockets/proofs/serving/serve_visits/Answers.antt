@@ -6,7 +6,7 @@ use Rattle.ready_sockets.proofs.Rounds.{wait_failed}
 use Rattle.ready_sockets.proofs.serving.serve_visits.Goals as goal
 
 pub loop-round-init : goal.loop-round-init
-loop-round-init g c = run_none _ _ _ _ g.met.S.SiteKeeper.crash_states_represent _ _ _ (none _)
+loop-round-init g c = run_none _ _ _ _ g.met.S.SiteKeeper.crash_states_represent _ _ _ (rw c.new-written.ensures (none _))
 
 pub loop-round-preserved : goal.loop-round-preserved
 loop-round-preserved g c = run_both _ _ _ _ g.met.S.SiteKeeper.crash_states_represent _ _ _ _ _ _ _ _ _ c.loop-round.invariant c.round.ensures
@@ -28,18 +28,20 @@ pub returns-then-not-is_usable : goal.returns-then-not-is_usable
 returns-then-not-is_usable g c = run_as _ _ _ _ _ _ _ c.loop-round.invariant (λ es os p. record {
   rounds = c.loop-round._round;
   last = c.loop-round.room;
+  written = c.loop-round.written.calls;
   had = p;
   ends = (sym c.is_usable.ensures ∙ c.if-not-is_usable.true, refl);
 })
 
 pub returns-in_err-wait : goal.returns-in_err-wait
 returns-in_err-wait g c = run_as _ _ _ _ _ _ _ c.loop-round.invariant
-    (λ es os p. wait_failed g.L.Write.contents c.from_residual.result _ _ c.loop-round._round _ c.loop-round.room c.wait.new.self c.loop-round.log c.loop-round.watch.read.readings es os c.from_residual.ensures.1 c.in_err-wait.ensures.fault (sym c.is_usable.ensures ∙ c.if-not-is_usable.false) p c.in_err-wait.ensures.not_waited)
+    (λ es os p. wait_failed g.L.Write.contents c.from_residual.result _ _ c.loop-round._round _ c.loop-round.room c.wait.new.self _ c.loop-round.log c.loop-round.written.calls _ c.loop-round.watch.read.readings es os c.from_residual.ensures.1 c.in_err-wait.ensures.fault (sym c.is_usable.ensures ∙ c.if-not-is_usable.false) p c.in_err-wait.ensures.not_waited)
 
 pub returns : goal.returns
 returns g c = run_as _ _ _ _ _ _ _ c.loop-round.invariant (λ es os p. record {
   rounds = c.loop-round._round;
   last = c.loop-round.room;
+  written = c.loop-round.written.calls;
   had = p;
   ends = (omega (arith, c.loop-round-test.false), refl);
 })
