@@ -1,5 +1,5 @@
 -- Worked examples: posts that wait for one another.
-use Rattle.std.specs.Prelude.{None, ◌≡◌, ℕ, Bool, true, false, List, [], ◌∷◌, ◌++◌, codes}
+use Rattle.std.specs.Prelude.{None, ◌≡◌, ℕ, Bool, true, false, List, [], ◌∷◌, ◌++◌, length, codes}
 use Rattle.host_types.specs.Site.{fresh_site}
 use Rattle.host_types.specs.declared.item.Item.{Item}
 use Rattle.host_types.specs.declared.item.Body.{Body}
@@ -7,7 +7,8 @@ use Rattle.host_types.specs.declared.item.Body.TheVariants as bodies
 use Rattle.host_types.specs.declared.menu.Entry.TheVariants as entries
 use Rattle.host_types.specs.declared.form.Question.TheVariants as questions
 use Rattle.host_types.specs.declared.change.Change.TheVariants.{Put, Remove}
-use Rattle.session_core.specs.declared.fault.HubFault.TheVariants.{NotReady}
+use Rattle.session_core.specs.declared.fault.HubFault.TheVariants.{NotReady, Failed}
+use Rattle.group_world.specs.CrashStates.{Stored, stored_whole, stored_singly}
 use Rattle.group_world.specs.World.{World, started_as}
 use Rattle.group_world.specs.Step.{Event, Join, Bytes, End, Draw, Leave, Admin, Flush, Outcome, Joined, Ready, Waiting, Drawn, Gone, Done, Flushed, Fault, step}
 
@@ -36,7 +37,27 @@ with_book grouped cap events = answers (step (step (host grouped) (put_board cap
 abbrev pub posts : ℕ → List ℕ → Event
 posts id name = Bytes id (codes "/sign\t+\t1\r\n+-1\r\n" ++ name ++ codes "\r\n0\r\n.\r\n") 5
 
+-- the world behind some events
+abbrev pub behind : World → List Event → World
+behind w [] = w
+behind w (e ∷ events) = behind (step w e).world events
+
+-- two posts wait
+abbrev pub two_wait : World
+two_wait = behind (step (step (host true) (put_board 100)).world put_form).world (Join ∷ Join ∷ posts 1 (codes "Ann") ∷ posts 2 (codes "Bob") ∷ [])
+
+-- how many commits are acknowledged, and how many are in flight
+abbrev pub counts : Stored → ℕ × ℕ
+counts stored = (length stored.commits, length stored.flying)
+
 pub record GroupExamples : Type 0 where
+  -- both share one commit; where it fails, that one is in flight
+  pub one_commit : counts (stored_whole two_wait Flush (Flushed 2 0)) ≡ (1, 0)
+  pub one_in_flight : counts (stored_whole two_wait Flush (Fault Failed)) ≡ (0, 1)
+  -- one at a time: both are stored, the second is left, or it fails
+  pub both_alone : counts (stored_singly two_wait (true ∷ true ∷ []) (Flushed 2 0)) ≡ (2, 0)
+  pub one_is_left : counts (stored_singly two_wait (true ∷ false ∷ []) (Flushed 1 1)) ≡ (1, 0)
+  pub the_second_fails : counts (stored_singly two_wait (true ∷ []) (Fault Failed)) ≡ (1, 1)
   pub two_posts :
       with_book true 100 (Join ∷ Join ∷ Join ∷ posts 1 (codes "Ann") ∷ posts 2 (codes "Bob") ∷ Draw 1 9 ∷ Bytes 1 (codes "x") 5 ∷ End 1 5 ∷ Bytes 3 (codes "/book\r\n") 5 ∷ Draw 3 99 ∷ Flush ∷ Draw 1 99 ∷ Draw 2 99 ∷ Flush ∷ [])
       ≡ Joined 1 ∷ Joined 2 ∷ Joined 3 ∷ Waiting ∷ Waiting ∷ Fault NotReady ∷ Waiting ∷ Waiting ∷ Ready ∷ Drawn (codes ".\r\n") ∷ Flushed 2 0

@@ -19,6 +19,11 @@ use Rattle.group_world.proofs.laws.worked_examples.Goals as goal
 pub returns : goal.returns
 unfolding digits put remove post most_post_bytes most_view_bytes visible_items most_data counted extent_of room is_too_much front first_line parsed_line verdict plain_error plus_error words_of menu text post_text title_of reply_of joined
 returns c = record {
+  one_commit = refl;
+  one_in_flight = refl;
+  both_alone = refl;
+  one_is_left = refl;
+  the_second_fails = refl;
   two_posts = refl;
   in_order_of_arrival = refl;
   one_is_kept = refl;
