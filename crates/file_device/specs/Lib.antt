@@ -1,4 +1,5 @@
 pub mod FileCalls
 pub mod FileCallLaws
 pub mod FileExamples
+pub mod FileUses
 pub mod Opening

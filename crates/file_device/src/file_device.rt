@@ -99,7 +99,7 @@ fn read_all(
 impl FileDevice {
     /// Opens a file, for this device alone: while another device is open on it, there is no file. It is `NoFile` too where any call of the file fails, and
     /// `Memory` where there is none for the file's bytes.
-    pub fn open<R: Files<File = File> + AllocGlobal>(
+    pub(crate) fn open<R: Files<File = File> + AllocGlobal>(
         rt: &R,
         path: &str,
     ) -> Result<FileDevice, DeviceFault>
@@ -119,7 +119,7 @@ impl FileDevice {
 
     /// Opens a file, as `open` does, which is made where it isn't there, and has this many sectors from then on: what it had within them stays, and what is
     /// new is zeros.
-    pub fn create<R: Files<File = File> + AllocGlobal>(
+    pub(crate) fn create<R: Files<File = File> + AllocGlobal>(
         rt: &R,
         path: &str,
         sectors: u64,

@@ -6,7 +6,9 @@ mod file_device;
 mod image_file;
 mod laws;
 mod record;
+mod used_files;
 
 pub use file_call::FileCall;
 pub use file_device::FileDevice;
 pub use laws::{what_was_synced_is_found, worked_examples};
+pub use used_files::{FileLog, UsedFiles};

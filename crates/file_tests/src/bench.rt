@@ -1,6 +1,6 @@
 // What the lines of a run share, and which call a word names.
 use crate::trouble::Trouble;
-use file_device::{FileDevice, what_was_synced_is_found, worked_examples};
+use file_device::{FileDevice, UsedFiles, what_was_synced_is_found, worked_examples};
 use sector_device::{Device, store};
 use std::fs;
 
@@ -100,6 +100,7 @@ fn call_sector<D: Device>(
 pub struct Bench<'a> {
     rt: &'a HostRuntime,
     folder: &'a str,
+    used: UsedFiles<'a, HostRuntime>,
     held: Option<FileDevice>,
 }
 
@@ -108,6 +109,7 @@ impl<'a> Bench<'a> {
         Bench {
             rt,
             folder,
+            used: UsedFiles::new(rt),
             held: None,
         }
     }
@@ -154,13 +156,21 @@ impl<'a> Bench<'a> {
         }
     }
 
-    fn opened(&self, name: &str) -> Result<FileDevice, Trouble> {
-        Ok(FileDevice::open(self.rt, self.path(name)?.as_str())?)
+    fn opened(&mut self, name: &str) -> Result<FileDevice, Trouble> {
+        let path = self.path(name)?;
+        Ok(self.used.open(path.as_str())?)
     }
 
-    fn created(&self, name: &str, sectors: &str) -> Result<FileDevice, Trouble> {
+    fn created(&mut self, name: &str, sectors: &str) -> Result<FileDevice, Trouble> {
         let path = self.path(name)?;
-        Ok(FileDevice::create(self.rt, path.as_str(), number(sectors)?)?)
+        Ok(self.used.create(path.as_str(), number(sectors)?)?)
+    }
+
+    /// Lets go of the device that is open.
+    fn close(&mut self) {
+        if let Some(device) = self.held.take() {
+            self.used.close(device);
+        }
     }
 
     /// Makes the call of a line, and adds its answer.
@@ -168,25 +178,27 @@ impl<'a> Bench<'a> {
         let fields: Vec<&str> = text.split(' ').collect(self.rt.alloc())?;
         match fields.as_slice() {
             ["open", name] => {
-                self.held = None;
+                self.close();
                 self.held = Some(self.opened(name)?);
                 Ok(())
             }
             ["create", name, sectors] => {
-                self.held = None;
+                self.close();
                 self.held = Some(self.created(name, sectors)?);
                 Ok(())
             }
             ["close"] => {
-                self.held = None;
+                self.close();
                 Ok(())
             }
             ["try_open", name] => {
-                let _ = self.opened(name)?;
+                let device = self.opened(name)?;
+                self.used.close(device);
                 Ok(())
             }
             ["try_create", name, sectors] => {
-                let _ = self.created(name, sectors)?;
+                let device = self.created(name, sectors)?;
+                self.used.close(device);
                 Ok(())
             }
             ["put" | "file" | "folder" | "remove" | "laws", ..] => self.call_files(&fields, shown),

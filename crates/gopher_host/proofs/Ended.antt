@@ -1,14 +1,15 @@
 -- From what the function gave that did a command's work to how the command ends.
-use Rattle.std.proofs.Common.{◌≡◌, ◌⊎◌, inl, inr, ℕ, List, [], ◌∷◌, Option, Ok, Err}
-use Rattle.std.specs.Prelude.{Result, OnOk, IfOk, IfErr}
+use Rattle.std.proofs.Common.{◌≡◌, ◌⊎◌, inl, inr, ℕ, List, [], ◌∷◌, ◌++◌, Option, Ok, Err, sym, ap, ◌∙◌, subst, refl, append_assoc}
+use Rattle.std.specs.Prelude.{Result, IfOk, IfErr}
 use Rattle.sector_device.specs.Device.{State}
 use Rattle.file_device.specs.FileCalls.{FileHistory, file_state}
+use Rattle.file_device.specs.FileUses.{FileUse, Opened, Left}
 use Rattle.file_device.specs.Opening.{IsOpened, IsUnused}
 use Rattle.file_device.specs.declared.file_call.FileCall.TheVariants.{Open, Lock}
+use Rattle.host_on_disk.specs.OpenFaults.{HandsBack}
 use Rattle.image_commands.specs.declared.fault.ImageFault.{ImageFault}
-use Rattle.gopher_host.specs.Endings.{Gives, GivesCount}
-use Rattle.gopher_host.specs.Faults.{output_fault}
-use Rattle.gopher_host.specs.ImageFiles.{OnImageFile, Prints, EndsFor}
+use Rattle.gopher_host.specs.Endings.{Gives, text_of, given_beside, device_beside}
+use Rattle.gopher_host.specs.ImageFiles.{OpensThen, Answers, IsUnwritten, file_crash_states}
 use Rattle.gopher_host.specs.declared.fault.Fault.{Fault}
 
 pub ok_too : {T E : Type 0} {P Q : T → Type 0} (result : Result T E) → ((t : T) → P t → Q t) → IfOk result P → IfOk result Q
@@ -19,37 +20,44 @@ pub err_too : {T E : Type 0} {P Q : E → Type 0} (result : Result T E) → ((e 
 err_too (Ok t) f h = h
 err_too (Err e) f h = f e h
 
--- what was given is printed
-pub printed : {A T W X : Type 0} (P : List ℕ → Type 0) (given : Result (A × T) (ImageFault × T)) (text : A → List ℕ) (contents : W → Option (List ℕ)) (old new : W) (result : Result X Fault) →
-    Gives given text contents old new result → IfOk given (λ g. P (text g.0)) → OnOk result (Prints P (contents old) (contents new))
-printed P (Ok given) text contents old new (Ok x) gives is = (text given.0, is, gives)
-printed P (Ok given) text contents old new (Err fault) gives is = tt
-printed P (Err refused) text contents old new (Ok x) gives is = absurd gives
-printed P (Err refused) text contents old new (Err fault) gives is = tt
-
-pub on_file : {X : Type 0} (image : List ℕ) (Holds : FileHistory → Type 0) (device : FileHistory) (result : Result X Fault) → device.path ≡ image → IsOpened (Lock ∷ Open ∷ []) device → IsUnused device → OnOk result (Holds device) → OnOk result (OnImageFile image Holds)
-on_file image Holds device (Ok x) named opened unused holds = (device, named, opened, unused, holds)
-on_file image Holds device (Err fault) named opened unused holds = tt
-
--- or its fault is answered
-pub ends_for : {A W X : Type 0} (image : List ℕ) (IsCause : State → State → ImageFault → Type 0) (device : FileHistory) (given : Result (A × FileHistory) (ImageFault × FileHistory)) (text : A → List ℕ) (contents : W → Option (List ℕ)) (old new : W) (result : Result X Fault) →
-    device.path ≡ image → IsOpened (Lock ∷ Open ∷ []) device → IsUnused device → Gives given text contents old new result → IfErr given (λ e. IsCause (file_state device) (file_state e.1) e.0) → IfErr result (EndsFor image IsCause old new)
-ends_for image IsCause device (Ok given) text contents old new (Ok x) named opened unused gives is = tt
-ends_for image IsCause device (Ok given) text contents old new (Err fault) named opened unused gives is = inl gives
-ends_for image IsCause device (Err refused) text contents old new (Ok x) named opened unused gives is = tt
-ends_for image IsCause device (Err refused) text contents old new (Err fault) named opened unused gives is = inr (refused.0, gives.0, gives.1, inr (device, named, opened, unused, (refused.1, is)))
-
--- a fault but that of the output comes with nothing printed
-pub nothing_printed : {I E T W X : Type 0} (given : Result (Result ℕ I × T) (E × T)) (line : ℕ → List ℕ) (inner : I → Fault) (outer : E → Fault) (contents : W → Option (List ℕ)) (old new : W) (result : Result X Fault) →
-    GivesCount given line inner outer contents old new result → IfErr result (λ e. (e ≡ output_fault) ⊎ (new ≡ old))
-nothing_printed (Ok (Ok n, t)) line inner outer contents old new (Ok x) gives = tt
-nothing_printed (Ok (Ok n, t)) line inner outer contents old new (Err fault) (inl is) = inl is
-nothing_printed (Ok (Ok n, t)) line inner outer contents old new (Err fault) (inr is) = inr is.1
-nothing_printed (Ok (Err e, t)) line inner outer contents old new (Ok x) gives = tt
-nothing_printed (Ok (Err e, t)) line inner outer contents old new (Err fault) gives = inr gives.1
-nothing_printed (Err (e, t)) line inner outer contents old new (Ok x) gives = tt
-nothing_printed (Err (e, t)) line inner outer contents old new (Err fault) gives = inr gives.1
-
 pub both_too : {T E : Type 0} {P Q R : T → Type 0} (result : Result T E) → ((t : T) → P t → Q t → R t) → IfOk result P → IfOk result Q → IfOk result R
 both_too (Ok t) f p q = f t p q
 both_too (Err e) f p q = tt
+
+pub both_err_too : {T E : Type 0} {P Q R : E → Type 0} (result : Result T E) → ((e : E) → P e → Q e → R e) → IfErr result P → IfErr result Q → IfErr result R
+both_err_too (Ok t) f p q = tt
+both_err_too (Err e) f p q = f e p q
+
+pub all_err_too : {T E : Type 0} {P Q R S : E → Type 0} (result : Result T E) → ((e : E) → P e → Q e → R e → S e) → IfErr result P → IfErr result Q → IfErr result R → IfErr result S
+all_err_too (Ok t) f p q r = tt
+all_err_too (Err e) f p q r = f e p q r
+
+-- what was given is printed, or its fault is answered
+pub answers : {A W X : Type 0} (text : A → List ℕ) (handed : Result (A × FileHistory) (ImageFault × FileHistory)) (given : Result A ImageFault) (Is : FileHistory → List ℕ → Type 0) (IsCause : FileHistory → ImageFault → Type 0) (contents : W → Option (List ℕ)) (old new : W) (result : Result X Fault) →
+    given ≡ given_beside handed → Gives (text_of text given) contents old new result → IfOk handed (λ r. Is r.1 (text r.0)) → IfErr handed (λ e. IsCause e.1 e.0) → Answers (Is (device_beside handed)) (IsCause (device_beside handed)) contents old new result
+answers text (Ok r) given Is IsCause contents old new result is gives done caused =
+    record { given = text_of text given; gives = gives; is = subst (λ g. IfOk (text_of text g) (Is r.1)) (sym is) done; caused = subst (λ g. IfErr (text_of text g) (IsCause r.1)) (sym is) tt }
+answers text (Err e) given Is IsCause contents old new result is gives done caused =
+    record { given = text_of text given; gives = gives; is = subst (λ g. IfOk (text_of text g) (Is e.1)) (sym is) tt; caused = subst (λ g. IfErr (text_of text g) (IsCause e.1)) (sym is) caused }
+
+-- nothing was written, whatever was given
+pub unwritten : {A : Type 0} (IsCause : State → State → ImageFault → Type 0) (opened : FileHistory) (handed : Result (A × FileHistory) (ImageFault × FileHistory)) → IfOk handed (λ r. IsUnwritten opened r.1) →
+    IfErr handed (λ e. HandsBack IsCause file_state file_crash_states opened e.1 e.0) → IsUnwritten opened (device_beside handed)
+unwritten IsCause opened (Ok r) kept refused = kept
+unwritten IsCause opened (Err e) kept refused = refused.no_new_crash_state refl
+
+-- nothing was written, or something may have been that keeps the site
+pub unless_written : {A K M : Type 0} → A ⊎ K → M ⊎ A → A ⊎ (M × K)
+unless_written (inl a) may = inl a
+unless_written (inr k) (inl m) = inr (m, k)
+unless_written (inr k) (inr a) = inl a
+
+-- one more, and another
+pub two_more : {A : Type 0} (xs ys zs : List A) (a b : A) → ys ≡ xs ++ a ∷ [] → zs ≡ ys ++ b ∷ [] → zs ≡ xs ++ a ∷ b ∷ []
+two_more xs ys zs a b first second = second ∙ ap (λ l. l ++ b ∷ []) first ∙ append_assoc xs (a ∷ []) (b ∷ [])
+
+-- a file was opened and let go of
+pub opened_then : {X Untouched : Type 0} (image : List ℕ) (before between now : List FileUse) (opened left : FileHistory) (result : Result X Fault) (Holds : FileHistory → FileHistory → Type 0) →
+    between ≡ before ++ Opened opened ∷ [] → now ≡ between ++ Left left ∷ [] → opened.path ≡ image → IsOpened (Lock ∷ Open ∷ []) opened → IsUnused opened → Holds opened left → OpensThen image before now result Untouched Holds
+opened_then image before between now opened left result Holds first second named calls unused holds =
+    inr (record { opened = opened; left = left; used = two_more before between now (Opened opened) (Left left) first second; named = named; calls = calls; unused = unused; holds = holds })

@@ -1,7 +1,7 @@
 pub mod Ended
 pub mod Applied
 pub mod Moments
-pub mod Stayed
 pub mod Readings
 pub mod Written
 pub mod Opens
+pub mod Formatted

@@ -12,39 +12,54 @@ use Rattle.gopher_host.specs.Faults.{ended, output_fault, memory_fault}
 use Rattle.gopher_host.specs.declared.fault.Fault.{Fault}
 use Rattle.gopher_host.specs.declared.fault.Fault.TheVariants.{Image, Serving, Script}
 
--- The text of what was given is printed and nothing else, or standard output took no more; or its fault is answered, and nothing is printed.
-abbrev pub Gives : {A T W X : Type 0} → Result (A × T) (ImageFault × T) → (A → List ℕ) → (W → Option (List ℕ)) → W → W → Result X Fault → Type 0
-Gives (Ok given) text contents old new (Ok _) = Appends (contents old) (contents new) (text given.0)
-Gives (Ok given) text contents old new (Err fault) = fault ≡ output_fault
-Gives (Err refused) text contents old new (Ok _) = ⊥
-Gives (Err refused) text contents old new (Err fault) = (fault ≡ Image refused.0) × (new ≡ old)
+-- what was given beside a device
+abbrev pub given_beside : {A E D : Type 0} → Result (A × D) (E × D) → Result A E
+given_beside (Ok given) = Ok given.0
+given_beside (Err refused) = Err refused.0
+
+-- and that device
+abbrev pub device_beside : {A E D : Type 0} → Result (A × D) (E × D) → D
+device_beside (Ok given) = given.1
+device_beside (Err refused) = refused.1
+
+-- the text of what was given
+abbrev pub text_of : {A E : Type 0} → (A → List ℕ) → Result A E → Result (List ℕ) E
+text_of text (Ok given) = Ok (text given)
+text_of text (Err refused) = Err refused
+
+-- The text that was given is printed and nothing else, or standard output took no more; or its fault is answered, and nothing is printed.
+abbrev pub Gives : {W X : Type 0} → Result (List ℕ) ImageFault → (W → Option (List ℕ)) → W → W → Result X Fault → Type 0
+Gives (Ok text) contents old new (Ok _) = Appends (contents old) (contents new) text
+Gives (Ok text) contents old new (Err fault) = fault ≡ output_fault
+Gives (Err refused) contents old new (Ok _) = ⊥
+Gives (Err refused) contents old new (Err fault) = (fault ≡ Image refused) × (new ≡ old)
 
 -- The line of a count is printed and nothing else, or standard output took no more, or there was no memory for the line; or a fault is answered, and nothing is printed.
-abbrev pub GivesCount : {I E T W X : Type 0} → Result (Result ℕ I × T) (E × T) → (ℕ → List ℕ) → (I → Fault) → (E → Fault) → (W → Option (List ℕ)) → W → W → Result X Fault → Type 0
-GivesCount (Ok (Ok count, _)) line inner outer contents old new (Ok _) = Appends (contents old) (contents new) (ended (line count))
-GivesCount (Ok (Ok count, _)) line inner outer contents old new (Err fault) = (fault ≡ output_fault) ⊎ ((fault ≡ memory_fault) × (new ≡ old))
-GivesCount (Ok (Err e, _)) line inner outer contents old new (Ok _) = ⊥
-GivesCount (Ok (Err e, _)) line inner outer contents old new (Err fault) = (fault ≡ inner e) × (new ≡ old)
-GivesCount (Err (e, _)) line inner outer contents old new (Ok _) = ⊥
-GivesCount (Err (e, _)) line inner outer contents old new (Err fault) = (fault ≡ outer e) × (new ≡ old)
+abbrev pub GivesCount : {I E W X : Type 0} → Result (Result ℕ I) E → (ℕ → List ℕ) → (I → Fault) → (E → Fault) → (W → Option (List ℕ)) → W → W → Result X Fault → Type 0
+GivesCount (Ok (Ok count)) line inner outer contents old new (Ok _) = Appends (contents old) (contents new) (ended (line count))
+GivesCount (Ok (Ok count)) line inner outer contents old new (Err fault) = (fault ≡ output_fault) ⊎ ((fault ≡ memory_fault) × (new ≡ old))
+GivesCount (Ok (Err e)) line inner outer contents old new (Ok _) = ⊥
+GivesCount (Ok (Err e)) line inner outer contents old new (Err fault) = (fault ≡ inner e) × (new ≡ old)
+GivesCount (Err e) line inner outer contents old new (Ok _) = ⊥
+GivesCount (Err e) line inner outer contents old new (Err fault) = (fault ≡ outer e) × (new ≡ old)
 
 -- clients were served until that could not go on
 abbrev pub visits_ended : {X : Type 0} → Result X VisitFault → Result X Fault
 visits_ended (Ok x) = Ok x
 visits_ended (Err fault) = Err (Serving (of_visits fault))
 
-abbrev pub serving_ended : {T X : Type 0} → Result (Result X VisitFault × T) (ServingFault × T) → Result X Fault
-serving_ended (Ok given) = visits_ended given.0
-serving_ended (Err refused) = Err (Serving refused.0)
+abbrev pub serving_ended : {X : Type 0} → Result (Result X VisitFault) ServingFault → Result X Fault
+serving_ended (Ok given) = visits_ended given
+serving_ended (Err fault) = Err (Serving fault)
 
 -- a script came to its end, or a fault ended it
 abbrev pub script_ended : {X : Type 0} → Result X ScriptFault → Result X Fault
 script_ended (Ok x) = Ok x
 script_ended (Err fault) = Err (Script fault)
 
-abbrev pub replay_ended : {T X : Type 0} → Result (Result X ScriptFault × T) (OpenFault × T) → Result X Fault
-replay_ended (Ok given) = script_ended given.0
-replay_ended (Err refused) = Err (Image (of_opening refused.0))
+abbrev pub replay_ended : {X : Type 0} → Result (Result X ScriptFault) OpenFault → Result X Fault
+replay_ended (Ok given) = script_ended given
+replay_ended (Err fault) = Err (Image (of_opening fault))
 
 -- A fault of the script comes before one of the output.
 abbrev pub all_written : {X Y E : Type 0} → Result X Fault → Result Y E → Result X Fault

@@ -1,74 +1,88 @@
 -- What commands do with the image in a file, and what they print.
-use Rattle.std.specs.Prelude.{◌≡◌, ◌⊎◌, ◌++◌, ℕ, List, [], ◌∷◌, length, Option, Some, Result, Ok, Err, IsUtf8}
-use Rattle.std.specs.Io.KnownBytes.{Appends}
-use Rattle.common_types.specs.CrashStates.{CrashStates}
-use Rattle.sector_device.specs.Device.{State}
+use Rattle.std.specs.Prelude.{◌≡◌, ◌⊎◌, ◌++◌, ℕ, List, [], ◌∷◌, Option, Result, Ok, Err, IfOk, IfErr}
+use Rattle.common_types.specs.CrashStates.{CrashStates, AddsNone}
 use Rattle.page_store.specs.Sectors.{Image}
 use Rattle.page_store.specs.Steps.{crash_states_of}
 use Rattle.file_device.specs.FileCalls.{FileHistory, file_state, PossibleSince}
+use Rattle.file_device.specs.FileUses.{FileUse, Opened, NotOpened, Left}
 use Rattle.file_device.specs.Opening.{IsOpened, IsUnused}
 use Rattle.file_device.specs.declared.file_call.FileCall.TheVariants.{Open, Lock}
-use Rattle.change_file.specs.Changes as file
-use Rattle.change_file.specs.Printed.{applied_line}
-use Rattle.change_file.specs.declared.fault.FileChange.{FileChange}
-use Rattle.image_changes.specs.ImageChanges.{AppliesToImage}
-use Rattle.image_commands.specs.Compacted.{KeepsSite, IsWrittenAnew}
+use Rattle.image_commands.specs.Compacted.{KeepsSite, IsWrittenAnew, IsCompactingFault, MayHaveWritten}
+use Rattle.image_commands.specs.Faults.{IsReadingFault}
 use Rattle.image_commands.specs.Lines.{IsChecked}
-use Rattle.image_commands.specs.Upgraded.{IsUpgradedImage}
 use Rattle.image_commands.specs.Listing.{IsShown}
+use Rattle.image_commands.specs.Upgraded.{IsUpgradedImage, IsUpgradingFault}
 use Rattle.image_commands.specs.declared.fault.ImageFault.{ImageFault}
 use Rattle.image_commands.specs.declared.fault.ImageFault.TheVariants.{NoFile, Memory}
-use Rattle.gopher_host.specs.Faults.{ended, output_fault}
+use Rattle.host_on_disk.specs.Upgrades.{KeepsEither}
+use Rattle.std.specs.Prelude.{length}
+use Rattle.gopher_host.specs.Endings.{Gives}
+use Rattle.gopher_host.specs.Faults.{ended}
 use Rattle.gopher_host.specs.declared.fault.Fault.{Fault}
 use Rattle.gopher_host.specs.declared.fault.Fault.TheVariants as faults
 
 abbrev pub file_crash_states : FileHistory → CrashStates Image
 file_crash_states = crash_states_of (λ (device : FileHistory). length device.calls) (λ device. PossibleSince device.calls)
 
--- The file of this name was opened, and this holds of it.
-abbrev pub OnImageFile : List ℕ → (FileHistory → Type 0) → Type 0
-OnImageFile image Holds = (device : FileHistory) × (device.path ≡ image) × IsOpened (Lock ∷ Open ∷ []) device × IsUnused device × Holds device
-
--- ---- what is printed, and nothing else
-
--- such a text
-abbrev pub Prints : (List ℕ → Type 0) → Option (List ℕ) → Option (List ℕ) → Type 0
-Prints Is old new = (text : List ℕ) × Is text × Appends old new text
-
--- the listing of its site
-abbrev pub PrintsListing : Option (List ℕ) → Option (List ℕ) → FileHistory → Type 0
-PrintsListing old new device = Prints (λ text. IsShown (file_state device).disk.view text) old new
-
--- the line of its figures
-abbrev pub PrintsFigures : Option (List ℕ) → Option (List ℕ) → FileHistory → Type 0
-PrintsFigures old new device = Prints (λ text. (line : List ℕ) × (text ≡ ended line) × IsChecked file_state file_crash_states device line) old new
-
--- the line of its free pages, once its site is written anew
-abbrev pub PrintsFree : Option (List ℕ) → Option (List ℕ) → FileHistory → Type 0
-PrintsFree old new device = Prints (λ text. (line : List ℕ) × (left : FileHistory) × (text ≡ ended line) × KeepsSite file_state file_crash_states device left × IsWrittenAnew (file_state left).disk.view line) old new
-
--- the line of how many records an upgrade wrote
-abbrev pub PrintsUpgraded : Option (List ℕ) → Option (List ℕ) → FileHistory → Type 0
-PrintsUpgraded old new device = Prints (λ text. (line : List ℕ) × (left : FileHistory) × (text ≡ ended line) × IsUpgradedImage file_state file_crash_states device left line) old new
-
--- how many changes some bytes say, once all of them are made at this moment
-abbrev pub PrintsApplied : ℕ → Option (List ℕ) → Option (List ℕ) → FileHistory → Type 0
-PrintsApplied now old new device =
-    (bytes : List ℕ) × (changes : List FileChange) × (left : FileHistory) × (IsUtf8 bytes) × (file.read bytes ≡ Some (Ok changes))
-    × AppliesToImage file_state file_crash_states device left changes now (Ok (length changes)) × Appends old new (ended (applied_line (length changes)))
-
--- ---- faults
+-- ---- the file that is used, and no other
 
 -- There is no such file that can be had, or no memory for it.
 abbrev pub IsNotThere : ImageFault → Type 0
 IsNotThere fault = (fault ≡ NoFile) ⊎ (fault ≡ Memory)
 
--- Standard output took no more. Or nothing was printed, since the file is not there; or since it was opened, and such a fault came.
-abbrev pub EndsFor : {W : Type 0} → List ℕ → (State → State → ImageFault → Type 0) → W → W → Fault → Type 0
-EndsFor image IsCause old new e =
-    (e ≡ output_fault)
-    ⊎ ((fault : ImageFault) × (e ≡ faults.Image fault) × (new ≡ old) × (IsNotThere fault ⊎ OnImageFile image (λ device. (left : FileHistory) × IsCause (file_state device) (file_state left) fault)))
+-- The file of this name was opened, let go of behind that as `left`, and this holds of what was done in between. Nothing was done with another file.
+pub record OnImageFile (image : List ℕ) (before now : List FileUse) (Holds : FileHistory → FileHistory → Type 0) : Type 0 where
+  pub opened : FileHistory
+  pub left : FileHistory
+  pub used : now ≡ before ++ Opened opened ∷ Left left ∷ []
+  pub named : opened.path ≡ image
+  pub calls : IsOpened (Lock ∷ Open ∷ []) opened
+  pub unused : IsUnused opened
+  pub holds : Holds opened left
 
--- There is no such file that can be had: that is answered, and nothing is done. Or the file was opened, and this holds of it.
-abbrev pub OpensThen : {X : Type 0} → List ℕ → Result X Fault → Type 0 → (FileHistory → Type 0) → Type 0
-OpensThen image result Untouched Holds = ((fault : ImageFault) × IsNotThere fault × (result ≡ Err (faults.Image fault)) × Untouched) ⊎ OnImageFile image Holds
+-- The file of this name was asked for and not had: that is answered, and nothing is done. Or it was opened, and this holds.
+abbrev pub OpensThen : {X : Type 0} → List ℕ → List FileUse → List FileUse → Result X Fault → Type 0 → (FileHistory → FileHistory → Type 0) → Type 0
+OpensThen image before now result Untouched Holds =
+    ((fault : ImageFault) × IsNotThere fault × (result ≡ Err (faults.Image fault)) × (now ≡ before ++ NotOpened image ∷ []) × Untouched)
+    ⊎ OnImageFile image before now Holds
+
+-- ---- what is printed, and what was done for it
+
+-- A text of which this holds is printed, or standard output took no more; or such a fault is answered, and nothing is printed.
+pub record Answers {W X : Type 0} (Is : List ℕ → Type 0) (IsCause : ImageFault → Type 0) (contents : W → Option (List ℕ)) (old new : W) (result : Result X Fault) : Type 0 where
+  pub given : Result (List ℕ) ImageFault
+  pub gives : Gives given contents old new result
+  pub is : IfOk given Is
+  pub caused : IfErr given IsCause
+
+-- nothing was written
+abbrev pub IsUnwritten : FileHistory → FileHistory → Type 0
+IsUnwritten opened left = AddsNone (file_crash_states opened) (file_crash_states left)
+
+-- the listing of its site
+abbrev pub Shows : {W X : Type 0} → (W → Option (List ℕ)) → W → W → Result X Fault → FileHistory → FileHistory → Type 0
+Shows contents old new result opened left =
+    Answers (λ text. IsShown (file_state opened).disk.view text) (λ fault. IsReadingFault (file_state opened) (file_state left) fault) contents old new result
+    × IsUnwritten opened left
+
+-- the line of its figures
+abbrev pub Checks : {W X : Type 0} → (W → Option (List ℕ)) → W → W → Result X Fault → FileHistory → FileHistory → Type 0
+Checks contents old new result opened left =
+    Answers (λ text. (line : List ℕ) × (text ≡ ended line) × IsChecked file_state file_crash_states opened line) (λ fault. IsReadingFault (file_state opened) (file_state left) fault) contents old new result
+    × IsUnwritten opened left
+
+-- The line of its free pages, once its site is written anew. Where a fault comes nothing was written; or it may have been, and a crash leaves the same site.
+abbrev pub Compacts : {W X : Type 0} → (W → Option (List ℕ)) → W → W → Result X Fault → FileHistory → FileHistory → Type 0
+Compacts contents old new result opened left =
+    Answers
+    (λ text. (line : List ℕ) × (text ≡ ended line) × KeepsSite file_state file_crash_states opened left × IsWrittenAnew (file_state left).disk.view line)
+    (λ fault. IsCompactingFault (file_state opened) (file_state left) fault × (IsUnwritten opened left ⊎ (MayHaveWritten fault × KeepsSite file_state file_crash_states opened left)))
+    contents old new result
+
+-- The line of how many records an upgrade wrote. A fault as above: the same site, in version 1 or 2.
+abbrev pub Upgrades : {W X : Type 0} → (W → Option (List ℕ)) → W → W → Result X Fault → FileHistory → FileHistory → Type 0
+Upgrades contents old new result opened left =
+    Answers
+    (λ text. (line : List ℕ) × (text ≡ ended line) × IsUpgradedImage file_state file_crash_states opened left line)
+    (λ fault. IsUpgradingFault (file_state opened) (file_state left) fault × (IsUnwritten opened left ⊎ (MayHaveWritten fault × KeepsEither file_state file_crash_states opened left)))
+    contents old new result

@@ -1,6 +1,5 @@
--- What changes and rewritings leave on the image in a file, whatever the command answers.
-use Rattle.std.specs.Prelude.{◌≡◌, ◌⊎◌, ℕ, List, Option, Some, Result, Ok, Err, IfOk, IfErr, IsUtf8}
-use Rattle.common_types.specs.CrashStates.{AddsNone}
+-- What `apply` does to the image in a file, whatever it answers.
+use Rattle.std.specs.Prelude.{◌≡◌, ◌⊎◌, ℕ, List, length, Option, Some, Result, Ok, Err, IfOk, IfErr, IsUtf8}
 use Rattle.change_file.specs.Changes as file
 use Rattle.change_file.specs.Printed.{applied_line}
 use Rattle.change_file.specs.declared.fault.ApplyFault.{ApplyFault}
@@ -8,12 +7,10 @@ use Rattle.change_file.specs.declared.fault.ChangeFileFault.{ChangeFileFault}
 use Rattle.change_file.specs.declared.fault.FileChange.{FileChange}
 use Rattle.file_device.specs.FileCalls.{FileHistory, file_state}
 use Rattle.host_on_disk.specs.OpenFaults.{IsOpeningFault, HandsBack}
-use Rattle.host_on_disk.specs.Upgrades.{KeepsEither}
 use Rattle.host_on_disk.specs.declared.open_fault.OpenFault.{OpenFault}
 use Rattle.image_changes.specs.ImageChanges.{AppliesToImage}
-use Rattle.image_commands.specs.Compacted.{KeepsSite}
 use Rattle.image_commands.specs.Faults.{of_opening}
-use Rattle.gopher_host.specs.Endings.{GivesCount}
+use Rattle.gopher_host.specs.Endings.{GivesCount, given_beside, device_beside}
 use Rattle.gopher_host.specs.ImageFiles.{file_crash_states}
 use Rattle.gopher_host.specs.declared.fault.Fault.{Fault}
 use Rattle.gopher_host.specs.declared.fault.Fault.TheVariants as faults
@@ -25,16 +22,10 @@ ReadsThen result Untouched Holds =
     ⊎ ((bytes : List ℕ) × (changes : List FileChange) × IsUtf8 bytes × (file.read bytes ≡ Some (Ok changes)) × Holds changes)
 
 -- Changes were made on the site of an image, all or those before one that was not, and it is printed how many they are, or answered which was not made; or the image was refused.
-pub record Applies {W X : Type 0} (contents : W → Option (List ℕ)) (now : ℕ) (before after : W) (result : Result X Fault) (changes : List FileChange) (opened : FileHistory) : Type 0 where
+pub record Applies {W X : Type 0} (contents : W → Option (List ℕ)) (now : ℕ) (old new : W) (result : Result X Fault) (changes : List FileChange) (opened left : FileHistory) : Type 0 where
   pub given : Result (Result ℕ ApplyFault × FileHistory) (OpenFault × FileHistory)
-  pub printed : GivesCount given applied_line (λ stopped. faults.Stopped stopped) (λ fault. faults.Image (of_opening fault)) contents before after result
+  pub handed : left ≡ device_beside given
+  pub printed : GivesCount (given_beside given) applied_line (λ stopped. faults.Stopped stopped) (λ fault. faults.Image (of_opening fault)) contents old new result
   pub applied : IfOk given (λ r. AppliesToImage file_state file_crash_states opened r.1 changes now r.0)
+  pub all : IfOk given (λ r. IfOk r.0 (λ count. count ≡ length changes))
   pub refused : IfErr given (λ e. HandsBack IsOpeningFault file_state file_crash_states opened e.1 e.0)
-
--- A crash since the opening leaves what one before it might have left, or what represents the same site.
-abbrev pub Stays : FileHistory → Type 0
-Stays opened = (left : FileHistory) × (AddsNone (file_crash_states opened) (file_crash_states left) ⊎ KeepsSite file_state file_crash_states opened left)
-
--- The same of a site that an upgrade finds in version 1: it stays, in version 1 or 2.
-abbrev pub StaysEither : FileHistory → Type 0
-StaysEither opened = (left : FileHistory) × (AddsNone (file_crash_states opened) (file_crash_states left) ⊎ KeepsEither file_state file_crash_states opened left)

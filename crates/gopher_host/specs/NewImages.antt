@@ -1,5 +1,6 @@
 -- What `format` is asked for, and what it makes.
-use Rattle.std.specs.Prelude.{◌≡◌, ◌⊎◌, ◌==◌, ℕ, ◌*◌, [], ◌∷◌, Result, Ok, Err, if◌then◌else◌, List}
+use Rattle.std.specs.Prelude.{◌≡◌, ◌⊎◌, ◌==◌, ℕ, ◌*◌, [], ◌∷◌, ◌++◌, Option, Result, Ok, Err, OnOk, IfErr, if◌then◌else◌, List}
+use Rattle.std.specs.Io.KnownBytes.{Appends}
 use Rattle.common_types.specs.Names.{stamp_of}
 use Rattle.common_types.specs.declared.refused.Refused.{Refused as Refusal}
 use Rattle.common_types.specs.declared.refused.Refused.TheVariants.{BadName}
@@ -7,15 +8,20 @@ use Rattle.page_store.specs.Formatting.{IsFormatFault}
 use Rattle.page_store.specs.Steps.{AllAre}
 use Rattle.page_store.specs.declared.fault.KeeperFault.{KeeperFault}
 use Rattle.file_device.specs.FileCalls.{FileHistory, file_state}
+use Rattle.file_device.specs.FileUses.{FileUse, Opened, NotOpened, Left}
 use Rattle.file_device.specs.Opening.{IsOpened, IsUnused}
 use Rattle.file_device.specs.declared.file_call.FileCall.TheVariants.{Create, Lock, SetLength}
 use Rattle.image_commands.specs.Faults.{of_store}
 use Rattle.image_commands.specs.Formatted.{names_of, sectors_of, first_site, IsFormatted}
+use Rattle.image_commands.specs.Lines.{formatted_line}
 use Rattle.image_commands.specs.declared.fault.ImageFault.{ImageFault}
-use Rattle.image_commands.specs.declared.fault.ImageFault.TheVariants.{Refused, NoFile, Memory}
+use Rattle.image_commands.specs.declared.fault.ImageFault.TheVariants.{Refused, Memory}
 use Rattle.image_commands.specs.declared.names.SiteNames.{SiteNames}
 use Rattle.command_words.specs.declared.words.NewSite.{NewSite}
-use Rattle.gopher_host.specs.ImageFiles.{file_crash_states}
+use Rattle.gopher_host.specs.Faults.{ended, output_fault}
+use Rattle.gopher_host.specs.ImageFiles.{file_crash_states, IsNotThere}
+use Rattle.gopher_host.specs.declared.fault.Fault.{Fault}
+use Rattle.gopher_host.specs.declared.fault.Fault.TheVariants as faults
 
 -- ---- what is asked for, or the first thing that is wrong with it
 
@@ -51,31 +57,43 @@ asked_at site pages now = behind (moment_of now) (asked_for site pages)
 
 -- ---- what is made
 
--- A file of this name was created with as many sectors as the pages have. Reads of it give the first image of just this site, and so does a crash at any moment from then on.
-pub record IsMade (image : List ℕ) (site : NewSite) (pages now : ℕ) : Type 0 where
+-- A file of this name was created with as many sectors as the pages have, and let go of behind that. Reads of what was left give the first image of just this site, and so does a crash at any moment from then on. Nothing was done with another file.
+pub record IsMade (image : List ℕ) (site : NewSite) (pages now : ℕ) (before after : List FileUse) : Type 0 where
   pub names : SiteNames
   pub sectors : ℕ
   pub asked : asked_for site pages ≡ Ok (names, sectors)
   pub created : FileHistory
-  pub named : created.path ≡ image
-  pub file : IsOpened (SetLength (512 * sectors) ∷ Lock ∷ Create ∷ []) created
-  pub device : FileHistory
-  pub formatted : IsFormatted (file_state device).disk.view pages (first_site names site.port now)
-  pub sure : AllAre (file_crash_states device) (file_state device).disk.view
-
--- A file of this name was created with as many sectors as the pages have, and an image could not be made there, for this cause.
-pub record IsNotFormatted (image : List ℕ) (pages : ℕ) (fault : ImageFault) : Type 0 where
-  pub sectors : ℕ
-  pub fits : sectors_of pages ≡ Ok sectors
-  pub created : FileHistory
+  pub left : FileHistory
+  pub used : after ≡ before ++ Opened created ∷ Left left ∷ []
   pub named : created.path ≡ image
   pub file : IsOpened (SetLength (512 * sectors) ∷ Lock ∷ Create ∷ []) created
   pub unused : IsUnused created
+  pub formatted : IsFormatted (file_state left).disk.view pages (first_site names site.port now)
+  pub sure : AllAre (file_crash_states left) (file_state left).disk.view
+
+-- A file of this name was created with as many sectors as the pages have, and an image could not be made there, for this cause.
+pub record IsNotFormatted (image : List ℕ) (pages : ℕ) (before after : List FileUse) (fault : ImageFault) : Type 0 where
+  pub sectors : ℕ
+  pub fits : sectors_of pages ≡ Ok sectors
+  pub created : FileHistory
   pub left : FileHistory
+  pub used : after ≡ before ++ Opened created ∷ Left left ∷ []
+  pub named : created.path ≡ image
+  pub file : IsOpened (SetLength (512 * sectors) ∷ Lock ∷ Create ∷ []) created
+  pub unused : IsUnused created
   pub cause : KeeperFault
   pub is : fault ≡ of_store cause
   pub caused : IsFormatFault pages (file_state created) (file_state left) cause
 
--- Why no image was made: what is asked for is wrong; there is no such file, or no memory; or the file was had, and an image could not be made there.
-abbrev pub IsNotMade : List ℕ → NewSite → ℕ → ImageFault → Type 0
-IsNotMade image site pages fault = (asked_for site pages ≡ Err fault) ⊎ ((fault ≡ NoFile) ⊎ ((fault ≡ Memory) ⊎ IsNotFormatted image pages fault))
+-- Why no image was made: what is asked for is wrong, or there is no memory, and no file was asked for; there is no such file, or no memory for it; or the file was had, and an image could not be made there.
+abbrev pub IsNotMade : {A : Type 0} → Result A ImageFault → List ℕ → ℕ → List FileUse → List FileUse → ImageFault → Type 0
+IsNotMade asked image pages before after fault =
+    (((asked ≡ Err fault) ⊎ (fault ≡ Memory)) × (after ≡ before))
+    ⊎ ((IsNotThere fault × (after ≡ before ++ NotOpened image ∷ [])) ⊎ IsNotFormatted image pages before after fault)
+
+-- Nothing is done where what is asked for is wrong. Else an image was made, and the line of its pages is printed or standard output took no more; or it was not, for its cause, and nothing is printed.
+pub record Formats {W X : Type 0} (contents : W → Option (List ℕ)) (image : List ℕ) (site : NewSite) (pages now : ℕ) (before after : List FileUse) (old new : W) (result : Result X Fault) : Type 0 where
+  pub asked : (e : ImageFault) → asked_at site pages now ≡ Err e → (result ≡ Err (faults.Image e)) × (new ≡ old) × (after ≡ before)
+  pub made : OnOk result (IsMade image site pages now before after)
+  pub printed : OnOk result (Appends (contents old) (contents new) (ended (formatted_line pages)))
+  pub fault : IfErr result (λ e. ((e ≡ output_fault) × IsMade image site pages now before after) ⊎ ((new ≡ old) × (cause : ImageFault) × (e ≡ faults.Image cause) × IsNotMade (asked_at site pages now) image pages before after cause))

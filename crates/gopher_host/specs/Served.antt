@@ -8,6 +8,7 @@ use Rattle.host_types.specs.Site.{Site, fresh_site}
 use Rattle.host_types.specs.SiteState.{SiteState}
 use Rattle.host_types.specs.declared.site_fault.SiteFault.{SiteFault}
 use Rattle.file_device.specs.FileCalls.{FileHistory, file_state}
+use Rattle.file_device.specs.FileUses.{FileUse}
 use Rattle.host_on_disk.specs.OpenFaults.{IsOpeningFault, HandsBack}
 use Rattle.host_on_disk.specs.declared.open_fault.OpenFault.{OpenFault}
 use Rattle.host_on_disk.specs.declared.open_fault.OpenFault.TheVariants as opening
@@ -24,7 +25,7 @@ use Rattle.ready_sockets.specs.DoorCalls.{DoorCall, Listened, NotListened}
 use Rattle.ready_sockets.specs.declared.room.VisitFault.{VisitFault}
 use Rattle.ready_sockets.specs.declared.stopwatch.Reading.{Reading}
 use Rattle.socket_wires.specs.declared.serving.ServeFault.{ServeFault}
-use Rattle.gopher_host.specs.Endings.{GivesCount, serving_ended, replay_ended}
+use Rattle.gopher_host.specs.Endings.{GivesCount, given_beside, device_beside, serving_ended, replay_ended}
 use Rattle.gopher_host.specs.Faults.{output_fault, memory_fault}
 use Rattle.gopher_host.specs.ImageFiles.{OpensThen, file_crash_states}
 use Rattle.gopher_host.specs.declared.fault.Fault.{Fault}
@@ -34,10 +35,11 @@ use Rattle.gopher_host.specs.declared.fault.Fault.TheVariants as faults
 abbrev pub OnFile : {S L : Type 0} → (S → FileHistory) → (S → SiteState) → (S → Changes → SiteFault → Type 0) → (S → CrashStates L) → (L → Site → Type 0) → Ran FileHistory
 OnFile device site_state lacks crash_states stands = OnImage file_state device site_state lacks crash_states stands file_crash_states
 
--- Clients were served as they came, and the command answers how that ended.
-pub record Visits {S L Log X : Type 0} (contents : Log → Option (List ℕ)) (device : S → FileHistory) (site_state : S → SiteState) (lacks : S → Changes → SiteFault → Type 0) (crash_states : S → CrashStates L) (stands : L → Site → Type 0) (listen : Option SocketAddr) (asked_before asked_now : List DoorCall) (log_before log_now : Log) (result : Result X Fault) (opened : FileHistory) : Type 0 where
+-- Clients were served as they came, and the command answers how that ended. The device that was given back is the one that was left.
+pub record Visits {S L Log X : Type 0} (contents : Log → Option (List ℕ)) (device : S → FileHistory) (site_state : S → SiteState) (lacks : S → Changes → SiteFault → Type 0) (crash_states : S → CrashStates L) (stands : L → Site → Type 0) (listen : Option SocketAddr) (asked_before asked_now : List DoorCall) (log_before log_now : Log) (result : Result X Fault) (opened left : FileHistory) : Type 0 where
   pub given : Result (Result X VisitFault × FileHistory) (ServingFault × FileHistory)
-  pub ended : result ≡ serving_ended given
+  pub handed : left ≡ device_beside given
+  pub ended : result ≡ serving_ended (given_beside given)
   pub moments : List ℕ
   pub read : List Reading
   pub served : IfOk given (λ r. VisitedImage contents file_state device site_state lacks crash_states stands file_crash_states r.0 opened r.1 (log_before, []) (log_now, read) [] moments)
@@ -46,9 +48,10 @@ pub record Visits {S L Log X : Type 0} (contents : Log → Option (List ℕ)) (d
   pub refused : IfErr given (λ e. HandsBack IsServingFault file_state file_crash_states opened e.1 e.0)
 
 -- Rounds of connections were served, and it is printed how many replies were written whole.
-pub record ServesRounds {S L Pin W X : Type 0} (ghosts : _) (contents : W → Option (List ℕ)) (device : S → FileHistory) (site_state : S → SiteState) (lacks : S → Changes → SiteFault → Type 0) (crash_states : S → CrashStates L) (stands : L → Site → Type 0) (together rounds : ℕ) (asked_before asked_now : List ListenCall) (before now : W) (result : Result X Fault) (opened : FileHistory) : Type 0 where
+pub record ServesRounds {S L Pin W X : Type 0} (ghosts : _) (contents : W → Option (List ℕ)) (device : S → FileHistory) (site_state : S → SiteState) (lacks : S → Changes → SiteFault → Type 0) (crash_states : S → CrashStates L) (stands : L → Site → Type 0) (together rounds : ℕ) (asked_before asked_now : List ListenCall) (before now : W) (result : Result X Fault) (opened left : FileHistory) : Type 0 where
   pub given : Result (Result ℕ ServeFault × FileHistory) (ServingFault × FileHistory)
-  pub printed : GivesCount given served_line (λ fault. faults.Round fault) (λ fault. faults.Serving fault) contents before now result
+  pub handed : left ≡ device_beside given
+  pub printed : GivesCount (given_beside given) served_line (λ fault. faults.Round fault) (λ fault. faults.Serving fault) contents before now result
   pub moments : List ℕ
   pub served : IfOk given (λ r. ServedImage {Pin = Pin} ghosts file_state device site_state lacks crash_states stands file_crash_states together rounds r.0 opened r.1 [] moments)
   pub listened : OnOk given (IsListened listens.Listened (file_state opened) None asked_before asked_now)
@@ -56,9 +59,10 @@ pub record ServesRounds {S L Pin W X : Type 0} (ghosts : _) (contents : W → Op
   pub refused : IfErr given (λ e. HandsBack IsServingFault file_state file_crash_states opened e.1 e.0)
 
 -- A script was replayed, or nothing was opened for it; and that is what is answered.
-pub record Replayed {H : Type 0} (ran : Ran H) (Refuses : H → OpenFault → H → Type 0) (script_before script_now before now : Option (List ℕ)) (result : Result (Unit {0}) Fault) (opened : H) : Type 0 where
+pub record Replayed {H : Type 0} (ran : Ran H) (Refuses : H → OpenFault → H → Type 0) (script_before script_now before now : Option (List ℕ)) (result : Result (Unit {0}) Fault) (opened left : H) : Type 0 where
   pub given : Result (Result (Unit {0}) ScriptFault × H) (OpenFault × H)
-  pub ended : result ≡ replay_ended given
+  pub handed : left ≡ device_beside given
+  pub ended : result ≡ replay_ended (given_beside given)
   pub replayed : IfOk given (λ r. Replays ran opened r.1 script_before before now r.0)
   pub refused : IfErr given (λ e. Refuses opened e.0 e.1 × (script_now ≡ script_before) × (now ≡ before))
 
@@ -71,15 +75,15 @@ abbrev pub RefusesSite : {H : Type 0} → H → OpenFault → H → Type 0
 RefusesSite opened fault left = (fault ≡ opening.Memory) × (left ≡ opened)
 
 -- A script was replayed over the site of the image in a file.
-abbrev pub ReplaysFile : {S L : Type 0} → (S → FileHistory) → (S → SiteState) → (S → Changes → SiteFault → Type 0) → (S → CrashStates L) → (L → Site → Type 0) → List ℕ → Option (List ℕ) → Option (List ℕ) → Option (List ℕ) → Option (List ℕ) → Result (Unit {0}) Fault → Type 0
-ReplaysFile device site_state lacks crash_states stands image script_before script_now before now result =
-    OpensThen image result ((script_now ≡ script_before) × (now ≡ before)) (Replayed (OnFile device site_state lacks crash_states stands) RefusesFile script_before script_now before now result)
+abbrev pub ReplaysFile : {S L : Type 0} → (S → FileHistory) → (S → SiteState) → (S → Changes → SiteFault → Type 0) → (S → CrashStates L) → (L → Site → Type 0) → List ℕ → List FileUse → List FileUse → Option (List ℕ) → Option (List ℕ) → Option (List ℕ) → Option (List ℕ) → Result (Unit {0}) Fault → Type 0
+ReplaysFile device site_state lacks crash_states stands image used_before used_now script_before script_now before now result =
+    OpensThen image used_before used_now result ((script_now ≡ script_before) × (now ≡ before)) (Replayed (OnFile device site_state lacks crash_states stands) RefusesFile script_before script_now before now result)
 
 -- A script was replayed over a small site in memory, or there was no memory for one.
 abbrev pub ReplaysInMemory : {L : Type 0} → (Site → SiteState) → (Site → Changes → SiteFault → Type 0) → (Site → CrashStates L) → (L → Site → Type 0) → Option (List ℕ) → Option (List ℕ) → Option (List ℕ) → Option (List ℕ) → Result (Unit {0}) Fault → Type 0
 ReplaysInMemory site_state lacks crash_states stands script_before script_now before now result =
     ((result ≡ Err memory_fault) × (script_now ≡ script_before) × (now ≡ before))
-    ⊎ Replayed (OverSite site_state lacks crash_states stands) RefusesSite script_before script_now before now result (fresh_site (codes "localhost") 7070 (codes "Ada <ada@localhost>") (codes "Top") 0)
+    ⊎ ((left : Site) × Replayed (OverSite site_state lacks crash_states stands) RefusesSite script_before script_now before now result (fresh_site (codes "localhost") 7070 (codes "Ada <ada@localhost>") (codes "Top") 0) left)
 
 -- Whatever was replayed so, what is left to write is written then, or standard output took no more.
 pub record IsWritten (IsReplayed : Option (List ℕ) → Result (Unit {0}) Fault → Type 0) (now : Option (List ℕ)) (left : List ℕ) (result : Result (Unit {0}) Fault) : Type 0 where
@@ -91,8 +95,8 @@ pub record IsWritten (IsReplayed : Option (List ℕ) → Result (Unit {0}) Fault
   pub written : OnOk ended (IfErr result (λ e. e ≡ output_fault))
   pub all : OnOk result (OnOk ended (left ≡ []))
 
--- There was no memory for what is to be written; or a script of some bytes was replayed so, behind what was printed before.
-abbrev pub RepliesToAll : (Option (List ℕ) → Option (List ℕ) → Option (List ℕ) → Option (List ℕ) → Result (Unit {0}) Fault → Type 0) → Result (Unit {0}) Fault → Type 0
-RepliesToAll IsReplayed result =
-    (result ≡ Err memory_fault)
+-- There was no memory for what is to be written, and nothing was done; or a script of some bytes was replayed so, behind what was printed before.
+abbrev pub RepliesToAll : Type 0 → (Option (List ℕ) → Option (List ℕ) → Option (List ℕ) → Option (List ℕ) → Result (Unit {0}) Fault → Type 0) → Result (Unit {0}) Fault → Type 0
+RepliesToAll Untouched IsReplayed result =
+    ((result ≡ Err memory_fault) × Untouched)
     ⊎ ((script_before : Option (List ℕ)) × (script_now : Option (List ℕ)) × (before : Option (List ℕ)) × (now : Option (List ℕ)) × (left : List ℕ) × IsWritten (IsReplayed script_before script_now before) now left result)

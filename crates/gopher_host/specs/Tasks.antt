@@ -1,52 +1,39 @@
 -- What each task did.
-use Rattle.std.specs.Prelude.{◌≡◌, ◌⊎◌, ℕ, Bool, true, false, List, [], Option, Some, None, Result, Ok, Err}
-use Rattle.std.specs.Io.KnownBytes.{Appends}
+use Rattle.std.specs.Prelude.{◌≡◌, ℕ, Bool, true, false, List, [], Option, Some, None, Result, Err, OnOk}
 use Rattle.std.specs.declared.net.socket_addr.SocketAddr.{SocketAddr}
-use Rattle.change_file.specs.declared.fault.ChangeFileFault.{ChangeFileFault}
 use Rattle.host_types.specs.AllChanges.{Changes}
 use Rattle.host_types.specs.CrashStates.{CrashStates}
 use Rattle.host_types.specs.Site.{Site}
 use Rattle.host_types.specs.SiteState.{SiteState}
 use Rattle.host_types.specs.declared.site_fault.SiteFault.{SiteFault}
 use Rattle.file_device.specs.FileCalls.{FileHistory}
-use Rattle.image_commands.specs.Compacted.{IsCompactingFault}
-use Rattle.image_commands.specs.Faults.{IsReadingFault}
-use Rattle.image_commands.specs.Lines.{formatted_line}
-use Rattle.image_commands.specs.Upgraded.{IsUpgradingFault}
-use Rattle.image_server.specs.Lines.{served_line}
+use Rattle.file_device.specs.FileUses.{FileUse}
+use Rattle.image_commands.specs.declared.fault.ImageFault.{ImageFault}
 use Rattle.image_server.specs.declared.listening.ListenCall.{ListenCall}
 use Rattle.ready_sockets.specs.DoorCalls.{DoorCall}
 use Rattle.command_words.specs.declared.words.Task.{Task}
 use Rattle.command_words.specs.declared.words.Task.TheVariants as task
-use Rattle.gopher_host.specs.Faults.{ended, output_fault}
-use Rattle.gopher_host.specs.ImageFiles.{OnImageFile, OpensThen, EndsFor, PrintsListing, PrintsFigures, PrintsFree, PrintsUpgraded, PrintsApplied}
-use Rattle.gopher_host.specs.NewImages.{IsMade}
+use Rattle.gopher_host.specs.ImageFiles.{OpensThen, Shows, Checks, Compacts, Upgrades}
+use Rattle.gopher_host.specs.Kept.{ReadsThen, Applies}
+use Rattle.gopher_host.specs.NewImages.{moment_of, Formats}
 use Rattle.gopher_host.specs.Served.{Visits, ServesRounds, ReplaysFile, RepliesToAll}
 use Rattle.gopher_host.specs.declared.fault.Fault.{Fault}
+use Rattle.gopher_host.specs.declared.fault.Fault.TheVariants as faults
 
--- What a task prints that is done. Of sessions it stands below.
-abbrev pub IsDone : Task → Option (List ℕ) → Option (List ℕ) → Type 0
-IsDone (task.Format image site pages now) old new = IsMade image.now site pages now × Appends old new (ended (formatted_line pages))
-IsDone (task.Apply image file now) old new = OnImageFile image.now (PrintsApplied now old new)
-IsDone (task.Show image) old new = OnImageFile image.now (PrintsListing old new)
-IsDone (task.Check image) old new = OnImageFile image.now (PrintsFigures old new)
-IsDone (task.Compact image) old new = OnImageFile image.now (PrintsFree old new)
-IsDone (task.Upgrade image) old new = OnImageFile image.now (PrintsUpgraded old new)
-IsDone (task.Replay image) old new = Unit {0}
-IsDone (task.ServeRounds image together rounds) old new = (served : ℕ) × Appends old new (ended (served_line served))
-IsDone (task.ServeClients image listen quiet) old new = Unit {0}
-
--- Why a task is not done.
-abbrev pub IsNotDone : {W : Type 0} → Task → W → W → Fault → Type 0
-IsNotDone (task.Format image site pages now) old new e = ((e ≡ output_fault) × IsMade image.now site pages now) ⊎ (new ≡ old)
-IsNotDone (task.Apply image file now) old new e = (e ≡ output_fault) ⊎ (new ≡ old)
-IsNotDone (task.Show image) old new e = EndsFor image.now IsReadingFault old new e
-IsNotDone (task.Check image) old new e = EndsFor image.now IsReadingFault old new e
-IsNotDone (task.Compact image) old new e = EndsFor image.now IsCompactingFault old new e
-IsNotDone (task.Upgrade image) old new e = EndsFor image.now IsUpgradingFault old new e
-IsNotDone (task.Replay image) old new e = Unit {0}
-IsNotDone (task.ServeRounds image together rounds) old new e = (e ≡ output_fault) ⊎ (new ≡ old)
-IsNotDone (task.ServeClients image listen quiet) old new e = new ≡ old
+-- What a command on an image did with files and printed, whatever it answers. Of sessions it stands below.
+abbrev pub RunsCommand : {W X : Type 0} → (W → Option (List ℕ)) → Task → List FileUse → List FileUse → W → W → Result X Fault → Type 0
+RunsCommand contents (task.Format image site pages now) before after old new result = Formats contents image.now site pages now before after old new result
+RunsCommand contents (task.Apply image file now) before after old new result =
+    ((e : ImageFault) → moment_of now ≡ Err e → (result ≡ Err (faults.Image e)) × (new ≡ old) × (after ≡ before))
+    × OnOk (moment_of now) (ReadsThen result ((new ≡ old) × (after ≡ before)) (λ changes. OpensThen image.now before after result (new ≡ old) (Applies contents now old new result changes)))
+RunsCommand contents (task.Show image) before after old new result = OpensThen image.now before after result (new ≡ old) (Shows contents old new result)
+RunsCommand contents (task.Check image) before after old new result = OpensThen image.now before after result (new ≡ old) (Checks contents old new result)
+RunsCommand contents (task.Compact image) before after old new result = OpensThen image.now before after result (new ≡ old) (Compacts contents old new result)
+RunsCommand contents (task.Upgrade image) before after old new result = OpensThen image.now before after result (new ≡ old) (Upgrades contents old new result)
+RunsCommand contents (task.Replay (Some image)) before after old new result = new ≡ old
+RunsCommand contents (task.Replay None) before after old new result = (new ≡ old) × (after ≡ before)
+RunsCommand contents (task.ServeRounds image together rounds) before after old new result = Unit {0}
+RunsCommand contents (task.ServeClients image listen quiet) before after old new result = new ≡ old
 
 -- ---- tasks of sessions
 
@@ -65,9 +52,9 @@ abbrev pub IfScript : Task → (List ℕ → Type 0) → Type 0
 IfScript (task.Replay (Some image)) Holds = Holds image.now
 IfScript other Holds = Unit {0}
 
--- What these tasks did with the image in a file, whatever they answer; `before` and `now` are the log, where clients are told of that have gone, and `first` and `asked` what was asked of the system for a listener.
-pub record RunsSessions {S L Pin W Log Sink : Type 0} (ghosts : _) (printed : W → Option (List ℕ)) (told : Log → Option (List ℕ)) (sunk : Sink → Option (List ℕ)) (device : S → FileHistory) (site_state : S → SiteState) (lacks : S → Changes → SiteFault → Type 0) (crash_states : S → CrashStates L) (stands : L → Site → Type 0) (done : Task) (old new : W) (before now : Log) (result : Result (Unit {0}) Fault) : Type 0 where
-  pub rounds : IfRounds done (λ image together rounds. (first : List ListenCall) × (asked : List ListenCall) × (first ≡ []) × OpensThen image result ((asked ≡ first) × (new ≡ old)) (ServesRounds {Pin = Pin} ghosts printed device site_state lacks crash_states stands together rounds first asked old new result))
-  pub logged : IfClients done (λ image listen quiet. quiet ≡ false → (first : List DoorCall) × (asked : List DoorCall) × (first ≡ []) × OpensThen image result ((asked ≡ first) × (now ≡ before)) (Visits told device site_state lacks crash_states stands listen first asked before now result))
-  pub unlogged : IfClients done (λ image listen quiet. quiet ≡ true → (now ≡ before) × (first : List DoorCall) × (asked : List DoorCall) × (first ≡ []) × OpensThen image result (asked ≡ first) (λ opened. (from : Sink) × (to : Sink) × Visits sunk device site_state lacks crash_states stands listen first asked from to result opened))
-  pub script : IfScript done (λ image. RepliesToAll (ReplaysFile device site_state lacks crash_states stands image) result)
+-- What these tasks did with the image in a file, whatever they answer; `used` and `after` are what was done with files, `before` and `now` are the log, where clients are told of that have gone, and `first` and `asked` what was asked of the system for a listener.
+pub record RunsSessions {S L Pin W Log Sink : Type 0} (ghosts : _) (printed : W → Option (List ℕ)) (told : Log → Option (List ℕ)) (sunk : Sink → Option (List ℕ)) (device : S → FileHistory) (site_state : S → SiteState) (lacks : S → Changes → SiteFault → Type 0) (crash_states : S → CrashStates L) (stands : L → Site → Type 0) (done : Task) (used after : List FileUse) (old new : W) (before now : Log) (result : Result (Unit {0}) Fault) : Type 0 where
+  pub rounds : IfRounds done (λ image together rounds. (first : List ListenCall) × (asked : List ListenCall) × (first ≡ []) × OpensThen image used after result ((asked ≡ first) × (new ≡ old)) (ServesRounds {Pin = Pin} ghosts printed device site_state lacks crash_states stands together rounds first asked old new result))
+  pub logged : IfClients done (λ image listen quiet. quiet ≡ false → (first : List DoorCall) × (asked : List DoorCall) × (first ≡ []) × OpensThen image used after result ((asked ≡ first) × (now ≡ before)) (Visits told device site_state lacks crash_states stands listen first asked before now result))
+  pub unlogged : IfClients done (λ image listen quiet. quiet ≡ true → (now ≡ before) × (first : List DoorCall) × (asked : List DoorCall) × (first ≡ []) × OpensThen image used after result (asked ≡ first) (λ opened left. (from : Sink) × (to : Sink) × Visits sunk device site_state lacks crash_states stands listen first asked from to result opened left))
+  pub script : IfScript done (λ image. RepliesToAll (after ≡ used) (ReplaysFile device site_state lacks crash_states stands image used after) result)

@@ -1,62 +1,49 @@
 // The commands that make, change and show the image in a file.
-ghost use Rattle.std.specs.Prelude.{◌≡◌, ◌≢◌, ◌⊎◌, ℕ, true, [], ◌∷◌, Some, None, Ok, Err, OnOk, IfOk, IfErr, IsOkAnd, IsUtf8};
+ghost use Rattle.std.specs.Prelude.{◌≡◌, ◌≢◌, ◌⊎◌, ℕ, Some, Ok, Err, OnOk, IfOk, IfErr, IsOkAnd, IsUtf8};
 ghost use Rattle.std.specs.Io.KnownBytes.{Appends};
 ghost use Rattle.std.specs.IoError.{error_kind};
 ghost use Rattle.change_file.specs.Changes as file;
 ghost use Rattle.change_file.specs.declared.fault.ChangeFileFault.TheVariants.{Memory, NotToml, Table};
-ghost use Rattle.file_device.specs.Opening.{IsOpened, IsUnused};
-ghost use Rattle.file_device.specs.declared.file_call.FileCall.TheVariants.{Lock, Open};
-ghost use Rattle.image_commands.specs.Compacted.{IsCompactingFault};
-ghost use Rattle.image_commands.specs.Faults.{IsReadingFault};
 ghost use Rattle.image_commands.specs.Lines as lines;
 ghost use Rattle.image_commands.specs.declared.fault.ImageFault.{ImageFault as Refusal};
-ghost use Rattle.image_commands.specs.Upgraded.{IsUpgradingFault};
 ghost use Rattle.gopher_host.specs.Faults.{ended, output_fault};
-ghost use Rattle.gopher_host.specs.ImageFiles.{IsNotThere, EndsFor, OnImageFile, OpensThen, PrintsApplied, PrintsFigures, PrintsFree, PrintsListing, PrintsUpgraded};
-ghost use Rattle.gopher_host.specs.Kept.{ReadsThen, Applies, Stays, StaysEither};
+ghost use Rattle.gopher_host.specs.ImageFiles.{OpensThen, Shows, Checks, Compacts, Upgrades};
+ghost use Rattle.gopher_host.specs.Kept.{ReadsThen, Applies};
 ghost use Rattle.gopher_host.specs.NewImages.{moment_of, asked_at, IsMade, IsNotMade};
 ghost use Rattle.gopher_host.specs.declared.fault.Fault.TheVariants as faults;
 
 use crate::fault::Fault;
 use crate::new_image::{made, moment};
+use crate::opening::{closed, open};
 use crate::printing::{print_applied, print_given, print_line, print_listing};
 use crate::progress::Shown;
 use crate::reading::whole_file;
 use change_file::{ChangeFileFault, FileChange, read_changes};
 use command_words::NewSite;
-use file_device::FileDevice;
+use file_device::UsedFiles;
 use image_changes::apply_on;
-use image_commands::{ImageFault, check_image, compact_image, show_image, upgrade_image};
+use image_commands::{check_image, compact_image, show_image, upgrade_image};
 use std::alloc::Global;
 use std::io;
 use std::io::{ErrorKind, Write};
 
-/// The image in a file.
-pub(crate) fn open(rt: &HostRuntime, image: &str) -> Result<FileDevice, ImageFault>
-    ensures opened { IfOk result (λ device. IsOpened (Lock ∷ Open ∷ []) device) }
-    ensures named { IfOk result (λ device. device.path ≡ image.now) }
-    ensures unused { IfOk result (λ device. IsUnused device) }
-    ensures fault { IfErr result IsNotThere }
-{
-    Ok(FileDevice::open(rt, image)?)
-}
-
 /// Makes an image, and prints how many pages it has.
 pub fn format<W: Write>(
-    rt: &HostRuntime,
+    alloc: Global,
+    used: &mut UsedFiles<'_, HostRuntime>,
     image: &str,
     site: NewSite<'_>,
     pages: u32,
     now: u64,
     writer: &mut W,
 ) -> Result<(), Fault>
-    ensures asked { (e : Refusal) → asked_at site.entry pages now ≡ Err e → (result ≡ Err (faults.Image e)) × (writer.new ≡ writer.old) }
+    ensures asked { (e : Refusal) → asked_at site.entry pages now ≡ Err e → (result ≡ Err (faults.Image e)) × (writer.new ≡ writer.old) × (used.new.log.uses ≡ used.old.log.uses) }
     ensures printed { OnOk result (Appends (W.contents writer.old) (W.contents writer.new) (ended (lines.formatted_line pages))) }
-    ensures made { OnOk result (IsMade image.now site.entry pages now) }
-    ensures fault { IfErr result (λ e. ((e ≡ output_fault) × IsMade image.now site.entry pages now) ⊎ (writer.new ≡ writer.old)) }
+    ensures made { OnOk result (IsMade image.now site.entry pages now used.old.log.uses used.new.log.uses) }
+    ensures fault { IfErr result (λ e. ((e ≡ output_fault) × IsMade image.now site.entry pages now used.old.log.uses used.new.log.uses) ⊎ ((writer.new ≡ writer.old) × (cause : Refusal) × (e ≡ faults.Image cause) × IsNotMade (asked_at site.entry pages now) image.now pages used.old.log.uses used.new.log.uses cause)) }
 {
     let now = moment(now)?;
-    let line = made(rt, image, site, pages, now)?;
+    let line = made(alloc, used, image, site, pages, now)?;
     print_line(writer, &line)
 }
 
@@ -78,59 +65,76 @@ fn said(alloc: Global, bytes: io::Result<Vec<u8>>) -> Result<Vec<FileChange>, Ch
 /// Makes the changes of a file on the site of an image, and prints how many they are. On a terminal it shows meanwhile how far it is.
 pub fn apply<W: Write>(
     rt: &HostRuntime,
+    used: &mut UsedFiles<'_, HostRuntime>,
     image: &str,
     file: &str,
     now: u64,
     writer: &mut W,
 ) -> Result<(), Fault>
-    ensures moment { (e : Refusal) → moment_of now ≡ Err e → (result ≡ Err (faults.Image e)) × (writer.new ≡ writer.old) }
-    ensures image { OnOk (moment_of now) (ReadsThen result (writer.new ≡ writer.old) (λ changes. OpensThen image.now result (writer.new ≡ writer.old) (Applies W.contents now writer.old writer.new result changes))) }
-    ensures printed { OnOk result (OnImageFile image.now (PrintsApplied now (W.contents writer.old) (W.contents writer.new))) }
-    ensures fault { IfErr result (λ e. (e ≡ output_fault) ⊎ (writer.new ≡ writer.old)) }
+    ensures moment { (e : Refusal) → moment_of now ≡ Err e → (result ≡ Err (faults.Image e)) × (writer.new ≡ writer.old) × (used.new.log.uses ≡ used.old.log.uses) }
+    ensures image { OnOk (moment_of now) (ReadsThen result ((writer.new ≡ writer.old) × (used.new.log.uses ≡ used.old.log.uses)) (λ changes. OpensThen image.now used.old.log.uses used.new.log.uses result (writer.new ≡ writer.old) (Applies W.contents now writer.old writer.new result changes))) }
 {
     let now = moment(now)?;
     let changes = said(rt.alloc(), whole_file(rt, file))?;
-    let device = open(rt, image)?;
+    let device = open(used, image)?;
     let mut progress = Shown::new(rt);
     let applied = apply_on(rt.alloc(), device, changes, now, &mut progress);
     progress.end();
-    print_applied(rt.alloc(), applied, writer)
+    print_applied(rt.alloc(), closed(used, applied), writer)
 }
 
 /// Prints a line for each item of an image.
-pub fn show<W: Write>(rt: &HostRuntime, image: &str, writer: &mut W) -> Result<(), Fault>
-    ensures printed { OnOk result (OnImageFile image.now (PrintsListing (W.contents writer.old) (W.contents writer.new))) }
-    ensures fault { IfErr result (EndsFor image.now IsReadingFault writer.old writer.new) }
+pub fn show<W: Write>(
+    alloc: Global,
+    used: &mut UsedFiles<'_, HostRuntime>,
+    image: &str,
+    writer: &mut W,
+) -> Result<(), Fault>
+    ensures { OpensThen image.now used.old.log.uses used.new.log.uses result (writer.new ≡ writer.old) (Shows W.contents writer.old writer.new result) }
 {
-    let device = open(rt, image)?;
-    print_listing(show_image(rt.alloc(), device), writer)
+    let device = open(used, image)?;
+    let shown = show_image(alloc, device);
+    print_listing(closed(used, shown), writer)
 }
 
 /// Prints the line of an image's figures.
-pub fn check<W: Write>(rt: &HostRuntime, image: &str, writer: &mut W) -> Result<(), Fault>
-    ensures printed { OnOk result (OnImageFile image.now (PrintsFigures (W.contents writer.old) (W.contents writer.new))) }
-    ensures fault { IfErr result (EndsFor image.now IsReadingFault writer.old writer.new) }
+pub fn check<W: Write>(
+    alloc: Global,
+    used: &mut UsedFiles<'_, HostRuntime>,
+    image: &str,
+    writer: &mut W,
+) -> Result<(), Fault>
+    ensures { OpensThen image.now used.old.log.uses used.new.log.uses result (writer.new ≡ writer.old) (Checks W.contents writer.old writer.new result) }
 {
-    let device = open(rt, image)?;
-    print_given(check_image(rt.alloc(), device), writer)
+    let device = open(used, image)?;
+    let checked = check_image(alloc, device);
+    print_given(closed(used, checked), writer)
 }
 
 /// Writes an image anew, and prints the line of the pages that are free then.
-pub fn compact<W: Write>(rt: &HostRuntime, image: &str, writer: &mut W) -> Result<(), Fault>
-    ensures printed { OnOk result (OnImageFile image.now (PrintsFree (W.contents writer.old) (W.contents writer.new))) }
-    ensures image { OpensThen image.now result (writer.new ≡ writer.old) Stays }
-    ensures fault { IfErr result (EndsFor image.now IsCompactingFault writer.old writer.new) }
+pub fn compact<W: Write>(
+    alloc: Global,
+    used: &mut UsedFiles<'_, HostRuntime>,
+    image: &str,
+    writer: &mut W,
+) -> Result<(), Fault>
+    ensures { OpensThen image.now used.old.log.uses used.new.log.uses result (writer.new ≡ writer.old) (Compacts W.contents writer.old writer.new result) }
 {
-    let device = open(rt, image)?;
-    print_given(compact_image(rt.alloc(), device), writer)
+    let device = open(used, image)?;
+    let compacted = compact_image(alloc, device);
+    print_given(closed(used, compacted), writer)
 }
 
 /// Takes over an image of version 1, and prints how many records were written.
-pub fn upgrade<W: Write>(rt: &HostRuntime, image: &str, writer: &mut W) -> Result<(), Fault>
-    ensures printed { OnOk result (OnImageFile image.now (PrintsUpgraded (W.contents writer.old) (W.contents writer.new))) }
-    ensures image { OpensThen image.now result (writer.new ≡ writer.old) StaysEither }
-    ensures fault { IfErr result (EndsFor image.now IsUpgradingFault writer.old writer.new) }
+pub fn upgrade<W: Write>(
+    alloc: Global,
+    used: &mut UsedFiles<'_, HostRuntime>,
+    image: &str,
+    writer: &mut W,
+) -> Result<(), Fault>
+    ensures { OpensThen image.now used.old.log.uses used.new.log.uses result (writer.new ≡ writer.old) (Upgrades W.contents writer.old writer.new result) }
 {
-    let device = open(rt, image)?;
-    print_given(upgrade_image(rt.alloc(), device), writer)
+    let device = open(used, image)?;
+    let upgraded = upgrade_image(alloc, device);
+    print_given(closed(used, upgraded), writer)
 }

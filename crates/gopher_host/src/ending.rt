@@ -10,28 +10,24 @@ use ready_sockets::VisitFault;
 use std::io;
 
 /// Clients were served until that could not go on.
-pub fn serving_ended<T: Drop>(
-    given: Result<(Result<(), VisitFault>, T), (ServingFault, T)>,
-) -> Result<(), Fault>
+pub fn serving_ended(given: Result<Result<(), VisitFault>, ServingFault>) -> Result<(), Fault>
     ensures { result ≡ spec.serving_ended given }
 {
     match given {
-        Ok((Ok(()), _)) => Ok(()),
-        Ok((Err(fault), _)) => Err(Fault::Serving(ServingFault::from(fault))),
-        Err((fault, _)) => Err(Fault::Serving(fault)),
+        Ok(Ok(())) => Ok(()),
+        Ok(Err(fault)) => Err(Fault::Serving(ServingFault::from(fault))),
+        Err(fault) => Err(Fault::Serving(fault)),
     }
 }
 
 /// A script came to its end, or a fault ended it.
-pub fn replay_ended<T: Drop>(
-    given: Result<(Result<(), host_script::Fault>, T), (OpenFault, T)>,
-) -> Result<(), Fault>
+pub fn replay_ended(given: Result<Result<(), host_script::Fault>, OpenFault>) -> Result<(), Fault>
     ensures { result ≡ spec.replay_ended given }
 {
     match given {
-        Ok((Ok(()), _)) => Ok(()),
-        Ok((Err(fault), _)) => Err(Fault::Script(fault)),
-        Err((fault, _)) => Err(Fault::Image(ImageFault::from(fault))),
+        Ok(Ok(())) => Ok(()),
+        Ok(Err(fault)) => Err(Fault::Script(fault)),
+        Err(fault) => Err(Fault::Image(ImageFault::from(fault))),
     }
 }
 

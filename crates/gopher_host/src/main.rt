@@ -6,12 +6,13 @@ ghost use Rattle.std.specs.Process.{exit_status};
 ghost use Rattle.cow_tree.specs.TreeSeen.{device_of};
 ghost use Rattle.site_store.specs.Seen.{keeper_of};
 ghost use Rattle.gopher_host.specs.Faults.{Tells};
-ghost use Rattle.gopher_host.specs.Tasks.{IsDone, IsNotDone, RunsSessions};
+ghost use Rattle.gopher_host.specs.Tasks.{RunsCommand, RunsSessions};
 
 mod commands;
 mod ending;
 mod fault;
 mod new_image;
+mod opening;
 mod printing;
 mod progress;
 mod reading;
@@ -20,7 +21,7 @@ mod sessions;
 use command_words::{Task, given, read};
 use cow_tree::TreeKeeper;
 use fault::Fault;
-use file_device::FileDevice;
+use file_device::{FileDevice, UsedFiles};
 use host_types::SiteKeeper;
 use image_server::ListenLog;
 use ready_sockets::DoorLog;
@@ -34,12 +35,12 @@ use std::process::ExitCode;
 fn run<W: Write, L: Write>(
     rt: &HostRuntime,
     task: Task<'_>,
+    used: &mut UsedFiles<'_, HostRuntime>,
     writer: &mut W,
     log: &mut L,
 ) -> Result<(), Fault>
-    ensures done { OnOk result (IsDone task.entry (W.contents writer.old) (W.contents writer.new)) }
-    ensures fault { IfErr result (IsNotDone task.entry writer.old writer.new) }
-    ensures sessions { let k = ⟦<DiskSite<TreeKeeper<FileDevice>> as SiteKeeper>⟧ in RunsSessions k W.contents L.contents ⟦<Sink as Write>⟧.contents (λ d. device_of (keeper_of d)) k.site_state k.lacks k.crash_states k.represents task.entry writer.old writer.new log.old log.new result }
+    ensures command { RunsCommand W.contents task.entry used.old.log.uses used.new.log.uses writer.old writer.new result }
+    ensures sessions { let k = ⟦<DiskSite<TreeKeeper<FileDevice>> as SiteKeeper>⟧ in RunsSessions k W.contents L.contents ⟦<Sink as Write>⟧.contents (λ d. device_of (keeper_of d)) k.site_state k.lacks k.crash_states k.represents task.entry used.old.log.uses used.new.log.uses writer.old writer.new log.old log.new result }
 {
     match task {
         Task::Format {
@@ -47,23 +48,31 @@ fn run<W: Write, L: Write>(
             site,
             pages,
             now,
-        } => commands::format(rt, image, site, pages, now, writer),
-        Task::Apply { image, file, now } => commands::apply(rt, image, file, now, writer),
-        Task::Show { image } => commands::show(rt, image, writer),
-        Task::Check { image } => commands::check(rt, image, writer),
-        Task::Compact { image } => commands::compact(rt, image, writer),
-        Task::Upgrade { image } => commands::upgrade(rt, image, writer),
-        Task::Replay { image } => sessions::replay(rt, image),
+        } => commands::format(rt.alloc(), used, image, site, pages, now, writer),
+        Task::Apply { image, file, now } => commands::apply(rt, used, image, file, now, writer),
+        Task::Show { image } => commands::show(rt.alloc(), used, image, writer),
+        Task::Check { image } => commands::check(rt.alloc(), used, image, writer),
+        Task::Compact { image } => commands::compact(rt.alloc(), used, image, writer),
+        Task::Upgrade { image } => commands::upgrade(rt.alloc(), used, image, writer),
+        Task::Replay { image } => sessions::replay(rt, used, image),
         Task::ServeRounds {
             image,
             together,
             rounds,
-        } => sessions::serve_rounds(rt, image, together, rounds, &mut ListenLog::new(), writer),
+        } => sessions::serve_rounds(
+            rt,
+            used,
+            image,
+            together,
+            rounds,
+            &mut ListenLog::new(),
+            writer,
+        ),
         Task::ServeClients {
             image,
             listen,
             quiet,
-        } => sessions::serve(rt, image, listen, quiet, &mut DoorLog::new(), log),
+        } => sessions::serve(rt, used, image, listen, quiet, &mut DoorLog::new(), log),
     }
 }
 
@@ -87,6 +96,7 @@ fn main(rt: HostRuntime) -> io::Result<ExitCode> {
         Ok(task) => task,
         Err(misread) => return misread.tell(&rt),
     };
-    let ended = run(&rt, task, &mut io::writer(&rt), &mut rt.stderr());
+    let mut used = UsedFiles::new(&rt);
+    let ended = run(&rt, task, &mut used, &mut io::writer(&rt), &mut rt.stderr());
     status(rt.alloc(), ended, &mut rt.stderr())
 }

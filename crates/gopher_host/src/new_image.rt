@@ -7,9 +7,10 @@ ghost use Rattle.gopher_host.specs.NewImages as spec;
 ghost use Rattle.gopher_host.specs.NewImages.{IsMade, IsNotMade};
 
 use command_words::NewSite;
-use file_device::FileDevice;
+use file_device::UsedFiles;
 use host_types::{Refused, Stamp};
 use image_commands::{ImageFault, SiteNames, format_image, formatted_line, sectors_of};
+use std::alloc::Global;
 
 /// The moment of so many seconds since 1970-01-01, of which the words of the command line give no others.
 pub fn moment(seconds: u64) -> Result<Stamp, ImageFault>
@@ -42,20 +43,25 @@ fn asked_for(site: NewSite<'_>, pages: u32) -> Result<(SiteNames, u64), ImageFau
 
 /// Makes an image in a file, and gives the line to print. The file is made where it isn't there; it is not looked at where the names or the count of pages are wrong.
 pub fn made(
-    rt: &HostRuntime,
+    alloc: Global,
+    used: &mut UsedFiles<'_, HostRuntime>,
     image: &str,
     site: NewSite<'_>,
     pages: u32,
     now: Stamp,
 ) -> Result<String, ImageFault>
-    ensures asked { (e : Refusal) → spec.asked_for site.entry pages ≡ Err e → result ≡ Err e }
+    ensures asked { (e : Refusal) → spec.asked_for site.entry pages ≡ Err e → (result ≡ Err e) × (used.new.log.uses ≡ used.old.log.uses) }
     ensures line { IfOk result (λ line. string_bytes line ≡ lines.formatted_line pages) }
-    ensures made { OnOk result (IsMade image.now site.entry pages now) }
-    ensures fault { IfErr result (IsNotMade image.now site.entry pages) }
+    ensures made { OnOk result (IsMade image.now site.entry pages now used.old.log.uses used.new.log.uses) }
+    ensures fault { IfErr result (IsNotMade (spec.asked_for site.entry pages) image.now pages used.old.log.uses used.new.log.uses) }
 {
     let (names, sectors) = asked_for(site, pages)?;
-    let line = formatted_line(rt.alloc(), pages)?;
-    let mut device = FileDevice::create(rt, image, sectors)?;
-    format_image(rt.alloc(), &mut device, pages, names, site.port, now)?;
-    Ok(line)
+    let line = formatted_line(alloc, pages)?;
+    let mut device = used.create(image, sectors)?;
+    let formatted = format_image(alloc, &mut device, pages, names, site.port, now);
+    used.close(device);
+    match formatted {
+        Ok(()) => Ok(line),
+        Err(fault) => Err(ImageFault::from(fault)),
+    }
 }

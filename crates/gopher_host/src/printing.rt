@@ -5,7 +5,7 @@ ghost use Rattle.std.specs.String.{string_bytes};
 ghost use Rattle.change_file.specs.Printed as changes;
 ghost use Rattle.image_commands.specs.Faults.{of_opening};
 ghost use Rattle.image_server.specs.Lines as serving;
-ghost use Rattle.gopher_host.specs.Endings.{Gives, GivesCount};
+ghost use Rattle.gopher_host.specs.Endings.{Gives, GivesCount, text_of};
 ghost use Rattle.gopher_host.specs.Faults.{ended, output_fault};
 ghost use Rattle.gopher_host.specs.declared.fault.Fault.TheVariants.{Image, Round, Serving, Stopped};
 
@@ -30,66 +30,63 @@ pub fn print_line<W: Write>(writer: &mut W, line: &str) -> Result<(), Fault>
 }
 
 /// Prints the line that a command on an image gave.
-pub fn print_given<T: Drop, W: Write>(
-    given: Result<(String, T), (ImageFault, T)>,
-    writer: &mut W,
-) -> Result<(), Fault>
-    ensures { Gives given (λ line. ended (string_bytes line)) W.contents writer.old writer.new result }
+pub fn print_given<W: Write>(given: Result<String, ImageFault>, writer: &mut W) -> Result<(), Fault>
+    ensures { Gives (text_of (λ line. ended (string_bytes line)) given) W.contents writer.old writer.new result }
 {
     match given {
-        Ok((line, _)) => print_line(writer, &line),
-        Err((fault, _)) => Err(Fault::Image(fault)),
+        Ok(text) => print_line(writer, &text),
+        Err(fault) => Err(Fault::Image(fault)),
     }
 }
 
 /// Prints the listing that `show` gave.
-pub fn print_listing<T: Drop, W: Write>(
-    given: Result<(Vec<u8>, T), (ImageFault, T)>,
+pub fn print_listing<W: Write>(
+    given: Result<Vec<u8>, ImageFault>,
     writer: &mut W,
 ) -> Result<(), Fault>
-    ensures { Gives given (λ listing. listing.items) W.contents writer.old writer.new result }
+    ensures { Gives (text_of (λ listing. listing.items) given) W.contents writer.old writer.new result }
 {
     match given {
-        Ok((listing, _)) => match writer.write_all(&listing) {
+        Ok(listing) => match writer.write_all(&listing) {
             Ok(()) => Ok(()),
             Err(_) => Err(Fault::of_output()),
         },
-        Err((fault, _)) => Err(Fault::Image(fault)),
+        Err(fault) => Err(Fault::Image(fault)),
     }
 }
 
 /// Prints how many changes were made.
-pub fn print_applied<T: Drop, W: Write>(
+pub fn print_applied<W: Write>(
     alloc: Global,
-    given: Result<(Result<u64, ApplyFault>, T), (OpenFault, T)>,
+    given: Result<Result<u64, ApplyFault>, OpenFault>,
     writer: &mut W,
 ) -> Result<(), Fault>
     ensures { GivesCount given changes.applied_line (λ stopped. Stopped stopped) (λ fault. Image (of_opening fault)) W.contents writer.old writer.new result }
 {
     match given {
-        Ok((Ok(count), _)) => match applied_line(alloc, count) {
+        Ok(Ok(count)) => match applied_line(alloc, count) {
             Ok(line) => print_line(writer, &line),
             Err(_) => Err(Fault::of_memory()),
         },
-        Ok((Err(stopped), _)) => Err(Fault::Stopped(stopped)),
-        Err((fault, _)) => Err(Fault::Image(ImageFault::from(fault))),
+        Ok(Err(stopped)) => Err(Fault::Stopped(stopped)),
+        Err(fault) => Err(Fault::Image(ImageFault::from(fault))),
     }
 }
 
 /// Prints how many replies were written whole.
-pub fn print_served<T: Drop, W: Write>(
+pub fn print_served<W: Write>(
     alloc: Global,
-    given: Result<(Result<u64, ServeFault>, T), (ServingFault, T)>,
+    given: Result<Result<u64, ServeFault>, ServingFault>,
     writer: &mut W,
 ) -> Result<(), Fault>
     ensures { GivesCount given serving.served_line (λ fault. Round fault) (λ fault. Serving fault) W.contents writer.old writer.new result }
 {
     match given {
-        Ok((Ok(served), _)) => match served_line(alloc, served) {
+        Ok(Ok(served)) => match served_line(alloc, served) {
             Ok(line) => print_line(writer, &line),
             Err(_) => Err(Fault::of_memory()),
         },
-        Ok((Err(fault), _)) => Err(Fault::Round(fault)),
-        Err((fault, _)) => Err(Fault::Serving(fault)),
+        Ok(Err(fault)) => Err(Fault::Round(fault)),
+        Err(fault) => Err(Fault::Serving(fault)),
     }
 }

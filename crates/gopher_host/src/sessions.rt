@@ -3,15 +3,16 @@ ghost use Rattle.std.specs.Prelude.{◌≡◌, true, false, None, IfSome};
 ghost use Rattle.std.specs.Io.Buffered.{writer_buffer, writer_contents};
 ghost use Rattle.cow_tree.specs.TreeSeen.{device_of};
 ghost use Rattle.site_store.specs.Seen.{keeper_of};
+ghost use Rattle.gopher_host.specs.Endings.{given_beside};
 ghost use Rattle.gopher_host.specs.ImageFiles.{OpensThen};
 ghost use Rattle.gopher_host.specs.Served.{Visits, ServesRounds, ReplaysFile, ReplaysInMemory, IsWritten, RepliesToAll};
 
-use crate::commands::open;
 use crate::ending::{all_written, replay_ended, serving_ended};
 use crate::fault::Fault;
+use crate::opening::{closed, open};
 use crate::printing::print_served;
 use cow_tree::TreeKeeper;
-use file_device::FileDevice;
+use file_device::{FileDevice, UsedFiles};
 use host_script::small_site;
 use host_types::SiteKeeper;
 use image_server::{ListenLog, serve_clients, serve_image};
@@ -20,20 +21,24 @@ use mem_site::MemSite;
 use ready_sockets::{DoorLog, Stopwatch};
 use site_store::DiskSite;
 use socket_wires::SystemClock;
+use std::alloc::Global;
 use std::io;
 use std::io::{BufWriter, Read, Sink, Write};
-use std::net::SocketAddr;
+use std::net::{Net, SocketAddr, TcpListener, TcpStream};
+use std::time::Clock as Time;
 
 /// Serves whoever comes over the site of an image, with a line in the log for each client that has gone.
-fn serve_logged<L: Write>(
-    rt: &HostRuntime,
-    device: FileDevice,
+fn serve_logged<R: Net + Time + AllocGlobal, L: Write>(
+    rt: &R,
+    used: &mut UsedFiles<'_, HostRuntime>,
+    image: &str,
     listen: Option<SocketAddr>,
     asked: &mut DoorLog,
     log: &mut L,
 ) -> Result<(), Fault>
-    ensures { let k = ⟦<DiskSite<TreeKeeper<FileDevice>> as SiteKeeper>⟧ in Visits L.contents (λ d. device_of (keeper_of d)) k.site_state k.lacks k.crash_states k.represents listen asked.old.calls asked.new.calls log.old log.new result device }
+    ensures { let k = ⟦<DiskSite<TreeKeeper<FileDevice>> as SiteKeeper>⟧ in OpensThen image.now used.old.log.uses used.new.log.uses result ((asked.new ≡ asked.old) × (log.new ≡ log.old)) (Visits L.contents (λ d. device_of (keeper_of d)) k.site_state k.lacks k.crash_states k.represents listen asked.old.calls asked.new.calls log.old log.new result) }
 {
+    let device = open(used, image)?;
     let (mut watch, mut clock) = (Stopwatch::start(rt), SystemClock::new(rt));
     let served = serve_clients(
         rt.alloc(),
@@ -45,13 +50,14 @@ fn serve_logged<L: Write>(
         &mut clock,
         log,
     );
-    serving_ended(served)
+    serving_ended(closed(used, served))
 }
 
 /// Serves whoever comes over the site of an image, at an address or else the site's port on 127.0.0.1, until that can't go on. The log gets a line for each
 /// client that has gone, unless that is not wanted. What is asked of the system for a listener is noted.
-pub fn serve<L: Write>(
-    rt: &HostRuntime,
+pub fn serve<R: Net + Time + AllocGlobal, L: Write>(
+    rt: &R,
+    used: &mut UsedFiles<'_, HostRuntime>,
     image: &str,
     listen: Option<SocketAddr>,
     quiet: bool,
@@ -59,86 +65,106 @@ pub fn serve<L: Write>(
     log: &mut L,
 ) -> Result<(), Fault>
     ensures quiet { quiet ≡ true → log.new ≡ log.old }
-    ensures logged { let k = ⟦<DiskSite<TreeKeeper<FileDevice>> as SiteKeeper>⟧ in quiet ≡ false → OpensThen image.now result ((asked.new ≡ asked.old) × (log.new ≡ log.old)) (Visits L.contents (λ d. device_of (keeper_of d)) k.site_state k.lacks k.crash_states k.represents listen asked.old.calls asked.new.calls log.old log.new result) }
-    ensures unlogged { let k = ⟦<DiskSite<TreeKeeper<FileDevice>> as SiteKeeper>⟧ in quiet ≡ true → OpensThen image.now result (asked.new ≡ asked.old) (λ device. (before : Sink) × (now : Sink) × Visits ⟦<Sink as Write>⟧.contents (λ d. device_of (keeper_of d)) k.site_state k.lacks k.crash_states k.represents listen asked.old.calls asked.new.calls before now result device) }
+    ensures logged { let k = ⟦<DiskSite<TreeKeeper<FileDevice>> as SiteKeeper>⟧ in quiet ≡ false → OpensThen image.now used.old.log.uses used.new.log.uses result ((asked.new ≡ asked.old) × (log.new ≡ log.old)) (Visits L.contents (λ d. device_of (keeper_of d)) k.site_state k.lacks k.crash_states k.represents listen asked.old.calls asked.new.calls log.old log.new result) }
+    ensures unlogged { let k = ⟦<DiskSite<TreeKeeper<FileDevice>> as SiteKeeper>⟧ in quiet ≡ true → OpensThen image.now used.old.log.uses used.new.log.uses result (asked.new ≡ asked.old) (λ opened left. (before : Sink) × (now : Sink) × Visits ⟦<Sink as Write>⟧.contents (λ d. device_of (keeper_of d)) k.site_state k.lacks k.crash_states k.represents listen asked.old.calls asked.new.calls before now result opened left) }
 {
-    let device = open(rt, image)?;
     if quiet {
-        serve_logged(rt, device, listen, asked, &mut io::sink())
+        serve_logged(rt, used, image, listen, asked, &mut io::sink())
     } else {
-        serve_logged(rt, device, listen, asked, log)
+        serve_logged(rt, used, image, listen, asked, log)
     }
 }
 
 /// Serves so many rounds of connections over the site of an image, at the site's port on 127.0.0.1, and prints how many replies were written whole. What is asked of the system for a listener is noted.
-pub fn serve_rounds<W: Write>(
-    rt: &HostRuntime,
+pub fn serve_rounds<
+    R: Net<Listener = TcpListener, Stream = TcpStream> + Time + AllocGlobal,
+    W: Write,
+>(
+    rt: &R,
+    used: &mut UsedFiles<'_, HostRuntime>,
     image: &str,
     together: u32,
     rounds: u32,
     asked: &mut ListenLog,
     writer: &mut W,
 ) -> Result<(), Fault>
-    ensures { let k = ⟦<DiskSite<TreeKeeper<FileDevice>> as SiteKeeper>⟧ in OpensThen image.now result ((asked.new ≡ asked.old) × (writer.new ≡ writer.old)) (ServesRounds k W.contents (λ d. device_of (keeper_of d)) k.site_state k.lacks k.crash_states k.represents together rounds asked.old.calls asked.new.calls writer.old writer.new result) }
+    ensures { let k = ⟦<DiskSite<TreeKeeper<FileDevice>> as SiteKeeper>⟧ in OpensThen image.now used.old.log.uses used.new.log.uses result ((asked.new ≡ asked.old) × (writer.new ≡ writer.old)) (ServesRounds k W.contents (λ d. device_of (keeper_of d)) k.site_state k.lacks k.crash_states k.represents together rounds asked.old.calls asked.new.calls writer.old writer.new result) }
 {
-    let device = open(rt, image)?;
+    let device = open(used, image)?;
     let mut clock = SystemClock::new(rt);
     let served = serve_image(rt.alloc(), rt, device, asked, &mut clock, together, rounds);
-    print_served(rt.alloc(), served, writer)
+    print_served(rt.alloc(), closed(used, served), writer)
 }
 
 /// A script over the site of an image.
 fn replay_image<R: Read, W: Write>(
-    rt: &HostRuntime,
+    alloc: Global,
+    used: &mut UsedFiles<'_, HostRuntime>,
     image: &str,
     reader: &mut R,
     writer: &mut W,
 ) -> Result<(), Fault>
-    ensures { let k = ⟦<DiskSite<TreeKeeper<FileDevice>> as SiteKeeper>⟧ in ReplaysFile (λ d. device_of (keeper_of d)) k.site_state k.lacks k.crash_states k.represents image.now (R.remaining reader.old) (R.remaining reader.new) (W.contents writer.old) (W.contents writer.new) result }
+    ensures { let k = ⟦<DiskSite<TreeKeeper<FileDevice>> as SiteKeeper>⟧ in ReplaysFile (λ d. device_of (keeper_of d)) k.site_state k.lacks k.crash_states k.represents image.now used.old.log.uses used.new.log.uses (R.remaining reader.old) (R.remaining reader.new) (W.contents writer.old) (W.contents writer.new) result }
 {
-    let device = open(rt, image)?;
-    replay_ended(replay_on(rt.alloc(), device, reader, writer))
+    let device = open(used, image)?;
+    let replayed = replay_on(alloc, device, reader, writer);
+    replay_ended(closed(used, replayed))
+}
+
+/// The answer that was given beside a site in memory.
+fn answer_of<A, E, S: Drop>(given: Result<(A, S), (E, S)>) -> Result<A, E>
+    ensures { result ≡ given_beside given }
+{
+    match given {
+        Ok((answer, _)) => Ok(answer),
+        Err((fault, _)) => Err(fault),
+    }
 }
 
 /// A script over a small site in memory.
 fn replay_in_memory<R: Read, W: Write>(
-    rt: &HostRuntime,
+    alloc: Global,
     reader: &mut R,
     writer: &mut W,
 ) -> Result<(), Fault>
     ensures { let k = ⟦<MemSite as SiteKeeper>⟧ in ReplaysInMemory k.site_state k.lacks k.crash_states k.represents (R.remaining reader.old) (R.remaining reader.new) (W.contents writer.old) (W.contents writer.new) result }
 {
-    let Ok(site) = small_site(rt.alloc()) else {
+    let Ok(site) = small_site(alloc) else {
         return Err(Fault::of_memory());
     };
-    replay_ended(replay_over(rt.alloc(), site, reader, writer))
+    replay_ended(answer_of(replay_over(alloc, site, reader, writer)))
 }
 
 /// A script over a site in memory, or over that of an image. What was printed before a fault stays printed.
 fn replay_from<R: Read, W: Write + Drop>(
-    rt: &HostRuntime,
+    alloc: Global,
+    used: &mut UsedFiles<'_, HostRuntime>,
     image: Option<&str>,
     reader: &mut R,
     writer: &mut BufWriter<W>,
 ) -> Result<(), Fault>
-    ensures image { let k = ⟦<DiskSite<TreeKeeper<FileDevice>> as SiteKeeper>⟧ in IfSome image.entry (λ i. IsWritten (ReplaysFile (λ d. device_of (keeper_of d)) k.site_state k.lacks k.crash_states k.represents i.now (R.remaining reader.old) (R.remaining reader.new) (writer_contents W.contents writer.old)) (writer_contents W.contents writer.new) (writer_buffer writer.new) result) }
-    ensures memory { let k = ⟦<MemSite as SiteKeeper>⟧ in image.entry ≡ None → IsWritten (ReplaysInMemory k.site_state k.lacks k.crash_states k.represents (R.remaining reader.old) (R.remaining reader.new) (writer_contents W.contents writer.old)) (writer_contents W.contents writer.new) (writer_buffer writer.new) result }
+    ensures image { let k = ⟦<DiskSite<TreeKeeper<FileDevice>> as SiteKeeper>⟧ in IfSome image.entry (λ i. IsWritten (ReplaysFile (λ d. device_of (keeper_of d)) k.site_state k.lacks k.crash_states k.represents i.now used.old.log.uses used.new.log.uses (R.remaining reader.old) (R.remaining reader.new) (writer_contents W.contents writer.old)) (writer_contents W.contents writer.new) (writer_buffer writer.new) result) }
+    ensures memory { let k = ⟦<MemSite as SiteKeeper>⟧ in image.entry ≡ None → (used.new.log.uses ≡ used.old.log.uses) × IsWritten (ReplaysInMemory k.site_state k.lacks k.crash_states k.represents (R.remaining reader.old) (R.remaining reader.new) (writer_contents W.contents writer.old)) (writer_contents W.contents writer.new) (writer_buffer writer.new) result }
 {
     let ended = match image {
-        Some(image) => replay_image(rt, image, reader, writer),
-        None => replay_in_memory(rt, reader, writer),
+        Some(image) => replay_image(alloc, used, image, reader, writer),
+        None => replay_in_memory(alloc, reader, writer),
     };
     let written = writer.flush();
     all_written(ended, written)
 }
 
 /// A script on standard input over a site in memory, or over that of an image. What was printed before a fault stays printed.
-pub fn replay(rt: &HostRuntime, image: Option<&str>) -> Result<(), Fault>
-    ensures image { let k = ⟦<DiskSite<TreeKeeper<FileDevice>> as SiteKeeper>⟧ in IfSome image.entry (λ i. RepliesToAll (ReplaysFile (λ d. device_of (keeper_of d)) k.site_state k.lacks k.crash_states k.represents i.now) result) }
-    ensures memory { let k = ⟦<MemSite as SiteKeeper>⟧ in image.entry ≡ None → RepliesToAll (ReplaysInMemory k.site_state k.lacks k.crash_states k.represents) result }
+pub fn replay(
+    rt: &HostRuntime,
+    used: &mut UsedFiles<'_, HostRuntime>,
+    image: Option<&str>,
+) -> Result<(), Fault>
+    ensures image { let k = ⟦<DiskSite<TreeKeeper<FileDevice>> as SiteKeeper>⟧ in IfSome image.entry (λ i. RepliesToAll (used.new.log.uses ≡ used.old.log.uses) (ReplaysFile (λ d. device_of (keeper_of d)) k.site_state k.lacks k.crash_states k.represents i.now used.old.log.uses used.new.log.uses) result) }
+    ensures memory { let k = ⟦<MemSite as SiteKeeper>⟧ in image.entry ≡ None → (used.new.log.uses ≡ used.old.log.uses) × RepliesToAll (Unit {0}) (ReplaysInMemory k.site_state k.lacks k.crash_states k.represents) result }
 {
     let Ok(mut writer) = BufWriter::new(rt.alloc(), io::writer(rt)) else {
         return Err(Fault::of_memory());
     };
-    replay_from(rt, image, &mut rt.reader(), &mut writer)
+    replay_from(rt.alloc(), used, image, &mut rt.reader(), &mut writer)
 }

@@ -2,9 +2,12 @@ use Rattle.std.proofs.Common.{ap}
 use Rattle.gopher_host.proofs.Opens.{opens_too}
 use Rattle.gopher_host.proofs.run.Goals as goal
 
+pub returns-in-Format-clause-command : goal.returns-in-Format-clause-command
+returns-in-Format-clause-command g c = rw c.in-Format.is (record { asked = c.format.ensures.asked; made = c.format.ensures.made; printed = c.format.ensures.printed; fault = c.format.ensures.fault })
+
 pub returns-in-ServeRounds-clause-sessions : goal.returns-in-ServeRounds-clause-sessions
 returns-in-ServeRounds-clause-sessions g c = rw c.in-ServeRounds.is (record {
-  rounds = (c.new.result.calls, c.serve_rounds.new.asked.calls, c.new.ensures, opens_too _ _ _ (λ u. (ap (λ a. a.calls) u.0, u.1)) c.serve_rounds.ensures);
+  rounds = (c.new.result.calls, c.serve_rounds.new.asked.calls, c.new.ensures, opens_too _ _ _ _ _ (λ u. (ap (λ a. a.calls) u.0, u.1)) c.serve_rounds.ensures);
   logged = tt;
   unlogged = tt;
   script = tt;
@@ -15,7 +18,7 @@ returns-in-ServeClients-clause-sessions g c =
     let new = c.new-in-ServeClients in
     rw c.in-ServeClients.is (record {
       rounds = tt;
-      logged = λ is. (new.result.calls, c.serve.new.asked.calls, new.ensures, opens_too _ _ _ (λ u. (ap (λ a. a.calls) u.0, u.1)) (c.serve.ensures.logged is));
-      unlogged = λ is. (c.serve.ensures.quiet is, new.result.calls, c.serve.new.asked.calls, new.ensures, opens_too _ _ _ (λ u. ap (λ a. a.calls) u) (c.serve.ensures.unlogged is));
+      logged = λ is. (new.result.calls, c.serve.new.asked.calls, new.ensures, opens_too _ _ _ _ _ (λ u. (ap (λ a. a.calls) u.0, u.1)) (c.serve.ensures.logged is));
+      unlogged = λ is. (c.serve.ensures.quiet is, new.result.calls, c.serve.new.asked.calls, new.ensures, opens_too _ _ _ _ _ (λ u. ap (λ a. a.calls) u) (c.serve.ensures.unlogged is));
       script = tt;
     })

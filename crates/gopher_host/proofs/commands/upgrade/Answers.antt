@@ -1,26 +1,23 @@
-use Rattle.std.proofs.Common.{◌≡◌, inr, ℕ, List, refl}
+use Rattle.std.proofs.Common.{◌≡◌, ◌⊎◌, ℕ, List, refl}
 use Rattle.std.specs.String.{string_bytes}
-use Rattle.file_device.specs.FileCalls.{FileHistory, file_state}
+use Rattle.file_device.specs.FileCalls.{file_state}
+use Rattle.host_on_disk.specs.Upgrades.{KeepsEither}
+use Rattle.image_commands.specs.Compacted.{MayHaveWritten}
 use Rattle.image_commands.specs.Upgraded.{IsUpgradedImage, IsUpgradingFault}
 use Rattle.gopher_host.specs.Faults.{ended}
-use Rattle.gopher_host.specs.ImageFiles.{PrintsUpgraded, file_crash_states}
-use Rattle.gopher_host.proofs.Ended.{ok_too, printed, on_file, ends_for}
-use Rattle.gopher_host.proofs.Stayed.{stays_either}
+use Rattle.gopher_host.specs.ImageFiles.{Upgrades, IsUnwritten, file_crash_states}
+use Rattle.gopher_host.proofs.Ended.{ok_too, all_err_too, unless_written, answers, opened_then}
 use Rattle.gopher_host.proofs.commands.upgrade.Goals as goal
 
-pub returns-clause-printed : goal.returns-clause-printed
-returns-clause-printed g c =
+pub returns : goal.returns
+returns g c =
     let contents = g.W.Write.contents in
     let device = c.in_ok-device.device in
-    let new = c.print_given.new.writer in
-    on_file c.args.image.now (PrintsUpgraded (contents c.args.writer.now) (contents new)) device c.print_given.result c.in_ok-device.ensures.named c.in_ok-device.ensures.opened c.in_ok-device.ensures.unused
-    (printed (λ text. (line : List ℕ) × (left : FileHistory) × (text ≡ ended line) × IsUpgradedImage file_state file_crash_states device left line) c.upgrade_image.result (λ line. ended (string_bytes line)) contents c.args.writer.now new c.print_given.result c.print_given.ensures
-    (ok_too c.upgrade_image.result (λ given is. (string_bytes given.0, given.1, refl, is)) (c.upgrade_image.ensures.upgraded refl)))
-
-pub returns-clause-fault : goal.returns-clause-fault
-returns-clause-fault g c =
-    ends_for c.args.image.now IsUpgradingFault c.in_ok-device.device c.upgrade_image.result (λ line. ended (string_bytes line)) g.W.Write.contents c.args.writer.now c.print_given.new.writer c.print_given.result
-    c.in_ok-device.ensures.named c.in_ok-device.ensures.opened c.in_ok-device.ensures.unused c.print_given.ensures c.upgrade_image.ensures.refused
-
-pub returns-clause-image : goal.returns-clause-image
-returns-clause-image g c = inr (c.in_ok-device.device, c.in_ok-device.ensures.named, c.in_ok-device.ensures.opened, c.in_ok-device.ensures.unused, stays_either c.in_ok-device.device string_bytes c.upgrade_image.result (c.upgrade_image.ensures.upgraded refl) (c.upgrade_image.ensures.kept_on_fault refl))
+    let handed = c.upgrade_image-upgraded.result in
+    opened_then _ _ _ _ device _ _ (Upgrades contents c.args.writer.now c.print_given.new.writer c.print_given.result) c.in_ok-device.ensures.noted c.closed.ensures.left c.in_ok-device.ensures.named c.in_ok-device.ensures.opened c.in_ok-device.ensures.unused
+    (answers (λ line. ended (string_bytes line)) handed c.closed.result
+    (λ left text. (line : List ℕ) × (text ≡ ended line) × IsUpgradedImage file_state file_crash_states device left line)
+    (λ left fault. IsUpgradingFault (file_state device) (file_state left) fault × (IsUnwritten device left ⊎ (MayHaveWritten fault × KeepsEither file_state file_crash_states device left)))
+    contents c.args.writer.now c.print_given.new.writer c.print_given.result c.closed.ensures.given c.print_given.ensures
+    (ok_too handed (λ given is. (string_bytes given.0, refl, is)) (c.upgrade_image-upgraded.ensures.upgraded refl))
+    (all_err_too handed (λ e caused kept may. (caused, unless_written kept may)) c.upgrade_image-upgraded.ensures.refused (c.upgrade_image-upgraded.ensures.kept_on_fault refl) (c.upgrade_image-upgraded.ensures.no_new_crash_state refl)))

@@ -4,6 +4,6 @@ use Rattle.gopher_host.proofs.sessions.replay_from.Goals.{in-Some, in-None}
 
 pub returns-clause-image : goal.returns-clause-image
 returns-clause-image g c = elim c.match-image.branch [
-  | in-Some w ↦ rw (w.in-Some.is, w.reader-is) (written_so _ _ _ _ c.match-image.ended c.flush-written.result c.all_written.result (rw (w.ended-is, w.writer-is) w.replay_image-ended.ensures) c.flush-written.ensures.bytes c.flush-written.ensures.ok c.all_written.ensures)
+  | in-Some w ↦ rw (w.in-Some.is, w.reader-is, w.used-is) (written_so _ _ _ _ c.match-image.ended c.flush-written.result c.all_written.result (rw (w.ended-is, w.writer-is) w.replay_image-ended.ensures) c.flush-written.ensures.bytes c.flush-written.ensures.ok c.all_written.ensures)
   | in-None w ↦ rw w.in-None.is tt
 ]

@@ -1,13 +1,16 @@
+use Rattle.std.proofs.Common.{refl}
+use Rattle.gopher_host.proofs.Ended.{opened_then}
 use Rattle.gopher_host.proofs.sessions.serve_logged.Goals as goal
 
 pub returns : goal.returns
-returns g c = record {
+returns g c = opened_then _ _ _ _ c.in_ok-device.device _ _ _ c.in_ok-device.ensures.noted c.closed.ensures.left c.in_ok-device.ensures.named c.in_ok-device.ensures.opened c.in_ok-device.ensures.unused (record {
   given = c.serve_clients-served.result;
-  ended = c.serving_ended.ensures;
+  handed = refl;
+  ended = rw c.closed.ensures.given at c.serving_ended.ensures;
   moments = c.serve_clients-served.new.clock.given.moments;
   read = c.serve_clients-served.new.watch.read.readings;
   served = rw (c.start-watch.ensures, c.new-clock.ensures.given) at c.serve_clients-served.ensures.served;
   listened = c.serve_clients-served.ensures.listened;
   asked = c.serve_clients-served.ensures.asked;
   refused = c.serve_clients-served.ensures.refused;
-}
+})
