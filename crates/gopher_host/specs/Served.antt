@@ -59,7 +59,7 @@ pub record ServesRounds {S L Pin W X : Type 0} (ghosts : _) (contents : W → Op
 pub record Replayed {H : Type 0} (ran : Ran H) (Refuses : H → OpenFault → H → Type 0) (script_before script_now before now : Option (List ℕ)) (result : Result (Unit {0}) Fault) (opened : H) : Type 0 where
   pub given : Result (Result (Unit {0}) ScriptFault × H) (OpenFault × H)
   pub ended : result ≡ replay_ended given
-  pub replayed : IfOk given (λ r. Replays ran opened r.1 script_before before now r.0)
+  pub replayed : IfOk given (λ r. Replays ran opened r.1 script_before script_now before now r.0)
   pub refused : IfErr given (λ e. Refuses opened e.0 e.1 × (script_now ≡ script_before) × (now ≡ before))
 
 -- The image was not opened, for its cause, and nothing was written to it.

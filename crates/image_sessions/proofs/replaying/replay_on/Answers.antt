@@ -27,7 +27,7 @@ returns-in-Ok-replay_over-clause-replayed g c =
           (opened.site honest) (opened.alone honest) (opened.at_crash honest) (over.run (subst IsTrue (sym opened.honest) honest)) back;
       honest = ap (λ d. (state d).honest) back ∙ over.honest ∙ opened.honest;
     })
-    _ _ _ _ c.in-Ok-replay_over.ensures.replayed
+    _ _ _ _ _ c.in-Ok-replay_over.ensures.replayed
 
 pub returns-in-Err-replay_over-clause-refused : goal.returns-in-Err-replay_over-clause-refused
 returns-in-Err-replay_over-clause-refused g c =
