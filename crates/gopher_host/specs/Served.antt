@@ -63,7 +63,7 @@ pub record Replayed {H : Type 0} (ran : Ran H) (Refuses : H → OpenFault → H 
   pub given : Result (Result (Unit {0}) ScriptFault × H) (OpenFault × H)
   pub handed : left ≡ device_beside given
   pub ended : result ≡ replay_ended (given_beside given)
-  pub replayed : IfOk given (λ r. Replays ran opened r.1 script_before before now r.0)
+  pub replayed : IfOk given (λ r. Replays ran opened r.1 script_before script_now before now r.0)
   pub refused : IfErr given (λ e. Refuses opened e.0 e.1 × (script_now ≡ script_before) × (now ≡ before))
 
 -- The image was not opened, for its cause, and nothing was written to it.

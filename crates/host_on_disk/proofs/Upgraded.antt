@@ -1,19 +1,22 @@
 -- What an upgrade of an opened image leaves on its device.
-use Rattle.std.proofs.Common.{◌≡◌, ◌⊎◌, ◌≤◌, ◌<◌, inl, inr, ℕ, zero, suc, Bool, true, false, List, [], length, refl, sym, ap, subst, ◌∙◌}
-use Rattle.std.specs.Prelude.{IsTrue, ◌==◌, ◌||◌, Result, Ok, Err}
+use Rattle.std.proofs.Common.{◌≡◌, ◌⊎◌, ◌≤◌, ◌<◌, ◌+◌, ◌/◌, inl, inr, ⊎_elim, ℕ, zero, suc, Bool, true, false, List, [], length, refl, sym, ap, subst, ◌∙◌}
+use Rattle.std.specs.Prelude.{IsTrue, ◌==◌, ◌||◌, Result, Ok, Err, Some}
 use Rattle.std.proofs.lemmas.Bool.{eqb-true}
 use Rattle.common_types.specs.CrashStates.{CrashStates, AddsOnly, AddsNone, may_crash_to}
 use Rattle.common_types.specs.Counts.{counted}
 use Rattle.host_types.specs.Site.{Site}
 use Rattle.sector_device.specs.Device.{State, NothingCounted, OneCounted}
-use Rattle.page_store.specs.Content.{is_tree_version, HasContent}
+use Rattle.page_store.specs.Content.{is_tree_version, Found, HasContent, content}
+use Rattle.page_store.specs.Roots.{greatest_seal}
 use Rattle.page_store.specs.Pages.{Pair}
 use Rattle.page_store.specs.Sectors.{Image}
-use Rattle.page_store.specs.StoreState.{StoreState}
+use Rattle.page_store.specs.StoreState.{StoreState, most_levels}
 use Rattle.page_store.specs.declared.banner.Banner.{Banner}
 use Rattle.page_store.specs.declared.edit.Edit.{Edit}
+use Rattle.page_store.specs.declared.slot.Slot.{Slot}
 use Rattle.page_store.specs.declared.fault.KeeperFault.TheVariants as kinds
 use Rattle.cow_tree.specs.Committed.{TreeHas}
+use Rattle.cow_tree.specs.KeeperLaws.{opens_trees}
 use Rattle.site_store.specs.Upgrading.{ShowsFirst, FirstBy, IsUpgradeFault, IsNotUpgraded, writes_counted}
 use Rattle.site_store.specs.declared.fault.SiteOpenFault.{SiteOpenFault}
 use Rattle.site_store.specs.declared.fault.SiteOpenFault.TheVariants as reading
@@ -52,10 +55,27 @@ keeps state crash_states old opened new pairs banner s has version first none ad
   at_crash = adds;
 }
 
+-- The slot that was opened: the greatest generation beside it, and the height of its tree.
+pub record IsUnder (old : State) (before : StoreState) : Type 0 where
+  pub top : IsTrue old.honest → greatest_seal old.disk.view 16 ≡ before.top
+  pub height : IsTrue old.honest → (slot : Slot) × (found : Found) × (content old.disk.view ≡ Some (slot, found)) × (slot.root.height ≡ before.height)
+
 -- why it was not upgraded, once its pairs were opened
-pub refused : (old new : State) (before after : StoreState) (need : List Edit → ℕ → Type 0) → ArePairs old before → new.failed_reads ≡ after.failed_reads → new.failed_writes ≡ after.failed_writes → (fault : SiteOpenFault) → IsNotUpgraded before after need fault → IsUpgradeRefusal old new (of_site fault)
-refused old new before after need opened reads writes fault is = inr (opened.large, by fault is)
+pub refused : (old new : State) (before after : StoreState) (need : List Edit → ℕ → Type 0) → ArePairs old before → IsUnder old before → (before.banner.version ≡ 2 → ⊥) → new.failed_reads ≡ after.failed_reads → new.failed_writes ≡ after.failed_writes → (fault : SiteOpenFault) → IsNotUpgraded before after need fault → IsUpgradeRefusal old new (of_site fault)
+refused old new before after need opened under other reads writes fault is = inr (opened.large, first, by fault is)
   where
+    first : spec.IsFirst old
+    first honest = (before.pairs, before.banner, (opened.content honest, opens_trees before.banner.version opened.version), ⊎_elim (λ one. one) (λ two. absurd (other two)) (first_or_second before.banner.version opened.version))
+
+    stands : IsTrue old.honest → (s : Site) → FirstBy before s → ImageRepresentsFirst old.disk.view s
+    stands honest s shows = (before.pairs, before.banner, (opened.content honest, opens_trees before.banner.version opened.version), shows)
+
+    grows : IsUpgradeFault before after need (reading.Keeper kinds.Deep) → spec.MayGrowDeep old
+    grows deep honest =
+        let s = deep.1 (opened.honest honest) in
+        let slot = under.height honest in
+        (s.0, stands honest s.0 s.1, slot.0, slot.1, slot.2, subst (λ h. most_levels < h + 2 + length s.0.items / 8) (sym slot.3) s.2.1)
+
     nothing : after.failed_reads ≡ before.failed_reads → after.failed_writes ≡ before.failed_writes → NothingCounted old new
     nothing r w = record { reads = reads ∙ r ∙ opened.reads; writes = writes ∙ w ∙ opened.writes }
 
@@ -71,10 +91,10 @@ refused old new before after need opened reads writes fault is = inr (opened.lar
     by reading.Memory is = nothing is.reads is.writes
     by (reading.Keeper kinds.Device) is = inl (reads ∙ is.reads ∙ ap counted opened.reads, writes ∙ up (reading.Keeper kinds.Device) is ∙ opened.writes)
     by (reading.Keeper (kinds.Damaged page)) is = (nothing is.reads (up (reading.Keeper (kinds.Damaged page)) is), lies old.honest opened.honest is.cause.1)
-    by (reading.Keeper kinds.Spent) is = nothing is.reads (up (reading.Keeper kinds.Spent) is)
-    by (reading.Keeper kinds.Deep) is = nothing is.reads (up (reading.Keeper kinds.Deep) is)
-    by (reading.Keeper (kinds.Full need free)) is = (nothing is.reads (up (reading.Keeper (kinds.Full need free)) is), is.cause.1)
-    by (reading.Keeper kinds.Failed) is = (writes ∙ up (reading.Keeper kinds.Failed) is ∙ ap counted opened.writes, reads ∙ is.reads ∙ opened.reads)
+    by (reading.Keeper kinds.Spent) is = (nothing is.reads (up (reading.Keeper kinds.Spent) is), λ honest. under.top honest ∙ is.cause.1)
+    by (reading.Keeper kinds.Deep) is = (nothing is.reads (up (reading.Keeper kinds.Deep) is), grows is.cause)
+    by (reading.Keeper (kinds.Full need free)) is = (nothing is.reads (up (reading.Keeper (kinds.Full need free)) is), is.cause.1, λ honest. let s = (is.cause.2 (opened.honest honest)).1 in (s.0, stands honest s.0 s.1))
+    by (reading.Keeper kinds.Failed) is = (writes ∙ up (reading.Keeper kinds.Failed) is ∙ ap counted opened.writes, reads ∙ is.reads ∙ opened.reads, λ honest. let s = is.cause.1 (opened.honest honest) opened.usable in (s.0, stands honest s.0 s.1))
     by (reading.Keeper kinds.NoImage) is = absurd is.cause
     by (reading.Keeper kinds.Version) is = absurd is.cause
     by (reading.Keeper kinds.Small) is = absurd is.cause

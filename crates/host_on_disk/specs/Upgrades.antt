@@ -1,17 +1,23 @@
 -- Upgrading the image on a disk.
-use Rattle.std.specs.Prelude.{◌≡◌, ◌⊎◌, ◌≤◌, ◌<◌, false, ℕ, List, length, IsTrue}
+use Rattle.std.specs.Prelude.{◌≡◌, ◌⊎◌, ◌≤◌, ◌<◌, ◌+◌, ◌/◌, false, ℕ, List, length, Some, IsTrue}
 use Rattle.common_types.specs.Counts.{counted}
 use Rattle.common_types.specs.CrashStates.{CrashStates, AddsOnly, AddsNone, may_crash_to}
 use Rattle.host_types.specs.Site.{Site}
 use Rattle.sector_device.specs.Device.{State, NothingCounted, OneCounted}
 use Rattle.page_store.specs.Pages.{Pair}
 use Rattle.page_store.specs.Sectors.{Image}
+use Rattle.page_store.specs.Content.{Found, content}
+use Rattle.page_store.specs.Roots.{greatest_seal}
+use Rattle.page_store.specs.StoreState.{last_generation, most_levels}
 use Rattle.page_store.specs.declared.banner.Banner.{Banner}
+use Rattle.page_store.specs.declared.slot.Slot.{Slot}
+use Rattle.page_store.specs.declared.fault.KeeperFault.{KeeperFault}
 use Rattle.page_store.specs.declared.fault.KeeperFault.TheVariants as kinds
 use Rattle.cow_tree.specs.Committed.{TreeHas}
+use Rattle.cow_tree.specs.Opening.{IsOpenFault}
 use Rattle.site_store.specs.Upgrading.{RepresentsFirst, RepresentsEither}
 use Rattle.host_on_disk.specs.ImageSites.{ImageRepresents}
-use Rattle.host_on_disk.specs.OpenFaults.{IsOpeningFault}
+use Rattle.host_on_disk.specs.OpenFaults.{IsOpeningFault, of_keeper}
 use Rattle.host_on_disk.specs.declared.open_fault.OpenFault.{OpenFault}
 use Rattle.host_on_disk.specs.declared.open_fault.OpenFault.TheVariants.{Keeper, BadRecord, Memory}
 
@@ -48,14 +54,30 @@ pub record IsNewAlready {D : Type 0} (state : D → State) (crash_states : D →
   pub no_new_crash_state : AddsNone (crash_states old) (crash_states new)
   pub none : count ≡ 0
 
--- Why an image that was opened was not upgraded, and what was counted. `BadRecord` says that it represents no site in version 1.
+-- What reads of a device give is of version 1, a site or not.
+abbrev pub IsFirst : State → Type 0
+IsFirst old = IsTrue old.honest → (pairs : List Pair) × (banner : Banner) × TreeHas old.disk.view pairs banner × (banner.version ≡ 1)
+
+-- It represents a site in version 1.
+abbrev pub ShowsFirst : State → Type 0
+ShowsFirst old = IsTrue old.honest → (s : Site) × ImageRepresentsFirst old.disk.view s
+
+-- No generation is left for a commit.
+abbrev pub IsLast : State → Type 0
+IsLast old = IsTrue old.honest → greatest_seal old.disk.view 16 ≡ last_generation
+
+-- With a record for each item of its site the tree may have more levels than there may be.
+abbrev pub MayGrowDeep : State → Type 0
+MayGrowDeep old = IsTrue old.honest → (s : Site) × ImageRepresentsFirst old.disk.view s × (slot : Slot) × (found : Found) × (content old.disk.view ≡ Some (slot, found)) × (most_levels < slot.root.height + 2 + length s.items / 8)
+
+-- Why an image that was opened was not upgraded, and what was counted. `BadRecord` says that it represents no site in version 1; all that a commit may answer comes of an image that does.
 abbrev pub IsNotUpgraded : State → State → OpenFault → Type 0
 IsNotUpgraded old new (Keeper kinds.Device) = OneCounted old new
 IsNotUpgraded old new (Keeper (kinds.Damaged page)) = NothingCounted old new × (old.honest ≡ false)
-IsNotUpgraded old new (Keeper kinds.Spent) = NothingCounted old new
-IsNotUpgraded old new (Keeper kinds.Deep) = NothingCounted old new
-IsNotUpgraded old new (Keeper (kinds.Full need free)) = NothingCounted old new × (free < need)
-IsNotUpgraded old new (Keeper kinds.Failed) = (new.failed_writes ≡ counted old.failed_writes) × (new.failed_reads ≡ old.failed_reads)
+IsNotUpgraded old new (Keeper kinds.Spent) = NothingCounted old new × IsLast old
+IsNotUpgraded old new (Keeper kinds.Deep) = NothingCounted old new × MayGrowDeep old
+IsNotUpgraded old new (Keeper (kinds.Full need free)) = NothingCounted old new × (free < need) × ShowsFirst old
+IsNotUpgraded old new (Keeper kinds.Failed) = (new.failed_writes ≡ counted old.failed_writes) × (new.failed_reads ≡ old.failed_reads) × ShowsFirst old
 IsNotUpgraded old new (Keeper kinds.NoImage) = ⊥
 IsNotUpgraded old new (Keeper kinds.Version) = ⊥
 IsNotUpgraded old new (Keeper kinds.Small) = ⊥
@@ -63,6 +85,10 @@ IsNotUpgraded old new (Keeper kinds.Memory) = ⊥
 IsNotUpgraded old new BadRecord = NothingCounted old new × (IsTrue old.honest → (s : Site) → ImageRepresentsFirst old.disk.view s → ⊥)
 IsNotUpgraded old new Memory = NothingCounted old new
 
--- Why an image is not upgraded: it is not opened, or it was, and then refused.
+-- Its key-value store is not opened.
+abbrev pub IsStoreRefusal : State → State → OpenFault → Type 0
+IsStoreRefusal old new fault = IsOpeningFault old new fault × ((kind : KeeperFault) × (fault ≡ of_keeper kind) × IsOpenFault old new kind)
+
+-- Why an image is not upgraded: its key-value store is not opened, or it was, has content of version 1, and was refused then.
 abbrev pub IsUpgradeRefusal : State → State → OpenFault → Type 0
-IsUpgradeRefusal old new fault = IsOpeningFault old new fault ⊎ ((128 ≤ old.size) × IsNotUpgraded old new fault)
+IsUpgradeRefusal old new fault = IsStoreRefusal old new fault ⊎ ((128 ≤ old.size) × IsFirst old × IsNotUpgraded old new fault)

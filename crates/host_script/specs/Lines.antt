@@ -1,5 +1,5 @@
 -- What a line of a script asks of a hub, and what is printed of it; and a whole script, line by line.
-use Rattle.std.specs.Prelude.{◌≡◌, ◌⊎◌, ℕ, ◌+◌, ◌-◌, ◌^◌, min, Bool, false, List, [], ◌∷◌, ◌++◌, ◌==◌, Option, Some, Result, IfOk, codes, flat_map, All}
+use Rattle.std.specs.Prelude.{◌≡◌, ◌≢◌, ◌⊎◌, ℕ, ◌+◌, ◌-◌, ◌^◌, min, Bool, false, List, [], ◌∷◌, ◌++◌, ◌==◌, Option, Some, None, IfSome, Result, IfOk, IsUtf8, codes, flat_map, All}
 use Rattle.std.specs.List.{list_any}
 use Rattle.std.specs.Io.KnownBytes.{Appends}
 use Rattle.session_core.specs.declared.event.Event.{Event as HubEvent}
@@ -8,6 +8,8 @@ use Rattle.host_script.specs.Script.{line_command}
 use Rattle.host_script.specs.ParsedLine.{parsed_of}
 use Rattle.host_script.specs.Printed.{line_of, refused_line}
 use Rattle.host_script.specs.declared.script.Command.{Command}
+use Rattle.host_script.specs.declared.fault.Fault.{Fault}
+use Rattle.host_script.specs.declared.fault.Fault.TheVariants.{Script, Memory, Output}
 use Rattle.host_script.specs.declared.replaying.Place.{Place as Standing}
 use Rattle.host_script.specs.declared.asking.ParsedLine.{ParsedLine}
 use Rattle.host_script.specs.declared.asking.ParsedLine.TheVariants.{Moment, Event, Refused}
@@ -98,9 +100,12 @@ pub record Place : Type 0 where
 abbrev pub place_of : Standing → Place
 place_of p = record { moment = p.moment; number = p.number }
 
+abbrev pub place_at : ℕ → ℕ → Place
+place_at moment number = record { moment = moment; number = number }
+
 -- before the first line
 abbrev pub start : Place
-start = record { moment = 0; number = 1 }
+start = place_at 0 1
 
 -- the number after these lines, which stays at the greatest u64
 abbrev pub number_after : ℕ → List (List ℕ) → ℕ
@@ -108,26 +113,16 @@ number_after n [] = n
 number_after n (line ∷ lines) = number_after (min (n + 1) (2 ^ 64 - 1)) lines
 
 -- A text was run as far as its last LF, from one place to another, and a writer was given what was printed, each line with its LF.
-pub record IsRunTo {H : Type 0} (ran : Ran H) (old new : H) (from to : Place) (given took : Option (List ℕ)) (text rest : List ℕ) : Type 0 where
+pub record RunsTo (from to : Place) (given took : Option (List ℕ)) (text rest : List ℕ) (events : List HubEvent) (outcomes : List Outcome) : Type 0 where
   pub lines : List (List ℕ)
   pub printed : List (List ℕ)
-  pub events : List HubEvent
-  pub outcomes : List Outcome
   pub cut : IsCut text lines rest
   pub run : RunsLines from.moment to.moment lines printed events outcomes
   pub number : to.number ≡ number_after from.number lines
-  pub calls : ran old events outcomes new
   pub written : Appends given took (ended printed)
 
--- A front of a text was run, behind what stood before it, as far as its last LF, and no more; the next line has this number.
-pub record IsRunInPart {H : Type 0} (ran : Ran H) (old new : H) (from : Place) (number : ℕ) (given took : Option (List ℕ)) (before text : List ℕ) : Type 0 where
-  pub front : List ℕ
-  pub left : List ℕ
-  pub is : text ≡ front ++ left
-  pub to : Place
-  pub line : List ℕ
-  pub run : IsRunTo ran old new from to given took (before ++ front) line
-  pub number_is : number ≡ to.number
+abbrev pub IsRunTo : {H : Type 0} → Ran H → H → H → Place → Place → Option (List ℕ) → Option (List ℕ) → List ℕ → List ℕ → Type 0
+IsRunTo ran old new from to given took text rest = RanBy ran old new (RunsTo from to given took text rest)
 
 -- what stands behind the last LF is a line where it has bytes
 abbrev pub last_line : List ℕ → List (List ℕ)
@@ -156,3 +151,77 @@ pub record IsReplayed {H : Type 0} (ran : Ran H) (old new : H) (given took : Opt
   pub run : RunsLines 0 after (lines ++ last_line rest) printed events outcomes
   pub calls : ran old events outcomes new
   pub written : Appends given took (ended printed)
+
+-- ---- where a script stops
+
+-- a line that says no command, or is no text
+abbrev pub IsNoLine : List ℕ → Type 0
+IsNoLine line = IsUtf8 line → line_command line ≡ None
+
+-- A line was run, or nothing was.
+abbrev pub MayRun : ℕ → List ℕ → List HubEvent → List Outcome → Type 0
+MayRun now line events outcomes = ((events ≡ []) × (outcomes ≡ [])) ⊎ ((after : ℕ) × (printed : List ℕ) × RunsLine now after line printed events outcomes)
+
+-- A writer took a front of a text, and not all of it.
+pub record TakesFront (given took : Option (List ℕ)) (text : List ℕ) : Type 0 where
+  pub front : List ℕ
+  pub left : List ℕ
+  pub is : text ≡ front ++ left
+  pub some_left : left ≢ []
+  pub written : Appends given took front
+
+-- How a line ends a script: it is none, and has this number; or memory is lacking for it, or for its answer, of which nothing is written; or it was run, and the writer did not take all of its answer.
+abbrev pub Stops : Option (List ℕ) → Option (List ℕ) → Place → List ℕ → Fault → List HubEvent → List Outcome → Type 0
+Stops given took at line (Script n) events outcomes = (n ≡ at.number) × (events ≡ []) × (outcomes ≡ []) × (took ≡ given) × IsNoLine line
+Stops given took at line Memory events outcomes = (took ≡ given) × MayRun at.moment line events outcomes
+Stops given took at line Output events outcomes = (after : ℕ) × (printed : List ℕ) × RunsLine at.moment after line printed events outcomes × TakesFront given took (printed ++ 10 ∷ [])
+
+-- It comes where an LF stands; for lack of memory it may come at any byte.
+abbrev pub ComesIn : Fault → List ℕ → Type 0
+ComesIn Memory left = left ≢ []
+ComesIn fault left = (more : List ℕ) × (left ≡ 10 ∷ more)
+
+-- A line ends a script within a text of which this is left.
+abbrev pub StopsIn : Option (List ℕ) → Option (List ℕ) → Place → List ℕ → List ℕ → Fault → List HubEvent → List Outcome → Type 0
+StopsIn given took at line left fault events outcomes = Stops given took at line fault events outcomes × ComesIn fault left
+
+-- The last line does, which lacks its LF.
+abbrev pub StopsAtEnd : Option (List ℕ) → Option (List ℕ) → Place → List ℕ → Fault → List HubEvent → List Outcome → Type 0
+StopsAtEnd given took at line fault events outcomes = Stops given took at line fault events outcomes × (line ≢ [])
+
+-- All that was read was run, as far as its last LF, and no more could be read.
+pub record IsCutOff (given took unread : Option (List ℕ)) (at : Place) (left : List ℕ) (fault : Fault) (events : List HubEvent) (outcomes : List Outcome) : Type 0 where
+  pub fault_is : fault ≡ Script at.number
+  pub events_are : events ≡ []
+  pub outcomes_are : outcomes ≡ []
+  pub kept : took ≡ given
+  pub unread_is : unread ≡ Some left
+
+-- A front of a text was run, behind what stood before it, as far as its last LF, and then something else came.
+pub record RunsThen (from : Place) (given : Option (List ℕ)) (before text : List ℕ) (Then : Place → Option (List ℕ) → List ℕ → List ℕ → List HubEvent → List Outcome → Type 0) (events : List HubEvent) (outcomes : List Outcome) : Type 0 where
+  pub front : List ℕ
+  pub left : List ℕ
+  pub is : text ≡ front ++ left
+  pub to : Place
+  pub line : List ℕ
+  pub between : Option (List ℕ)
+  pub first_events : List HubEvent
+  pub first_outcomes : List Outcome
+  pub later_events : List HubEvent
+  pub later_outcomes : List Outcome
+  pub run : RunsTo from to given between (before ++ front) line first_events first_outcomes
+  pub later : Then to between line left later_events later_outcomes
+  pub events_are : events ≡ first_events ++ later_events
+  pub outcomes_are : outcomes ≡ first_outcomes ++ later_outcomes
+
+-- A piece of a script was run as far as some LF, and the line behind it ended the script.
+abbrev pub IsStopped : Fault → Place → Option (List ℕ) → Option (List ℕ) → List ℕ → List ℕ → List HubEvent → List Outcome → Type 0
+IsStopped fault from given took before piece = RunsThen from given before piece (λ to between line left e o. StopsIn between took to line left fault e o)
+
+-- A whole script was: each line before the one that ended it was run and printed, and nothing more was done than is said of that one; or the script could not be read on.
+abbrev pub IsHalted : Fault → Option (List ℕ) → Option (List ℕ) → Option (List ℕ) → List ℕ → List HubEvent → List Outcome → Type 0
+IsHalted fault given took unread script = RunsThen start given [] script (λ to between line left e o. StopsIn between took to line left fault e o ⊎ ((left ≡ []) × StopsAtEnd between took to line fault e o) ⊎ IsCutOff between took unread to left fault e o)
+
+-- It was, by some events of a hub.
+abbrev pub Halts : {H : Type 0} → Ran H → H → H → Option (List ℕ) → Option (List ℕ) → Option (List ℕ) → Option (List ℕ) → Fault → Type 0
+Halts ran old new given took unread script fault = IfSome script (λ text. RanBy ran old new (IsHalted fault given took unread text))

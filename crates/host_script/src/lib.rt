@@ -7,6 +7,7 @@ mod printed;
 mod replaying;
 mod script;
 mod site;
+mod writing;
 
 pub use asking::{ParsedLine, ask};
 pub use fault::Fault;

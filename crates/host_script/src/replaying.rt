@@ -1,17 +1,17 @@
 // Runs a script over a hub.
-ghost use Rattle.std.specs.Prelude.{◌≡◌, ℕ, false, List, [], ◌∷◌, ◌++◌, None, Err, IfSome, OnOk, IsUtf8};
+ghost use Rattle.std.specs.Prelude.{◌≡◌, ℕ, false, List, [], ◌∷◌, ◌++◌, None, Err, IfSome, OnOk, IfErr, OnErr, IsUtf8};
 ghost use Rattle.std.specs.List.{list_any};
 ghost use Rattle.std.specs.Io.KnownBytes.{Appends};
 ghost use Rattle.std.specs.String.{string_bytes};
 ghost use Rattle.session_core.specs.Calls.{HubRun};
 ghost use Rattle.host_script.specs.Script.{line_command};
-ghost use Rattle.host_script.specs.declared.fault.Fault.TheVariants.{Script};
-ghost use Rattle.host_script.specs.Lines.{RanBy, RanSo, Runs, place_of, start, IsAnswer, RunsLine, IsRunTo, IsRunInPart, IsLastRun, IsReplayed, is_lf};
+ghost use Rattle.host_script.specs.Lines.{RanBy, RanSo, Runs, place_at, place_of, IsAnswer, RunsLine, MayRun, IsRunTo, Stops, StopsIn, StopsAtEnd, IsStopped, Halts, IsLastRun, IsReplayed, is_lf};
 
 use crate::asking::{ParsedLine, ask};
 use crate::fault::Fault;
 use crate::printed::{line_of, refused_line};
 use crate::script::{LineFault, parse};
+use crate::writing::write_line;
 use host_types::Stamp;
 use session_core::{Event, Hub};
 use std::alloc::{AllocError, Global};
@@ -28,6 +28,7 @@ fn answer<S: SearchKeeper>(
     event: Event,
 ) -> Result<String, AllocError>
     ensures answer { Runs (HubRun S.site_state S.lacks S.crash_states S.represents) hub.old hub.new result (λ ran a b printed. RanBy ran a b (IsAnswer event (string_bytes printed))) }
+    ensures lost { OnErr result ((printed : List ℕ) × RanBy (HubRun S.site_state S.lacks S.crash_states S.represents) hub.old hub.new (IsAnswer event printed)) }
 {
     let Ok(outcomes) = hub.run(&[event]) else {
         return String::from_str(alloc, "fault Memory");
@@ -47,6 +48,7 @@ fn answer_line<S: SearchKeeper>(
 ) -> Result<(Stamp, String), LineFault>
     ensures line { Runs (HubRun S.site_state S.lacks S.crash_states S.represents) hub.old hub.new result (λ ran a b (after, printed). RanBy ran a b (RunsLine now after line.now (string_bytes printed))) }
     ensures form { result ≡ Err LineFault.Form → (hub.new ≡ hub.old) × (IsUtf8 line.now → line_command line.now ≡ None) }
+    ensures lost { result ≡ Err LineFault.Memory → RanBy (HubRun S.site_state S.lacks S.crash_states S.represents) hub.old hub.new (MayRun now line.now) }
 {
     match ask(alloc, parse(alloc, line)?, now)? {
         ParsedLine::Moment(moment) => Ok((moment, String::from_str(alloc, "ok")?)),
@@ -65,17 +67,15 @@ fn run_line<S: SearchKeeper, W: Write>(
     line: &[u8],
 ) -> Result<Stamp, Fault>
     ensures line { Runs (HubRun S.site_state S.lacks S.crash_states S.represents) hub.old hub.new result (λ ran a b after. (printed : List ℕ) × RanBy ran a b (RunsLine now after line.now printed) × Appends (W.contents writer.old) (W.contents writer.new) (printed ++ 10 ∷ [])) }
-    ensures script { (n : ℕ) → result ≡ Err (Script n) → (n ≡ number) × (hub.new ≡ hub.old) × (writer.new ≡ writer.old) × (IsUtf8 line.now → line_command line.now ≡ None) }
+    ensures stops { IfErr result (λ fault. RanBy (HubRun S.site_state S.lacks S.crash_states S.represents) hub.old hub.new (Stops (W.contents writer.old) (W.contents writer.new) (place_at now number) line.now fault)) }
 {
     let (moment, printed) = match answer_line(alloc, hub, line, now) {
         Ok(answered) => answered,
         Err(LineFault::Form) => return Err(Fault::Script(number)),
         Err(LineFault::Memory) => return Err(Fault::Memory),
     };
-    match writeln!(writer, "{printed}") {
-        Ok(()) => Ok(moment),
-        Err(_) => Err(Fault::Output),
-    }
+    write_line(writer, &printed)?;
+    Ok(moment)
 }
 
 /// Where a script stands: the line so far, its number, and the moment.
@@ -95,7 +95,7 @@ fn run_byte<S: SearchKeeper, W: Write>(
     byte: u8,
 ) -> Result<(), Fault>
     ensures run { Runs (HubRun S.site_state S.lacks S.crash_states S.represents) hub.old hub.new result (λ ran a b _. list_any is_lf place.old.line.items ≡ false → IsRunTo ran a b (place_of place.old) (place_of place.new) (W.contents writer.old) (W.contents writer.new) (place.old.line.items ++ byte ∷ []) place.new.line.items) }
-    ensures script { (n : ℕ) → result ≡ Err (Script n) → (n ≡ place.old.number) × (hub.new ≡ hub.old) × (writer.new ≡ writer.old) × (byte ≡ 10) × (IsUtf8 place.old.line.items → line_command place.old.line.items ≡ None) }
+    ensures stops { IfErr result (λ fault. RanBy (HubRun S.site_state S.lacks S.crash_states S.represents) hub.old hub.new (StopsIn (W.contents writer.old) (W.contents writer.new) (place_of place.old) place.old.line.items (byte ∷ []) fault)) }
 {
     if byte != b'\n' {
         return match place.line.push(byte) {
@@ -118,7 +118,7 @@ fn run_piece<S: SearchKeeper, W: Write>(
     piece: &[u8],
 ) -> Result<(), Fault>
     ensures run { Runs (HubRun S.site_state S.lacks S.crash_states S.represents) hub.old hub.new result (λ ran a b _. list_any is_lf place.old.line.items ≡ false → IsRunTo ran a b (place_of place.old) (place_of place.new) (W.contents writer.old) (W.contents writer.new) (place.old.line.items ++ piece.now) place.new.line.items) }
-    ensures script { list_any is_lf place.old.line.items ≡ false → (n : ℕ) → result ≡ Err (Script n) → IsRunInPart (HubRun S.site_state S.lacks S.crash_states S.represents) hub.old hub.new (place_of place.old) n (W.contents writer.old) (W.contents writer.new) place.old.line.items piece.now }
+    ensures stops { list_any is_lf place.old.line.items ≡ false → IfErr result (λ fault. RanBy (HubRun S.site_state S.lacks S.crash_states S.represents) hub.old hub.new (IsStopped fault (place_of place.old) (W.contents writer.old) (W.contents writer.new) place.old.line.items piece.now)) }
 {
     for byte in piece {
         run_byte(alloc, hub, writer, place, *byte)?;
@@ -134,7 +134,7 @@ fn run_last<S: SearchKeeper, W: Write>(
     place: &Place,
 ) -> Result<(), Fault>
     ensures run { Runs (HubRun S.site_state S.lacks S.crash_states S.represents) hub.old hub.new result (λ ran a b _. IsLastRun ran a b place.now.moment (W.contents writer.old) (W.contents writer.new) place.now.line.items) }
-    ensures script { (n : ℕ) → result ≡ Err (Script n) → (n ≡ place.now.number) × (hub.new ≡ hub.old) × (writer.new ≡ writer.old) }
+    ensures stops { IfErr result (λ fault. RanBy (HubRun S.site_state S.lacks S.crash_states S.represents) hub.old hub.new (StopsAtEnd (W.contents writer.old) (W.contents writer.new) (place_of place.now) place.now.line.items fault)) }
 {
     let line = place.line.as_slice();
     if line.is_empty() {
@@ -145,7 +145,8 @@ fn run_last<S: SearchKeeper, W: Write>(
 }
 
 /// Reads a script to its end, a line at a time, and prints one line for each. Lines count from 1, and the last may lack
-/// its LF. A line of another form, a read that fails, and the end of the reads that it may take end it as `Fault::Script`.
+/// its LF. A line of another form, a read that fails, and the end of the reads that it may take end it as `Fault::Script`;
+/// all lines before it were run and printed then, and after the other faults too.
 pub fn replay<R: Read, W: Write, S: SearchKeeper>(
     alloc: Global,
     reader: &mut R,
@@ -153,7 +154,7 @@ pub fn replay<R: Read, W: Write, S: SearchKeeper>(
     hub: &mut Hub<S>,
 ) -> Result<(), Fault>
     ensures run { OnOk result (IfSome (R.remaining reader.old) (IsReplayed (HubRun S.site_state S.lacks S.crash_states S.represents) hub.old hub.new (W.contents writer.old) (W.contents writer.new))) }
-    ensures script { (n : ℕ) → result ≡ Err (Script n) → IfSome (R.remaining reader.old) (IsRunInPart (HubRun S.site_state S.lacks S.crash_states S.represents) hub.old hub.new start n (W.contents writer.old) (W.contents writer.new) []) }
+    ensures halted { IfErr result (Halts (HubRun S.site_state S.lacks S.crash_states S.represents) hub.old hub.new (W.contents writer.old) (W.contents writer.new) (R.remaining reader.new) (R.remaining reader.old)) }
     // Whatever is answered, the hub was run by some events, so a crash at any moment leaves what a run of these may leave.
     ensures ran { RanSo (HubRun S.site_state S.lacks S.crash_states S.represents) hub.old hub.new }
 {

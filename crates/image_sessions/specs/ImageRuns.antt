@@ -1,5 +1,5 @@
 -- Events of one hub over a site, and over the site of an image, and a script that makes them.
-use Rattle.std.specs.Prelude.{◌≡◌, ℕ, List, [], Option, IfSome, Result, Err, OnOk, IsTrue}
+use Rattle.std.specs.Prelude.{◌≡◌, ℕ, List, Option, IfSome, IfErr, Result, OnOk, IsTrue}
 use Rattle.host_types.specs.AllChanges.{Changes}
 use Rattle.host_types.specs.Site.{Site}
 use Rattle.host_types.specs.SiteState.{SiteState}
@@ -12,9 +12,8 @@ use Rattle.session_core.specs.Run.{Run}
 use Rattle.session_core.specs.RunCrashStates.{HasCrashStates}
 use Rattle.session_core.specs.declared.event.Event.{Event}
 use Rattle.session_core.specs.declared.event.Outcome.{Outcome}
-use Rattle.host_script.specs.Lines.{Ran, RanSo, IsReplayed, IsRunInPart, start}
+use Rattle.host_script.specs.Lines.{Ran, RanSo, IsReplayed, Halts}
 use Rattle.host_script.specs.declared.fault.Fault.{Fault}
-use Rattle.host_script.specs.declared.fault.Fault.TheVariants.{Script}
 use Rattle.host_on_disk.specs.Headline.{RunsOver, RunsAndSurvives}
 
 -- A site is handed in and back, and in between these events had these outcomes in one hub, whose sessions count from 1: the calls, on any device; and over an honest one they are a run of the world, with what a crash at any moment of it leaves.
@@ -27,8 +26,8 @@ pub record OverSite {S L : Type 0} (site_state : S → SiteState) (lacks : S →
 abbrev pub OnImage : {D S L : Type 0} → (D → State) → (S → D) → (S → SiteState) → (S → Changes → SiteFault → Type 0) → (S → CrashStates L) → (L → Site → Type 0) → (D → CrashStates Image) → Ran D
 OnImage state device site_state lacks site_crash_states stands crash_states old events outcomes new = RunsAndSurvives state device site_state lacks site_crash_states stands crash_states old new 1 events outcomes
 
--- What a script did: where it was run to its end, all of it was; where a line ended it, what stands before that was; and whatever it answered, some events led from `old` to `new`.
-pub record Replays {H : Type 0} (ran : Ran H) (old new : H) (script given took : Option (List ℕ)) (result : Result (Unit {0}) Fault) : Type 0 where
+-- What a script did: where it was run to its end, all of it was; where a fault ended it, what stands before the line of that, and of that line what the fault says; and whatever it answered, some events led from `old` to `new`.
+pub record Replays {H : Type 0} (ran : Ran H) (old new : H) (script unread given took : Option (List ℕ)) (result : Result (Unit {0}) Fault) : Type 0 where
   pub whole : OnOk result (IfSome script (IsReplayed ran old new given took))
-  pub in_part : (n : ℕ) → result ≡ Err (Script n) → IfSome script (IsRunInPart ran old new start n given took [])
+  pub halted : IfErr result (Halts ran old new given took unread script)
   pub led : RanSo ran old new

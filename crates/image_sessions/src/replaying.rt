@@ -28,7 +28,7 @@ pub fn replay_over<S: SearchKeeper, R: Read, W: Write>(
 ) -> Result<(Result<(), Fault>, S), (OpenFault, S)>
     requires usable { (S.site_state site).usable ≡ true }
     requires unpinned { (S.site_state site).pins ≡ [] }
-    ensures replayed { IfOk result (λ r. Replays (OverSite S.site_state S.lacks S.crash_states S.represents) site r.1 (R.remaining reader.old) (W.contents writer.old) (W.contents writer.new) r.0) }
+    ensures replayed { IfOk result (λ r. Replays (OverSite S.site_state S.lacks S.crash_states S.represents) site r.1 (R.remaining reader.old) (R.remaining reader.new) (W.contents writer.old) (W.contents writer.new) r.0) }
     ensures unpinned { IfOk result (λ r. (S.site_state r.1).pins ≡ []) }
     ensures err { IfErr result (λ e. (e.0 ≡ Memory) × (e.1 ≡ site)) }
     ensures unread { IfErr result (λ e. (reader.new ≡ reader.old) × (writer.new ≡ writer.old)) }
@@ -51,7 +51,7 @@ pub fn replay_on<D: Device, R: Read, W: Write>(
     reader: &mut R,
     writer: &mut W,
 ) -> Result<(Result<(), Fault>, D), (OpenFault, D)>
-    ensures replayed { IfOk result (λ r. Replays (OnImage D.state (λ d. device_of (keeper_of d)) ⟦<DiskSite<TreeKeeper<D>> as SiteKeeper>⟧.site_state ⟦<DiskSite<TreeKeeper<D>> as SiteKeeper>⟧.lacks ⟦<DiskSite<TreeKeeper<D>> as SiteKeeper>⟧.crash_states ⟦<DiskSite<TreeKeeper<D>> as SiteKeeper>⟧.represents (crash_states_of D.moment D.possible_since)) device r.1 (R.remaining reader.old) (W.contents writer.old) (W.contents writer.new) r.0) }
+    ensures replayed { IfOk result (λ r. Replays (OnImage D.state (λ d. device_of (keeper_of d)) ⟦<DiskSite<TreeKeeper<D>> as SiteKeeper>⟧.site_state ⟦<DiskSite<TreeKeeper<D>> as SiteKeeper>⟧.lacks ⟦<DiskSite<TreeKeeper<D>> as SiteKeeper>⟧.crash_states ⟦<DiskSite<TreeKeeper<D>> as SiteKeeper>⟧.represents (crash_states_of D.moment D.possible_since)) device r.1 (R.remaining reader.old) (R.remaining reader.new) (W.contents writer.old) (W.contents writer.new) r.0) }
     ensures refused { IfErr result (λ e. HandsBack IsOpeningFault D.state (crash_states_of D.moment D.possible_since) device e.1 e.0) }
     ensures unread { IfErr result (λ e. (reader.new ≡ reader.old) × (writer.new ≡ writer.old)) }
 {

@@ -17,8 +17,11 @@ pub returns-in-Err-clause-refused : goal.returns-in-Err-clause-refused
 returns-in-Err-clause-refused g c =
     let d = g.met.D.Device in
     let device = c.args.device in
-    inl (rw c.of_keeper.ensures
-    (keeper_refused (g.D.Device.state device) (g.D.Device.state c.in-Err.device) (λ honest. (d.view_is_image device honest).size ∙ d.base_has_size device honest) c.in-Err.fault c.in-Err.ensures.fault c.in-Err.ensures.counts_fault))
+    inl (
+      rw c.of_keeper.ensures
+          (keeper_refused (g.D.Device.state device) (g.D.Device.state c.in-Err.device) (λ honest. (d.view_is_image device honest).size ∙ d.base_has_size device honest) c.in-Err.fault c.in-Err.ensures.fault c.in-Err.ensures.counts_fault),
+      (c.in-Err.fault, c.of_keeper.ensures, c.in-Err.ensures.fault),
+    )
 
 pub returns-in-Err-clause-small : goal.returns-in-Err-clause-small
 returns-in-Err-clause-small g c = λ small.
@@ -94,3 +97,28 @@ returns-in-Err-upgrade-clause-no_new_crash_state g c = λ honest.
     (λ up. inr (subst (λ d. AddsNone (states device) (states d)) (sym c.into_device-in-Err-upgrade.ensures) (adds_none_again (states device) (states k.device) (states now.device) (opened.at_crash honest) (given.no_new_crash_state still up))))
     (λ failed. inl (c.of_site.ensures ∙ ap of_site failed.0))
     (usable_or_failed (held state k) (held state now) (λ batch need. MayNeed k.slot (state k.device) batch need) c.in-Err-upgrade.fault given.fault.cause opened.usable)
+
+pub returns-in-Err-upgrade-clause-refused : goal.returns-in-Err-upgrade-clause-refused
+returns-in-Err-upgrade-clause-refused g c =
+    let state = g.D.Device.state in
+    let device = c.args.device in
+    let opened = c.in-Ok.ensures in
+    let k = c.in-Ok.keeper in
+    let now = c.in-Err-upgrade.keeper in
+    rw (c.of_site.ensures, c.into_device-in-Err-upgrade.ensures)
+    (refused (state device) (state now.device) (held state k) (held state now) (λ batch need. MayNeed k.slot (state k.device) batch need)
+    (record {
+      large = opened.large;
+      honest = λ honest. opened.honest ∙ honest;
+      usable = opened.usable;
+      reads = opened.counts.reads;
+      writes = opened.counts.writes;
+      content = opened.content;
+      version = k.fitted.version;
+    })
+    (record {
+      top = λ honest. sym (opened.top honest);
+      height = λ honest. let there = opened.holds honest in (k.slot, there.found, there.content_is, refl);
+    })
+    (λ two. absurd (cc (c.upgrade.ensures.already opened.usable two, c.in-Err-upgrade.is)))
+    refl refl c.in-Err-upgrade.fault c.in-Err-upgrade.ensures.fault)

@@ -1,6 +1,6 @@
 use Rattle.std.proofs.Common.{sym, ◌∙◌}
 use Rattle.session_core.proofs.CallLaws.{hub_rests, hub_goes_on}
-use Rattle.host_script.proofs.Replays.{so_none, last_none, last_one}
+use Rattle.host_script.proofs.Replays.{so_none, if_err_of, last_none, last_one, some_line}
 use Rattle.host_script.proofs.replaying.run_last.Goals as goal
 
 pub returns-then-is_empty-clause-run : goal.returns-then-is_empty-clause-run
@@ -21,3 +21,8 @@ returns-clause-run g c =
           ran.2;
       led = line.led;
     }
+
+pub returns-in_err-run_line-clause-stops : goal.returns-in_err-run_line-clause-stops
+returns-in_err-run_line-clause-stops g c = if_err_of _ c.from_residual.result c.from_residual.ensures.1
+    (let p = c.in_err-run_line.ensures.stops in
+    (p.0, p.1, (rw (← c.as_slice-line.ensures.value) p.2, some_line c.args.place.now.line.items (rw (← c.as_slice-line.ensures.value) (sym c.is_empty.ensures ∙ c.if-is_empty.false))), p.3))

@@ -30,7 +30,7 @@ returns-in-Ok-replay_over-clause-replayed g c =
       site = λ honest. refl;
       honest = ap (λ d. (state d).honest) back ∙ over.honest ∙ opened.honest;
     })
-    _ _ _ _ c.in-Ok-replay_over.ensures.replayed
+    _ _ _ _ _ c.in-Ok-replay_over.ensures.replayed
 
 pub returns-in-Err-replay_over-clause-refused : goal.returns-in-Err-replay_over-clause-refused
 returns-in-Err-replay_over-clause-refused g c =

@@ -25,4 +25,4 @@ returns-clause-replayed g c =
           (calls_run s.site_state s.lacks s.crash_states s.represents first last held left events outcomes honest1 run.calls) (run.at_crash honest1 usable);
       honest = closed_honest s.site_state s.crash_states left c.close.result c.close.ensures.closed ∙ calls_honest s.site_state s.lacks s.crash_states s.represents first last held left events outcomes run.calls ∙ ap (λ x. (s.site_state x).honest) is;
     })
-    _ _ _ _ (record { whole = c.replay-ended.ensures.run; in_part = c.replay-ended.ensures.script; led = c.replay-ended.ensures.ran })
+    _ _ _ _ _ (record { whole = c.replay-ended.ensures.run; halted = c.replay-ended.ensures.halted; led = c.replay-ended.ensures.ran })
