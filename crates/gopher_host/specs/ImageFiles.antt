@@ -30,7 +30,7 @@ file_crash_states = crash_states_of (λ (device : FileHistory). length device.ca
 abbrev pub IsNotThere : ImageFault → Type 0
 IsNotThere fault = (fault ≡ NoFile) ⊎ (fault ≡ Memory)
 
--- The file of this name was opened, let go of behind that as `left`, and this holds of what was done in between. Nothing was done with another file.
+-- The file of this name was opened, let go of behind that as `left`, and this holds of what was done in between. No other file was opened as a device.
 pub record OnImageFile (image : List ℕ) (before now : List FileUse) (Holds : FileHistory → FileHistory → Type 0) : Type 0 where
   pub opened : FileHistory
   pub left : FileHistory

@@ -57,7 +57,7 @@ asked_at site pages now = behind (moment_of now) (asked_for site pages)
 
 -- ---- what is made
 
--- A file of this name was created with as many sectors as the pages have, and let go of behind that. Reads of what was left give the first image of just this site, and so does a crash at any moment from then on. Nothing was done with another file.
+-- A file of this name was created with as many sectors as the pages have, and let go of behind that. Reads of what was left give the first image of just this site, and so does a crash at any moment from then on. No other file was opened as a device.
 pub record IsMade (image : List ℕ) (site : NewSite) (pages now : ℕ) (before after : List FileUse) : Type 0 where
   pub names : SiteNames
   pub sectors : ℕ
