@@ -1,10 +1,11 @@
-//! Tests of sessions over wires: wires in memory that are served together, by calls that wait and by calls that don't, and a connection over the loopback. Each test
+//! Tests of sessions over wires: wires in memory that are served together, by calls that wait over a site in memory and over one on a disk, and by calls that don't; and a connection over the loopback. Each test
 //! prints how many replies were written whole, or how each session ended, and what each wire was given.
 #![tactic(auto)]
 
 mod memory_wire;
 mod shy_wire;
 mod site;
+mod tree;
 mod visits;
 
 use memory_wire::{MemoryWire, StandingClock};
@@ -15,8 +16,10 @@ use std::alloc::Global;
 use std::io;
 use std::io::{Read, Write};
 use std::net::{OpenListener, OpenStream, TcpListener, TcpStream};
+use tree::tree_hub;
 use turns::{Connection, take_turns};
 use visits::{all_passes, show_log_line, show_visits};
+use word_index::SearchKeeper;
 
 /// A wire on which a post comes.
 fn poster(alloc: Global) -> Result<MemoryWire, NotReady> {
@@ -79,27 +82,43 @@ const NAMES: [&str; 8] = [
     "one wire too many",
 ];
 
-/// Serves wires together over the site of the tests.
+/// Serves wires together over a hub, which ends then.
+fn serve_over<S: SearchKeeper + Drop>(
+    hub: Hub<S>,
+    connections: &mut [Connection<MemoryWire>],
+) -> u64 {
+    let mut hub = hub;
+    let served = take_turns(&mut hub, connections, &mut StandingClock::new());
+    let _ = hub.close();
+    served
+}
+
+/// Serves wires together over the site of the tests, in memory or on a disk.
 fn serve(
     alloc: Global,
     wires: Vec<MemoryWire>,
+    is_on_disk: bool,
 ) -> Result<(u64, Vec<Connection<MemoryWire>>), NotReady> {
     let mut connections = Vec::new(alloc);
     for wire in wires {
         connections.push(Connection::new(wire))?;
     }
-    let Ok(mut hub) = Hub::new(alloc, test_site(alloc)?, 1) else {
+    if is_on_disk {
+        let served = serve_over(tree_hub(alloc)?, &mut connections);
+        return Ok((served, connections));
+    }
+    let Ok(hub) = Hub::new(alloc, test_site(alloc)?, 1) else {
         return Err(NotReady);
     };
-    let served = take_turns(&mut hub, &mut connections, &mut StandingClock::new());
-    let _ = hub.close();
+    let served = serve_over(hub, &mut connections);
     Ok((served, connections))
 }
 
-fn show(rt: &HostRuntime, name: &str) -> io::Result<()> {
-    println!(rt; "{name}")?;
+fn show(rt: &HostRuntime, name: &str, is_on_disk: bool) -> io::Result<()> {
+    let place = if is_on_disk { ", on a disk" } else { "" };
+    println!(rt; "{name}{place}")?;
     let answered = match wires_of(rt.alloc(), name) {
-        Ok(wires) => serve(rt.alloc(), wires),
+        Ok(wires) => serve(rt.alloc(), wires, is_on_disk),
         Err(fault) => Err(fault),
     };
     let Ok((served, connections)) = answered else {
@@ -148,7 +167,10 @@ fn show_loopback(rt: &HostRuntime) -> io::Result<()> {
 
 fn main(rt: HostRuntime) -> io::Result<()> {
     for name in NAMES {
-        show(&rt, name)?;
+        show(&rt, name, false)?;
+    }
+    for name in NAMES {
+        show(&rt, name, true)?;
     }
     for name in NAMES {
         show_visits(&rt, name, wires_of(rt.alloc(), name), all_passes())?;

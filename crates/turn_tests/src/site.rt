@@ -4,7 +4,9 @@ use host_types::{
     SiteKeeper, Stamp, Title,
 };
 use mem_site::MemSite;
+use session_core::Hub;
 use std::alloc::{AllocError, AllocFailed, Global};
+use word_index::SearchKeeper;
 
 /// A test could not be made ready.
 #[derive(Clone, Copy, Debug, PartialEq, Eq)]
@@ -61,7 +63,19 @@ fn form(alloc: Global) -> Result<Body, NotReady> {
     })
 }
 
-/// `/about`, the board `/book`, and the form `/sign` for it.
+/// What is put into a site.
+const CHANGES: usize = 3;
+
+/// One of the changes by its place: `/about`, the board `/book`, and the form `/sign` for it.
+fn change(alloc: Global, place: usize) -> Result<Change, NotReady> {
+    match place {
+        0 => put(alloc, b"/about", b"About us", text(alloc)?),
+        1 => put(alloc, b"/book", b"Book", Body::Board { cap: 100, next: 1 }),
+        _ => put(alloc, b"/sign", b"Sign", form(alloc)?),
+    }
+}
+
+/// A site in memory with all of it.
 pub fn test_site(alloc: Global) -> Result<MemSite, NotReady> {
     let mut site = MemSite::new(
         alloc,
@@ -71,12 +85,18 @@ pub fn test_site(alloc: Global) -> Result<MemSite, NotReady> {
         Title::new(b"Top")?,
         Stamp::start(),
     )?;
-    site.change(
-        put(alloc, b"/about", b"About us", text(alloc)?)?,
-        Stamp::start(),
-    )?;
-    let board = Body::Board { cap: 100, next: 1 };
-    site.change(put(alloc, b"/book", b"Book", board)?, Stamp::start())?;
-    site.change(put(alloc, b"/sign", b"Sign", form(alloc)?)?, Stamp::start())?;
+    for place in 0..CHANGES {
+        site.change(change(alloc, place)?, Stamp::start())?;
+    }
     Ok(site)
+}
+
+/// Puts all of it into the site of a hub.
+pub fn fill<S: SearchKeeper>(alloc: Global, hub: &mut Hub<S>) -> Result<(), NotReady> {
+    for place in 0..CHANGES {
+        if hub.admin(change(alloc, place)?, Stamp::start()).is_err() {
+            return Err(NotReady);
+        }
+    }
+    Ok(())
 }
