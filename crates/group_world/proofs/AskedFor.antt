@@ -9,7 +9,11 @@ use Rattle.request_reader.specs.Request.{Request}
 use Rattle.request_reader.specs.Verdict.{Verdict, Open, Early as EndedEarly, Whole, Bad}
 use Rattle.site_replies.specs.Reply.{reply, bad_reply}
 use Rattle.group_world.specs.World.{World, Phase, Heard, Waits, Reply, Early, phase_in, phase_of, others_in, count_waiting}
-use Rattle.group_world.specs.Step.{StepResult, Next, Event, Join, Draw, Leave, Outcome, Ready, waits_or, settles, understood, most_waiting, settled, draws, at_session, at_hearing, joined, left, changed, without_form, without_forms, site_from, answered_from, taken, flushed_by}
+use Rattle.group_world.specs.Step.{StepResult, Next, waits_or, settles, understood, most_waiting, settled, draws, at_session, at_hearing, joined, left, changed, without_form, without_forms, site_from, answered_from, taken, flushed_by}
+use Rattle.group_world.specs.declared.event.Event.{Event}
+use Rattle.group_world.specs.declared.event.Event.TheVariants.{Join, Draw, Leave}
+use Rattle.group_world.specs.declared.event.Outcome.{Outcome}
+use Rattle.group_world.specs.declared.event.Outcome.TheVariants.{Ready}
 use Rattle.group_world.specs.Continuing.{is_leave, text_by, text_heard, text_found}
 use Rattle.group_world.proofs.Phases.{own_phase, other_phase, gone_phase}
 use Rattle.group_world.proofs.SessionNumbers.{IsNumbered, nobody, left_is_new}

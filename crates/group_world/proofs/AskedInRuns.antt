@@ -5,9 +5,13 @@ use Rattle.std.proofs.lemmas.Bool.{cases_Bool}
 use Rattle.std.proofs.lemmas.List.{take-append-drop}
 use Rattle.host_types.specs.Change.{apply}
 use Rattle.request_reader.specs.Verdict.{Verdict, verdict}
-use Rattle.session_core.specs.declared.fault.HubFault.TheVariants as hub
+use Rattle.group_world.specs.declared.fault.HubFault.TheVariants as hub
 use Rattle.group_world.specs.World.{World, Phase, Heard, Waits, Reply, Early, phase_in, phase_of, started_as}
-use Rattle.group_world.specs.Step.{Event, Join, Bytes, End, Draw, Leave, Admin, Flush, Outcome, Joined, More, Ready, Finished, Waiting, Drawn, Gone, Done, Flushed, Fault, listens, ends, draws, at_session, answer, failed_answer, all_of}
+use Rattle.group_world.specs.Step.{listens, ends, draws, at_session, answer, failed_answer, all_of}
+use Rattle.group_world.specs.declared.event.Event.{Event}
+use Rattle.group_world.specs.declared.event.Event.TheVariants.{Join, Bytes, End, Draw, Leave, Admin, Flush}
+use Rattle.group_world.specs.declared.event.Outcome.{Outcome}
+use Rattle.group_world.specs.declared.event.Outcome.TheVariants.{Joined, More, Ready, Finished, Waiting, Drawn, Gone, Done, Flushed, Fault}
 use Rattle.group_world.specs.Run.{Step, StepBy, IsAnswer, IsFaulty, IsSplit, RunBy}
 use Rattle.group_world.specs.Continuing.{drawn_by, is_leave, stays_in, last_of, text_found, GivesText, WasAskedFor, DrawsWereAskedFor}
 use Rattle.group_world.proofs.Continuing.{faulty_stays, split_stays, continues}

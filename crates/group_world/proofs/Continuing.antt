@@ -7,9 +7,13 @@ use Rattle.host_types.specs.Site.{Site}
 use Rattle.host_types.specs.Change.{apply}
 use Rattle.common_types.specs.declared.refused.Refused.{Refused}
 use Rattle.request_reader.specs.Request.{Request}
-use Rattle.session_core.specs.declared.fault.HubFault.TheVariants as hub
+use Rattle.group_world.specs.declared.fault.HubFault.TheVariants as hub
 use Rattle.group_world.specs.World.{World, Phase, Heard, Waits, Reply, Early, phase_in, phase_of, others_in, with_phase, count_waiting}
-use Rattle.group_world.specs.Step.{StepResult, Next, Event, Join, Bytes, End, Draw, Leave, Admin, Flush, Outcome, Joined, More, Ready, Finished, Waiting, Drawn, Gone, Done, Flushed, Fault, at_session, at_hearing, settled, most_waiting, listens, ends, draws, joined, left, changed, answer, failed_answer, all_of, flushed, flushed_by}
+use Rattle.group_world.specs.Step.{StepResult, Next, at_session, at_hearing, settled, most_waiting, listens, ends, draws, joined, left, changed, answer, failed_answer, all_of, flushed, flushed_by}
+use Rattle.group_world.specs.declared.event.Event.{Event}
+use Rattle.group_world.specs.declared.event.Event.TheVariants.{Join, Bytes, End, Draw, Leave, Admin, Flush}
+use Rattle.group_world.specs.declared.event.Outcome.{Outcome}
+use Rattle.group_world.specs.declared.event.Outcome.TheVariants.{Joined, More, Ready, Finished, Waiting, Drawn, Gone, Done, Flushed, Fault}
 use Rattle.group_world.specs.Run.{StepBy, IsAnswer, IsFaulty, IsSplit, IsTakenSingly}
 use Rattle.group_world.specs.Continuing.{drawn_in, drawn_by, is_leave, is_flush, stays_in, Continues, PostsWait}
 use Rattle.group_world.proofs.Groups.{replies_stay}

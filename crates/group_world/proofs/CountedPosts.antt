@@ -15,27 +15,24 @@ use Rattle.host_types.specs.declared.item.Body.{Body}
 use Rattle.host_types.specs.declared.item.Body.TheVariants as bodies
 use Rattle.common_types.specs.declared.refused.Refused.{Refused}
 use Rattle.common_types.specs.declared.refused.Refused.TheVariants as refusals
-use Rattle.host_types.proofs.LookUps.{Differ, cases_selector, they_differ, differ_not, put_here, put_elsewhere, taken_elsewhere}
+use Rattle.host_types.proofs.LookUps.{Differ, cases_selector, they_differ, differ_not, put_here, put_elsewhere, taken_elsewhere, same_some}
 use Rattle.host_types.proofs.Boards.{body_is}
 use Rattle.host_types.proofs.ValidRemove.{not_refused}
-use Rattle.std.specs.Option.{option_map}
-use Rattle.host_types.specs.Card.{card_of, card_body, card_at}
-use Rattle.host_types.specs.Address.{Address, address}
-use Rattle.site_replies.specs.PostReply.{reply_by_body, reply_by_card}
-use Rattle.site_replies.proofs.Posted.{by_card}
+use Rattle.site_replies.specs.LaterReply.{is_post, one_on, are_posts, posts_on}
 use Rattle.group_world.specs.Step.{Changes}
-use Rattle.group_world.specs.Laws.{all_made, and_more, counted_on, counted_in, is_post, one_on, are_posts, posts_on, PostsCountOn, counted_body, counted_card, LaterRepliesAreKnown}
+use Rattle.group_world.specs.Laws.{all_made, and_more, counted_on, counted_in, PostsCountOn}
 
 -- ---- one post
 
 -- what a post leaves that was made
-record IsPosted (s t : Site) (board title text : List ℕ) (now : ℕ) : Type 0 where
-  item : Item
-  cap : ℕ
-  next : ℕ
-  stands : item_at s board ≡ Some item
-  is : item.body ≡ bodies.Board cap next
-  made : t ≡ without_any (with_post s board item cap next title text now) (oldest_post board cap next)
+pub record IsPosted (s t : Site) (board title text : List ℕ) (now : ℕ) : Type 0 where
+  pub item : Item
+  pub cap : ℕ
+  pub next : ℕ
+  pub stands : item_at s board ≡ Some item
+  pub is : item.body ≡ bodies.Board cap next
+  pub more : (next == 2 ^ 64 - 1) ≡ false
+  pub made : t ≡ without_any (with_post s board item cap next title text now) (oldest_post board cap next)
 
 abbrev made_of : Site → Result Site Refused
 made_of s = Ok s
@@ -46,13 +43,15 @@ same_ok s t h = sym (cc h)
 on_board : (s t : Site) (board title text : List ℕ) (now : ℕ) (item : Item) (b : Option (ℕ × ℕ)) → item_at s board ≡ Some item → board_of item.body ≡ b → post_on s board item b title text now ≡ Ok t → IsPosted s t board title text now
 on_board s t board title text now item None stands is h = absurd (cc h)
 on_board s t board title text now item (Some b) stands is h =
+    let passed = not_refused refusals.Spent (b.1 == 2 ^ 64 - 1) (Ok (without_any (with_post s board item b.0 b.1 title text now) (oldest_post board b.0 b.1))) t h in
     record {
       item = item;
       cap = b.0;
       next = b.1;
       stands = stands;
       is = body_is item.body b.0 b.1 is;
-      made = same_ok _ t (not_refused refusals.Spent (b.1 == 2 ^ 64 - 1) (Ok (without_any (with_post s board item b.0 b.1 title text now) (oldest_post board b.0 b.1))) t h).1;
+      more = passed.0;
+      made = same_ok _ t passed.1;
     }
 
 at_board : (s t : Site) (board title text : List ℕ) (now : ℕ) (o : Option Item) → item_at s board ≡ o → post_at s board o title text now ≡ Ok t → IsPosted s t board title text now
@@ -75,7 +74,7 @@ kept_elsewhere u board q cap n sorted other =
       | inr room ↦ rw room refl
     ]
 
-sorted_post : (s : Site) (board title text : List ℕ) (item : Item) (cap n now : ℕ) → IsTrue (is_sorted byte_cmp s.items) → IsTrue (is_sorted byte_cmp (with_post s board item cap n title text now).items)
+pub sorted_post : (s : Site) (board title text : List ℕ) (item : Item) (cap n now : ℕ) → IsTrue (is_sorted byte_cmp s.items) → IsTrue (is_sorted byte_cmp (with_post s board item cap n title text now).items)
 sorted_post s board title text item cap n now sorted =
     let middle = with_item s (post_selector board n) (text_item title now text) in
     is_sorted-insert_entry middle.items board (board_after item cap n now) (is_sorted-insert_entry s.items (post_selector board n) (text_item title now text) sorted)
@@ -87,7 +86,7 @@ sorted_any u board cap n sorted =
       | inr room ↦ rw room sorted
     ]
 
-not_counted : (body : Body) → counted_on 0 body ≡ body
+pub not_counted : (body : Body) → counted_on 0 body ≡ body
 not_counted (bodies.Views kind views) = refl
 not_counted (bodies.Menu es) = refl
 not_counted (bodies.Board cap next) = ap (bodies.Board cap) (omega arith)
@@ -103,35 +102,59 @@ counted_twice m n (bodies.Form board questions) = refl
 counted_twice m n (bodies.Search scope) = refl
 counted_twice m n (bodies.Moved target) = refl
 
-one_post_on : (s t : Site) (board title text q : List ℕ) (now : ℕ) → IsTrue (is_sorted byte_cmp s.items) → is_post_name q ≡ false → post s board title text now ≡ Ok t → counted_in 0 (item_at t q) ≡ counted_in (if bytes_eq q board then 1 else 0) (item_at s q)
+-- ---- what is seen at a selector
+
+-- until when it is found, and its body, a board counted on by so many
+abbrev pub seen_in : ℕ → Option Item → Option (Option ℕ × Body)
+seen_in n None = None
+seen_in n (Some item) = Some (item.until, counted_on n item.body)
+
+-- a post leaves what its board and its own item make of it
+pub left_there : (s t : Site) (board title text q : List ℕ) (now : ℕ) (p : IsPosted s t board title text now) → IsTrue (is_sorted byte_cmp s.items) → is_post_name q ≡ false → item_at t q ≡ item_at (with_post s board p.item p.cap p.next title text now) q
+left_there s t board title text q now p sorted other =
+    ap (λ (u : Site). item_at u q) p.made
+    ∙ kept_elsewhere (with_post s board p.item p.cap p.next title text now) board q p.cap p.next (sorted_post s board title text p.item p.cap p.next now sorted) other
+
+-- on the board
+pub left_on : (s t : Site) (board title text q : List ℕ) (now : ℕ) (p : IsPosted s t board title text now) → IsTrue (is_sorted byte_cmp s.items) → is_post_name q ≡ false → q ≡ board → item_at t q ≡ Some (board_after p.item p.cap p.next now)
+left_on s t board title text q now p sorted other same =
+    left_there s t board title text q now p sorted other
+    ∙ ap (item_at (with_post s board p.item p.cap p.next title text now)) same
+    ∙ put_here (with_item s (post_selector board p.next) (text_item title now text)) board (board_after p.item p.cap p.next now)
+
+-- off the board
+pub left_off : (s t : Site) (board title text q : List ℕ) (now : ℕ) (p : IsPosted s t board title text now) → IsTrue (is_sorted byte_cmp s.items) → is_post_name q ≡ false → Differ q board → item_at t q ≡ item_at s q
+left_off s t board title text q now p sorted other apart =
+    let first = post_selector board p.next in
+    left_there s t board title text q now p sorted other
+    ∙ put_elsewhere (with_item s first (text_item title now text)) board (board_after p.item p.cap p.next now) q apart
+    ∙ put_elsewhere s first (text_item title now text) q (gone_differs board q p.next other)
+
+one_post_on : (s t : Site) (board title text q : List ℕ) (now : ℕ) → IsTrue (is_sorted byte_cmp s.items) → is_post_name q ≡ false → post s board title text now ≡ Ok t → seen_in 0 (item_at t q) ≡ seen_in (if bytes_eq q board then 1 else 0) (item_at s q)
 one_post_on s t board title text q now sorted other h =
     let p = posted s t board title text now h in
-    let first = post_selector board p.next in
-    let middle = with_item s first (text_item title now text) in
-    let after = with_post s board p.item p.cap p.next title text now in
-    let sorted1 = sorted_post s board title text p.item p.cap p.next now sorted in
-    let there : item_at t q ≡ item_at after q = ap (λ (u : Site). item_at u q) p.made ∙ kept_elsewhere after board q p.cap p.next sorted1 other in
-    ap (counted_in 0) there ∙ elim (cases_selector q board) [
+    elim (cases_selector q board) [
       | inl same ↦
           let is : bytes_eq q board ≡ true = (bytes_eq-Decides q board).1 same in
-          let new : item_at after q ≡ Some (board_after p.item p.cap p.next now) = ap (item_at after) same ∙ put_here middle board (board_after p.item p.cap p.next now) in
+          let new : item_at t q ≡ Some (board_after p.item p.cap p.next now) = left_on s t board title text q now p sorted other same in
           let old : item_at s q ≡ Some p.item = ap (item_at s) same ∙ p.stands in
-          rw (new, old, is, p.is) (ap (λ (n : ℕ). Some (bodies.Board p.cap n)) (omega arith))
+          rw (new, old, is, p.is) (ap (λ (n : ℕ). Some (p.item.until, bodies.Board p.cap n)) (omega arith))
       | inr apart ↦
           let is : bytes_eq q board ≡ false = false_from_ne_true (bytes_eq q board) (λ yes. differ_not q board apart ((bytes_eq-Decides q board).0 yes)) in
-          let stays : item_at after q ≡ item_at s q = put_elsewhere middle board (board_after p.item p.cap p.next now) q apart ∙ put_elsewhere s first (text_item title now text) q (gone_differs board q p.next other) in
-          rw is (ap (counted_in 0) stays)
+          rw is (ap (seen_in 0) (left_off s t board title text q now p sorted other apart))
     ]
 
 -- ---- several
 
-counted_more : (m n : ℕ) (o u : Option Item) → counted_in 0 u ≡ counted_in m o → counted_in n u ≡ counted_in (m + n) o
-counted_more m n None None h = refl
-counted_more m n None (Some u) h = absurd (cc h)
-counted_more m n (Some o) None h = absurd (cc h)
-counted_more m n (Some o) (Some u) h =
-    let same : counted_on 0 u.body ≡ counted_on m o.body = cc h in
-    ap (λ (b : Body). Some b) (ap (counted_on n) (sym (not_counted u.body) ∙ same) ∙ counted_twice m n o.body)
+seen_more : (m n : ℕ) (o u : Option Item) → seen_in 0 u ≡ seen_in m o → seen_in n u ≡ seen_in (m + n) o
+seen_more m n None None h = refl
+seen_more m n None (Some u) h = absurd (cc h)
+seen_more m n (Some o) None h = absurd (cc h)
+seen_more m n (Some o) (Some u) h =
+    let pair : (u.until, counted_on 0 u.body) ≡ (o.until, counted_on m o.body) = same_some _ _ h in
+    let same : counted_on 0 u.body ≡ counted_on m o.body = ap (λ (x : Option ℕ × Body). x.1) pair in
+    let body : counted_on n u.body ≡ counted_on (m + n) o.body = ap (counted_on n) (sym (not_counted u.body) ∙ same) ∙ counted_twice m n o.body in
+    ap (λ (x : Option ℕ × Body). Some (x.0, counted_on n u.body)) pair ∙ ap (λ (b : Body). Some (o.until, b)) body
 
 sorted_change : (s t : Site) (change : Change) (now : ℕ) → IsTrue (is_sorted byte_cmp s.items) → is_post change ≡ true → apply s change now ≡ Ok t → IsTrue (is_sorted byte_cmp t.items)
 sorted_change s t (Post board title text) now sorted is h =
@@ -143,7 +166,7 @@ sorted_change s t (Move from to) now sorted is h = absurd (cc is)
 sorted_change s t (SetHost host port) now sorted is h = absurd (cc is)
 sorted_change s t (SetAdmin admin) now sorted is h = absurd (cc is)
 
-one_change_on : (s t : Site) (change : Change) (now : ℕ) (q : List ℕ) → IsTrue (is_sorted byte_cmp s.items) → is_post change ≡ true → is_post_name q ≡ false → apply s change now ≡ Ok t → counted_in 0 (item_at t q) ≡ counted_in (one_on q change) (item_at s q)
+one_change_on : (s t : Site) (change : Change) (now : ℕ) (q : List ℕ) → IsTrue (is_sorted byte_cmp s.items) → is_post change ≡ true → is_post_name q ≡ false → apply s change now ≡ Ok t → seen_in 0 (item_at t q) ≡ seen_in (one_on q change) (item_at s q)
 one_change_on s t (Post board title text) now q sorted is other h = one_post_on s t board title text q now sorted other h
 one_change_on s t (Put selector item) now q sorted is other h = absurd (cc is)
 one_change_on s t (Remove selector) now q sorted is other h = absurd (cc is)
@@ -154,67 +177,56 @@ one_change_on s t (SetAdmin admin) now q sorted is other h = absurd (cc is)
 same_site : (s t : Site) → Some s ≡ Some t → s ≡ t
 same_site s t h = cc h
 
-abbrev CountsOn : List ℕ → Site → Site → ℕ → Type 0
-CountsOn q s t n = counted_in 0 (item_at t q) ≡ counted_in n (item_at s q)
+abbrev pub CountsOn : List ℕ → Site → Site → ℕ → Type 0
+CountsOn q s t n = seen_in 0 (item_at t q) ≡ seen_in n (item_at s q)
 
 and_others : (s t : Site) (change : Change) (now : ℕ) (changes : Changes) (q : List ℕ) (more : Site → Option Site) → IsTrue (is_sorted byte_cmp s.items) → is_post change ≡ true → is_post_name q ≡ false
     → ((m : Site) → IsTrue (is_sorted byte_cmp m.items) → more m ≡ Some t → CountsOn q m t (posts_on q changes))
     → (r : Result Site Refused) → apply s change now ≡ r → and_more more r ≡ Some t → CountsOn q s t (one_on q change + posts_on q changes)
 and_others s t change now changes q more sorted post other others (Err refused) is h = absurd (cc h)
 and_others s t change now changes q more sorted post other others (Ok m) is h =
-    others m (sorted_change s m change now sorted post is) h ∙ counted_more (one_on q change) (posts_on q changes) (item_at s q) (item_at m q) (one_change_on s m change now q sorted post other is)
+    others m (sorted_change s m change now sorted post is) h ∙ seen_more (one_on q change) (posts_on q changes) (item_at s q) (item_at m q) (one_change_on s m change now q sorted post other is)
+
+pub posts_seen_on : (s t : Site) (changes : Changes) (q : List ℕ) → IsTrue (is_sorted byte_cmp s.items) → are_posts changes ≡ true → is_post_name q ≡ false → all_made s changes ≡ Some t → CountsOn q s t (posts_on q changes)
+posts_seen_on s t [] q sorted are other h = ap (λ (u : Site). seen_in 0 (item_at u q)) (sym (same_site s t h))
+posts_seen_on s t (c ∷ changes) q sorted are other h =
+    let parts = and_parts (is_post c.0) (are_posts changes) are in
+    and_others s t c.0 c.1 changes q (λ m. all_made m changes) sorted parts.0 other (λ m sorted_m more. posts_seen_on m t changes q sorted_m parts.1 other more) (apply s c.0 c.1) refl h
+
+body_seen : Option (Option ℕ × Body) → Option Body
+body_seen None = None
+body_seen (Some seen) = Some seen.1
+
+counted_seen : (n : ℕ) (o : Option Item) → body_seen (seen_in n o) ≡ counted_in n o
+unfolding body_seen
+counted_seen n None = refl
+counted_seen n (Some item) = refl
 
 pub posts_count_on : PostsCountOn
-posts_count_on s t [] q sorted are other h = ap (λ (u : Site). counted_in 0 (item_at u q)) (sym (same_site s t h))
-posts_count_on s t (c ∷ changes) q sorted are other h =
+posts_count_on s t changes q sorted are other h =
+    sym (counted_seen 0 (item_at t q)) ∙ ap body_seen (posts_seen_on s t changes q sorted are other h) ∙ counted_seen (posts_on q changes) (item_at s q)
+
+-- ---- what each post keeps, all keep
+
+abbrev pub EachKeeps : (Site → Type 0) → Type 0
+EachKeeps P = (s t : Site) (board title text : List ℕ) (now : ℕ) → IsTrue (is_sorted byte_cmp s.items) → IsPosted s t board title text now → P s → P t
+
+one_keeps : (P : Site → Type 0) → EachKeeps P → (s t : Site) (change : Change) (now : ℕ) → IsTrue (is_sorted byte_cmp s.items) → is_post change ≡ true → apply s change now ≡ Ok t → P s → P t
+one_keeps P each s t (Post board title text) now sorted is h has = each s t board title text now sorted (posted s t board title text now h) has
+one_keeps P each s t (Put selector item) now sorted is h has = absurd (cc is)
+one_keeps P each s t (Remove selector) now sorted is h has = absurd (cc is)
+one_keeps P each s t (Move from to) now sorted is h has = absurd (cc is)
+one_keeps P each s t (SetHost host port) now sorted is h has = absurd (cc is)
+one_keeps P each s t (SetAdmin admin) now sorted is h has = absurd (cc is)
+
+and_keep : (P : Site → Type 0) → EachKeeps P → (s t : Site) (change : Change) (now : ℕ) (more : Site → Option Site) → IsTrue (is_sorted byte_cmp s.items) → is_post change ≡ true
+    → ((m : Site) → IsTrue (is_sorted byte_cmp m.items) → more m ≡ Some t → P m → P t)
+    → (r : Result Site Refused) → apply s change now ≡ r → and_more more r ≡ Some t → P s → P t
+and_keep P each s t change now more sorted post others (Err refused) is h has = absurd (cc h)
+and_keep P each s t change now more sorted post others (Ok m) is h has = others m (sorted_change s m change now sorted post is) h (one_keeps P each s m change now sorted post is has)
+
+pub all_keep : (P : Site → Type 0) → EachKeeps P → (s t : Site) (changes : Changes) → IsTrue (is_sorted byte_cmp s.items) → are_posts changes ≡ true → all_made s changes ≡ Some t → P s → P t
+all_keep P each s t [] sorted are h has = subst P (same_site s t h) has
+all_keep P each s t (c ∷ changes) sorted are h has =
     let parts = and_parts (is_post c.0) (are_posts changes) are in
-    and_others s t c.0 c.1 changes q (λ m. all_made m changes) sorted parts.0 other (λ m sorted_m more. posts_count_on m t changes q sorted_m parts.1 other more) (apply s c.0 c.1) refl h
-
--- ---- replies
-
-same_address : (u : Site) (o : Option (List ℕ)) → address (without_any u o) ≡ address u
-same_address u None = refl
-same_address u (Some k) = refl
-
-one_address : (s t : Site) (change : Change) (now : ℕ) → is_post change ≡ true → apply s change now ≡ Ok t → address t ≡ address s
-one_address s t (Post board title text) now is h =
-    let p = posted s t board title text now h in
-    ap (λ (u : Site). address u) p.made ∙ same_address (with_post s board p.item p.cap p.next title text now) (oldest_post board p.cap p.next)
-one_address s t (Put selector item) now is h = absurd (cc is)
-one_address s t (Remove selector) now is h = absurd (cc is)
-one_address s t (Move from to) now is h = absurd (cc is)
-one_address s t (SetHost host port) now is h = absurd (cc is)
-one_address s t (SetAdmin admin) now is h = absurd (cc is)
-
-and_address : (s t : Site) (change : Change) (now : ℕ) (more : Site → Option Site) → is_post change ≡ true → ((m : Site) → more m ≡ Some t → address t ≡ address m) → (r : Result Site Refused) → apply s change now ≡ r → and_more more r ≡ Some t → address t ≡ address s
-and_address s t change now more post others (Err refused) is h = absurd (cc h)
-and_address s t change now more post others (Ok m) is h = others m h ∙ one_address s m change now post is
-
-all_address : (s t : Site) (changes : Changes) → are_posts changes ≡ true → all_made s changes ≡ Some t → address t ≡ address s
-all_address s t [] are h = ap (λ (u : Site). address u) (sym (same_site s t h))
-all_address s t (c ∷ changes) are h =
-    let parts = and_parts (is_post c.0) (are_posts changes) are in
-    and_address s t c.0 c.1 (λ m. all_made m changes) parts.0 (λ m more. all_address m t changes parts.1 more) (apply s c.0 c.1) refl h
-
-card_counts : (n : ℕ) (body : Body) → card_body (counted_on n body) ≡ counted_body n (card_body body)
-card_counts n (bodies.Views kind views) = refl
-card_counts n (bodies.Menu es) = refl
-card_counts n (bodies.Board cap next) = refl
-card_counts n (bodies.Form board questions) = refl
-card_counts n (bodies.Search scope) = refl
-card_counts n (bodies.Moved target) = refl
-
-by_counted : (a : Address) (now : ℕ) (board title text : List ℕ) (n : ℕ) (o u : Option Item) → counted_in 0 u ≡ counted_in n o → reply_by_card a now board title text (option_map card_of u) ≡ reply_by_card a now board title text (option_map (counted_card n) (option_map card_of o))
-by_counted a now board title text n None None h = refl
-by_counted a now board title text n None (Some u) h = absurd (cc h)
-by_counted a now board title text n (Some o) None h = absurd (cc h)
-by_counted a now board title text n (Some o) (Some u) h =
-    let same : counted_on 0 u.body ≡ counted_on n o.body = cc h in
-    let body : u.body ≡ counted_on n o.body = sym (not_counted u.body) ∙ same in
-    ap (reply_by_body a now board title text) (ap card_body body ∙ card_counts n o.body)
-
-pub later_replies_are_known : LaterRepliesAreKnown
-later_replies_are_known s t changes board title text now sorted are other h fits =
-    by_card t now board title text fits
-    ∙ ap (λ (a : Address). reply_by_card a now board title text (card_at t board)) (all_address s t changes are h)
-    ∙ by_counted (address s) now board title text (posts_on board changes) (item_at s board) (item_at t board) (posts_count_on s t changes board sorted are other h)
+    and_keep P each s t c.0 c.1 (λ m. all_made m changes) sorted parts.0 (λ m sorted_m more has_m. all_keep P each m t changes sorted_m parts.1 more has_m) (apply s c.0 c.1) refl h has

@@ -5,24 +5,24 @@ use Rattle.std.proofs.lemmas.List.{append-nil, take-append-le, take_all}
 use Rattle.host_types.specs.Site.{Site}
 use Rattle.common_types.specs.CrashStates.{CrashStates, may_crash_to}
 use Rattle.group_world.specs.World.{World}
-use Rattle.group_world.specs.Step.{Event}
+use Rattle.group_world.specs.declared.event.Event.{Event}
 use Rattle.group_world.specs.CrashStates.{Commit, with_changes, with_commits, Link, acknowledged, in_flight, accepted, HoldsCommits, IsRightlyStored, Leaves, LeavesInTurn, last_keeper, CallsLeave}
 use Rattle.group_world.proofs.Stored.{what_is_stored_is_right}
 
 -- ---- commits in a row
 
-both_made : (s : Site) (first more : List Commit) → with_commits s (first ++ more) ≡ with_commits (with_commits s first) more
+pub both_made : (s : Site) (first more : List Commit) → with_commits s (first ++ more) ≡ with_commits (with_commits s first) more
 both_made s [] more = refl
 both_made s (c ∷ first) more = both_made (with_changes s c) first more
 
-take_past : (n m : ℕ) (first more : List Commit) → m ≡ length first + n → take m (first ++ more) ≡ first ++ take n more
+pub take_past : (n m : ℕ) (first more : List Commit) → m ≡ length first + n → take m (first ++ more) ≡ first ++ take n more
 take_past n m [] more is = (let same : m ≡ n = omega (arith, is) in ap (λ (k : ℕ). take k more) same)
 take_past n zero (c ∷ first) more is = absurd (omega (arith, is))
 take_past n (suc m) (c ∷ first) more is = ap (λ (l : List Commit). c ∷ l) (take_past n m first more (omega (arith, is)))
 
 module _ {L : Type 0} (stands : L → Site → Type 0) where
   -- further commits change nothing of what is left
-  more_come : (s : Site) (commits more : List Commit) (a b : ℕ) (c : L) → b ≤ a → HoldsCommits stands s commits a c → HoldsCommits stands s (commits ++ more) b c
+  pub more_come : (s : Site) (commits more : List Commit) (a b : ℕ) (c : L) → b ≤ a → HoldsCommits stands s commits a c → HoldsCommits stands s (commits ++ more) b c
   more_come s commits more a b c le h = record {
     count = h.count;
     at_least = omega (arith, le, h.at_least);
@@ -31,7 +31,7 @@ module _ {L : Type 0} (stands : L → Site → Type 0) where
   }
 
   -- what is left after the commits of an event
-  comes_after : (s t : Site) (first more : List Commit) (a b : ℕ) (c : L) → t ≡ with_commits s first → b ≤ length first + a → HoldsCommits stands t more a c → HoldsCommits stands s (first ++ more) b c
+  pub comes_after : (s t : Site) (first more : List Commit) (a b : ℕ) (c : L) → t ≡ with_commits s first → b ≤ length first + a → HoldsCommits stands t more a c → HoldsCommits stands s (first ++ more) b c
   comes_after s t first more a b c made le h = record {
     count = length first + h.count;
     at_least = omega (arith, le, h.at_least);
@@ -40,7 +40,7 @@ module _ {L : Type 0} (stands : L → Site → Type 0) where
   }
 
   -- the site as it stands
-  stands_now : (s : Site) (commits : List Commit) (c : L) → stands c s → HoldsCommits stands s commits 0 c
+  pub stands_now : (s : Site) (commits : List Commit) (c : L) → stands c s → HoldsCommits stands s commits 0 c
   stands_now s commits c here = record { count = 0; at_least = omega arith; at_most = omega arith; represented = here }
 
 module _ {S L : Type 0} (crash_states : S → CrashStates L) (stands : L → Site → Type 0) (split : S → World → Event → Type 0) where
@@ -231,3 +231,20 @@ module _ {S L : Type 0} (crash_states : S → CrashStates L) (stands : L → Sit
         keeps = keeps w k ls all;
         since = λ t c le left. ⊎_elim (λ before. inl before) (λ from. inr (only_from w ls 0 c from)) (since w k ls (λ x. ⊥) all starts t c le left);
       }
+
+  -- ---- the moment behind some links
+
+  moment_behind : (k : S) (first more : List (Link S)) → at k (first ++ more) (length first) ≡ (crash_states (last_keeper k first)).moment
+  moment_behind k [] more = at_first k more
+  moment_behind k (l ∷ first) more = moment_behind l.keeper first more
+
+  -- What is left since the moment behind some calls has at least the commits that they acknowledged.
+  pub calls_since : (w : World) (k : S) (first more : List (Link S)) → ((c : L) → may_crash_to (crash_states k) c → stands c w.site) → All w k (first ++ more) → (c : L) →
+      (crash_states (last_keeper k (first ++ more))).possible_since (crash_states (last_keeper k first)).moment c → HoldsCommits stands w.site (accepted (first ++ more)) (length (acknowledged first)) c
+  calls_since w k first more start all c left =
+      let starts : Starts w k (λ x. ⊥) = λ c may. inl (start c may) in
+      let n = length first in
+      let since = subst (λ (t : ℕ). (crash_states (last_keeper k (first ++ more))).possible_since t c) (sym (moment_behind k first more)) left in
+      let front : take n (first ++ more) ≡ first = take-append-le n first more (omega arith) ∙ take_all n first (omega arith) in
+      subst (λ (x : List (Link S)). HoldsCommits stands w.site (accepted (first ++ more)) (length (acknowledged x)) c) front
+      (only_from w (first ++ more) (length (acknowledged (take n (first ++ more)))) c (each w k (first ++ more) (λ x. ⊥) all starts n c (omega (arith, length-append first more)) since))

@@ -1,8 +1,7 @@
 pub mod Groups
 pub mod CountedPosts
+pub mod LaterReplies
 pub mod PlainHubs
-pub mod SplitGroups
-pub mod BoardCounts
 pub mod Phases
 pub mod Continuing
 pub mod Places
@@ -11,3 +10,6 @@ pub mod AskedFor
 pub mod AskedInRuns
 pub mod Stored
 pub mod Crashes
+pub mod TakenMore
+pub mod FaultsKeep
+pub mod Leaving

@@ -3,12 +3,18 @@ use Rattle.std.proofs.Common.{◌≡◌, ◌⊎◌, ℕ, Bool, true, false, List
 use Rattle.std.specs.Prelude.{take, Option, Some, None}
 use Rattle.std.proofs.lemmas.Bool.{cases_Bool}
 use Rattle.host_types.specs.Site.{Site, item_at}
+use Rattle.host_types.specs.Visible.{visible}
 use Rattle.host_types.specs.declared.change.Change.{Change}
 use Rattle.request_reader.specs.Request.{Request}
 use Rattle.request_reader.specs.Verdict.{Verdict, Open, Early as EndedEarly, Whole, Bad, verdict}
 use Rattle.site_replies.specs.Reply.{WholeAnswer, reply}
 use Rattle.group_world.specs.World.{World, Phase, Heard, Waits, Reply, Early, phase_in, phase_of, count_waiting}
-use Rattle.group_world.specs.Step.{StepResult, Event, Join, Bytes, End, Draw, Leave, Admin, Flush, Outcome, Ready, waits_or, settles, understood, listens, ends, most_waiting, settled, at_hearing, answer, failed_answer, is_form_in, without_form, without_forms, all_of, flushed_by}
+use Rattle.site_replies.specs.Forms.{is_form_in}
+use Rattle.group_world.specs.Step.{StepResult, waits_or, settles, understood, listens, ends, most_waiting, settled, at_hearing, answer, failed_answer, without_form, without_forms, all_of, flushed_by}
+use Rattle.group_world.specs.declared.event.Event.{Event}
+use Rattle.group_world.specs.declared.event.Event.TheVariants.{Join, Bytes, End, Draw, Leave, Admin, Flush}
+use Rattle.group_world.specs.declared.event.Outcome.{Outcome}
+use Rattle.group_world.specs.declared.event.Outcome.TheVariants.{Ready}
 use Rattle.group_world.specs.Run.{StepBy}
 use Rattle.group_world.specs.Continuing.{text_by, text_heard, text_found, is_flush, IsTakenBy, IsOfItsPlace, ContinuesWhatWasFound, ContinuesFromItsPlace}
 use Rattle.group_world.proofs.Groups.{stays_taken, finds_its_place}
@@ -123,9 +129,9 @@ phase_without s (x ∷ sessions) id p h =
 
 abbrev HasItsPlace : World → List Bool → Request → ℕ → List ℕ → Type 0
 HasItsPlace w choices request now text =
-    ((is_form_in (item_at w.site request.selector) ≡ false) × (text ≡ (reply w.site request now).bytes)) ⊎ ((n : ℕ) × (text ≡ (reply (flushed_by w (take n choices)).site request now).bytes))
+    ((is_form_in (item_at (visible w.site now) request.selector) ≡ false) × (text ≡ (reply w.site request now).bytes)) ⊎ ((n : ℕ) × (text ≡ (reply (flushed_by w (take n choices)).site request now).bytes))
 
-place_by : (b : Bool) (w : World) (choices : List Bool) (id : ℕ) (request : Request) (now : ℕ) (text : List ℕ) → is_form_in (item_at w.site request.selector) ≡ b → phase_of w id ≡ Some (Waits request now) → phase_in (flushed_by w choices).sessions id ≡ Some (Reply text) → HasItsPlace w choices request now text
+place_by : (b : Bool) (w : World) (choices : List Bool) (id : ℕ) (request : Request) (now : ℕ) (text : List ℕ) → is_form_in (item_at (visible w.site now) request.selector) ≡ b → phase_of w id ≡ Some (Waits request now) → phase_in (flushed_by w choices).sessions id ≡ Some (Reply text) → HasItsPlace w choices request now text
 place_by true w choices id request now text form waits has =
     let still : phase_in (without_forms w.site w.sessions) id ≡ Some (Waits request now) = phase_without w.site w.sessions id (Waits request now) waits ∙ rw form refl in
     inr (finds_its_place w.site choices (without_forms w.site w.sessions) id request now text still has)
@@ -136,7 +142,7 @@ place_by false w choices id request now text gone waits has =
     inl (gone, cc there)
 
 of_its_place : (old mid : World) (choices : List Bool) (id : ℕ) (request : Request) (now : ℕ) (text : List ℕ) → IsTakenBy old choices mid → phase_of old id ≡ Some (Waits request now) → phase_of mid id ≡ Some (Reply text) → IsOfItsPlace old mid request now text
-of_its_place old mid choices id request now text taken waits has = of (place_by (is_form_in (item_at old.site request.selector)) old choices id request now text refl waits (ap (λ (ss : List (ℕ × Phase)). phase_in ss id) (sym taken.1) ∙ has))
+of_its_place old mid choices id request now text taken waits has = of (place_by (is_form_in (item_at (visible old.site now) request.selector)) old choices id request now text refl waits (ap (λ (ss : List (ℕ × Phase)). phase_in ss id) (sym taken.1) ∙ has))
   where
     of : HasItsPlace old choices request now text → IsOfItsPlace old mid request now text
     of (inl gone) = inl gone

@@ -14,6 +14,10 @@ use Rattle.session_core.specs.declared.event.Event.{Event as PlainEvent}
 use Rattle.session_core.specs.declared.event.Event.TheVariants as plain_events
 use Rattle.group_world.specs.World.{Phase, phase_in, moved_in, others_in}
 use Rattle.group_world.specs.Step as grouped
+use Rattle.group_world.specs.declared.event.Event.{Event}
+use Rattle.group_world.specs.declared.event.Event.TheVariants as events
+use Rattle.group_world.specs.declared.event.Outcome.{Outcome}
+use Rattle.group_world.specs.declared.event.Outcome.TheVariants as outcomes
 use Rattle.group_world.specs.PlainHubs.{phase_up, session_up, sessions_up, world_up, event_up, outcome_up, next_up, PlainHubsStay}
 
 abbrev option_up : Option plain.Phase → Option Phase
@@ -51,7 +55,7 @@ more_up [] ts = refl
 more_up (s ∷ ss) ts = ap (λ (l : List (ℕ × Phase)). session_up s ∷ l) (more_up ss ts)
 
 -- a world with other sessions
-abbrev at_sessions : grouped.Outcome → plain.World → Site → ℕ → List (ℕ × Phase) → grouped.Next
+abbrev at_sessions : Outcome → plain.World → Site → ℕ → List (ℕ × Phase) → grouped.Next
 at_sessions outcome w site next sessions = record { outcome = outcome; world = record { site = site; next = next; failed = w.failed; grouped = false; sessions = sessions } }
 
 -- ---- one session
@@ -117,7 +121,7 @@ session_at_up w id f g same (Some p) =
 
 left_up : (w : plain.World) (id : ℕ) (o : Option plain.Phase) → grouped.left (world_up w) id (option_up o) ≡ next_up (plain_step.left w id o)
 left_up w id None = refl
-left_up w id (Some p) = λ i. at_sessions grouped.Gone w w.site w.next (others_up w.sessions id i)
+left_up w id (Some p) = λ i. at_sessions outcomes.Gone w w.site w.next (others_up w.sessions id i)
 
 joined_up : (w : plain.World) → grouped.joined (world_up w) ≡ next_up (plain_step.joined w)
 unfolding grouped.joined plain_step.joined
@@ -127,7 +131,7 @@ joined_up w =
       | inl full ↦ rw (count, full) refl
       | inr room ↦ elim (cases_Bool (w.next == 2 ^ 64 - 1)) [
         | inl last ↦ rw (count, room, last) refl
-        | inr less ↦ rw (count, room, less) (λ i. at_sessions (grouped.Joined w.next) w w.site (w.next + 1) (more_up w.sessions ((w.next, plain.Heard []) ∷ []) i))
+        | inr less ↦ rw (count, room, less) (λ i. at_sessions (outcomes.Joined w.next) w w.site (w.next + 1) (more_up w.sessions ((w.next, plain.Heard []) ∷ []) i))
       ]
     ]
 

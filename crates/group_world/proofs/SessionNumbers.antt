@@ -6,7 +6,10 @@ use Rattle.host_types.specs.Site.{Site}
 use Rattle.host_types.specs.Change.{apply}
 use Rattle.common_types.specs.declared.refused.Refused.{Refused}
 use Rattle.group_world.specs.World.{World, Phase, Heard, Waits, Reply, Early, phase_in, phase_of, moved_in, others_in, count_waiting}
-use Rattle.group_world.specs.Step.{StepResult, Next, Event, Join, Bytes, End, Draw, Leave, Admin, Flush, Outcome, most_waiting, listens, ends, draws, settled, at_session, at_hearing, joined, left, changed, answer, failed_answer, without_forms, site_from, taken, flushed_by, all_of}
+use Rattle.group_world.specs.Step.{StepResult, Next, most_waiting, listens, ends, draws, settled, at_session, at_hearing, joined, left, changed, answer, failed_answer, without_forms, site_from, taken, flushed_by, all_of}
+use Rattle.group_world.specs.declared.event.Event.{Event}
+use Rattle.group_world.specs.declared.event.Event.TheVariants.{Join, Bytes, End, Draw, Leave, Admin, Flush}
+use Rattle.group_world.specs.declared.event.Outcome.{Outcome}
 use Rattle.group_world.specs.Run.{StepBy, IsSplit}
 use Rattle.group_world.proofs.Continuing.{faulty_stays, split_stays}
 

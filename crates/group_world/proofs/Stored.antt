@@ -9,10 +9,14 @@ use Rattle.common_types.specs.declared.refused.Refused.{Refused}
 use Rattle.request_reader.specs.Request.{Request}
 use Rattle.request_reader.specs.Verdict.{Verdict, Open, Early as EndedEarly, Whole, Bad, verdict}
 use Rattle.site_replies.specs.Reply.{WholeAnswer, reply}
-use Rattle.session_core.specs.declared.fault.HubFault.{HubFault}
-use Rattle.session_core.specs.declared.fault.HubFault.TheVariants as hub
+use Rattle.group_world.specs.declared.fault.HubFault.{HubFault}
+use Rattle.group_world.specs.declared.fault.HubFault.TheVariants as hub
 use Rattle.group_world.specs.World.{World, Phase, Heard, Waits, Reply, Early, phase_of, count_waiting}
-use Rattle.group_world.specs.Step.{Changes, StepResult, Next, Event, Join, Bytes, End, Draw, Leave, Admin, Flush, Outcome, Joined, More, Ready, Finished, Waiting, Drawn, Gone, Done, Flushed, Fault, made_or, with_change, at_moment, most_waiting, waits_or, settles, understood, settled, listens, ends, draws, at_session, at_hearing, joined, left, changed, answer, failed_answer, without_forms, flushed_by, all_of}
+use Rattle.group_world.specs.Step.{Changes, StepResult, Next, made_or, with_change, at_moment, most_waiting, waits_or, settles, understood, settled, listens, ends, draws, at_session, at_hearing, joined, left, changed, answer, failed_answer, without_forms, flushed_by, all_of}
+use Rattle.group_world.specs.declared.event.Event.{Event}
+use Rattle.group_world.specs.declared.event.Event.TheVariants.{Join, Bytes, End, Draw, Leave, Admin, Flush}
+use Rattle.group_world.specs.declared.event.Outcome.{Outcome}
+use Rattle.group_world.specs.declared.event.Outcome.TheVariants.{Joined, More, Ready, Finished, Waiting, Drawn, Gone, Done, Flushed, Fault}
 use Rattle.group_world.specs.Run.{post_in, valid_one, changes_in, IsAnswer, IsFaulty, IsTakenSingly}
 use Rattle.group_world.specs.Laws.{all_made, and_more}
 use Rattle.group_world.specs.CrashStates.{with_changes, with_commits, Stored, in_one_step, one_by_one, changes_at, stored_whole, stored_singly, IsInTurn, IsRightlyStored, WhatIsStoredIsRight}
@@ -21,16 +25,16 @@ use Rattle.group_world.proofs.Continuing.{split_stays}
 
 -- ---- commits and changes
 
-one_step_makes : (s : Site) (changes : Changes) → with_commits s (in_one_step changes) ≡ with_changes s changes
+pub one_step_makes : (s : Site) (changes : Changes) → with_commits s (in_one_step changes) ≡ with_changes s changes
 one_step_makes s [] = refl
 one_step_makes s (c ∷ changes) = refl
 
-singles_make : (s : Site) (changes : Changes) → with_commits s (one_by_one changes) ≡ with_changes s changes
+pub singles_make : (s : Site) (changes : Changes) → with_commits s (one_by_one changes) ≡ with_changes s changes
 singles_make s [] = refl
 singles_make s (c ∷ changes) = singles_make (made_or s (apply s c.0 c.1)) changes
 
 -- changes that are all right make what they make
-right_make : (s t : Site) (changes : Changes) → all_made s changes ≡ Some t → with_changes s changes ≡ t
+pub right_make : (s t : Site) (changes : Changes) → all_made s changes ≡ Some t → with_changes s changes ≡ t
 right_make s t [] is = cc is
 right_make s t (c ∷ changes) is = by (λ v made. right_make v t changes made) (apply s c.0 c.1) is
   where
@@ -46,7 +50,7 @@ group_makes w choices = right_make w.site (flushed_by w choices).site (flushed_b
 abbrev Makes : Site → Changes → Next → Type 0
 Makes s changes next = next.world.site ≡ with_changes s changes
 
-at_moment_makes : (s : Site) (now : ℕ) (post : Option Change) → with_change s now post ≡ with_changes s (at_moment now post)
+pub at_moment_makes : (s : Site) (now : ℕ) (post : Option Change) → with_change s now post ≡ with_changes s (at_moment now post)
 at_moment_makes s now None = refl
 at_moment_makes s now (Some change) = refl
 
@@ -67,7 +71,7 @@ settles_none : (grouped : Bool) (request : Request) (now : ℕ) (a : WholeAnswer
 settles_none true request now a r since is = waits_none request now a a.post r since is
 settles_none false request now a r since is = absurd (cc is)
 
-understood_none : (grouped : Bool) (site : Site) (now : ℕ) (stream : List ℕ) (v : Verdict) (r : Request) (since : ℕ) → (understood grouped site now stream v).phase ≡ Waits r since → (understood grouped site now stream v).post ≡ None
+pub understood_none : (grouped : Bool) (site : Site) (now : ℕ) (stream : List ℕ) (v : Verdict) (r : Request) (since : ℕ) → (understood grouped site now stream v).phase ≡ Waits r since → (understood grouped site now stream v).post ≡ None
 understood_none grouped site now stream Open r since is = refl
 understood_none grouped site now stream EndedEarly r since is = refl
 understood_none grouped site now stream (Whole request) r since is = settles_none grouped request now (reply site request now) r since is
@@ -142,13 +146,13 @@ hearing_fault w id now f (Some (Waits request since)) none never fault is = absu
 hearing_fault w id now f (Some (Reply rest)) none never fault is = absurd (never (Reply rest) fault is)
 hearing_fault w id now f (Some Early) none never fault is = absurd (never Early fault is)
 
-listens_fault : (grouped : Bool) (site : Site) (now : ℕ) (piece : List ℕ) (p : Phase) (fault : HubFault) → Fault fault ≡ (listens grouped site now piece p).outcome → ⊥
+pub listens_fault : (grouped : Bool) (site : Site) (now : ℕ) (piece : List ℕ) (p : Phase) (fault : HubFault) → Fault fault ≡ (listens grouped site now piece p).outcome → ⊥
 listens_fault grouped site now piece (Heard stream) fault is = understood_fault grouped site now (stream ++ piece) (verdict (stream ++ piece) false) fault is
 listens_fault grouped site now piece (Waits request since) fault is = absurd (cc is)
 listens_fault grouped site now piece (Reply rest) fault is = absurd (cc is)
 listens_fault grouped site now piece Early fault is = absurd (cc is)
 
-ends_fault : (grouped : Bool) (site : Site) (now : ℕ) (p : Phase) (fault : HubFault) → Fault fault ≡ (ends grouped site now p).outcome → ⊥
+pub ends_fault : (grouped : Bool) (site : Site) (now : ℕ) (p : Phase) (fault : HubFault) → Fault fault ≡ (ends grouped site now p).outcome → ⊥
 ends_fault grouped site now (Heard stream) fault is = understood_fault grouped site now stream (verdict stream true) fault is
 ends_fault grouped site now (Waits request since) fault is = absurd (cc is)
 ends_fault grouped site now (Reply rest) fault is = absurd (cc is)
@@ -158,7 +162,7 @@ changed_fault : (w : World) (change : Change) (now : ℕ) (r : Result Site Refus
 changed_fault w change now (Ok site) fault is = absurd (cc is)
 changed_fault w change now (Err refused) fault is = refl
 
-answer_fault : (w : World) (e : Event) → MakesNone (changes_in w e) (answer w e)
+pub answer_fault : (w : World) (e : Event) → MakesNone (changes_in w e) (answer w e)
 answer_fault w Join fault is = refl
 answer_fault w (Bytes id piece now) fault is =
     hearing_fault w id now (listens w.grouped w.site now piece) (phase_of w id) (λ stream. understood_none w.grouped w.site now (stream ++ piece) (verdict (stream ++ piece) false)) (listens_fault w.grouped w.site now piece) fault is
@@ -184,12 +188,12 @@ failed_there w (Admin change now) = (refl, refl)
 failed_there w Flush = (refl, refl)
 
 -- what is stored in one step, by the changes of an event
-abbrev whole_of : Changes → Outcome → Stored
+abbrev pub whole_of : Changes → Outcome → Stored
 whole_of changes (Fault hub.Failed) = record { commits = []; flying = in_one_step changes }
 whole_of changes (Fault fault) = record { commits = []; flying = [] }
 whole_of changes outcome = record { commits = in_one_step changes; flying = [] }
 
-whole_none : (o : Outcome) → whole_of [] o ≡ record { commits = []; flying = [] }
+pub whole_none : (o : Outcome) → whole_of [] o ≡ record { commits = []; flying = [] }
 whole_none (Joined k) = refl
 whole_none More = refl
 whole_none Ready = refl
@@ -210,7 +214,7 @@ whole_none (Fault hub.Broken) = refl
 whole_none (Fault hub.Memory) = refl
 whole_none (Fault hub.NotReady) = refl
 
-whole_is : (w : World) (e : Event) (o : Outcome) → stored_whole w e o ≡ whole_of (changes_at w e) o
+pub whole_is : (w : World) (e : Event) (o : Outcome) → stored_whole w e o ≡ whole_of (changes_at w e) o
 whole_is w e (Joined k) = refl
 whole_is w e More = refl
 whole_is w e Ready = refl
@@ -232,7 +236,7 @@ whole_is w e (Fault hub.Memory) = refl
 whole_is w e (Fault hub.NotReady) = refl
 
 -- a fault acknowledges nothing, and anything else leaves nothing in flight
-acknowledges : (changes : Changes) (o : Outcome) → ((fault : HubFault) → o ≡ Fault fault → changes ≡ []) → whole_of changes o ≡ record { commits = in_one_step changes; flying = [] }
+pub acknowledges : (changes : Changes) (o : Outcome) → ((fault : HubFault) → o ≡ Fault fault → changes ≡ []) → whole_of changes o ≡ record { commits = in_one_step changes; flying = [] }
 acknowledges changes (Fault fault) none = ap (λ (l : Changes). whole_of l (Fault fault)) (none fault refl) ∙ whole_none (Fault fault) ∙ sym (ap (λ (l : Changes). let s : Stored = record { commits = in_one_step l; flying = [] } in s) (none fault refl))
 acknowledges changes (Joined k) none = refl
 acknowledges changes More none = refl

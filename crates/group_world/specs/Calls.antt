@@ -4,8 +4,8 @@ use Rattle.common_types.specs.Counts.{counted}
 use Rattle.host_types.specs.SiteState.{SiteState, Rose}
 use Rattle.host_types.specs.declared.site_fault.SiteFault.{SiteFault}
 use Rattle.host_types.specs.declared.site_fault.SiteFault.TheVariants as faults
-use Rattle.session_core.specs.declared.fault.HubFault.{HubFault}
-use Rattle.session_core.specs.declared.fault.HubFault.TheVariants as hub
+use Rattle.group_world.specs.declared.fault.HubFault.{HubFault}
+use Rattle.group_world.specs.declared.fault.HubFault.TheVariants as hub
 use Rattle.group_world.specs.Step.{Changes}
 
 -- ---- causes

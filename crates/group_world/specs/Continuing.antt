@@ -1,11 +1,17 @@
 -- What sessions rest on where posts may wait: what is drawn goes on from where it stood, and is the text of the site that the request found, or that the post found at its place in the group.
 use Rattle.std.specs.Prelude.{◌≡◌, ◌⊎◌, ℕ, Bool, true, false, not, List, [], ◌∷◌, ◌++◌, ◌==◌, ◌&&◌, take, Option, Some, None, if◌then◌else◌}
 use Rattle.host_types.specs.Site.{Site, item_at}
+use Rattle.host_types.specs.Visible.{visible}
 use Rattle.request_reader.specs.Request.{Request}
 use Rattle.request_reader.specs.Verdict.{Verdict, Open, Early as EndedEarly, Whole, Bad, verdict}
 use Rattle.site_replies.specs.Reply.{reply, bad_reply}
 use Rattle.group_world.specs.World.{World, Phase, Heard, Waits, Reply, phase_of, started_as}
-use Rattle.group_world.specs.Step.{Event, Bytes, End, Draw, Leave, Flush, Outcome, Ready, Drawn, is_form_in, flushed_by}
+use Rattle.site_replies.specs.Forms.{is_form_in}
+use Rattle.group_world.specs.Step.{flushed_by}
+use Rattle.group_world.specs.declared.event.Event.{Event}
+use Rattle.group_world.specs.declared.event.Event.TheVariants.{Bytes, End, Draw, Leave, Flush}
+use Rattle.group_world.specs.declared.event.Outcome.{Outcome}
+use Rattle.group_world.specs.declared.event.Outcome.TheVariants.{Ready, Drawn}
 use Rattle.group_world.specs.Run.{Step, RunBy}
 
 -- the bytes that a session draws in an event
@@ -84,7 +90,7 @@ IsTakenBy old choices new = (new.site ≡ (flushed_by old choices).site) × (new
 -- The text is the reply to the request from the site at its place in the group: as the flush began, where it finds no form any more; else behind the first so many that were taken.
 abbrev pub IsOfItsPlace : World → World → Request → ℕ → List ℕ → Type 0
 IsOfItsPlace old new request now text =
-    ((is_form_in (item_at old.site request.selector) ≡ false) × (text ≡ (reply old.site request now).bytes))
+    ((is_form_in (item_at (visible old.site now) request.selector) ≡ false) × (text ≡ (reply old.site request now).bytes))
     ⊎ ((choices : List Bool) × (n : ℕ) × IsTakenBy old choices new × (text ≡ (reply (flushed_by old (take n choices)).site request now).bytes))
 
 -- A post that a flush answers has the text of its place, and every byte that is drawn from then on continues it.

@@ -3,9 +3,13 @@ use Rattle.std.specs.Prelude.{◌≡◌, ◌⊎◌, ◌≤◌, ℕ, true, false,
 use Rattle.host_types.specs.Site.{Site}
 use Rattle.host_types.specs.Change.{apply}
 use Rattle.common_types.specs.CrashStates.{CrashStates, AddsOnly, AddsNone, may_crash_to}
-use Rattle.session_core.specs.declared.fault.HubFault.TheVariants.{Failed}
+use Rattle.group_world.specs.declared.fault.HubFault.TheVariants.{Failed}
 use Rattle.group_world.specs.World.{World}
-use Rattle.group_world.specs.Step.{Changes, made_or, Event, Flush, Outcome, Fault, flushed_by}
+use Rattle.group_world.specs.Step.{Changes, made_or, flushed_by}
+use Rattle.group_world.specs.declared.event.Event.{Event}
+use Rattle.group_world.specs.declared.event.Event.TheVariants.{Flush}
+use Rattle.group_world.specs.declared.event.Outcome.{Outcome}
+use Rattle.group_world.specs.declared.event.Outcome.TheVariants.{Fault}
 use Rattle.group_world.specs.Run.{changes_in, IsAnswer, IsFaulty, IsTakenSingly}
 
 -- the site with changes, one after another

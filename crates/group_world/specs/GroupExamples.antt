@@ -7,10 +7,14 @@ use Rattle.host_types.specs.declared.item.Body.TheVariants as bodies
 use Rattle.host_types.specs.declared.menu.Entry.TheVariants as entries
 use Rattle.host_types.specs.declared.form.Question.TheVariants as questions
 use Rattle.host_types.specs.declared.change.Change.TheVariants.{Put, Remove}
-use Rattle.session_core.specs.declared.fault.HubFault.TheVariants.{NotReady, Failed}
+use Rattle.group_world.specs.declared.fault.HubFault.TheVariants.{NotReady, Failed}
 use Rattle.group_world.specs.CrashStates.{Stored, stored_whole, stored_singly}
 use Rattle.group_world.specs.World.{World, started_as}
-use Rattle.group_world.specs.Step.{Event, Join, Bytes, End, Draw, Leave, Admin, Flush, Outcome, Joined, Ready, Waiting, Drawn, Gone, Done, Flushed, Fault, step}
+use Rattle.group_world.specs.Step.{step}
+use Rattle.group_world.specs.declared.event.Event.{Event}
+use Rattle.group_world.specs.declared.event.Event.TheVariants.{Join, Bytes, End, Draw, Leave, Admin, Flush}
+use Rattle.group_world.specs.declared.event.Outcome.{Outcome}
+use Rattle.group_world.specs.declared.event.Outcome.TheVariants.{Joined, Ready, Waiting, Drawn, Gone, Done, Flushed, Fault}
 
 abbrev pub answers : World → List Event → List Outcome
 answers w [] = []

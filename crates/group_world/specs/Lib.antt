@@ -1,3 +1,4 @@
+pub mod Outcomes
 pub mod World
 pub mod Step
 pub mod Run

@@ -1,13 +1,17 @@
 -- Steps and runs of a hub, with the faults that may come in place of an answer, and posts that are taken one at a time.
-use Rattle.std.specs.Prelude.{◌≡◌, ◌⊎◌, ℕ, ◌-◌, ◌<◌, Bool, true, false, List, [], ◌∷◌, ◌++◌, length, nat_lt, Option, Some, None, Result, Ok, Err, IsTrue}
+use Rattle.std.specs.Prelude.{◌≡◌, ◌⊎◌, ℕ, ◌-◌, ◌<◌, Bool, true, false, List, [], ◌∷◌, ◌++◌, length, nat_lt, Option, Some, None, Result, Ok, Err, IsTrue, is_some}
 use Rattle.host_types.specs.Site.{Site}
 use Rattle.host_types.specs.Change.{apply}
 use Rattle.host_types.specs.declared.change.Change.{Change}
 use Rattle.common_types.specs.declared.refused.Refused.{Refused}
-use Rattle.session_core.specs.declared.fault.HubFault.{HubFault}
-use Rattle.session_core.specs.declared.fault.HubFault.TheVariants.{Full, Spent, Deep, Broken, Failed, Memory}
+use Rattle.group_world.specs.declared.fault.HubFault.{HubFault}
+use Rattle.group_world.specs.declared.fault.HubFault.TheVariants.{Full, Spent, Deep, Broken, Failed, Memory}
 use Rattle.group_world.specs.World.{World, Phase, Heard, Reply, phase_of, count_waiting}
-use Rattle.group_world.specs.Step.{Changes, Event, Bytes, End, Draw, Admin, Flush, Outcome, Fault, Flushed, StepResult, listens, ends, at_moment, flushed_by, whole_group, with_group, step}
+use Rattle.group_world.specs.Step.{Changes, StepResult, listens, ends, at_moment, flushed_by, whole_group, with_group, step}
+use Rattle.group_world.specs.declared.event.Event.{Event}
+use Rattle.group_world.specs.declared.event.Event.TheVariants.{Bytes, End, Draw, Leave, Admin, Flush}
+use Rattle.group_world.specs.declared.event.Outcome.{Outcome}
+use Rattle.group_world.specs.declared.event.Outcome.TheVariants.{Fault, Flushed}
 
 abbrev pub is_hearing : Option Phase → Bool
 is_hearing (Some (Heard stream)) = true
@@ -16,6 +20,14 @@ is_hearing phase = false
 abbrev pub has_bytes_left : Option Phase → Bool
 has_bytes_left (Some (Reply (b ∷ rest))) = true
 has_bytes_left phase = false
+
+-- The session is there that the event is about, where it is about one.
+abbrev pub is_there : World → Event → Bool
+is_there w (Bytes id piece now) = is_some (phase_of w id)
+is_there w (End id now) = is_some (phase_of w id)
+is_there w (Draw id room) = is_some (phase_of w id)
+is_there w (Leave id) = is_some (phase_of w id)
+is_there w e = true
 
 abbrev pub has_waiting : World → Bool
 has_waiting w = nat_lt 0 (count_waiting w.sessions)

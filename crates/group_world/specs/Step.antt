@@ -1,46 +1,25 @@
 -- One event: what the protocol answers, and the world after it.
 use Rattle.std.specs.Prelude.{ℕ, ◌+◌, ◌-◌, ◌^◌, Bool, true, false, List, [], ◌∷◌, ◌++◌, Option, Some, None, Result, Ok, Err, if◌then◌else◌, ◌==◌, nat_le, length, map, take, drop}
 use Rattle.host_types.specs.Site.{Site, item_at}
+use Rattle.host_types.specs.Visible.{visible}
 use Rattle.host_types.specs.Change.{apply}
 use Rattle.host_types.specs.declared.change.Change.{Change}
-use Rattle.host_types.specs.declared.item.Item.{Item}
-use Rattle.host_types.specs.declared.item.Body.{Body}
-use Rattle.host_types.specs.declared.item.Body.TheVariants as bodies
 use Rattle.common_types.specs.declared.refused.Refused.{Refused}
 use Rattle.request_reader.specs.Request.{Request}
 use Rattle.request_reader.specs.Verdict.{Verdict, Open, Early as EndedEarly, Whole, Bad, verdict}
+use Rattle.site_replies.specs.Forms.{is_form_in}
 use Rattle.site_replies.specs.Reply.{WholeAnswer, reply, bad_reply}
-use Rattle.session_core.specs.declared.fault.HubFault.{HubFault}
-use Rattle.session_core.specs.declared.fault.HubFault.TheVariants.{Unknown, Crowded, Spent, Refused as RefusedBy, Failed, NotReady}
+use Rattle.group_world.specs.declared.fault.HubFault.{HubFault}
+use Rattle.group_world.specs.declared.fault.HubFault.TheVariants.{Unknown, Crowded, Spent, Refused as RefusedBy, Failed, NotReady}
+use Rattle.group_world.specs.declared.event.Event.{Event}
+use Rattle.group_world.specs.declared.event.Event.TheVariants.{Join, Bytes, End, Draw, Leave, Admin, Flush}
+use Rattle.group_world.specs.declared.event.Outcome.{Outcome}
+use Rattle.group_world.specs.declared.event.Outcome.TheVariants.{Joined, More, Ready, Finished, Waiting, Drawn, Gone, Done, Flushed, Fault}
 use Rattle.group_world.specs.World.{World, Phase, Heard, Waits, Reply, Early, phase_of, with_phase, with_site, without_session, with_waiting, count_waiting}
 
 -- changes, each with its moment
 abbrev pub Changes : Type 0
 Changes = List (Change × ℕ)
-
-pub data Event : Type 0 where
-  Join : Event
-  Bytes : ℕ → List ℕ → ℕ → Event
-  End : ℕ → ℕ → Event
-  Draw : ℕ → ℕ → Event
-  Leave : ℕ → Event
-  Admin : Change → ℕ → Event
-  -- the posts that wait are made
-  Flush : Event
-
-pub data Outcome : Type 0 where
-  Joined : ℕ → Outcome
-  More : Outcome
-  Ready : Outcome
-  Finished : Outcome
-  -- the post waits
-  Waiting : Outcome
-  Drawn : List ℕ → Outcome
-  Gone : Outcome
-  Done : Outcome
-  -- so many posts are answered, and so many are left
-  Flushed : ℕ → ℕ → Outcome
-  Fault : HubFault → Outcome
 
 -- ---- one session
 
@@ -157,21 +136,9 @@ changed w (Err refused) = then_is (Fault (RefusedBy refused)) w
 
 -- ---- the posts that wait are made
 
-abbrev pub is_form : Body → Bool
-is_form (bodies.Views kind views) = false
-is_form (bodies.Menu es) = false
-is_form (bodies.Board cap next) = false
-is_form (bodies.Form board questions) = true
-is_form (bodies.Search scope) = false
-is_form (bodies.Moved target) = false
-
-abbrev pub is_form_in : Option Item → Bool
-is_form_in None = false
-is_form_in (Some item) = is_form item.body
-
--- a request that finds no form any more is answered from the site as it stands
+-- a request that finds no form any more, at its moment, is answered from the site as it stands
 abbrev pub without_form : Site → Phase → Phase
-without_form s (Waits request now) = if is_form_in (item_at s request.selector) then Waits request now else Reply (reply s request now).bytes
+without_form s (Waits request now) = if is_form_in (item_at (visible s now) request.selector) then Waits request now else Reply (reply s request now).bytes
 without_form s phase = phase
 
 abbrev pub without_forms : Site → List (ℕ × Phase) → List (ℕ × Phase)

@@ -3,12 +3,12 @@ ghost use Rattle.host_types.specs.AllChanges.{Changes};
 ghost use Rattle.group_world.specs.Calls.{MaySplit};
 ghost use Rattle.group_world.specs.GroupExamples.{GroupExamples};
 ghost use Rattle.group_world.specs.Run.{changes_in};
-ghost use Rattle.group_world.specs.Step.{Event};
+ghost use Rattle.group_world.specs.declared.event.Event.{Event};
 ghost use Rattle.group_world.specs.World.{World};
 ghost use Rattle.group_world.specs.CrashStates.{CallsLeave, WhatIsStoredIsRight};
 ghost use Rattle.group_world.specs.Continuing.{Continues, ContinuesFromItsPlace, ContinuesWhatWasFound, DrawsWereAskedFor, PostsWait};
 ghost use Rattle.group_world.specs.PlainHubs.{PlainHubsStay};
-ghost use Rattle.group_world.specs.Laws.{FindsItsPlace, GroupsAreRight, LaterRepliesAreKnown, PostsCountOn, RepliesStay};
+ghost use Rattle.group_world.specs.Laws.{FindsItsPlace, GroupsAreRight, LaterRepliesAreRight, OnlyFormsPost, PostsCountOn, RepliesStay};
 
 use host_types::SiteKeeper;
 
@@ -42,9 +42,14 @@ pub fn plain_hubs_stay()
     ensures { PlainHubsStay }
 {}
 
-/// The reply to a later post of a group is known before those before it are made: by the card of its board, counted on by the posts on it before.
+/// The reply to a later post of a group is known before those before it are made: it is the reply behind those posts.
 pub fn later_replies_are_known()
-    ensures { LaterRepliesAreKnown }
+    ensures { LaterRepliesAreRight }
+{}
+
+/// A request that finds no form stores no post.
+pub fn only_forms_post()
+    ensures { OnlyFormsPost }
 {}
 
 /// A post waits until a flush, or until its session leaves.

@@ -3,6 +3,7 @@ use Rattle.std.proofs.Common.{◌≡◌, ℕ, Bool, false, zero, suc, ◌<◌, L
 use Rattle.std.specs.Prelude.{Option, Some, None, Result, Ok, Err, IfOk, IsTrue, map, slice_get, slice_index_or}
 use Rattle.host_types.specs.Names.{is_url_name}
 use Rattle.host_types.specs.Site.{Site, item_at}
+use Rattle.host_types.specs.AllChanges.{Changes}
 use Rattle.host_types.specs.Card.{card_view, card_body, card_of, card_at, bytes_of, viewed, viewed_in, viewed_at}
 use Rattle.host_types.specs.Visible.{visible, viewed_at-visible}
 use Rattle.host_types.specs.SiteState.{SiteState, HasRead}
@@ -20,7 +21,8 @@ use Rattle.host_types.specs.declared.menu.Entry.{Entry}
 use Rattle.word_index.specs.Search.{search_of}
 use Rattle.request_reader.specs.Request.{Request}
 use Rattle.site_replies.specs.Lengths.{AreLengths, HasLengths}
-use Rattle.site_replies.specs.Reply.{menu_reply, locals, card_reply, found_reply, reply_of, reply}
+use Rattle.site_replies.specs.Reply.{menu_reply, locals}
+use Rattle.site_replies.specs.LaterReply.{later_card_reply, later_found_reply, later_reply_of, later_reply}
 use Rattle.site_replies.specs.Replies.{reply_bytes, answer_of, IsSized}
 use Rattle.site_replies.specs.declared.answered.Reply.{Reply}
 use Rattle.site_replies.specs.declared.answered.Reply.TheVariants as replies
@@ -56,17 +58,17 @@ pub has_lengths : (s : Site) (selector : List ℕ) (card : Card) → Some card �
 has_lengths s selector card is = lengths_in (item_at s selector) s selector card refl is
 
 -- the reply by the card that was read is the reply of the site before the read
-pub found : {E : Type 0} (a b : SiteState) (selector : List ℕ) (r : Request) (now : ℕ) (card : Card) (result : Result Answered E) → HasRead a b → IsTrue a.honest → selector ≡ r.selector → Some card ≡ card_at (visible a.site now) selector
-    → (IsTrue b.honest → selector ≡ r.selector → HasLengths card.body (viewed_at (visible b.site now) selector) → IfOk result (λ answered. answer_of (visible b.site now) answered ≡ card_reply (visible b.site now) r now card card.body r.plus))
-    → IfOk result (λ answered. answer_of (visible a.site now) answered ≡ found_reply (visible a.site now) r now (card_at (visible a.site now) selector))
-found a b selector r now card (Err e) kept honest same is given = tt
-found a b selector r now card (Ok answered) kept honest same is given =
+pub found : {E : Type 0} (a b : SiteState) (selector : List ℕ) (before : Changes) (r : Request) (now : ℕ) (card : Card) (result : Result Answered E) → HasRead a b → IsTrue a.honest → selector ≡ r.selector → Some card ≡ card_at (visible a.site now) selector
+    → (IsTrue b.honest → selector ≡ r.selector → HasLengths card.body (viewed_at (visible b.site now) selector) → IfOk result (λ answered. answer_of (visible b.site now) answered ≡ later_card_reply (visible b.site now) before r now card card.body r.plus))
+    → IfOk result (λ answered. answer_of (visible a.site now) answered ≡ later_found_reply (visible a.site now) before r now (card_at (visible a.site now) selector))
+found a b selector before r now card (Err e) kept honest same is given = tt
+found a b selector before r now card (Ok answered) kept honest same is given =
     let after : visible b.site now ≡ visible a.site now = ap (λ (s : Site). visible s now) (kept.site honest) in
     let lengths : HasLengths card.body (viewed_at (visible b.site now) selector) = rw after (has_lengths (visible a.site now) selector card is) in
     ap (λ (s : Site). answer_of s answered) (sym after)
     ∙ given (still_honest a b kept honest) same lengths
-    ∙ ap (λ (s : Site). card_reply s r now card card.body r.plus) after
-    ∙ ap (found_reply (visible a.site now) r now) is
+    ∙ ap (λ (s : Site). later_card_reply s before r now card card.body r.plus) after
+    ∙ ap (later_found_reply (visible a.site now) before r now) is
 
 -- a view that is named by the card that was read has its size before the read
 sized_seen : (a b : SiteState) (selector : List ℕ) (now : ℕ) (card : Card) (answered : Answered) → HasRead a b → IsTrue a.honest → Some card ≡ card_at (visible a.site now) selector
@@ -93,15 +95,15 @@ sized a b selector now card (Err e) kept honest is given = tt
 sized a b selector now card (Ok answered) kept honest is given = whole_size a.site now answered.reply (sized_seen a b selector now card answered kept honest is given)
 
 -- the reply to what is no link
-pub found_up : {E : Type 0} (a b : SiteState) (r : Request) (now : ℕ) (selector : List ℕ) (card : Card) (result : Result Answered E) → is_url_name r.selector ≡ false → selector ≡ r.selector → HasRead a b → IsTrue a.honest → Some card ≡ card_at (visible a.site now) selector
+pub found_up : {E : Type 0} (a b : SiteState) (before : Changes) (r : Request) (now : ℕ) (selector : List ℕ) (card : Card) (result : Result Answered E) → is_url_name r.selector ≡ false → selector ≡ r.selector → HasRead a b → IsTrue a.honest → Some card ≡ card_at (visible a.site now) selector
     → (IsTrue b.honest → HasLengths card.body (viewed_at (visible b.site now) selector) → IfOk result (λ answered. IsSized (visible b.site now) answered.reply))
-    → IfOk result (λ answered. answer_of (visible a.site now) answered ≡ found_reply (visible a.site now) r now (card_at (visible a.site now) selector)) → IfOk result (λ answered. answer_of a.site answered ≡ reply a.site r now)
-unfolding reply_of
-found_up a b r now selector card (Err e) here same kept honest is sizes given = tt
-found_up a b r now selector card (Ok answered) here same kept honest is sizes given =
+    → IfOk result (λ answered. answer_of (visible a.site now) answered ≡ later_found_reply (visible a.site now) before r now (card_at (visible a.site now) selector)) → IfOk result (λ answered. answer_of a.site answered ≡ later_reply a.site before r now)
+unfolding later_reply_of
+found_up a b before r now selector card (Err e) here same kept honest is sizes given = tt
+found_up a b before r now selector card (Ok answered) here same kept honest is sizes given =
     let size = sized_seen a b selector now card answered kept honest is sizes in
     ap (λ (bytes : List ℕ). record { bytes = bytes; post = answered.post }) (sym (whole_bytes a.site now answered.reply size))
-    ∙ rw here (given ∙ ap (λ (at : List ℕ). found_reply (visible a.site now) r now (card_at (visible a.site now) at)) same)
+    ∙ rw here (given ∙ ap (λ (at : List ℕ). later_found_reply (visible a.site now) before r now (card_at (visible a.site now) at)) same)
 
 -- the menu of what a search found before
 pub searched : {E : Type 0} (a b : SiteState) (is_plus : Bool) (now : ℕ) (scope words : List ℕ) (names : List (List ℕ)) (es : List Entry) (result : Result (List ℕ) E) → HasRead a b → IsTrue a.honest

@@ -1,7 +1,10 @@
 pub mod AfterReads
+pub mod BoardCounts
 pub mod Cards
+pub mod LaterReplies
 pub mod Picks
 pub mod PostNames
 pub mod Posted
 pub mod StoredPosts
 pub mod VisibleCards
+pub mod FormCards

@@ -21,7 +21,7 @@ use Rattle.ask_forms.specs.declared.answer.Answer.{Answer}
 use Rattle.ask_forms.specs.declared.ask_fault.AskFault.{AskFault}
 use Rattle.ask_forms.specs.Post.{post_title, post_text}
 use Rattle.request_reader.specs.Request.{Request, Plus, Fetch, Attributes, EntryAttributes}
-use Rattle.site_replies.specs.Reply.{posted_reply, post_reply, answers_reply, form_reply, card_reply, found_reply, reply_of, reply}
+use Rattle.site_replies.specs.Reply.{posted_reply, post_reply, answers_by, form_reply, card_reply, found_reply, reply_of, reply}
 use Rattle.site_replies.specs.PostReply.{IsRight}
 
 -- a post that a site takes in which the expired items aren't there is taken with them
@@ -58,7 +58,7 @@ by_apply s now board title text (Err refused) is = tt
 post_right : (s : Site) (now : ℕ) (board title text : List ℕ) → IsRight s now (post_reply (visible s now) now board title text).post
 post_right s now board title text = by_apply s now board title text (apply (visible s now) (Post board title text) now) refl
 
-answers_right : (s : Site) (now : ℕ) (board : List ℕ) (questions : List Question) (read : Result (List Answer) AskFault) → IsRight s now (answers_reply (visible s now) now board questions read).post
+answers_right : (s : Site) (now : ℕ) (board : List ℕ) (questions : List Question) (read : Result (List Answer) AskFault) → IsRight s now (answers_by (post_reply (visible s now) now board) questions read).post
 answers_right s now board questions (Ok answers) = post_right s now board (post_title questions answers) (post_text questions answers)
 answers_right s now board questions (Err fault) = tt
 

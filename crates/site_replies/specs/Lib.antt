@@ -1,5 +1,7 @@
 pub mod Reads
 pub mod Reply
+pub mod Forms
 pub mod Replies
 pub mod Lengths
 pub mod PostReply
+pub mod LaterReply

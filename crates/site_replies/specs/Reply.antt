@@ -204,13 +204,18 @@ fault_text asks.WrongWord = errors.WrongWord
 -- no reading of lines gives it
 fault_text asks.Memory = errors.AnswersDoNotFit
 
-abbrev pub answers_reply : Site → ℕ → List ℕ → List Question → Result (List Answer) AskFault → WholeAnswer
-answers_reply s now board questions (Ok answers) = post_reply s now board (post_title questions answers) (post_text questions answers)
-answers_reply s now board questions (Err fault) = without_post (error_reply_of true (fault_text fault))
+-- answers whose post is answered so
+abbrev pub answers_by : (List ℕ → List ℕ → WholeAnswer) → List Question → Result (List Answer) AskFault → WholeAnswer
+answers_by posted questions (Ok answers) = posted (post_title questions answers) (post_text questions answers)
+answers_by posted questions (Err fault) = without_post (error_reply_of true (fault_text fault))
+
+-- a form, whose post is answered so
+abbrev pub form_by : (List ℕ → List ℕ → WholeAnswer) → Bool → List Question → Option (List (List ℕ)) → WholeAnswer
+form_by posted is_plus questions None = without_post (error_reply_of is_plus errors.FormNeedsAnswers)
+form_by posted is_plus questions (Some lines) = answers_by posted questions (read_by questions lines)
 
 abbrev pub form_reply : Site → Bool → ℕ → List ℕ → List Question → Option (List (List ℕ)) → WholeAnswer
-form_reply s is_plus now board questions None = without_post (error_reply_of is_plus errors.FormNeedsAnswers)
-form_reply s is_plus now board questions (Some lines) = answers_reply s now board questions (read_by questions lines)
+form_reply s is_plus now board questions lines = form_by (post_reply s now board) is_plus questions lines
 
 -- ---- the reply
 

@@ -3,6 +3,7 @@
 
 mod answered;
 mod attributes;
+mod board_count;
 mod documents;
 mod entries;
 mod looking;
@@ -12,4 +13,5 @@ mod requests;
 mod views;
 
 pub use answered::{Answered, Reply, ViewReply};
-pub use requests::{bad_reply, reply};
+pub use looking::finds_form;
+pub use requests::{bad_reply, later_reply, reply};

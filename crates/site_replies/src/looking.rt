@@ -2,9 +2,13 @@
 ghost use Rattle.std.specs.Prelude.{◌≡◌};
 ghost use Rattle.host_types.specs.Card.{card_at};
 ghost use Rattle.host_types.specs.Visible.{visible, card_unless_expired};
+ghost use Rattle.host_types.specs.Site.{item_at};
+ghost use Rattle.request_reader.specs.Seen.{request_of};
+ghost use Rattle.site_replies.specs.Forms.{is_form_in, is_form_by};
 ghost use Rattle.site_replies.specs.Reads.{Reads};
 
-use host_types::{Card, Selector, SiteFault, Stamp};
+use host_types::{Card, CardBody, Selector, SiteFault, Stamp};
+use request_reader::Request;
 use word_index::SearchKeeper;
 
 /// A card, unless its item has expired.
@@ -28,4 +32,29 @@ pub fn card_at<S: SearchKeeper>(
 {
     let card = site.card(selector)?;
     Ok(unless_expired(card, now))
+}
+
+fn is_form(card: &Option<Card>) -> bool
+    ensures { result ≡ is_form_by card.now }
+{
+    match card {
+        Some(card) => matches!(card.body, CardBody::Form { .. }),
+        None => false,
+    }
+}
+
+/// Whether a form stands at the selector of a request.
+#[tactic(auto, using(crate::proofs::FormCards::form_card))]
+pub fn finds_form<S: SearchKeeper>(
+    site: &mut S,
+    request: &Request<'_>,
+    now: Stamp,
+) -> Result<bool, SiteFault>
+    ensures form { Reads S.site_state S.lacks S.crash_states site.old site.new result (λ s found. found ≡ is_form_in (item_at (visible s now) (request_of request.now).selector)) }
+{
+    let Ok(selector) = Selector::new(request.selector) else {
+        unreachable!()
+    };
+    let card = card_at(site, &selector, now)?;
+    Ok(is_form(&card))
 }

@@ -7,13 +7,14 @@ ghost use Rattle.host_types.specs.CrashStates.{AddsNone};
 ghost use Rattle.host_types.specs.Site.{text_item};
 ghost use Rattle.host_types.specs.declared.site_fault.SiteFault.TheVariants.{Memory as OutOfMemory};
 ghost use Rattle.site_replies.specs.Reads.{Reads};
+ghost use Rattle.site_replies.specs.LaterReply.{later_post_reply, later_form_reply};
 ghost use Rattle.site_replies.specs.PostReply.{stored_as, reply_by_card};
 ghost use Rattle.site_replies.specs.Replies.{whole, PostsNoView};
-ghost use Rattle.std.specs.Option.{option_map};
-ghost use Rattle.request_reader.specs.Seen.{lines_in};
+ghost use Rattle.request_reader.specs.Seen.{request_of};
 ghost use Rattle.site_replies.specs.Reply as spec;
 
 use crate::answered::{Answered, Reply, without_post};
+use crate::board_count::{counted_card, posts_on};
 use crate::documents::as_text;
 use crate::looking::card_at;
 use ask_forms::{AskFault, Post, post_of, read_answers};
@@ -21,7 +22,7 @@ use host_types::{
     Address, Bytes, Card, CardBody, Change, Item, LineList, QuestionList, Selector, SiteFault,
     Stamp, Title,
 };
-use request_reader::Data;
+use request_reader::Request;
 use std::alloc::{AllocError, Global};
 use text_writer::{ErrorText, error_reply, item_line, menu};
 use word_index::SearchKeeper;
@@ -108,46 +109,49 @@ fn reply_by_card(
     }
 }
 
-/// The reply to the sender of a post, and the post where it is a right one.
-#[tactic(auto, using(crate::proofs::Posted::too_long, crate::proofs::Posted::by_card, crate::proofs::AfterReads::same_address))]
-pub fn post_reply<S: SearchKeeper>(
+/// The reply to the sender of a post behind others, and the post where it is a right one.
+#[tactic(auto, using(crate::proofs::LaterReplies::later_too_long, crate::proofs::LaterReplies::later_by_card, crate::proofs::AfterReads::same_address))]
+fn post_reply<S: SearchKeeper>(
     alloc: Global,
     site: &mut S,
     board: &Selector,
     post: Post,
+    before: &[(Change, Stamp)],
     now: Stamp,
 ) -> Result<Answered, SiteFault>
-    ensures reply { Reads S.site_state S.lacks S.crash_states site.old site.new result (λ s answered. answered ≡ whole (spec.post_reply (visible s now) now board.now post.title post.text)) }
+    ensures reply { Reads S.site_state S.lacks S.crash_states site.old site.new result (λ s answered. answered ≡ whole (later_post_reply (visible s now) before.now now board.now post.title post.text)) }
     ensures drawn { IfOk result (λ answered. PostsNoView answered.reply answered.post) }
 {
     if post.text.len() > MOST_POST_BYTES {
         return Ok(without_post(error_reply_of(alloc, true, ErrorText::AnswersDoNotFit)?));
     }
     let card = card_at(site, board, now)?;
-    reply_by_card(alloc, &site.front(), card, board, post, now)
+    let counted = counted_card(card, posts_on(board, before));
+    reply_by_card(alloc, &site.front(), counted, board, post, now)
 }
 
-/// The reply to answers of a form, and the post that they make.
+/// The reply to answers of a form behind some posts, and the post that they make.
 pub fn form_reply<S: SearchKeeper>(
     alloc: Global,
     site: &mut S,
-    is_plus: bool,
     board: &Selector,
     questions: &QuestionList,
-    given: Option<Data<'_>>,
+    request: Request<'_>,
+    before: &[(Change, Stamp)],
     now: Stamp,
 ) -> Result<Answered, SiteFault>
-    ensures reply { Reads S.site_state S.lacks S.crash_states site.old site.new result (λ s answered. answered ≡ whole (spec.form_reply (visible s now) is_plus now board.now questions.now (option_map lines_in given.entry))) }
+    ensures reply { Reads S.site_state S.lacks S.crash_states site.old site.new result (λ s answered. answered ≡ whole (later_form_reply (visible s now) before.now (request_of request.entry) now board.now questions.now)) }
     ensures drawn { IfOk result (λ answered. PostsNoView answered.reply answered.post) }
 {
-    let Some(data) = given else {
-        return Ok(without_post(error_reply_of(alloc, is_plus, ErrorText::FormNeedsAnswers)?));
+    let Some(data) = request.data else {
+        let bytes = error_reply_of(alloc, request.plus.is_some(), ErrorText::FormNeedsAnswers)?;
+        return Ok(without_post(bytes));
     };
     let lines = data.lines(alloc)?;
     match read_answers(alloc, questions, &lines) {
         Ok(answers) => {
             let post = post_of(alloc, questions, &answers)?;
-            post_reply(alloc, site, board, post, now)
+            post_reply(alloc, site, board, post, before, now)
         }
         Err(AskFault::WrongAnswers) => Ok(without_post(error_reply_of(
             alloc,

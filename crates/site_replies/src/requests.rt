@@ -10,6 +10,7 @@ ghost use Rattle.request_reader.specs.Seen.{request_of, plus_of};
 ghost use Rattle.url_page.specs.Page.{redirect};
 ghost use Rattle.host_types.specs.declared.site_fault.SiteFault.TheVariants.{Memory as OutOfMemory};
 ghost use Rattle.site_replies.specs.Lengths.{HasLengths};
+ghost use Rattle.site_replies.specs.LaterReply.{IsReplyByCard, later_reply};
 ghost use Rattle.site_replies.specs.Replies.{answer_of, IsSized, PostsNoView};
 ghost use Rattle.site_replies.specs.Reply as spec;
 
@@ -20,7 +21,7 @@ use crate::looking::card_at;
 use crate::menus::{board_reply, menu_reply, search_reply};
 use crate::posts::{error_reply_of, form_reply};
 use crate::views::{moved_reply, view_reply};
-use host_types::{Bytes, Card, CardBody, Selector, SiteFault, Stamp};
+use host_types::{Bytes, Card, CardBody, Change, Selector, SiteFault, Stamp};
 use plus_blocks::attributes;
 use request_reader::{Cause, Plus, Request};
 use std::alloc::{AllocError, Global};
@@ -64,17 +65,17 @@ fn url_reply(alloc: Global, plus: Option<Plus<'_>>, url: &[u8]) -> Result<Bytes,
     }
 }
 
-/// The reply to a request, by the card of what stands at its selector.
+/// The reply to a request behind some posts, by the card of what stands at its selector.
 fn card_reply<S: SearchKeeper>(
     alloc: Global,
     site: &mut S,
     selector: &Selector,
     request: Request<'_>,
+    before: &[(Change, Stamp)],
     now: Stamp,
     card: &Card,
 ) -> Result<Answered, SiteFault>
-    ensures reply { IsTrue (S.site_state site.old).honest → selector.now ≡ (request_of request.entry).selector → HasLengths card.now.body (viewed_at (visible (S.site_state site.old).site now) selector.now) →
-        IfOk result (λ answered. answer_of (visible (S.site_state site.old).site now) answered ≡ spec.card_reply (visible (S.site_state site.old).site now) (request_of request.entry) now card.now card.now.body (request_of request.entry).plus) }
+    ensures reply { IsTrue (S.site_state site.old).honest → IsReplyByCard (visible (S.site_state site.old).site now) before.now (request_of request.entry) now selector.now card.now result }
     ensures sized { IsTrue (S.site_state site.old).honest → HasLengths card.now.body (viewed_at (visible (S.site_state site.old).site now) selector.now) → IfOk result (λ answered. IsSized (visible (S.site_state site.old).site now) answered.reply) }
     ensures drawn { IfOk result (λ answered. PostsNoView answered.reply answered.post) }
     ensures kept { HasRead (S.site_state site.old) (S.site_state site.new) }
@@ -96,7 +97,7 @@ fn card_reply<S: SearchKeeper>(
             entries_reply(alloc, site, &names, selector, body, now)?
         }
         (CardBody::Form { board, questions }, _) => {
-            return form_reply(alloc, site, is_plus, board, questions, request.data, now);
+            return form_reply(alloc, site, board, questions, request, before, now);
         }
         (CardBody::Views(kind, views), plus) => {
             let reply = view_reply(alloc, selector, *kind, views.as_slice(), plus)?;
@@ -115,15 +116,16 @@ fn card_reply<S: SearchKeeper>(
     Ok(without_post(bytes))
 }
 
-/// The reply to a request, from the site as it stands, and the post that it stores.
-#[tactic(auto, unfolding(crate::specs::Reply::reply_of))]
-pub fn reply<S: SearchKeeper>(
+/// The reply to a request once some posts are made, from the site as it stands before them, and the post that it stores.
+#[tactic(auto, unfolding(crate::specs::LaterReply::later_reply_of))]
+pub fn later_reply<S: SearchKeeper>(
     alloc: Global,
     site: &mut S,
     request: Request<'_>,
+    before: &[(Change, Stamp)],
     now: Stamp,
 ) -> Result<Answered, SiteFault>
-    ensures reply { IsTrue (S.site_state site.old).honest → IfOk result (λ answered. answer_of (S.site_state site.old).site answered ≡ spec.reply (S.site_state site.old).site (request_of request.entry) now) }
+    ensures reply { IsTrue (S.site_state site.old).honest → IfOk result (λ answered. answer_of (S.site_state site.old).site answered ≡ later_reply (S.site_state site.old).site before.now (request_of request.entry) now) }
     ensures sized { IsTrue (S.site_state site.old).honest → IfOk result (λ answered. IsSized (S.site_state site.old).site answered.reply) }
     ensures drawn { IfOk result (λ answered. PostsNoView answered.reply answered.post) }
     ensures kept { HasRead (S.site_state site.old) (S.site_state site.new) }
@@ -143,5 +145,25 @@ pub fn reply<S: SearchKeeper>(
         let bytes = error_reply_of(alloc, request.plus.is_some(), ErrorText::ItemNotFound)?;
         return Ok(without_post(bytes));
     };
-    card_reply(alloc, site, &selector, request, now, &card)
+    card_reply(alloc, site, &selector, request, before, now, &card)
+}
+
+/// The reply to a request, from the site as it stands, and the post that it stores.
+#[tactic(auto, using(crate::proofs::LaterReplies::none_before))]
+pub fn reply<S: SearchKeeper>(
+    alloc: Global,
+    site: &mut S,
+    request: Request<'_>,
+    now: Stamp,
+) -> Result<Answered, SiteFault>
+    ensures reply { IsTrue (S.site_state site.old).honest → IfOk result (λ answered. answer_of (S.site_state site.old).site answered ≡ spec.reply (S.site_state site.old).site (request_of request.entry) now) }
+    ensures sized { IsTrue (S.site_state site.old).honest → IfOk result (λ answered. IsSized (S.site_state site.old).site answered.reply) }
+    ensures drawn { IfOk result (λ answered. PostsNoView answered.reply answered.post) }
+    ensures kept { HasRead (S.site_state site.old) (S.site_state site.new) }
+    ensures lacking { LacksTheSame (S.lacks site.old) (S.lacks site.new) }
+    ensures no_new_crash_state { IsTrue (S.site_state site.old).honest → AddsNone (S.crash_states site.old) (S.crash_states site.new) }
+    ensures fault { IfErr result (IsReadFault true (S.site_state site.old) (S.site_state site.new)) }
+    ensures reads { CountsReads result (S.site_state site.old) (S.site_state site.new) }
+{
+    later_reply(alloc, site, request, &[], now)
 }

@@ -1,6 +1,6 @@
 use Rattle.std.proofs.Common.{◌≡◌, ◌≤◌, take}
-use Rattle.group_world.specs.Laws.{posts_on}
-use Rattle.group_world.proofs.board_count.posts_on.Given as goal
+use Rattle.site_replies.specs.LaterReply.{posts_on}
+use Rattle.site_replies.proofs.board_count.posts_on.Given as goal
 
 abbrev pub invariant-loop-change : goal.invariant-loop-change
 invariant-loop-change l = record {

@@ -2,8 +2,8 @@
 use Rattle.std.proofs.Common.{◌≡◌, ℕ, suc, zero, ◌+◌, ◌<◌, List, [], ◌∷◌, take, length, ap, ◌∙◌, arith}
 use Rattle.std.specs.Prelude.{slice_index_or}
 use Rattle.host_types.specs.declared.change.Change.{Change}
-use Rattle.group_world.specs.Step.{Changes}
-use Rattle.group_world.specs.Laws.{one_on, posts_on}
+use Rattle.host_types.specs.AllChanges.{Changes}
+use Rattle.site_replies.specs.LaterReply.{one_on, posts_on}
 
 pub one_more : (q : List ℕ) (changes : Changes) (i : ℕ) (d : Change × ℕ) → i < length changes → posts_on q (take (i + 1) changes) ≡ posts_on q (take i changes) + one_on q (slice_index_or changes i d).0
 one_more q [] i d within = absurd (omega (arith, within))

@@ -1,10 +1,10 @@
 use Rattle.std.proofs.Common.{arith, ◌≡◌, ◌∙◌, ap, take, ℕ}
 use Rattle.std.proofs.lemmas.Grind.{common_steps}
 use Rattle.host_types.specs.declared.change.Change.{Change}
-use Rattle.group_world.specs.Step.{Changes}
-use Rattle.group_world.specs.Laws.{one_on, posts_on}
-use Rattle.group_world.proofs.BoardCounts.{one_more}
-use Rattle.group_world.proofs.board_count.posts_on.Goals as goal
+use Rattle.host_types.specs.AllChanges.{Changes}
+use Rattle.site_replies.specs.LaterReply.{one_on, posts_on}
+use Rattle.site_replies.proofs.BoardCounts.{one_more}
+use Rattle.site_replies.proofs.board_count.posts_on.Goals as goal
 
 pub loop-change-preserved : goal.loop-change-preserved
 loop-change-preserved c =
