@@ -1,0 +1,200 @@
+-- What a flush makes of the sessions that wait, before its commit and behind it.
+use Rattle.std.specs.Prelude.{◌≡◌, ◌⊎◌, ◌≤◌, ℕ, Bool, true, false, not, List, [], ◌∷◌, ◌++◌, length, Option, None, Result, OnErr, OnOk, IfOk, IfErr, IsTrue}
+use Rattle.host_types.specs.AllChanges.{Changes}
+use Rattle.host_types.specs.Site.{Site, IsSite}
+use Rattle.host_types.specs.SiteState.{SiteState, HasNotChanged, HasTried, Rose}
+use Rattle.host_types.specs.ValidChanges.{is_typed_change}
+use Rattle.host_types.specs.Pins.{Pinned}
+use Rattle.host_types.specs.CrashStates.{CrashStates, AddsOnly, AddsNone, may_crash_to}
+use Rattle.host_types.specs.declared.site_fault.SiteFault.{SiteFault}
+use Rattle.host_types.specs.declared.site_fault.SiteFault.TheVariants as faults
+use Rattle.site_replies.specs.LaterReply.{are_posts}
+use Rattle.group_world.specs.World as world
+use Rattle.group_world.specs.World.{count_waiting}
+use Rattle.group_world.specs.Step.{without_form, without_forms, answered_from, post_from, taken, all_of}
+use Rattle.group_world.specs.Calls.{IsLacking, MaySplit, CountsLeft}
+use Rattle.group_world.specs.CrashStates.{HoldsCommits, with_changes, one_by_one}
+use Rattle.group_world.specs.declared.fault.HubFault.TheVariants as hub
+use Rattle.group_world.specs.declared.fault.HubFault.{HubFault}
+use Rattle.group_hub.specs.Counting.{CountsWrites, CountsCall}
+use Rattle.group_hub.specs.HeldPins.{listed, HoldsAll}
+use Rattle.group_hub.specs.Sessions.{phase_of, sessions_of, pin_of, pins_of, is_waiting, IsSound, AreSound}
+use Rattle.group_hub.specs.Understood.{HasFailedNow, HasWorked}
+use Rattle.group_hub.specs.declared.group_commit.GroupCommit.{GroupCommit}
+use Rattle.group_hub.specs.declared.group_commit.GroupCommit.TheVariants.{Whole, TooLarge}
+use Rattle.group_hub.specs.declared.next.Next.{Next}
+use Rattle.group_hub.specs.declared.next.Next.TheVariants as nexts
+use Rattle.group_hub.specs.declared.next.Putting.{Putting}
+use Rattle.group_hub.specs.declared.next.Putting.TheVariants as puttings
+use Rattle.group_hub.specs.declared.session.Session.{Session}
+use Rattle.group_hub.specs.declared.session.Phase.{Phase}
+
+-- ---- what sessions are to have
+
+abbrev pub next_pin : {P : Type 0} → (P → Pinned) → Next P → Option Pinned
+next_pin pinned nexts.Stays = None
+next_pin pinned (nexts.Gone p) = pin_of pinned p
+next_pin pinned (nexts.Replied p) = pin_of pinned p
+
+-- the pins that are taken for them
+abbrev pub next_pins : {P : Type 0} → (P → Pinned) → List (Next P) → List Pinned
+next_pins pinned [] = []
+next_pins pinned (n ∷ ns) = listed (next_pin pinned n) ++ next_pins pinned ns
+
+abbrev pub IsNextSound : {P : Type 0} → (P → Pinned) → SiteState → Next P → Type 0
+IsNextSound pinned h nexts.Stays = Unit {0}
+IsNextSound pinned h (nexts.Gone p) = IsSound pinned h p
+IsNextSound pinned h (nexts.Replied p) = IsSound pinned h p
+
+abbrev pub AreNextSound : {P : Type 0} → (P → Pinned) → SiteState → List (Next P) → Type 0
+AreNextSound pinned h [] = Unit {0}
+AreNextSound pinned h (n ∷ ns) = IsNextSound pinned h n × AreNextSound pinned h ns
+
+-- Only a session that waits is to have another phase, and it doesn't wait then.
+abbrev pub IsForWaiting : {P : Type 0} → Phase P → Next P → Type 0
+IsForWaiting phase nexts.Stays = Unit {0}
+IsForWaiting phase (nexts.Gone p) = (is_waiting phase ≡ true) × (is_waiting p ≡ true → ⊥)
+IsForWaiting phase (nexts.Replied p) = (is_waiting phase ≡ true) × (is_waiting p ≡ true → ⊥)
+
+-- it is to have another phase, and doesn't wait in it
+abbrev pub waits_no_more : {P : Type 0} → Next P → Bool
+waits_no_more nexts.Stays = false
+waits_no_more (nexts.Gone p) = not (is_waiting p)
+waits_no_more (nexts.Replied p) = not (is_waiting p)
+
+-- each session has its own
+abbrev pub AreForWaiting : {P : Type 0} → List (Session P) → List (Next P) → Type 0
+AreForWaiting [] [] = Unit {0}
+AreForWaiting (s ∷ ss) (n ∷ ns) = IsForWaiting s.phase n × AreForWaiting ss ns
+AreForWaiting [] (n ∷ ns) = ⊥
+AreForWaiting (s ∷ ss) [] = ⊥
+
+-- ---- sessions that are put into their next phases
+
+-- the phase of a session then: all are put, or those whose form is gone
+abbrev pub put_phase : {P : Type 0} → Putting → Phase P → Next P → Phase P
+put_phase putting phase nexts.Stays = phase
+put_phase putting phase (nexts.Gone p) = p
+put_phase puttings.All phase (nexts.Replied p) = p
+put_phase puttings.Gone phase (nexts.Replied p) = phase
+
+-- the pin that was taken for one that is not put
+abbrev pub given_back : {P : Type 0} → (P → Pinned) → Putting → Next P → Option Pinned
+given_back pinned putting nexts.Stays = None
+given_back pinned putting (nexts.Gone p) = None
+given_back pinned puttings.All (nexts.Replied p) = None
+given_back pinned puttings.Gone (nexts.Replied p) = pin_of pinned p
+
+-- a phase behind it: of all, or of those whose form is gone
+abbrev pub put_one : {P : Type 0} → Putting → (P → Pinned) → SiteState → world.Phase → Next P → world.Phase
+put_one putting pinned h x nexts.Stays = x
+put_one puttings.All pinned h x (nexts.Gone p) = phase_of pinned h p
+put_one puttings.All pinned h x (nexts.Replied p) = phase_of pinned h p
+put_one puttings.Gone pinned h x (nexts.Gone p) = phase_of pinned h p
+put_one puttings.Gone pinned h x (nexts.Replied p) = x
+
+abbrev pub put_seats : {P : Type 0} → Putting → (P → Pinned) → SiteState → List (ℕ × world.Phase) → List (Next P) → List (ℕ × world.Phase)
+put_seats putting pinned h [] ns = []
+put_seats putting pinned h (x ∷ xs) [] = x ∷ xs
+put_seats putting pinned h (x ∷ xs) (n ∷ ns) = (x.0, put_one putting pinned h x.1 n) ∷ put_seats putting pinned h xs ns
+
+-- ---- a group is prepared
+
+-- What a session is to have by a site t, on which a flush of the site s has come that far, and the changes before it and behind it.
+pub record IsNext {P : Type 0} (pinned : P → Pinned) (h : SiteState) (s t : Site) (before after : Changes) (x : world.Phase) (n : Next P) : Type 0 where
+  pub put : put_one puttings.All pinned h x n ≡ answered_from t (without_form s x)
+  pub gone : put_one puttings.Gone pinned h x n ≡ without_form s x
+  pub changes : after ≡ before ++ post_from t (without_form s x)
+  pub posts : are_posts after ≡ true
+
+-- What the first sessions are to have by the site s, and the changes that they make; a flush takes them all.
+pub record ArePrepared {P : Type 0} (pinned : P → Pinned) (h : SiteState) (s : Site) (xs : List (ℕ × world.Phase)) (ns : List (Next P)) (made : Changes) : Type 0 where
+  pub put : put_seats puttings.All pinned h xs ns ≡ (taken s (all_of xs) (without_forms s xs)).sessions
+  pub gone : put_seats puttings.Gone pinned h xs ns ≡ without_forms s xs
+  pub changes : made ≡ (taken s (all_of xs) (without_forms s xs)).changes
+  pub posts : are_posts made ≡ true
+
+-- Sessions stay as they are while some pins are taken beside theirs.
+pub record StandsBeside {P : Type 0} (pinned : P → Pinned) (old new : SiteState) (pins : List Pinned) (items : List (Session P)) : Type 0 where
+  pub held : HoldsAll new (pins ++ pins_of pinned items)
+  pub seen : sessions_of pinned new items ≡ sessions_of pinned old items
+  pub sound : AreSound pinned old items → AreSound pinned new items
+
+-- ---- a group is made in one step
+
+-- Each is a value of the program: its names are valid as their types say, and its numbers and its moment fit.
+abbrev pub AreTyped : Changes → Type 0
+AreTyped [] = Unit {0}
+AreTyped (c ∷ changes) = (IsTrue (is_typed_change c.0) × (c.1 ≤ 253402300799)) × AreTyped changes
+
+-- When the changes are not made, but for those that are too large for one step, and what stands then.
+abbrev pub IsGroupFault : (Changes → SiteFault → Type 0) → Changes → SiteState → SiteState → HubFault → Type 0
+IsGroupFault lacks changes old new hub.Memory = HasNotChanged old new
+IsGroupFault lacks changes old new hub.Broken = HasNotChanged old new × (IsTrue old.honest → Rose old.failed_reads new.failed_reads)
+IsGroupFault lacks changes old new hub.Spent = HasNotChanged old new × (IsTrue old.honest → IsLacking lacks changes faults.Spent)
+IsGroupFault lacks changes old new hub.Failed = HasFailedNow old new changes
+IsGroupFault lacks changes old new fault = ⊥
+
+-- All changes are made in one step, or none is; one that fails in its write or its sync may be found either way after a crash.
+pub record MakesGroup {K L : Type 0} (site_state : K → SiteState) (lacks : K → Changes → SiteFault → Type 0) (crash_states : K → CrashStates L) (represents : L → Site → Type 0) (changes : Changes) (old new : K) (result : Result GroupCommit HubFault) : Type 0 where
+  pub whole : IsTrue (site_state old).honest → IfOk result (λ c. c ≡ Whole → (site_state new).site ≡ with_changes (site_state old).site changes)
+  pub still_usable : OnOk result ((site_state new).usable ≡ true)
+  pub too_large : IfOk result (λ c. c ≡ TooLarge → HasNotChanged (site_state old) (site_state new) × (IsTrue (site_state old).honest → MaySplit (lacks old) (site_state old) changes))
+  pub fault : IfErr result (IsGroupFault (lacks old) changes (site_state old) (site_state new))
+  pub tried : HasTried (site_state old) (site_state new)
+  pub counts : CountsCall result (site_state old) (site_state new)
+  pub at_crash : IsTrue (site_state old).honest → AddsOnly (crash_states old) (crash_states new) (λ c. represents c (site_state old).site ⊎ represents c (with_changes (site_state old).site changes))
+  pub unchanged : IsTrue (site_state old).honest → IfErr result (λ e. (site_state new).usable ≡ true → AddsNone (crash_states old) (crash_states new))
+  pub too_large_adds_none : IsTrue (site_state old).honest → IfOk result (λ c. c ≡ TooLarge → AddsNone (crash_states old) (crash_states new))
+  pub valid : IsTrue (site_state old).honest → ∥ IsSite (site_state old).site ∥₁ → ∥ IsSite (site_state new).site ∥₁
+
+-- ---- posts that are taken one at a time
+
+-- The site and the sessions after some choices.
+pub record IsTakenSo (s t : Site) (old new : List (ℕ × world.Phase)) (choices : List Bool) : Type 0 where
+  pub within : length choices ≤ length old
+  pub site : t ≡ (taken s choices old).site
+  pub sessions : new ≡ (taken s choices old).sessions
+
+-- What a crash leaves after some choices, and with some in flight.
+pub record LeavesSo {L : Type 0} (represents : L → Site → Type 0) (s : Site) (first now : CrashStates L) (commits flying : Changes) : Type 0 where
+  pub adds : AddsOnly first now (λ c. may_crash_to first c ⊎ HoldsCommits represents s (one_by_one (commits ++ flying)) 0 c)
+  pub behind : (c : L) → may_crash_to now c → HoldsCommits represents s (one_by_one (commits ++ flying)) (length commits) c
+
+-- All were taken, and so many are left.
+pub record TakesAll {L : Type 0} (represents : L → Site → Type 0) (s t : Site) (first now : CrashStates L) (old new : List (ℕ × world.Phase)) (left : ℕ) : Type 0 where
+  pub choices : List Bool
+  pub all : length choices ≡ length old
+  pub so : IsTakenSo s t old new choices
+  pub waiting : left ≡ count_waiting new
+  pub leaves : LeavesSo represents s first now (taken s choices old).changes []
+
+-- Those before one whose commit failed were taken.
+pub record TakesUpTo {L : Type 0} (represents : L → Site → Type 0) (s t : Site) (first now : CrashStates L) (old new : List (ℕ × world.Phase)) : Type 0 where
+  pub choices : List Bool
+  pub flying : Changes
+  pub one : length flying ≡ 1
+  pub next : (taken s (choices ++ true ∷ []) old).changes ≡ (taken s choices old).changes ++ flying
+  pub so : IsTakenSo s t old new choices
+  pub leaves : LeavesSo represents s first now (taken s choices old).changes flying
+
+-- the same of a keeper with sessions over its site
+abbrev pub AllTaken : {K L P : Type 0} → (K → SiteState) → (K → CrashStates L) → (L → Site → Type 0) → (P → Pinned) → K → List (Session P) → K → List (Session P) → ℕ → Type 0
+AllTaken site_state crash_states represents pinned k olds l news left =
+    TakesAll represents (site_state k).site (site_state l).site (crash_states k) (crash_states l) (sessions_of pinned (site_state k) olds) (sessions_of pinned (site_state l) news) left
+
+abbrev pub TakenUpToFault : {K L P : Type 0} → (K → SiteState) → (K → CrashStates L) → (L → Site → Type 0) → (P → Pinned) → K → List (Session P) → K → List (Session P) → Type 0
+TakenUpToFault site_state crash_states represents pinned k olds l news =
+    TakesUpTo represents (site_state k).site (site_state l).site (crash_states k) (crash_states l) (sessions_of pinned (site_state k) olds) (sessions_of pinned (site_state l) news)
+
+-- What a call that takes posts one at a time leaves of a keeper, on any device.
+pub record WorksSingly (old new : SiteState) (waiting : ℕ) (result : Result ℕ HubFault) : Type 0 where
+  pub worked : HasWorked old new
+  pub few : IfOk result (λ left. left ≤ waiting)
+  pub still_usable : OnOk result (new.usable ≡ true)
+  pub fault : IfErr result (λ e. (e ≡ hub.Failed) × (new.usable ≡ false))
+  pub cause : IsTrue old.honest → OnErr result (Rose old.failed_writes new.failed_writes)
+  pub writes : CountsWrites result old new
+  pub reads : IsTrue old.honest → IfOk result (λ left. CountsLeft left old new)
+  pub reads_before_fault : IsTrue old.honest → OnErr result (CountsLeft waiting old new)
+  pub no_reads : IfOk result (λ left. left ≡ 0 → new.failed_reads ≡ old.failed_reads)

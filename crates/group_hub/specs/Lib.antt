@@ -1,0 +1,14 @@
+pub mod Causes
+pub mod Counting
+pub mod Understood
+pub mod HeldPins
+pub mod Sessions
+pub mod Hears
+pub mod Preparing
+pub mod Worlds
+pub mod Flushing
+pub mod Together
+pub mod Hub
+pub mod Rooms
+pub mod Calls
+pub mod Runs
