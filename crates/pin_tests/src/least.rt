@@ -5,7 +5,7 @@ use crate::drawing::{ask, draw};
 use crate::made::{TreeSite, hub_over, new_disk, site_on};
 use crate::trouble::Trouble;
 use host_types::Stamp;
-use session_core::{Drawn, Hub, HubFault, InputStatus};
+use session_core::{Hub, HubFault, InputStatus};
 use std::alloc::Global;
 
 /// The document of 65,536 bytes, which is half drawn in 512 draws of 64 bytes.
@@ -21,6 +21,14 @@ const MOST_POSTS: usize = 200;
 /// An answer to the form: a name, and no lines of a message.
 const POST: &[u8] = b"/sign\t+\t1\r\n+-1\r\nAnn\r\n0\r\n.\r\n";
 
+/// All of it but its last line, and that.
+const FRONT: &[u8] = b"/sign\t+\t1\r\n+-1\r\nAnn\r\n0\r\n";
+
+const LAST: &[u8] = b".\r\n";
+
+/// What is sent of the post.
+const STORED: &[u8] = b"Your name: Ann\r\nMessage:\r\n.\r\n";
+
 /// How many pages the least image has, and how many posts were stored until it was full.
 #[derive(Clone, Copy)]
 pub struct Seen {
@@ -28,34 +36,96 @@ pub struct Seen {
     pub posts: usize,
 }
 
-/// What a session that posts is answered: whether there was room.
-fn hear_post(hub: &mut Hub<TreeSite>, id: u64) -> Result<bool, Trouble> {
-    match hub.bytes(id, POST, Stamp::start()) {
+/// Two sessions for whose posts there is no room: one was refused its whole request, the other has sent all but the last line. So many posts before them are stored.
+#[derive(Drop)]
+struct Refused {
+    whole: u64,
+    cut: u64,
+    posts: usize,
+    fault: HubFault,
+}
+
+impl Refused {
+    /// The number of the next post.
+    fn next(&self) -> usize {
+        self.posts.saturating_add(1)
+    }
+}
+
+/// A session sends the last bytes of its post, which is stored with this number; or what is answered where there is no room.
+fn post(
+    alloc: Global,
+    hub: &mut Hub<TreeSite>,
+    id: u64,
+    piece: &[u8],
+    number: usize,
+) -> Result<Option<HubFault>, Trouble> {
+    match hub.bytes(id, piece, Stamp::start()) {
         Ok(InputStatus::Ready) => {}
         Ok(_) => return Err(Trouble::Wrong("a post that isn't whole")),
-        Err(HubFault::Full { .. }) => return Ok(false),
+        Err(HubFault::Full { need, free }) => return Ok(Some(HubFault::Full { need, free })),
         Err(fault) => return Err(Trouble::Hub(fault)),
     }
-    let mut out = [0; 64];
-    match hub.draw(id, &mut out)? {
-        Drawn::Bytes(_) if out.starts_with(b"+-1\r\n0Ann\tpost//book/") => Ok(true),
-        _ => Err(Trouble::Wrong("another reply to a post")),
+    let menu = format!(in alloc; "+-1\r\n0Ann\tpost//book/{number}\tlocalhost\t7070\t+\r\n.\r\n")?;
+    if draw(alloc, hub, id, ROOM, 2)?.as_slice() != menu.as_bytes() {
+        return Err(Trouble::Wrong("another reply to a post"));
+    }
+    hub.leave(id)?;
+    Ok(None)
+}
+
+/// Each sends again what there is no room for, and is refused as the first one was.
+fn refuse_both(alloc: Global, hub: &mut Hub<TreeSite>, refused: &Refused) -> Result<(), Trouble> {
+    for (id, piece) in [(refused.whole, POST), (refused.cut, LAST)] {
+        match post(alloc, hub, id, piece, refused.next())? {
+            Some(fault) if fault == refused.fault => {}
+            Some(_) => return Err(Trouble::Wrong("the same call is refused otherwise")),
+            None => return Err(Trouble::Wrong("room for a post before all pins are given back")),
+        }
+    }
+    Ok(())
+}
+
+/// Each makes the same call once more, and both posts are stored.
+fn store_both(alloc: Global, hub: &mut Hub<TreeSite>, refused: &Refused) -> Result<(), Trouble> {
+    let first = refused.next();
+    let second = first.saturating_add(1);
+    if post(alloc, hub, refused.whole, POST, first)?.is_some()
+        || post(alloc, hub, refused.cut, LAST, second)?.is_some()
+    {
+        return Err(Trouble::Wrong("no room for a post after the last pin"));
+    }
+    read_post(alloc, hub, first)?;
+    read_post(alloc, hub, second)
+}
+
+/// Another session asks for a post.
+fn read_post(alloc: Global, hub: &mut Hub<TreeSite>, number: usize) -> Result<(), Trouble> {
+    let request = format!(in alloc; "post//book/{number}\r\n")?;
+    let id = ask(hub, request.as_bytes())?;
+    let drawn = draw(alloc, hub, id, ROOM, 2)?;
+    hub.leave(id)?;
+    match drawn.as_slice() == STORED {
+        true => Ok(()),
+        false => Err(Trouble::Wrong("another post is stored")),
     }
 }
 
-/// Posts in a session of its own: whether there was room.
-fn post(hub: &mut Hub<TreeSite>) -> Result<bool, Trouble> {
-    let id = hub.join()?;
-    let has_room = hear_post(hub, id)?;
-    hub.leave(id)?;
-    Ok(has_room)
-}
-
-/// How many posts are stored until the image is full.
-fn posts_until_full(hub: &mut Hub<TreeSite>) -> Result<usize, Trouble> {
-    for count in 0..MOST_POSTS {
-        if !post(hub)? {
-            return Ok(count);
+/// Posts are stored until the image is full and a session is refused its request. Another then sends all of its own but the last line.
+fn posts_until_full(alloc: Global, hub: &mut Hub<TreeSite>) -> Result<Refused, Trouble> {
+    for posts in 0..MOST_POSTS {
+        let whole = hub.join()?;
+        if let Some(fault) = post(alloc, hub, whole, POST, posts.saturating_add(1))? {
+            let cut = hub.join()?;
+            return match hub.bytes(cut, FRONT, Stamp::start())? {
+                InputStatus::More => Ok(Refused {
+                    whole,
+                    cut,
+                    posts,
+                    fault,
+                }),
+                _ => Err(Trouble::Wrong("a post that is whole before its last line")),
+            };
         }
     }
     Err(Trouble::Wrong("an image that is never full"))
@@ -90,22 +160,19 @@ fn other_half(
 }
 
 /// Two sessions draw half of the document, and it is removed. How many posts fill the image; then the first session draws the other half, and the second one
-/// leaves, which makes room.
+/// leaves, which makes room for the posts that were refused.
 fn on_hub(alloc: Global, hub: &mut Hub<TreeSite>, document: &Document) -> Result<usize, Trouble> {
     fill(alloc, hub, document)?;
     let first = first_half(alloc, hub)?;
     let (second, _) = first_half(alloc, hub)?;
     hub.admin(remove(b"/doc")?, Stamp::start())?;
-    let posts = posts_until_full(hub)?;
+    let refused = posts_until_full(alloc, hub)?;
+    refuse_both(alloc, hub, &refused)?;
     other_half(alloc, hub, first, document)?;
-    if post(hub)? {
-        return Err(Trouble::Wrong("room for a post before all pins are given back"));
-    }
+    refuse_both(alloc, hub, &refused)?;
     hub.leave(second)?;
-    match post(hub)? {
-        true => Ok(posts),
-        false => Err(Trouble::Wrong("no room for a post after the last pin")),
-    }
+    store_both(alloc, hub, &refused)?;
+    Ok(refused.posts)
 }
 
 /// The same in an image of so many pages.

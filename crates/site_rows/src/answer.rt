@@ -1,5 +1,5 @@
 // What one hub answers to a line.
-use crate::asking::{Cut, by_calls, by_run};
+use crate::asking::{Cut, ROOM, by_calls, by_run};
 use crate::changes::change;
 use crate::fault::Fault;
 use crate::fields::{bytes, number};
@@ -12,6 +12,15 @@ use word_index::SearchKeeper;
 
 /// The size of the one piece of a whole request.
 const WHOLE: usize = 1_000_000;
+
+/// Pieces and draws of so many bytes.
+fn even_cut(size: usize) -> Cut {
+    Cut {
+        piece: size,
+        room: size,
+        ends: false,
+    }
+}
 
 /// The event of a line that the script has too.
 fn scripted(alloc: Global, line: &str, now: Stamp) -> Result<Event, Fault> {
@@ -54,23 +63,20 @@ fn of_line<S: SearchKeeper>(
     now: Stamp,
 ) -> Result<String, Fault> {
     match fields {
-        ["ask", all @ ..] => by_run(alloc, hub, bytes(alloc, all)?.as_slice(), WHOLE, now),
-        ["runs", piece, all @ ..] => {
-            by_run(
-                alloc,
-                hub,
-                bytes(alloc, all)?.as_slice(),
-                number(piece)?,
-                now,
-            )
-        }
-        ["pieces", piece, all @ ..] => {
-            let size = number(piece)?;
+        ["ask", all @ ..] => {
             let cut = Cut {
-                piece: size,
-                room: size,
+                piece: WHOLE,
+                room: ROOM,
                 ends: false,
             };
+            by_run(alloc, hub, bytes(alloc, all)?.as_slice(), cut, now)
+        }
+        ["runs", size, all @ ..] => {
+            let cut = even_cut(number(size)?);
+            by_run(alloc, hub, bytes(alloc, all)?.as_slice(), cut, now)
+        }
+        ["pieces", size, all @ ..] => {
+            let cut = even_cut(number(size)?);
             by_calls(alloc, hub, bytes(alloc, all)?.as_slice(), cut, now)
         }
         ["asked", all @ ..] => {

@@ -7,23 +7,26 @@ use session_core::{Drawn, Event, Hub, InputStatus, Outcome};
 use std::alloc::Global;
 use word_index::SearchKeeper;
 
-/// The room of each draw of a run.
-const ROOM: usize = 16_384;
+/// The room of each draw of a run that asks for a reply at once.
+pub const ROOM: usize = 16_384;
 
-/// How often a run draws, which is enough for 128 KiB; longer replies are drawn by calls.
+/// How often such a run draws, which is enough for 128 KiB; longer replies are drawn by calls.
 const DRAWS: usize = 8;
+
+/// How often a run draws by smaller rooms.
+const SMALL_DRAWS: usize = 2048;
 
 /// How often a reply is drawn by calls at most.
 const MOST_DRAWS: u32 = 100_000;
 
-/// How a request comes, and how its reply is drawn by calls.
+/// How a request comes, and how its reply is drawn.
 #[derive(Clone, Copy)]
 pub struct Cut {
     /// How many bytes a piece of the request has.
     pub piece: usize,
     /// The room of a draw.
     pub room: usize,
-    /// Whether the end of input follows.
+    /// Whether the end of input follows, where it comes by calls.
     pub ends: bool,
 }
 
@@ -34,8 +37,24 @@ pub fn reply_text(alloc: Global, reply: &[u8]) -> Result<String, Fault> {
     Ok(line)
 }
 
-/// What some draws gave together.
-fn text_of_draws(alloc: Global, draws: &[Outcome]) -> Result<String, Fault> {
+/// Whether each draw gave as much of the reply as it had room for, and those behind its end said so.
+fn are_even(draws: &[Outcome], reply: &[u8], room: usize) -> bool {
+    let mut pieces = reply.chunks(room.max(1));
+    for outcome in draws {
+        let is_next = match (outcome, pieces.next()) {
+            (Outcome::Drawn(bytes), Some(piece)) => bytes.as_slice() == piece,
+            (Outcome::Finished, None) => true,
+            _ => false,
+        };
+        if !is_next {
+            return false;
+        }
+    }
+    true
+}
+
+/// What some draws of this room gave together.
+fn text_of_draws(alloc: Global, draws: &[Outcome], room: usize) -> Result<String, Fault> {
     let mut reply = Vec::new(alloc);
     for outcome in draws {
         match outcome {
@@ -44,14 +63,17 @@ fn text_of_draws(alloc: Global, draws: &[Outcome]) -> Result<String, Fault> {
             other => return Ok(line_of(alloc, other)?),
         }
     }
+    if !are_even(draws, &reply, room) {
+        return Ok(String::from_str(alloc, "uneven draws")?);
+    }
     reply_text(alloc, &reply)
 }
 
-/// What the last piece of a run, its draws and the leave come to.
-fn text_of_run(alloc: Global, outcomes: &[Outcome]) -> Result<String, Fault> {
+/// What the last piece of a run, its draws of this room and the leave come to.
+fn text_of_run(alloc: Global, outcomes: &[Outcome], room: usize) -> Result<String, Fault> {
     match outcomes {
         [Outcome::Ready, draws @ .., Outcome::Finished, Outcome::Gone] => text_of_draws(
-            alloc, draws,
+            alloc, draws, room,
         ),
         [heard, ..] => Ok(line_of(alloc, heard)?),
         [] => Err(Fault::Line),
@@ -63,22 +85,24 @@ pub fn by_run<S: SearchKeeper>(
     alloc: Global,
     hub: &mut Hub<S>,
     request: &[u8],
-    size: usize,
+    cut: Cut,
     now: Stamp,
 ) -> Result<String, Fault> {
     let id = hub.join()?;
+    let room = cut.room;
     let mut events = Vec::new(alloc);
-    for piece in request.chunks(size.max(1)) {
+    for piece in request.chunks(cut.piece.max(1)) {
         let piece = Bytes::from_slice(alloc, piece)?;
         events.push(Event::Bytes { id, piece, now })?;
     }
     let last = events.len().saturating_sub(1);
-    for _ in 0..DRAWS {
-        events.push(Event::Draw { id, room: ROOM })?;
+    let draws = if room < ROOM { SMALL_DRAWS } else { DRAWS };
+    for _ in 0..draws {
+        events.push(Event::Draw { id, room })?;
     }
     events.push(Event::Leave { id })?;
     let outcomes = hub.run(&events)?;
-    text_of_run(alloc, outcomes.as_slice().get(last..).unwrap_or(&[]))
+    text_of_run(alloc, outcomes.as_slice().get(last..).unwrap_or(&[]), room)
 }
 
 /// All that is left of a session's reply.

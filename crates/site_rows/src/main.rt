@@ -13,9 +13,11 @@
 //! - `until SECONDS SELECTOR TITLE SUMMARY BODY`: the same, and the item is found before that moment alone.
 //! - `remove SELECTOR`, `move FROM TO`, `host HOST PORT`, `admin TEXT`, `post BOARD TITLE TEXT..`: the administrator's other changes.
 //! - `now`, `text`, `join`, `bytes`, `end`, `draw`, `leave`: lines of the script of sessions, with its answers.
-//! - `ask REQUEST..`: a session sends a request whole, draws its reply and leaves, in one run. `runs SIZE REQUEST..`: by pieces of so many bytes.
-//! - `pieces SIZE REQUEST..`: the same call by call, with pieces and draws of so many bytes. `parsed REQUEST..`: whole, and then the input ends.
-//! - `turns COUNT REQUEST..`: so many sessions send these requests, and draw their replies, by turns of one byte; a line for each reply.
+//! - `ask REQUEST..`: a session sends a request whole, draws its reply and leaves, in one run. `runs SIZE REQUEST..`: by pieces
+//!   and draws of so many bytes.
+//! - `pieces SIZE REQUEST..`: the same call by call. `asked REQUEST..`: whole, and then the input ends.
+//! - `turns COUNT REQUEST..`: so many sessions send these requests, and draw their replies, by turns of one byte; behind a request its input ends.
+//!   A line for each reply.
 #![tactic(auto)]
 
 mod answer;

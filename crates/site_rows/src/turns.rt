@@ -36,7 +36,7 @@ fn askers<S: SearchKeeper>(
     Ok(askers)
 }
 
-/// Each session sends the byte at a place of its request, where there is one.
+/// Each session sends the byte at a place of its request, where there is one, or behind the last one the end of input.
 fn send<S: SearchKeeper>(
     hub: &mut Hub<S>,
     askers: &[Asker],
@@ -44,8 +44,11 @@ fn send<S: SearchKeeper>(
     now: Stamp,
 ) -> Result<(), Fault> {
     for asker in askers {
-        if let Some(byte) = asker.request.as_slice().get(at) {
+        let request = asker.request.as_slice();
+        if let Some(byte) = request.get(at) {
             let _ = hub.bytes(asker.id, &[*byte], now)?;
+        } else if at == request.len() {
+            let _ = hub.end(asker.id, now)?;
         }
     }
     Ok(())

@@ -2,15 +2,17 @@
 //! prints how many replies were written whole, or how each session ended, and what each wire was given.
 #![tactic(auto)]
 
+mod crowd;
 mod memory_wire;
 mod shy_wire;
 mod site;
 mod tree;
 mod visits;
 
+use crowd::CROWD;
 use memory_wire::{MemoryWire, StandingClock};
 use session_core::Hub;
-use site::{NotReady, test_site};
+use site::{NotReady, memory_hub};
 use socket_wires::{Gate, SystemClock, serve_on};
 use std::alloc::Global;
 use std::io;
@@ -71,7 +73,17 @@ fn wires_of(alloc: Global, name: &str) -> Result<Vec<MemoryWire>, NotReady> {
     Ok(wires)
 }
 
-const NAMES: [&str; 8] = [
+/// The rounds of a test by its name. The wires of each are served together, and those of the next once all are closed.
+fn rounds_of(alloc: Global, name: &str) -> Result<Vec<Vec<MemoryWire>>, NotReady> {
+    if name == CROWD {
+        return crowd::rounds(alloc);
+    }
+    let mut rounds = Vec::new(alloc);
+    rounds.push(wires_of(alloc, name)?)?;
+    Ok(rounds)
+}
+
+const NAMES: [&str; 9] = [
     "post in three reads",
     "post in one read",
     "post on the second wire",
@@ -80,52 +92,61 @@ const NAMES: [&str; 8] = [
     "early end",
     "writes in part",
     "one wire too many",
+    CROWD,
 ];
 
-/// Serves wires together over a hub, which ends then.
-fn serve_over<S: SearchKeeper + Drop>(
-    hub: Hub<S>,
-    connections: &mut [Connection<MemoryWire>],
-) -> u64 {
-    let mut hub = hub;
-    let served = take_turns(&mut hub, connections, &mut StandingClock::new());
-    let _ = hub.close();
-    served
+/// Wires that are served together, and how many replies were written whole.
+#[derive(Drop)]
+struct Round {
+    connections: Vec<Connection<MemoryWire>>,
+    served: u64,
 }
 
-/// Serves wires together over the site of the tests, in memory or on a disk.
+/// Rounds that are not served yet.
+fn ready_rounds(alloc: Global, rounds: Vec<Vec<MemoryWire>>) -> Result<Vec<Round>, NotReady> {
+    let mut ready = Vec::new(alloc);
+    for wires in rounds {
+        let mut connections = Vec::new(alloc);
+        for wire in wires {
+            connections.push(Connection::new(wire))?;
+        }
+        ready.push(Round {
+            connections,
+            served: 0,
+        })?;
+    }
+    Ok(ready)
+}
+
+/// Serves rounds of wires over a hub, which ends then.
+fn serve_over<S: SearchKeeper + Drop>(hub: Hub<S>, rounds: &mut [Round]) {
+    let mut hub = hub;
+    for round in rounds.iter_mut() {
+        let mut clock = StandingClock::new();
+        round.served = take_turns(&mut hub, &mut round.connections, &mut clock);
+    }
+    let _ = hub.close();
+}
+
+/// Serves rounds of wires over the site of the tests, in memory or on a disk.
 fn serve(
     alloc: Global,
-    wires: Vec<MemoryWire>,
+    wires: Vec<Vec<MemoryWire>>,
     is_on_disk: bool,
-) -> Result<(u64, Vec<Connection<MemoryWire>>), NotReady> {
-    let mut connections = Vec::new(alloc);
-    for wire in wires {
-        connections.push(Connection::new(wire))?;
-    }
+) -> Result<Vec<Round>, NotReady> {
+    let mut rounds = ready_rounds(alloc, wires)?;
     if is_on_disk {
-        let served = serve_over(tree_hub(alloc)?, &mut connections);
-        return Ok((served, connections));
+        serve_over(tree_hub(alloc)?, &mut rounds);
+    } else {
+        serve_over(memory_hub(alloc)?, &mut rounds);
     }
-    let Ok(hub) = Hub::new(alloc, test_site(alloc)?, 1) else {
-        return Err(NotReady);
-    };
-    let served = serve_over(hub, &mut connections);
-    Ok((served, connections))
+    Ok(rounds)
 }
 
-fn show(rt: &HostRuntime, name: &str, is_on_disk: bool) -> io::Result<()> {
-    let place = if is_on_disk { ", on a disk" } else { "" };
-    println!(rt; "{name}{place}")?;
-    let answered = match wires_of(rt.alloc(), name) {
-        Ok(wires) => serve(rt.alloc(), wires, is_on_disk),
-        Err(fault) => Err(fault),
-    };
-    let Ok((served, connections)) = answered else {
-        return Err(io::ErrorKind::OutOfMemory.into());
-    };
-    println!(rt; "served {served}")?;
-    for connection in connections.iter() {
+/// Prints how many replies of a round were written whole, and what each wire was given.
+fn show_round(rt: &HostRuntime, round: &Round) -> io::Result<()> {
+    println!(rt; "served {}", round.served)?;
+    for connection in round.connections.iter() {
         let wire = connection.wire();
         let closed = wire.closed();
         match std::str::from_utf8(wire.written()) {
@@ -136,16 +157,29 @@ fn show(rt: &HostRuntime, name: &str, is_on_disk: bool) -> io::Result<()> {
     Ok(())
 }
 
+fn show(rt: &HostRuntime, name: &str, is_on_disk: bool) -> io::Result<()> {
+    let place = if is_on_disk { ", on a disk" } else { "" };
+    println!(rt; "{name}{place}")?;
+    let answered = match rounds_of(rt.alloc(), name) {
+        Ok(wires) => serve(rt.alloc(), wires, is_on_disk),
+        Err(fault) => Err(fault),
+    };
+    let Ok(rounds) = answered else {
+        return Err(io::ErrorKind::OutOfMemory.into());
+    };
+    for round in rounds.iter() {
+        show_round(rt, round)?;
+    }
+    Ok(())
+}
+
 /// One client over the loopback asks for `/about`, and is served in one round of one.
 fn show_loopback(rt: &HostRuntime) -> io::Result<()> {
     let listener = TcpListener::bind(rt, "127.0.0.1:0")?;
     let port = listener.local_addr()?.port();
     let mut client = TcpStream::connect(rt, ("127.0.0.1", port))?;
     client.write_all(b"/about\r\n")?;
-    let Ok(site) = test_site(rt.alloc()) else {
-        return Err(io::ErrorKind::OutOfMemory.into());
-    };
-    let Ok(mut hub) = Hub::new(rt.alloc(), site, 1) else {
+    let Ok(mut hub) = memory_hub(rt.alloc()) else {
         return Err(io::ErrorKind::OutOfMemory.into());
     };
     let mut clock = SystemClock::new(rt);
@@ -173,9 +207,16 @@ fn main(rt: HostRuntime) -> io::Result<()> {
         show(&rt, name, true)?;
     }
     for name in NAMES {
-        show_visits(&rt, name, wires_of(rt.alloc(), name), all_passes())?;
+        show_visits(&rt, name, rounds_of(rt.alloc(), name), all_passes(), false)?;
     }
-    show_visits(&rt, "time over", wires_of(rt.alloc(), "writes in part"), 4)?;
+    show_visits(
+        &rt,
+        "time over",
+        rounds_of(rt.alloc(), "writes in part"),
+        4,
+        false,
+    )?;
+    show_visits(&rt, CROWD, rounds_of(rt.alloc(), CROWD), all_passes(), true)?;
     show_log_line(&rt)?;
     show_loopback(&rt)
 }

@@ -1,7 +1,7 @@
-// The site of the tests: a text, a board and a form for it.
+// The site of the tests: a text, a board and a form for it, a search, and a top menu.
 use host_types::{
-    Admin, Body, Bytes, Change, Host, Item, Question, QuestionList, Refused, Selector, SiteFault,
-    SiteKeeper, Stamp, Title,
+    Admin, Body, Bytes, Change, Entry, EntryList, Host, Item, Question, QuestionList, Refused,
+    Selector, SiteFault, SiteKeeper, Stamp, Title,
 };
 use mem_site::MemSite;
 use session_core::Hub;
@@ -63,20 +63,35 @@ fn form(alloc: Global) -> Result<Body, NotReady> {
     })
 }
 
-/// What is put into a site.
-const CHANGES: usize = 3;
+fn menu(alloc: Global) -> Result<Body, NotReady> {
+    let mut entries = EntryList::new(alloc);
+    entries.push(Entry::Local(Selector::new(b"/about")?))?;
+    entries.push(Entry::Info(Title::new(b"Welcome")?))?;
+    Ok(Body::Menu(entries))
+}
 
-/// One of the changes by its place: `/about`, the board `/book`, and the form `/sign` for it.
+/// A search of the whole site.
+fn search() -> Result<Body, NotReady> {
+    let scope = Selector::new(b"")?;
+    Ok(Body::Search { scope })
+}
+
+/// What is put into a site.
+const CHANGES: usize = 5;
+
+/// One of the changes by its place: `/about`, the board `/book`, the form `/sign` for it, the search `/find`, and the top menu.
 fn change(alloc: Global, place: usize) -> Result<Change, NotReady> {
     match place {
         0 => put(alloc, b"/about", b"About us", text(alloc)?),
         1 => put(alloc, b"/book", b"Book", Body::Board { cap: 100, next: 1 }),
-        _ => put(alloc, b"/sign", b"Sign", form(alloc)?),
+        2 => put(alloc, b"/sign", b"Sign", form(alloc)?),
+        3 => put(alloc, b"/find", b"Find", search()?),
+        _ => put(alloc, b"", b"Top", menu(alloc)?),
     }
 }
 
 /// A site in memory with all of it.
-pub fn test_site(alloc: Global) -> Result<MemSite, NotReady> {
+fn test_site(alloc: Global) -> Result<MemSite, NotReady> {
     let mut site = MemSite::new(
         alloc,
         Host::new(b"localhost")?,
@@ -89,6 +104,14 @@ pub fn test_site(alloc: Global) -> Result<MemSite, NotReady> {
         site.change(change(alloc, place)?, Stamp::start())?;
     }
     Ok(site)
+}
+
+/// A hub over that site.
+pub fn memory_hub(alloc: Global) -> Result<Hub<MemSite>, NotReady> {
+    match Hub::new(alloc, test_site(alloc)?, 1) {
+        Ok(hub) => Ok(hub),
+        Err(_) => Err(NotReady),
+    }
 }
 
 /// Puts all of it into the site of a hub.

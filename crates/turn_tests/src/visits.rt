@@ -1,57 +1,99 @@
 // Sessions over wires that never wait.
 use crate::memory_wire::{MemoryWire, StandingClock};
 use crate::shy_wire::ShyWire;
-use crate::site::{NotReady, test_site};
+use crate::site::{NotReady, memory_hub};
+use crate::tree::tree_hub;
 use host_types::Stamp;
 use ready_sockets::{Head, Record, log_line};
 use ready_turns::{Ending, Seat, dismiss, join, take_turn};
 use session_core::Hub;
 use std::alloc::Global;
 use std::io;
+use word_index::SearchKeeper;
 
 /// How many passes are made, at most.
-const MOST_PASSES: u32 = 500;
+const MOST_PASSES: u32 = 1000;
 
-/// Serves wires over the site of the tests: all have a turn, and then all are ready again. Whoever is still in after so many passes goes.
-fn serve(
+/// Serves wires together over a hub: all have a turn, and then all are ready again. Whoever is still in after so many passes goes.
+fn serve_round<S: SearchKeeper>(
     alloc: Global,
+    hub: &mut Hub<S>,
     wires: Vec<MemoryWire>,
     passes: u32,
 ) -> Result<Vec<Seat<ShyWire>>, NotReady> {
-    let mut hub = match Hub::new(alloc, test_site(alloc)?, 1) {
-        Ok(hub) => hub,
-        Err(_) => return Err(NotReady),
-    };
     let mut clock = StandingClock::new();
     let mut seats = Vec::new(alloc);
     let mut is_full = false;
     for wire in wires {
-        let seat = join(&mut hub, ShyWire::new(wire));
+        let seat = join(hub, ShyWire::new(wire));
         is_full |= seats.push(seat).is_err();
     }
     for _pass in 0..passes {
         for seat in seats.iter_mut() {
-            take_turn(&mut hub, seat, &mut clock);
+            take_turn(hub, seat, &mut clock);
             seat.wake();
         }
     }
     for seat in seats.iter_mut() {
-        dismiss(&mut hub, seat);
+        dismiss(hub, seat);
     }
-    let _ = hub.close();
     if is_full { Err(NotReady) } else { Ok(seats) }
+}
+
+/// Serves rounds of wires, one behind the other.
+fn serve_rounds<S: SearchKeeper>(
+    alloc: Global,
+    hub: &mut Hub<S>,
+    rounds: Vec<Vec<MemoryWire>>,
+    passes: u32,
+) -> Result<Vec<Seat<ShyWire>>, NotReady> {
+    let mut served = Vec::new(alloc);
+    for wires in rounds {
+        for seat in serve_round(alloc, hub, wires, passes)? {
+            served.push(seat)?;
+        }
+    }
+    Ok(served)
+}
+
+/// The same over a hub that ends then.
+fn serve_over<S: SearchKeeper + Drop>(
+    alloc: Global,
+    hub: Hub<S>,
+    rounds: Vec<Vec<MemoryWire>>,
+    passes: u32,
+) -> Result<Vec<Seat<ShyWire>>, NotReady> {
+    let mut hub = hub;
+    let served = serve_rounds(alloc, &mut hub, rounds, passes);
+    let _ = hub.close();
+    served
+}
+
+/// Serves rounds of wires over the site of the tests, in memory or on a disk.
+fn serve(
+    alloc: Global,
+    rounds: Vec<Vec<MemoryWire>>,
+    passes: u32,
+    is_on_disk: bool,
+) -> Result<Vec<Seat<ShyWire>>, NotReady> {
+    if is_on_disk {
+        return serve_over(alloc, tree_hub(alloc)?, rounds, passes);
+    }
+    serve_over(alloc, memory_hub(alloc)?, rounds, passes)
 }
 
 /// Prints how each session ended, and what its wire was given.
 pub fn show_visits(
     rt: &HostRuntime,
     name: &str,
-    wires: Result<Vec<MemoryWire>, NotReady>,
+    rounds: Result<Vec<Vec<MemoryWire>>, NotReady>,
     passes: u32,
+    is_on_disk: bool,
 ) -> io::Result<()> {
-    println!(rt; "{name}, where nobody waits")?;
-    let served = match wires {
-        Ok(wires) => serve(rt.alloc(), wires, passes),
+    let place = if is_on_disk { ", on a disk" } else { "" };
+    println!(rt; "{name}{place}, where nobody waits")?;
+    let served = match rounds {
+        Ok(rounds) => serve(rt.alloc(), rounds, passes, is_on_disk),
         Err(fault) => Err(fault),
     };
     let Ok(seats) = served else {
