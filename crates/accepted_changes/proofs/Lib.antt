@@ -1,4 +1,5 @@
-pub mod OneEvent
+pub mod Commits
+pub mod OneCall
 pub mod Runs
+pub mod SingleChanges
 pub mod Crashes
-pub mod Courses

@@ -2,4 +2,3 @@ pub mod Accepted
 pub mod Laws
 pub mod Examples
 pub mod UpgradedStarts
-pub mod Courses

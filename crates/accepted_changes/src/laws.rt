@@ -1,28 +1,22 @@
 // What accepted changes are, as laws of the definitions.
 ghost use Rattle.page_store.specs.Steps.{crash_states_of};
-ghost use Rattle.accepted_changes.specs.Courses.{CoursesAreRuns, CrashesLeaveCommits};
 ghost use Rattle.accepted_changes.specs.Examples.{AcceptedExamples};
 ghost use Rattle.accepted_changes.specs.UpgradedStarts.{UpgradedImagesAreStarts};
-ghost use Rattle.accepted_changes.specs.Laws.{AcceptedAreValid, AcceptedAreInOrder, CrashesLeaveAPrefix, ImagesHoldTheAcknowledged, NextOpeningsFindThem};
+ghost use Rattle.accepted_changes.specs.Laws.{AcceptedAreValid, AcceptedAreInOrder, EachIsOneChange, CrashesLeaveAPrefix, ImagesHoldTheAcknowledged, NextOpeningsFindThem};
 
 use host_types::SiteKeeper;
 use sector_device::Device;
 
-/// The accepted changes of a run are valid in turn, and make the sites that it leaves. Those that were acknowledged come first, in their order.
-pub fn accepted_are_valid()
-    ensures valid { AcceptedAreValid }
-    ensures in_order { AcceptedAreInOrder }
+/// The accepted changes of a run are valid in turn, and make the sites that it leaves. Commits that were acknowledged come first, in their order. Where posts don't wait each commit is one change.
+pub fn accepted_are_valid<D: Device>()
+    ensures valid { AcceptedAreValid D }
+    ensures in_order { AcceptedAreInOrder D }
+    ensures one_each { EachIsOneChange D }
 {}
 
-/// What a crash at any moment of a run leaves represents the site of the first so many accepted changes, with each one that was acknowledged by then.
+/// What a crash at any moment of a run leaves represents the site of the first so many accepted commits, with each one that was acknowledged by then.
 pub fn crashes_leave_a_prefix<S: SiteKeeper>()
     ensures { CrashesLeaveAPrefix S.crash_states S.represents }
-{}
-
-/// A run has a course: its worlds, and its commits, each of which is one change. What a crash leaves represents the site of the first so many commits, with each that was acknowledged by then.
-pub fn runs_have_courses<S: SiteKeeper>()
-    ensures runs { CoursesAreRuns }
-    ensures at_crash { CrashesLeaveCommits S.crash_states S.represents }
 {}
 
 /// The same of the images that a crash leaves of a device which was opened as a site and run over.

@@ -1,12 +1,12 @@
 -- What a command and the values behind it ask for, where one of them is missing.
-use Rattle.std.proofs.Common.{◌≡◌, ◌∙◌, refl, sym, subst, codes, ℕ, true, false, List, Option, Some, None, option_map}
+use Rattle.std.proofs.Common.{◌≡◌, ◌∙◌, refl, sym, subst, codes, ℕ, Bool, true, false, List, Option, Some, None, option_map}
 use Rattle.std.specs.Borrow.{Bor}
 use Rattle.std.specs.Str.{bytes_eq}
 use Rattle.std.proofs.lemmas.Slice.Eq.{bytes_eq-Decides}
 use Rattle.std.specs.declared.net.SocketAddr.{SocketAddr}
 use Rattle.clap.specs.Words.{Row, Text, first_of, first_value, rows_of}
 use Rattle.clap.specs.declared.parser.matches.Found.{Found}
-use Rattle.command_words.specs.Tasks.{AsksFor, AsksToServe, Gives, HasAddress, HasNumber, IsSiteIn}
+use Rattle.command_words.specs.Tasks.{AsksFor, AsksToServe, Gives, HasAddress, HasFlag, HasNumber, IsSiteIn}
 use Rattle.command_words.specs.declared.words.NewSite.{NewSite}
 use Rattle.command_words.specs.declared.words.Task.{Task}
 use Rattle.command_words.specs.declared.words.Task.TheVariants as task
@@ -27,8 +27,8 @@ no_image name rows none other (task.Show image) h = not_both _ _ none h.1
 no_image name rows none other (task.Check image) h = not_both _ _ none h.1
 no_image name rows none other (task.Compact image) h = not_both _ _ none h.1
 no_image name rows none other (task.Upgrade image) h = not_both _ _ none h.1
-no_image name rows none other (task.Replay (Some image)) h = other h.0
-no_image name rows none other (task.Replay None) h = other h.0
+no_image name rows none other (task.Replay (Some image) group) h = other h.0
+no_image name rows none other (task.Replay None group) h = other h.0
 no_image name rows none other (task.ServeRounds image together rounds) h = not_both _ _ none h.1.1
 no_image name rows none other (task.ServeClients image listen quiet) h = not_both _ _ none h.1.1
 
@@ -49,8 +49,8 @@ format_needs name rows is (task.Show image) h = absurd (two_words name _ _ refl 
 format_needs name rows is (task.Check image) h = absurd (two_words name _ _ refl is h.0)
 format_needs name rows is (task.Compact image) h = absurd (two_words name _ _ refl is h.0)
 format_needs name rows is (task.Upgrade image) h = absurd (two_words name _ _ refl is h.0)
-format_needs name rows is (task.Replay (Some image)) h = absurd (two_words name _ _ refl is h.0)
-format_needs name rows is (task.Replay None) h = absurd (two_words name _ _ refl is h.0)
+format_needs name rows is (task.Replay (Some image) group) h = absurd (two_words name _ _ refl is h.0)
+format_needs name rows is (task.Replay None group) h = absurd (two_words name _ _ refl is h.0)
 format_needs name rows is (task.ServeRounds image together rounds) h = absurd (two_words name _ _ refl is h.0)
 format_needs name rows is (task.ServeClients image listen quiet) h = absurd (two_words name _ _ refl is h.0)
 
@@ -68,8 +68,8 @@ apply_needs name rows is (task.Show image) h = absurd (two_words name _ _ refl i
 apply_needs name rows is (task.Check image) h = absurd (two_words name _ _ refl is h.0)
 apply_needs name rows is (task.Compact image) h = absurd (two_words name _ _ refl is h.0)
 apply_needs name rows is (task.Upgrade image) h = absurd (two_words name _ _ refl is h.0)
-apply_needs name rows is (task.Replay (Some image)) h = absurd (two_words name _ _ refl is h.0)
-apply_needs name rows is (task.Replay None) h = absurd (two_words name _ _ refl is h.0)
+apply_needs name rows is (task.Replay (Some image) group) h = absurd (two_words name _ _ refl is h.0)
+apply_needs name rows is (task.Replay None group) h = absurd (two_words name _ _ refl is h.0)
 apply_needs name rows is (task.ServeRounds image together rounds) h = absurd (two_words name _ _ refl is h.0)
 apply_needs name rows is (task.ServeClients image listen quiet) h = absurd (two_words name _ _ refl is h.0)
 
@@ -82,8 +82,8 @@ serve_needs name rows is (task.Show image) h = absurd (two_words name _ _ refl i
 serve_needs name rows is (task.Check image) h = absurd (two_words name _ _ refl is h.0)
 serve_needs name rows is (task.Compact image) h = absurd (two_words name _ _ refl is h.0)
 serve_needs name rows is (task.Upgrade image) h = absurd (two_words name _ _ refl is h.0)
-serve_needs name rows is (task.Replay (Some image)) h = absurd (two_words name _ _ refl is h.0)
-serve_needs name rows is (task.Replay None) h = absurd (two_words name _ _ refl is h.0)
+serve_needs name rows is (task.Replay (Some image) group) h = absurd (two_words name _ _ refl is h.0)
+serve_needs name rows is (task.Replay None group) h = absurd (two_words name _ _ refl is h.0)
 serve_needs name rows is (task.ServeRounds image together rounds) h = h.1
 serve_needs name rows is (task.ServeClients image listen quiet) h = h.1
 
@@ -95,7 +95,7 @@ rounds_need image rows n has (task.Show i) h = absurd h
 rounds_need image rows n has (task.Check i) h = absurd h
 rounds_need image rows n has (task.Compact i) h = absurd h
 rounds_need image rows n has (task.Upgrade i) h = absurd h
-rounds_need image rows n has (task.Replay i) h = absurd h
+rounds_need image rows n has (task.Replay i group) h = absurd h
 rounds_need image rows n has (task.ServeRounds i together rounds) h = (together, h.1)
 rounds_need image rows n has (task.ServeClients i listen quiet) h = absurd (h.1 n has)
 
@@ -107,14 +107,14 @@ clients_need image rows none (task.Show i) h = absurd h
 clients_need image rows none (task.Check i) h = absurd h
 clients_need image rows none (task.Compact i) h = absurd h
 clients_need image rows none (task.Upgrade i) h = absurd h
-clients_need image rows none (task.Replay i) h = absurd h
+clients_need image rows none (task.Replay i group) h = absurd h
 clients_need image rows none (task.ServeRounds i together rounds) h = absurd (none rounds h.2)
 clients_need image rows none (task.ServeClients i listen quiet) h = (listen, h.2)
 
 -- a script over the site of an image, or over one in memory
-pub replayed : (name : Text) (f : Found) (r : Option (Bor Text)) → name ≡ codes "replay" → option_map (λ x. x.now) r ≡ first_value f (codes "IMAGE") → AsksFor name (rows_of f) (task.Replay r)
-replayed name f None is e = (is, no_text f (codes "IMAGE") None e refl)
-replayed name f (Some image) is e = (is, found_text f (codes "IMAGE") (Some image) image e refl)
+pub replayed : (name : Text) (f : Found) (r : Option (Bor Text)) (group : Bool) → name ≡ codes "replay" → option_map (λ x. x.now) r ≡ first_value f (codes "IMAGE") → HasFlag (rows_of f) (codes "group") group → AsksFor name (rows_of f) (task.Replay r group)
+replayed name f None group is e flag = (is, no_text f (codes "IMAGE") None e refl, flag)
+replayed name f (Some image) group is e flag = (is, found_text f (codes "IMAGE") (Some image) image e refl, flag)
 
 -- the command serves what `serving` answers
 pub served : (name : Text) (rows : List Row) (image : Text) (r : Option Task) → name ≡ codes "serve" → first_of (codes "IMAGE") rows ≡ Some image → Gives (AsksToServe image rows) r → Gives (AsksFor name rows) r
@@ -127,7 +127,7 @@ served name rows image (Some t) is found asks = serves t asks
     serves (task.Check i) h = absurd h
     serves (task.Compact i) h = absurd h
     serves (task.Upgrade i) h = absurd h
-    serves (task.Replay i) h = absurd h
+    serves (task.Replay i group) h = absurd h
     serves (task.ServeRounds i together rounds) h = (is, (image, found, h))
     serves (task.ServeClients i listen quiet) h = (is, (image, found, h))
 served name rows image None is found never = λ t asks.

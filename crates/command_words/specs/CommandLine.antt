@@ -36,12 +36,12 @@ now_rule = number_rule (codes "now") 0 253402300799
 abbrev pub bound_rule : Rule → Rule
 bound_rule rule = record rule { required = false; is_free = false }
 
+-- a word that is there or not
+abbrev pub flag_rule : Text → Rule
+flag_rule name = record (new_rule name) { long = Some name; action = Some SetTrue }
+
 abbrev pub quiet_rule : Rule
-quiet_rule = record (new_rule (codes "quiet")) {
-  long = Some (codes "quiet");
-  action = Some SetTrue;
-  is_free = false;
-}
+quiet_rule = record (flag_rule (codes "quiet")) { is_free = false }
 
 abbrev pub command : Text → List Rule → Shape
 command name rules = record (new_shape name) { rules = rules }
@@ -63,7 +63,7 @@ abbrev pub image_command : Text → Shape
 image_command name = command name (image_rule ∷ [])
 
 abbrev pub replay_command : Shape
-replay_command = command (codes "replay") (path_rule (codes "IMAGE") ∷ [])
+replay_command = command (codes "replay") (path_rule (codes "IMAGE") ∷ flag_rule (codes "group") ∷ [])
 
 abbrev pub serve_command : Shape
 serve_command = command (codes "serve")

@@ -67,10 +67,10 @@ AsksFor name rows (task.Compact image) =
     (name ≡ codes "compact") × HasText rows (codes "IMAGE") image
 AsksFor name rows (task.Upgrade image) =
     (name ≡ codes "upgrade") × HasText rows (codes "IMAGE") image
-AsksFor name rows (task.Replay (Some image)) =
-    (name ≡ codes "replay") × HasText rows (codes "IMAGE") image
-AsksFor name rows (task.Replay None) =
-    (name ≡ codes "replay") × (first_of (codes "IMAGE") rows ≡ None)
+AsksFor name rows (task.Replay (Some image) group) =
+    (name ≡ codes "replay") × HasText rows (codes "IMAGE") image × HasFlag rows (codes "group") group
+AsksFor name rows (task.Replay None group) =
+    (name ≡ codes "replay") × (first_of (codes "IMAGE") rows ≡ None) × HasFlag rows (codes "group") group
 AsksFor name rows serving =
     (name ≡ codes "serve")
     × ((image : Text) × (first_of (codes "IMAGE") rows ≡ Some image) × AsksToServe image rows serving)

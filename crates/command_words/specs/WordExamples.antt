@@ -44,6 +44,8 @@ pub record WordExamples : Type 0 where
   pub no_command : is_taken [] ≡ false
   pub replays : is_taken (codes "replay" ∷ []) ≡ true
   pub over_no_image : value_of (codes "IMAGE") (codes "replay" ∷ []) ≡ None
+  pub one_by_one : value_of (codes "group") (codes "replay" ∷ []) ≡ Some (codes "false")
+  pub in_groups : value_of (codes "group") (codes "replay" ∷ codes "--group" ∷ codes "a.img" ∷ []) ≡ Some (codes "true")
   pub formats : named format_words ≡ Some (codes "format")
   pub host : value_of (codes "host") format_words ≡ Some (codes "localhost")
   pub port : value_of (codes "port") format_words ≡ Some (codes "7070")

@@ -23,6 +23,15 @@ fn image<'a>(alloc: Global) -> Arg<'a>
     path(alloc, "IMAGE", "The file of the image").required(true)
 }
 
+fn flag<'a>(alloc: Global, name: &'a str, help: &'a str) -> Arg<'a>
+    ensures { IsArg (spec.flag_rule name.entry.now) result }
+{
+    Arg::new(alloc, name)
+        .long(name)
+        .help(help)
+        .action(ArgAction::SetTrue)
+}
+
 fn text<'a>(alloc: Global, name: &'a str, value: &'a str, help: &'a str) -> Arg<'a>
     ensures { IsArg (spec.text_rule name.entry.now) result }
 {
@@ -145,12 +154,15 @@ fn replay<'a>(alloc: Global) -> Result<Command<'a>, AllocError>
         "IMAGE",
         "The file of the image; if left out, a site in memory",
     );
+    let group =
+        "Posts wait for one another until a line 'flush'; if left out, each is made at once";
     Command::new(alloc, "replay")
         .about("Prints the answers of a script on standard input")
         .after_help(
             "Example: printf 'join\\nbytes 1 /about\\\\r\\\\n\\ndraw 1 512\\n' | gopher_host replay site.img",
         )
-        .arg(image)
+        .arg(image)?
+        .arg(flag(alloc, "group", group))
 }
 
 /// A number of a server in rounds, which has another one with it.
@@ -193,13 +205,7 @@ fn serve<'a>(alloc: Global) -> Result<Command<'a>, AllocError>
                 .required(false)
                 .conflicts_with("rounds")?,
         )?
-        .arg(
-            Arg::new(alloc, "quiet")
-                .long("quiet")
-                .help(quiet)
-                .action(ArgAction::SetTrue)
-                .conflicts_with("rounds")?,
-        )
+        .arg(flag(alloc, "quiet", quiet).conflicts_with("rounds")?)
 }
 
 /// The whole command line.

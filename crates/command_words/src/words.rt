@@ -48,9 +48,10 @@ pub enum Task<'a> {
     Upgrade {
         image: &'a str,
     },
-    /// Runs the script on standard input, and prints its answers.
+    /// Runs the script on standard input, in which posts wait for one another or don't, and prints its answers.
     Replay {
         image: Option<&'a str>,
+        group: bool,
     },
     /// Serves so many rounds of connections over an image.
     ServeRounds {
@@ -203,7 +204,10 @@ fn task_of<'a>(name: &str, matches: &ArgMatches<'a>) -> Option<Task<'a>>
         "check" => Some(Task::Check { image: image? }),
         "compact" => Some(Task::Compact { image: image? }),
         "upgrade" => Some(Task::Upgrade { image: image? }),
-        "replay" => Some(Task::Replay { image }),
+        "replay" => Some(Task::Replay {
+            image,
+            group: matches.get_flag("group"),
+        }),
         "serve" => serving(image?, matches),
         _ => None,
     }

@@ -5,12 +5,13 @@ use crate::lying::{stored_and_told, switched};
 use crate::trouble::Trouble;
 use crate::{devices, disks, events, keepers, records, sites, texts};
 use cow_tree::TreeKeeper;
+use group_hub::OutcomeList;
+use group_world::{Event, HubFault, Outcome};
 use host_on_disk::{open_site, run_on};
 use host_types::{Bytes, Change, Stamp};
 use mem_site::MemSite;
 use page_store::FlatKeeper;
 use sector_device::{FuseDisk, MemDisk};
-use session_core::{Event, HubFault, Outcome, OutcomeList};
 use site_store::DiskSite;
 use std::alloc::Global;
 use std::mem;
@@ -38,8 +39,10 @@ fn show_outcome(line: &mut Line, outcome: &Outcome) -> Result<(), Trouble> {
         Outcome::More => line.word("more"),
         Outcome::Ready => line.word("ready"),
         Outcome::Finished => line.word("finished"),
+        Outcome::Waiting => Err(Trouble::Wrong("a post waits in a plain hub")),
         Outcome::Drawn(bytes) => show_drawn(line, bytes),
         Outcome::Gone | Outcome::Done => line.word("ok"),
+        Outcome::Flushed { .. } => Err(Trouble::Wrong("a plain hub is flushed")),
         Outcome::Fault(fault) => show_fault(line, *fault),
     }
 }
@@ -180,7 +183,7 @@ impl Bench {
     /// `run FIRST`: the events over the site on the device, with sessions from this number on.
     fn run(&mut self, line: &mut Line, first: &[u8]) -> Result<(), Trouble> {
         let first = number(first)?;
-        match run_on(self.alloc, self.take_device()?, first, &self.events) {
+        match run_on(self.alloc, false, self.take_device()?, first, &self.events) {
             Ok((outcomes, device)) => {
                 self.held = Held::Fuse(device);
                 show_outcomes(line, &outcomes)

@@ -7,13 +7,14 @@ use crate::made::EVENING;
 use crate::scripts::Dice;
 use crate::trouble::Trouble;
 use cow_tree::TreeKeeper;
+use group_hub::OutcomeList;
+use group_world::{Event, HubFault, Outcome};
 use host_on_disk::{open_site, run_on, run_over};
 use host_types::{Admin, Bytes, Host, SiteKeeper, Stamp, Title};
 use image_commands::compact_image;
 use mem_site::MemSite;
 use page_store::Keeper;
 use sector_device::{Device, FuseDisk, MemDisk};
-use session_core::{Event, HubFault, Outcome, OutcomeList};
 use site_store::DiskSite;
 use std::alloc::Global;
 use word_index::SearchKeeper;
@@ -56,7 +57,7 @@ fn ran<S: SearchKeeper + Drop>(
     if !site.is_usable() {
         return Err(Trouble::Wrong("not usable"));
     }
-    match run_over(alloc, site, 1, events) {
+    match run_over(alloc, false, site, 1, events) {
         Ok(ended) => Ok(ended),
         Err((fault, _)) => Err(Trouble::from(fault)),
     }
@@ -137,7 +138,7 @@ fn stopped(
     calls: u64,
 ) -> Result<Option<(usize, MemDisk)>, Trouble> {
     let fuse = FuseDisk::new(disk_of(alloc, image)?, calls);
-    let Ok((outcomes, fuse)) = run_on(alloc, fuse, 1, events) else {
+    let Ok((outcomes, fuse)) = run_on(alloc, false, fuse, 1, events) else {
         return Ok(None);
     };
     let failed = outcomes.as_slice().iter().position(|outcome| {

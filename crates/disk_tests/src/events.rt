@@ -8,8 +8,8 @@ use crate::line::{Line, number, small_number, text_of};
 use crate::scripts::{Dice, script};
 use crate::trouble::Trouble;
 use crate::upgrades::{outcome, upgrades};
+use group_world::Event;
 use host_types::{Bytes, Change};
-use session_core::Event;
 use std::mem;
 
 /// `survives CALLS`: whether the events are all answered on a disk with the image that crashes after so many calls. What the crash leaves is

@@ -2,11 +2,11 @@
 use crate::crashes::{disk_of, kept_after, kept_and_used, sets_of};
 use crate::disks::unsynced;
 use crate::trouble::Trouble;
+use group_world::Event;
 use host_on_disk::open_site;
 use host_types::{Change, ChangesFault, SiteKeeper, Stamp};
 use page_store::Keeper;
 use sector_device::{FuseDisk, MemDisk};
-use session_core::Event;
 use std::alloc::Global;
 
 /// The administrator's changes among some events, each with its moment.

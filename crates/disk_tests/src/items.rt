@@ -1,11 +1,11 @@
 // Items and changes from fields.
 use crate::line::{number, small_number, text_of};
 use crate::trouble::Trouble;
+use group_world::Event;
 use host_types::{
     Admin, Body, Bytes, Change, Entry, EntryList, Host, Item, Kind, LinkKind, Selector, Stamp,
     Title, Url, View, ViewList,
 };
-use session_core::Event;
 use site_records::read_questions;
 use std::alloc::{AllocError, Global};
 

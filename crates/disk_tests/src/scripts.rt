@@ -2,8 +2,8 @@
 ghost use Rattle.std.specs.Prelude.{◌<◌};
 
 use crate::trouble::Trouble;
+use group_world::Event;
 use host_types::{Bytes, Change, Stamp};
-use session_core::Event;
 use std::alloc::Global;
 
 /// Numbers that look random, by a seed.

@@ -5,11 +5,11 @@ use crate::keepers::pairs_of;
 use crate::made::change;
 use crate::trouble::Trouble;
 use cow_tree::{TreeKeeper, format};
+use group_world::Event;
 use host_on_disk::{OpenFault, upgrade_on};
 use host_types::Bytes;
 use page_store::{Banner, Keeper, KeeperFault};
 use sector_device::{FuseDisk, MemDisk};
-use session_core::Event;
 use site_records::read_record;
 use std::alloc::Global;
 

@@ -5,3 +5,4 @@ pub mod Readings
 pub mod Written
 pub mod Opens
 pub mod Formatted
+pub mod Scripts

@@ -1,5 +1,5 @@
 -- What serving and a script did with the image in a file, whatever the command answers.
-use Rattle.std.specs.Prelude.{◌≡◌, ◌⊎◌, ℕ, List, [], Option, None, Result, Ok, Err, OnOk, IfOk, IfErr, codes}
+use Rattle.std.specs.Prelude.{◌≡◌, ◌⊎◌, ℕ, Bool, List, [], Option, None, Result, Ok, Err, OnOk, IfOk, IfErr, codes}
 use Rattle.std.specs.Io.KnownBytes.{Keeps}
 use Rattle.std.specs.declared.net.socket_addr.SocketAddr.{SocketAddr}
 use Rattle.host_types.specs.AllChanges.{Changes}
@@ -31,9 +31,9 @@ use Rattle.gopher_host.specs.ImageFiles.{OpensThen, file_crash_states}
 use Rattle.gopher_host.specs.declared.fault.Fault.{Fault}
 use Rattle.gopher_host.specs.declared.fault.Fault.TheVariants as faults
 
--- Events of a hub over the site of the image in a file. What survives a crash of them is the headline.
-abbrev pub OnFile : {S L : Type 0} → (S → FileHistory) → (S → SiteState) → (S → Changes → SiteFault → Type 0) → (S → CrashStates L) → (L → Site → Type 0) → Ran FileHistory
-OnFile device site_state lacks crash_states stands = OnImage file_state device site_state lacks crash_states stands file_crash_states
+-- Events of a hub, where posts wait or don't, over the site of the image in a file. What survives a crash of them is the headline.
+abbrev pub OnFile : {S L : Type 0} → Bool → (S → FileHistory) → (S → SiteState) → (S → Changes → SiteFault → Type 0) → (S → CrashStates L) → (L → Site → Type 0) → Ran FileHistory
+OnFile grouped device site_state lacks crash_states stands = OnImage grouped file_state device site_state lacks crash_states stands file_crash_states
 
 -- Clients were served as they came, and the command answers how that ended. The device that was given back is the one that was left.
 pub record Visits {S L Log X : Type 0} (contents : Log → Option (List ℕ)) (device : S → FileHistory) (site_state : S → SiteState) (lacks : S → Changes → SiteFault → Type 0) (crash_states : S → CrashStates L) (stands : L → Site → Type 0) (listen : Option SocketAddr) (asked_before asked_now : List DoorCall) (log_before log_now : Log) (result : Result X Fault) (opened left : FileHistory) : Type 0 where
@@ -75,15 +75,15 @@ abbrev pub RefusesSite : {H : Type 0} → H → OpenFault → H → Type 0
 RefusesSite opened fault left = (fault ≡ opening.Memory) × (left ≡ opened)
 
 -- A script was replayed over the site of the image in a file.
-abbrev pub ReplaysFile : {S L : Type 0} → (S → FileHistory) → (S → SiteState) → (S → Changes → SiteFault → Type 0) → (S → CrashStates L) → (L → Site → Type 0) → List ℕ → List FileUse → List FileUse → Option (List ℕ) → Option (List ℕ) → Option (List ℕ) → Option (List ℕ) → Result (Unit {0}) Fault → Type 0
-ReplaysFile device site_state lacks crash_states stands image used_before used_now script_before script_now before now result =
-    OpensThen image used_before used_now result ((script_now ≡ script_before) × (now ≡ before)) (Replayed (OnFile device site_state lacks crash_states stands) RefusesFile script_before script_now before now result)
+abbrev pub ReplaysFile : {S L : Type 0} → Bool → (S → FileHistory) → (S → SiteState) → (S → Changes → SiteFault → Type 0) → (S → CrashStates L) → (L → Site → Type 0) → List ℕ → List FileUse → List FileUse → Option (List ℕ) → Option (List ℕ) → Option (List ℕ) → Option (List ℕ) → Result (Unit {0}) Fault → Type 0
+ReplaysFile grouped device site_state lacks crash_states stands image used_before used_now script_before script_now before now result =
+    OpensThen image used_before used_now result ((script_now ≡ script_before) × (now ≡ before)) (Replayed (OnFile grouped device site_state lacks crash_states stands) RefusesFile script_before script_now before now result)
 
 -- A script was replayed over a small site in memory, or there was no memory for one.
-abbrev pub ReplaysInMemory : {L : Type 0} → (Site → SiteState) → (Site → Changes → SiteFault → Type 0) → (Site → CrashStates L) → (L → Site → Type 0) → Option (List ℕ) → Option (List ℕ) → Option (List ℕ) → Option (List ℕ) → Result (Unit {0}) Fault → Type 0
-ReplaysInMemory site_state lacks crash_states stands script_before script_now before now result =
+abbrev pub ReplaysInMemory : {L : Type 0} → Bool → (Site → SiteState) → (Site → Changes → SiteFault → Type 0) → (Site → CrashStates L) → (L → Site → Type 0) → Option (List ℕ) → Option (List ℕ) → Option (List ℕ) → Option (List ℕ) → Result (Unit {0}) Fault → Type 0
+ReplaysInMemory grouped site_state lacks crash_states stands script_before script_now before now result =
     ((result ≡ Err memory_fault) × (script_now ≡ script_before) × (now ≡ before))
-    ⊎ ((left : Site) × Replayed (OverSite site_state lacks crash_states stands) RefusesSite script_before script_now before now result (fresh_site (codes "localhost") 7070 (codes "Ada <ada@localhost>") (codes "Top") 0) left)
+    ⊎ ((left : Site) × Replayed (OverSite grouped site_state lacks crash_states stands) RefusesSite script_before script_now before now result (fresh_site (codes "localhost") 7070 (codes "Ada <ada@localhost>") (codes "Top") 0) left)
 
 -- Whatever was replayed so, what is left to write is written then, or standard output took no more.
 pub record IsWritten (IsReplayed : Option (List ℕ) → Result (Unit {0}) Fault → Type 0) (now : Option (List ℕ)) (left : List ℕ) (result : Result (Unit {0}) Fault) : Type 0 where

@@ -30,8 +30,8 @@ RunsCommand contents (task.Show image) before after old new result = OpensThen i
 RunsCommand contents (task.Check image) before after old new result = OpensThen image.now before after result (new ≡ old) (Checks contents old new result)
 RunsCommand contents (task.Compact image) before after old new result = OpensThen image.now before after result (new ≡ old) (Compacts contents old new result)
 RunsCommand contents (task.Upgrade image) before after old new result = OpensThen image.now before after result (new ≡ old) (Upgrades contents old new result)
-RunsCommand contents (task.Replay (Some image)) before after old new result = new ≡ old
-RunsCommand contents (task.Replay None) before after old new result = (new ≡ old) × (after ≡ before)
+RunsCommand contents (task.Replay (Some image) group) before after old new result = new ≡ old
+RunsCommand contents (task.Replay None group) before after old new result = (new ≡ old) × (after ≡ before)
 RunsCommand contents (task.ServeRounds image together rounds) before after old new result = Unit {0}
 RunsCommand contents (task.ServeClients image listen quiet) before after old new result = new ≡ old
 
@@ -48,8 +48,8 @@ IfClients (task.ServeClients image listen quiet) Holds = Holds image.now listen 
 IfClients other Holds = Unit {0}
 
 -- of a script over an image, where the task is to replay one
-abbrev pub IfScript : Task → (List ℕ → Type 0) → Type 0
-IfScript (task.Replay (Some image)) Holds = Holds image.now
+abbrev pub IfScript : Task → (List ℕ → Bool → Type 0) → Type 0
+IfScript (task.Replay (Some image) group) Holds = Holds image.now group
 IfScript other Holds = Unit {0}
 
 -- What these tasks did with the image in a file, whatever they answer; `used` and `after` are what was done with files, `before` and `now` are the log, where clients are told of that have gone, and `first` and `asked` what was asked of the system for a listener.
@@ -57,4 +57,4 @@ pub record RunsSessions {S L Pin W Log Sink : Type 0} (ghosts : _) (printed : W 
   pub rounds : IfRounds done (λ image together rounds. (first : List ListenCall) × (asked : List ListenCall) × (first ≡ []) × OpensThen image used after result ((asked ≡ first) × (new ≡ old)) (ServesRounds {Pin = Pin} ghosts printed device site_state lacks crash_states stands together rounds first asked old new result))
   pub logged : IfClients done (λ image listen quiet. quiet ≡ false → (first : List DoorCall) × (asked : List DoorCall) × (first ≡ []) × OpensThen image used after result ((asked ≡ first) × (now ≡ before)) (Visits told device site_state lacks crash_states stands listen first asked before now result))
   pub unlogged : IfClients done (λ image listen quiet. quiet ≡ true → (now ≡ before) × (first : List DoorCall) × (asked : List DoorCall) × (first ≡ []) × OpensThen image used after result (asked ≡ first) (λ opened left. (from : Sink) × (to : Sink) × Visits sunk device site_state lacks crash_states stands listen first asked from to result opened left))
-  pub script : IfScript done (λ image. RepliesToAll (after ≡ used) (ReplaysFile device site_state lacks crash_states stands image used after) result)
+  pub script : IfScript done (λ image group. RepliesToAll (after ≡ used) (ReplaysFile group device site_state lacks crash_states stands image used after) result)

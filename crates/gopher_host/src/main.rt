@@ -54,7 +54,7 @@ fn run<W: Write, L: Write>(
         Task::Check { image } => commands::check(rt.alloc(), used, image, writer),
         Task::Compact { image } => commands::compact(rt.alloc(), used, image, writer),
         Task::Upgrade { image } => commands::upgrade(rt.alloc(), used, image, writer),
-        Task::Replay { image } => sessions::replay(rt, used, image),
+        Task::Replay { image, group } => sessions::replay(rt, used, image, group),
         Task::ServeRounds {
             image,
             together,

@@ -101,13 +101,14 @@ fn replay_image<R: Read, W: Write>(
     alloc: Global,
     used: &mut UsedFiles<'_, HostRuntime>,
     image: &str,
+    grouped: bool,
     reader: &mut R,
     writer: &mut W,
 ) -> Result<(), Fault>
-    ensures { let k = ⟦<DiskSite<TreeKeeper<FileDevice>> as SiteKeeper>⟧ in ReplaysFile (λ d. device_of (keeper_of d)) k.site_state k.lacks k.crash_states k.represents image.now used.old.log.uses used.new.log.uses (R.remaining reader.old) (R.remaining reader.new) (W.contents writer.old) (W.contents writer.new) result }
+    ensures { let k = ⟦<DiskSite<TreeKeeper<FileDevice>> as SiteKeeper>⟧ in ReplaysFile grouped (λ d. device_of (keeper_of d)) k.site_state k.lacks k.crash_states k.represents image.now used.old.log.uses used.new.log.uses (R.remaining reader.old) (R.remaining reader.new) (W.contents writer.old) (W.contents writer.new) result }
 {
     let device = open(used, image)?;
-    let replayed = replay_on(alloc, device, reader, writer);
+    let replayed = replay_on(alloc, grouped, device, reader, writer);
     replay_ended(closed(used, replayed))
 }
 
@@ -124,15 +125,16 @@ fn answer_of<A, E, S: Drop>(given: Result<(A, S), (E, S)>) -> Result<A, E>
 /// A script over a small site in memory.
 fn replay_in_memory<R: Read, W: Write>(
     alloc: Global,
+    grouped: bool,
     reader: &mut R,
     writer: &mut W,
 ) -> Result<(), Fault>
-    ensures { let k = ⟦<MemSite as SiteKeeper>⟧ in ReplaysInMemory k.site_state k.lacks k.crash_states k.represents (R.remaining reader.old) (R.remaining reader.new) (W.contents writer.old) (W.contents writer.new) result }
+    ensures { let k = ⟦<MemSite as SiteKeeper>⟧ in ReplaysInMemory grouped k.site_state k.lacks k.crash_states k.represents (R.remaining reader.old) (R.remaining reader.new) (W.contents writer.old) (W.contents writer.new) result }
 {
     let Ok(site) = small_site(alloc) else {
         return Err(Fault::of_memory());
     };
-    replay_ended(answer_of(replay_over(alloc, site, reader, writer)))
+    replay_ended(answer_of(replay_over(alloc, grouped, site, reader, writer)))
 }
 
 /// A script over a site in memory, or over that of an image. What was printed before a fault stays printed.
@@ -140,31 +142,40 @@ fn replay_from<R: Read, W: Write + Drop>(
     alloc: Global,
     used: &mut UsedFiles<'_, HostRuntime>,
     image: Option<&str>,
+    grouped: bool,
     reader: &mut R,
     writer: &mut BufWriter<W>,
 ) -> Result<(), Fault>
-    ensures image { let k = ⟦<DiskSite<TreeKeeper<FileDevice>> as SiteKeeper>⟧ in IfSome image.entry (λ i. IsWritten (ReplaysFile (λ d. device_of (keeper_of d)) k.site_state k.lacks k.crash_states k.represents i.now used.old.log.uses used.new.log.uses (R.remaining reader.old) (R.remaining reader.new) (writer_contents W.contents writer.old)) (writer_contents W.contents writer.new) (writer_buffer writer.new) result) }
-    ensures memory { let k = ⟦<MemSite as SiteKeeper>⟧ in image.entry ≡ None → (used.new.log.uses ≡ used.old.log.uses) × IsWritten (ReplaysInMemory k.site_state k.lacks k.crash_states k.represents (R.remaining reader.old) (R.remaining reader.new) (writer_contents W.contents writer.old)) (writer_contents W.contents writer.new) (writer_buffer writer.new) result }
+    ensures image { let k = ⟦<DiskSite<TreeKeeper<FileDevice>> as SiteKeeper>⟧ in IfSome image.entry (λ i. IsWritten (ReplaysFile grouped (λ d. device_of (keeper_of d)) k.site_state k.lacks k.crash_states k.represents i.now used.old.log.uses used.new.log.uses (R.remaining reader.old) (R.remaining reader.new) (writer_contents W.contents writer.old)) (writer_contents W.contents writer.new) (writer_buffer writer.new) result) }
+    ensures memory { let k = ⟦<MemSite as SiteKeeper>⟧ in image.entry ≡ None → (used.new.log.uses ≡ used.old.log.uses) × IsWritten (ReplaysInMemory grouped k.site_state k.lacks k.crash_states k.represents (R.remaining reader.old) (R.remaining reader.new) (writer_contents W.contents writer.old)) (writer_contents W.contents writer.new) (writer_buffer writer.new) result }
 {
     let ended = match image {
-        Some(image) => replay_image(alloc, used, image, reader, writer),
-        None => replay_in_memory(alloc, reader, writer),
+        Some(image) => replay_image(alloc, used, image, grouped, reader, writer),
+        None => replay_in_memory(alloc, grouped, reader, writer),
     };
     let written = writer.flush();
     all_written(ended, written)
 }
 
-/// A script on standard input over a site in memory, or over that of an image. What was printed before a fault stays printed.
+/// A script on standard input over a site in memory, or over that of an image, in which posts wait for one another or don't. What was printed before a fault stays printed.
 pub fn replay(
     rt: &HostRuntime,
     used: &mut UsedFiles<'_, HostRuntime>,
     image: Option<&str>,
+    grouped: bool,
 ) -> Result<(), Fault>
-    ensures image { let k = ⟦<DiskSite<TreeKeeper<FileDevice>> as SiteKeeper>⟧ in IfSome image.entry (λ i. RepliesToAll (used.new.log.uses ≡ used.old.log.uses) (ReplaysFile (λ d. device_of (keeper_of d)) k.site_state k.lacks k.crash_states k.represents i.now used.old.log.uses used.new.log.uses) result) }
-    ensures memory { let k = ⟦<MemSite as SiteKeeper>⟧ in image.entry ≡ None → (used.new.log.uses ≡ used.old.log.uses) × RepliesToAll (Unit {0}) (ReplaysInMemory k.site_state k.lacks k.crash_states k.represents) result }
+    ensures image { let k = ⟦<DiskSite<TreeKeeper<FileDevice>> as SiteKeeper>⟧ in IfSome image.entry (λ i. RepliesToAll (used.new.log.uses ≡ used.old.log.uses) (ReplaysFile grouped (λ d. device_of (keeper_of d)) k.site_state k.lacks k.crash_states k.represents i.now used.old.log.uses used.new.log.uses) result) }
+    ensures memory { let k = ⟦<MemSite as SiteKeeper>⟧ in image.entry ≡ None → (used.new.log.uses ≡ used.old.log.uses) × RepliesToAll (Unit {0}) (ReplaysInMemory grouped k.site_state k.lacks k.crash_states k.represents) result }
 {
     let Ok(mut writer) = BufWriter::new(rt.alloc(), io::writer(rt)) else {
         return Err(Fault::of_memory());
     };
-    replay_from(rt.alloc(), used, image, &mut rt.reader(), &mut writer)
+    replay_from(
+        rt.alloc(),
+        used,
+        image,
+        grouped,
+        &mut rt.reader(),
+        &mut writer,
+    )
 }

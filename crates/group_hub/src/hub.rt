@@ -69,12 +69,18 @@ impl<S: SearchKeeper> Hub<S> {
     ghost use Rattle.group_hub.specs.Hears.{is_grouped, is_full};
     ghost use Rattle.group_hub.specs.Calls.{HubCall};
 
-    /// A hub without sessions, whose first has this number, and whose posts are made one by one. It makes room for all sessions, or hands the site back with `Memory`.
-    pub fn new(alloc: Global, site: S, first: u64) -> Result<Hub<S>, (HubFault, S)>
+    /// A hub without sessions, whose first has this number. Posts wait in it to be made together, or are made at once; where they wait, the site is a valid one. It makes room for all sessions, or hands the site back with `Memory`.
+    pub fn started(
+        alloc: Global,
+        grouped: bool,
+        site: S,
+        first: u64,
+    ) -> Result<Hub<S>, (HubFault, S)>
         requires usable { (S.site_state site).usable ≡ true }
         requires unpinned { (S.site_state site).pins ≡ [] }
+        requires valid { IsValid grouped (S.site_state site) }
         ensures keeper { IfOk result (λ hub. keeper_of hub ≡ site) }
-        ensures world { IfOk result (λ hub. world_of S.site_state hub ≡ started_as false (S.site_state site).site first) }
+        ensures world { IfOk result (λ hub. world_of S.site_state hub ≡ started_as grouped (S.site_state site).site first) }
         ensures err { IfErr result (λ e. (e.0 ≡ Memory) × (e.1 ≡ site)) }
     {
         match Vec::with_capacity(alloc, MOST_SESSIONS) {
@@ -82,11 +88,22 @@ impl<S: SearchKeeper> Hub<S> {
                 alloc,
                 site,
                 next: first,
-                grouped: false,
+                grouped,
                 sessions,
             }),
             Err(_) => Err((HubFault::Memory, site)),
         }
+    }
+
+    /// The same where each post is made at once.
+    pub fn new(alloc: Global, site: S, first: u64) -> Result<Hub<S>, (HubFault, S)>
+        requires usable { (S.site_state site).usable ≡ true }
+        requires unpinned { (S.site_state site).pins ≡ [] }
+        ensures keeper { IfOk result (λ hub. keeper_of hub ≡ site) }
+        ensures world { IfOk result (λ hub. world_of S.site_state hub ≡ started_as false (S.site_state site).site first) }
+        ensures err { IfErr result (λ e. (e.0 ≡ Memory) × (e.1 ≡ site)) }
+    {
+        Hub::started(alloc, false, site, first)
     }
 
     /// The same of a valid site, where posts wait to be made together.
@@ -98,16 +115,7 @@ impl<S: SearchKeeper> Hub<S> {
         ensures world { IfOk result (λ hub. world_of S.site_state hub ≡ started_as true (S.site_state site).site first) }
         ensures err { IfErr result (λ e. (e.0 ≡ Memory) × (e.1 ≡ site)) }
     {
-        match Vec::with_capacity(alloc, MOST_SESSIONS) {
-            Ok(sessions) => Ok(Hub {
-                alloc,
-                site,
-                next: first,
-                grouped: true,
-                sessions,
-            }),
-            Err(_) => Err((HubFault::Memory, site)),
-        }
+        Hub::started(alloc, true, site, first)
     }
 
     /// A new session's number. It takes no memory.

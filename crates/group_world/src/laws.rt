@@ -37,7 +37,7 @@ pub fn finds_its_place()
     ensures { FindsItsPlace }
 {}
 
-/// Where posts don't wait each event is answered as by a hub without groups, and leaves the same world.
+/// Where posts don't wait none ever does, and each event has at most one change.
 pub fn plain_hubs_stay()
     ensures { PlainHubsStay }
 {}

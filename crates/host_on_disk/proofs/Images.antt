@@ -4,7 +4,7 @@ use Rattle.std.specs.Prelude.{false, IsTrue, ◌&&◌, nat_le}
 use Rattle.std.specs.Int.{w16, w32, w64}
 use Rattle.std.proofs.lemmas.Bool.{leb-true, eqb-true}
 use Rattle.host_types.specs.Names.{name_of, is_word, is_field}
-use Rattle.host_types.specs.Site.{Site}
+use Rattle.host_types.specs.Site.{Site, IsSite}
 use Rattle.page_store.specs.Reading.{◌>>=◌, number_at}
 use Rattle.page_store.specs.Sectors.{Image, page_of}
 use Rattle.page_store.specs.Roots.{if_valid, short_text_at, root_at, slot_in, slot_of, newer, current, record_from, shared_seal}
@@ -120,3 +120,7 @@ too_small image small s (pairs, banner, (is, opened), shows) =
     let there = slot_there image pairs banner is in
     let large = newer_large (length image) (slot_of image 0) (slot_of image 1) there.0 (slot_large (length image) image 0) (slot_large (length image) image 1) there.1 in
     absurd (omega (arith, small, large))
+
+-- the site that an image represents is a valid one
+pub valid_site : (image : Image) (s : Site) → ImageRepresents image s → ∥ IsSite s ∥₁
+valid_site image s (pairs, banner, has, shows) = shows.valid

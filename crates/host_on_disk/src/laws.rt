@@ -3,10 +3,7 @@ ghost use Rattle.std.specs.Prelude.{◌≡◌, ℕ, List};
 ghost use Rattle.host_types.specs.Site.{Site};
 ghost use Rattle.page_store.specs.Sectors.{Image};
 ghost use Rattle.page_store.specs.Steps.{crash_states_of};
-ghost use Rattle.session_core.specs.World.{World};
-ghost use Rattle.session_core.specs.RunCrashStates.{RepresentsFrom};
-ghost use Rattle.session_core.specs.declared.event.Event.{Event};
-ghost use Rattle.session_core.specs.declared.event.Outcome.{Outcome};
+ghost use Rattle.group_world.specs.CrashStates.{Commit, HoldsCommits};
 ghost use Rattle.host_on_disk.specs.ImageSites.{ImageRepresents};
 ghost use Rattle.host_on_disk.specs.Headline.{IsFound, Turn, InTurn, FoundInTurn};
 
@@ -17,10 +14,10 @@ pub fn an_image_represents_one_site()
     ensures { (image : Image) (s t : Site) → ImageRepresents image s → ImageRepresents image t → s ≡ t }
 {}
 
-/// The site that is found in an image which a crash of a run left is the one after some of the events, with each change that was
-/// acknowledged by then, or the one with the change in flight, unacknowledged.
+/// The site that is found in an image which a crash of a run left is the one after the first so many of its accepted commits, with each that was
+/// acknowledged by then.
 pub fn what_a_crash_left_is_found_again()
-    ensures { (old : World) (events : List Event) (outcomes : List Outcome) (k : ℕ) (image : Image) (s : Site) → RepresentsFrom ImageRepresents old events outcomes k image → ImageRepresents image s → IsFound old events outcomes k s }
+    ensures { (first : Site) (commits : List Commit) (least : ℕ) (image : Image) (s : Site) → HoldsCommits ImageRepresents first commits least image → ImageRepresents image s → IsFound first commits least s }
 {}
 
 /// Any number of crashes in turn: where each run is on a device that shows what a crash of the run before left, the last image represents a site,

@@ -8,8 +8,8 @@ use Rattle.std.specs.Io.KnownBytes.{Appends, Consumes, Keeps, IsAtEnd}
 use Rattle.std.proofs.lemmas.Grind.{flat_map-append}
 use Rattle.std.proofs.lemmas.List.{append_assoc, append-nil, take-append-drop, drop_more}
 use Rattle.std.proofs.lemmas.List.Elements.{All-nil, All-append, All-push}
-use Rattle.session_core.specs.declared.event.Event.{Event as HubEvent}
-use Rattle.session_core.specs.declared.event.Outcome.{Outcome}
+use Rattle.group_world.specs.declared.event.Event.{Event as HubEvent}
+use Rattle.group_world.specs.declared.event.Outcome.{Outcome}
 use Rattle.host_script.specs.Lines.{Ran, RanBy, RanSo, Place, start, number_after, RunsLines, IsCut, RunsLine, RunsTo, IsRunTo, IsReplayed, IsLastRun, TakesFront, StopsIn, StopsAtEnd, ComesIn, IsStopped, IsHalted, Halts, ended, is_lf, last_line}
 use Rattle.host_script.specs.declared.fault.Fault.{Fault}
 use Rattle.host_script.specs.declared.fault.Fault.TheVariants.{Script, Memory, Output}

@@ -3,3 +3,4 @@ pub mod Script
 pub mod ParsedLine
 pub mod Printed
 pub mod Lines
+pub mod LineExamples

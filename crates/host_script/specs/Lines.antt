@@ -2,8 +2,8 @@
 use Rattle.std.specs.Prelude.{◌≡◌, ◌≢◌, ◌⊎◌, ℕ, ◌+◌, ◌-◌, ◌^◌, min, Bool, false, List, [], ◌∷◌, ◌++◌, ◌==◌, Option, Some, None, IfSome, Result, IfOk, IsUtf8, codes, flat_map, All}
 use Rattle.std.specs.List.{list_any}
 use Rattle.std.specs.Io.KnownBytes.{Appends}
-use Rattle.session_core.specs.declared.event.Event.{Event as HubEvent}
-use Rattle.session_core.specs.declared.event.Outcome.{Outcome}
+use Rattle.group_world.specs.declared.event.Event.{Event as HubEvent}
+use Rattle.group_world.specs.declared.event.Outcome.{Outcome}
 use Rattle.host_script.specs.Script.{line_command}
 use Rattle.host_script.specs.ParsedLine.{parsed_of}
 use Rattle.host_script.specs.Printed.{line_of, refused_line}

@@ -4,7 +4,7 @@ use Rattle.host_types.specs.Names.{name_of, is_field}
 use Rattle.host_types.specs.Site.{text_item}
 use Rattle.host_types.specs.declared.change.Change.TheVariants.{Put}
 use Rattle.common_types.specs.declared.refused.Refused.{Refused as Refusal}
-use Rattle.session_core.specs.declared.event.Event.TheVariants as events
+use Rattle.group_world.specs.declared.event.Event.TheVariants as events
 use Rattle.host_script.specs.declared.script.Command.{Command}
 use Rattle.host_script.specs.declared.script.Command.TheVariants as commands
 use Rattle.host_script.specs.declared.asking.ParsedLine.{ParsedLine}
@@ -27,3 +27,4 @@ parsed_of (commands.Bytes id text) now = Event (events.Bytes id text now)
 parsed_of (commands.End id) now = Event (events.End id now)
 parsed_of (commands.Draw id room) now = Event (events.Draw id room)
 parsed_of (commands.Leave id) now = Event (events.Leave id)
+parsed_of commands.Flush now = Event events.Flush

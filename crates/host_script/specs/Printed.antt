@@ -3,10 +3,10 @@ use Rattle.std.specs.Prelude.{ℕ, List, ◌++◌, codes, decimal}
 use Rattle.common_types.specs.declared.refused.Refused.{Refused as Refusal}
 use Rattle.printed_names.specs.Shown.{shown}
 use Rattle.printed_names.specs.Names.{refused_name, full_name}
-use Rattle.session_core.specs.declared.event.Outcome.{Outcome}
-use Rattle.session_core.specs.declared.event.Outcome.TheVariants.{Joined, More, Ready, Finished, Drawn, Gone, Done, Fault}
-use Rattle.session_core.specs.declared.fault.HubFault.{HubFault}
-use Rattle.session_core.specs.declared.fault.HubFault.TheVariants as hub
+use Rattle.group_world.specs.declared.event.Outcome.{Outcome}
+use Rattle.group_world.specs.declared.event.Outcome.TheVariants.{Joined, More, Ready, Finished, Waiting, Drawn, Gone, Done, Flushed, Fault}
+use Rattle.group_world.specs.declared.fault.HubFault.{HubFault}
+use Rattle.group_world.specs.declared.fault.HubFault.TheVariants as hub
 use Rattle.host_script.specs.declared.fault.Fault.{Fault as RunFault}
 use Rattle.host_script.specs.declared.fault.Fault.TheVariants.{Script, Memory, Output}
 
@@ -33,14 +33,20 @@ refused_line refused = codes "fault " ++ refused_name refused
 abbrev pub fault_line : HubFault → List ℕ
 fault_line fault = codes "fault " ++ fault_name fault
 
+-- how many of those that waited are answered, and how many are left
+abbrev pub flushed_line : ℕ → ℕ → List ℕ
+flushed_line answered left = codes "flushed " ++ decimal answered ++ codes " left " ++ decimal left
+
 abbrev pub line_of : Outcome → List ℕ
 line_of (Joined id) = codes "id " ++ decimal id
 line_of More = codes "more"
 line_of Ready = codes "ready"
 line_of Finished = codes "finished"
+line_of Waiting = codes "waiting"
 line_of (Drawn bytes) = codes "drawn " ++ shown bytes
 line_of Gone = codes "ok"
 line_of Done = codes "ok"
+line_of (Flushed answered left) = flushed_line answered left
 line_of (Fault fault) = fault_line fault
 
 -- what standard error gets of a run that ends with status 1

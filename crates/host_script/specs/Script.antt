@@ -8,7 +8,7 @@ use Rattle.bstr.specs.Escape.{unescaped}
 use Rattle.host_types.specs.Names.{stamp_of}
 use Rattle.host_script.specs.Number.{number_of}
 use Rattle.host_script.specs.declared.script.Command.{Command}
-use Rattle.host_script.specs.declared.script.Command.TheVariants.{Now, Text, Join, Bytes, End, Draw, Leave}
+use Rattle.host_script.specs.declared.script.Command.TheVariants.{Now, Text, Join, Bytes, End, Draw, Leave, Flush}
 
 abbrev pub fields : List ℕ → List (List ℕ)
 fields line = slice_split (λ b. b == 32) line
@@ -40,7 +40,10 @@ abbrev pub is : List ℕ → List ℕ → Bool
 is word name = bytes_eq word name
 
 abbrev pub alone_of : List ℕ → Option Command
-alone_of word = if is word (codes "join") then Some Join else None
+alone_of word =
+    if is word (codes "join") then Some Join
+    else if is word (codes "flush") then Some Flush
+    else None
 
 abbrev pub one_field_of : List ℕ → List ℕ → Option Command
 one_field_of word field =

@@ -3,8 +3,8 @@ ghost use Rattle.std.specs.Prelude.{◌≡◌, IfOk};
 ghost use Rattle.host_script.specs.ParsedLine.{parsed_of, text_parsed};
 
 use crate::script::Command;
+use group_world::Event;
 use host_types::{Bytes, Change, Item, Refused, Selector, Stamp, Title};
-use session_core::Event;
 use std::alloc::{AllocError, Global};
 
 /// What a command asks for.
@@ -60,5 +60,6 @@ pub fn ask(alloc: Global, command: Command, now: Stamp) -> Result<ParsedLine, Al
         Command::End(id) => ParsedLine::Event(Event::End { id, now }),
         Command::Draw { id, room } => ParsedLine::Event(Event::Draw { id, room }),
         Command::Leave(id) => ParsedLine::Event(Event::Leave { id }),
+        Command::Flush => ParsedLine::Event(Event::Flush),
     })
 }

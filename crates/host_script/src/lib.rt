@@ -3,6 +3,7 @@
 
 mod asking;
 mod fault;
+mod laws;
 mod printed;
 mod replaying;
 mod script;
@@ -11,6 +12,7 @@ mod writing;
 
 pub use asking::{ParsedLine, ask};
 pub use fault::Fault;
+pub use laws::worked_examples;
 pub use printed::{fault_line, fault_text, line_of, refused_line};
 pub use replaying::{MOST_READS, replay};
 pub use script::{Command, LineFault, MOST_ROOM, parse};

@@ -2,12 +2,12 @@
 ghost use Rattle.std.specs.Prelude.{◌≡◌, IfOk};
 ghost use Rattle.std.specs.String.{string_bytes};
 ghost use Rattle.host_script.specs.Printed as spec;
-ghost use Rattle.session_core.specs.declared.fault.HubFault.TheVariants.{Full};
+ghost use Rattle.group_world.specs.declared.fault.HubFault.TheVariants.{Full};
 
 use crate::fault::Fault;
+use group_world::{HubFault, Outcome};
 use host_types::Refused;
 use printed_names::{escaped, full_name, refused_name};
-use session_core::{HubFault, Outcome};
 use std::alloc::{AllocError, Global};
 
 /// The line of a refusal, without its LF: `fault`, a space, and its name.
@@ -55,6 +55,15 @@ pub fn fault_text(alloc: Global, fault: &Fault) -> Result<String, AllocError>
     }
 }
 
+/// The line of a flush, without its LF: how many of those that waited are answered, and how many are left.
+fn flushed_line(alloc: Global, answered: usize, left: usize) -> Result<String, AllocError>
+    ensures { IfOk result (λ t. string_bytes t ≡ spec.flushed_line answered left) }
+{
+    let mut line = format!(in alloc; "flushed {answered}")?;
+    line.push_str(&format!(in alloc; " left {left}")?)?;
+    Ok(line)
+}
+
 /// The line of an outcome, without its LF.
 pub fn line_of(alloc: Global, outcome: &Outcome) -> Result<String, AllocError>
     ensures { IfOk result (λ t. string_bytes t ≡ spec.line_of outcome.now) }
@@ -64,12 +73,14 @@ pub fn line_of(alloc: Global, outcome: &Outcome) -> Result<String, AllocError>
         Outcome::More => String::from_str(alloc, "more"),
         Outcome::Ready => String::from_str(alloc, "ready"),
         Outcome::Finished => String::from_str(alloc, "finished"),
+        Outcome::Waiting => String::from_str(alloc, "waiting"),
         Outcome::Drawn(bytes) => {
             let mut line = String::from_str(alloc, "drawn ")?;
             line.push_str(&escaped(alloc, bytes.as_slice())?)?;
             Ok(line)
         }
         Outcome::Gone | Outcome::Done => String::from_str(alloc, "ok"),
+        Outcome::Flushed { answered, left } => flushed_line(alloc, *answered, *left),
         Outcome::Fault(fault) => fault_line(alloc, *fault),
     }
 }

@@ -3,7 +3,7 @@ ghost use Rattle.std.specs.Prelude.{◌≡◌, ℕ, false, List, [], ◌∷◌, 
 ghost use Rattle.std.specs.List.{list_any};
 ghost use Rattle.std.specs.Io.KnownBytes.{Appends};
 ghost use Rattle.std.specs.String.{string_bytes};
-ghost use Rattle.session_core.specs.Calls.{HubRun};
+ghost use Rattle.group_hub.specs.Calls.{HubRun};
 ghost use Rattle.host_script.specs.Script.{line_command};
 ghost use Rattle.host_script.specs.Lines.{RanBy, RanSo, Runs, place_at, place_of, IsAnswer, RunsLine, MayRun, IsRunTo, Stops, StopsIn, StopsAtEnd, IsStopped, Halts, IsLastRun, IsReplayed, is_lf};
 
@@ -12,8 +12,9 @@ use crate::fault::Fault;
 use crate::printed::{line_of, refused_line};
 use crate::script::{LineFault, parse};
 use crate::writing::write_line;
+use group_hub::Hub;
+use group_world::Event;
 use host_types::Stamp;
-use session_core::{Event, Hub};
 use std::alloc::{AllocError, Global};
 use std::io::{Read, Write};
 use word_index::SearchKeeper;

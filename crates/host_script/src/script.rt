@@ -38,6 +38,8 @@ pub enum Command {
     },
     /// `leave ID`: the end of a session.
     Leave(u64),
+    /// `flush`: the posts that wait are made.
+    Flush,
 }
 
 /// Why a line is no command.
@@ -146,6 +148,7 @@ fn alone(word: &str) -> Option<Command>
 {
     match word {
         "join" => Some(Command::Join),
+        "flush" => Some(Command::Flush),
         _ => None,
     }
 }

@@ -1,12 +1,13 @@
-// What is printed of faults, and a site that refuses what its own reads allow.
+// What is printed of faults and of posts that wait, and a site that refuses what its own reads allow.
 use crate::bench::Bench;
 use crate::failing_site::FailingSite;
 use crate::line::Line;
 use crate::requests;
 use crate::trouble::Trouble;
+use group_hub::{Hub, OutcomeList};
+use group_world::{Event, HubFault, Outcome};
 use host_script::{Fault, fault_line, fault_text, line_of, small_site};
 use host_types::{Bytes, Refused};
-use session_core::{Event, Hub, HubFault, OutcomeList};
 use std::alloc::Global;
 
 /// Whether the line of a fault is `fault` and its text.
@@ -74,6 +75,24 @@ fn run_faults(alloc: Global, line: &mut Line) -> Result<(), Trouble> {
     Ok(())
 }
 
+/// `waiting`: the lines of a post that waits, and of flushes.
+fn waiting(alloc: Global, line: &mut Line) -> Result<(), Trouble> {
+    for outcome in [
+        Outcome::Waiting,
+        Outcome::Flushed {
+            answered: 15,
+            left: 1,
+        },
+        Outcome::Flushed {
+            answered: 0,
+            left: 0,
+        },
+    ] {
+        line.bytes(line_of(alloc, &outcome)?.as_bytes())?;
+    }
+    Ok(())
+}
+
 fn show_outcomes(alloc: Global, line: &mut Line, outcomes: &OutcomeList) -> Result<(), Trouble> {
     for outcome in outcomes.as_slice() {
         line.bytes(line_of(alloc, outcome)?.as_bytes())?;
@@ -110,6 +129,7 @@ pub fn call(
         ("refusals", []) => refusals(bench.alloc, line),
         ("hub_faults", []) => hub_faults(bench.alloc, line),
         ("run_faults", []) => run_faults(bench.alloc, line),
+        ("waiting", []) => waiting(bench.alloc, line),
         ("refusing", [request]) => refusing(bench, line, request),
         _ => requests::call(bench, line, word, fields),
     }

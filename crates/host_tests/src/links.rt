@@ -5,11 +5,30 @@ use crate::pipes::show_piped;
 use crate::replays;
 use crate::trouble::Trouble;
 use host_types::{Admin, Stamp, lines_of};
+use mem_site::MemSite;
 use plus_blocks::{abstract_block, admin, head, info};
 use std::alloc::Global;
 use text_writer::text;
 use url_page::{escape, redirect, unescape};
 use word_index::{index_change, words_in};
+
+/// The laws of sessions whose posts wait for one another, and of runs of a hub.
+fn groups() {
+    group_world::worked_examples();
+    group_world::groups_are_right();
+    group_world::replies_stay();
+    group_world::posts_count_on();
+    group_world::finds_its_place();
+    group_world::plain_hubs_stay();
+    group_world::later_replies_are_known();
+    group_world::only_forms_post();
+    group_world::posts_wait();
+    group_world::continues();
+    group_world::calls_leave::<MemSite>();
+    group_hub::runs_join::<MemSite>();
+    group_hub::runs_count::<MemSite>();
+    group_hub::faults_keep_the_world();
+}
 
 /// `laws`: the laws of each library, which promise without a value.
 fn laws() -> Result<(), Trouble> {
@@ -32,8 +51,8 @@ fn laws() -> Result<(), Trouble> {
     url_page::reads_back();
     url_page::worked_examples();
     word_index::worked_examples();
-    session_core::continues();
-    session_core::worked_examples();
+    host_script::worked_examples();
+    groups();
     Ok(())
 }
 

@@ -6,8 +6,8 @@ use crate::failing_site::FailingSite;
 use crate::fault_text;
 use crate::line::{Line, number};
 use crate::trouble::Trouble;
+use group_hub::Hub;
 use host_script::{Command, LineFault, parse, replay, small_site};
-use session_core::Hub;
 use std::alloc::{AllocError, Global};
 use std::io;
 use std::io::{Read, Write};
@@ -180,6 +180,7 @@ fn show_command(line: &mut Line, command: &Command) -> Result<(), AllocError> {
         Command::End(id) => show_number(line, "end", *id),
         Command::Draw { id, room } => show_draw(line, *id, *room),
         Command::Leave(id) => show_number(line, "leave", *id),
+        Command::Flush => line.word("flush"),
     }
 }
 

@@ -1,7 +1,7 @@
 -- Events by one relation of runs are events by any other that follows from it, and what holds of them may be said otherwise.
 use Rattle.std.proofs.Common.{ℕ, List}
-use Rattle.session_core.specs.declared.event.Event.{Event}
-use Rattle.session_core.specs.declared.event.Outcome.{Outcome}
+use Rattle.group_world.specs.declared.event.Event.{Event}
+use Rattle.group_world.specs.declared.event.Outcome.{Outcome}
 use Rattle.turns.specs.Runs.{HasRun}
 
 pub run_too : {H K : Type 0} (ran : H → List Event → List Outcome → H → Type 0) (other : K → List Event → List Outcome → K → Type 0) (old new : H) (from to : K) →

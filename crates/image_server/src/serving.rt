@@ -11,10 +11,10 @@ ghost use Rattle.image_server.specs.declared.listening.ListenCall.TheVariants.{L
 use crate::listening::{ListenLog, listen};
 use crate::visiting::given_or_own;
 use cow_tree::TreeKeeper;
+use group_hub::Hub;
 use host_on_disk::{OpenFault, open_site};
 use host_types::SiteKeeper;
 use sector_device::Device;
-use session_core::Hub;
 use site_store::DiskSite;
 use socket_wires::{Gate, ServeFault, serve_on};
 use std::alloc::Global;
@@ -57,8 +57,8 @@ pub fn serve_over<S: SearchKeeper, C: Clock>(
 
 /// Opens the image on a device, serves so many rounds of connections over its site, at the site's port on 127.0.0.1, and hands the device back. It answers how many replies were written whole.
 ///
-/// What a crash at any moment leaves on the device represents the site after some of the events that the connections made, with each change that was acknowledged by
-/// then, or the one with the change in flight, unacknowledged. What is asked of the system for a listener is noted.
+/// What a crash at any moment leaves on the device represents the site after the first so many commits of the events that the connections made, with each that was acknowledged by
+/// then. What is asked of the system for a listener is noted.
 pub fn serve_image<D: Device, R: Net<Listener = TcpListener, Stream = TcpStream>, C: Clock>(
     alloc: Global,
     net: &R,

@@ -10,12 +10,12 @@ ghost use Rattle.image_server.specs.Visiting.{IsGivenOrOwn, VisitedOver, Visited
 
 use crate::ServingFault;
 use cow_tree::TreeKeeper;
+use group_hub::Hub;
 use host_on_disk::{OpenFault, open_site};
 use host_types::SiteKeeper;
 use page_store::KeeperFault;
 use ready_sockets::{DoorLog, Room, Stopwatch, VisitFault, serve_visits};
 use sector_device::Device;
-use session_core::Hub;
 use site_store::DiskSite;
 use std::alloc::Global;
 use std::io::Write;
@@ -76,8 +76,8 @@ pub fn visits_over<S: SearchKeeper, C: Clock, R: Time, L: Write>(
 /// Opens the image on a device, and serves whoever comes over its site, at an address or else at the site's port on 127.0.0.1, until a write or a sync of the device has
 /// failed, or no socket can be waited for. Then it hands the device back.
 ///
-/// What a crash at any moment leaves on the device represents the site after some of the events that the clients made, with each change that was acknowledged by
-/// then, or the one with the change in flight, unacknowledged. What is asked of the system for a listener is noted.
+/// What a crash at any moment leaves on the device represents the site after the first so many commits of the events that the clients made, with each that was acknowledged by
+/// then. What is asked of the system for a listener is noted.
 pub fn serve_clients<D: Device, R: Net + Time, C: Clock, L: Write>(
     alloc: Global,
     rt: &R,

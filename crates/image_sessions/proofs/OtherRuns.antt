@@ -1,8 +1,8 @@
 -- What holds of a script by one relation of runs holds by any other that follows from it.
 use Rattle.std.proofs.Common.{ℕ, List, Option, Some, None}
 use Rattle.std.specs.Prelude.{IfSome, IfErr, Result, Ok, Err, OnOk}
-use Rattle.session_core.specs.declared.event.Event.{Event}
-use Rattle.session_core.specs.declared.event.Outcome.{Outcome}
+use Rattle.group_world.specs.declared.event.Event.{Event}
+use Rattle.group_world.specs.declared.event.Outcome.{Outcome}
 use Rattle.host_script.specs.Lines.{Ran, RanBy, IsReplayed, IsHalted, Halts}
 use Rattle.host_script.specs.declared.fault.Fault.{Fault}
 use Rattle.image_sessions.specs.ImageRuns.{Replays}

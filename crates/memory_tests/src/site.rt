@@ -1,9 +1,9 @@
 // The site of the run, and the changes that fill it.
+use group_world::HubFault;
 use host_types::{
     Admin, Body, Bytes, Change, Host, Item, Question, QuestionList, Refused, Selector, Stamp, Title,
 };
 use mem_site::MemSite;
-use session_core::HubFault;
 use std::alloc::{AllocError, AllocFailed, Global};
 
 /// Why a call does not end as it should.

@@ -1,8 +1,9 @@
 // The calls of the run, each made at most twice.
 use crate::site::{CHANGES, Ended, change, small_site};
+use group_hub::{Hub, OutcomeList};
+use group_world::{Drawn, Event, InputStatus, Outcome};
 use host_types::{Bytes, Stamp};
 use mem_site::MemSite;
-use session_core::{Drawn, Event, Hub, InputStatus, Outcome, OutcomeList};
 use std::alloc::Global;
 
 /// How much of a reply is kept.

@@ -1,7 +1,8 @@
 // Sessions that ask and draw.
 use crate::trouble::Trouble;
+use group_hub::Hub;
+use group_world::{Drawn, InputStatus};
 use host_types::Stamp;
-use session_core::{Drawn, Hub, InputStatus};
 use std::alloc::Global;
 use word_index::SearchKeeper;
 

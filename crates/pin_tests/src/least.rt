@@ -4,8 +4,9 @@ use crate::dice::Dice;
 use crate::drawing::{ask, draw};
 use crate::made::{TreeSite, hub_over, new_disk, site_on};
 use crate::trouble::Trouble;
+use group_hub::Hub;
+use group_world::{HubFault, InputStatus};
 use host_types::Stamp;
-use session_core::{Hub, HubFault, InputStatus};
 use std::alloc::Global;
 
 /// The document of 65,536 bytes, which is half drawn in 512 draws of 64 bytes.

@@ -3,10 +3,11 @@ use crate::changes::{Document, put_board, put_form, put_text, remove};
 use crate::dice::Dice;
 use crate::made::{TreeSite, hub_over, in_memory, new_disk, site_on};
 use crate::trouble::Trouble;
+use group_hub::{Hub, MOST_SESSIONS};
+use group_world::HubFault;
 use host_types::{Change, SiteFault, SiteKeeper, Stamp};
 use mem_site::MemSite;
 use sector_device::MemDisk;
-use session_core::{Hub, HubFault, MOST_SESSIONS};
 use std::alloc::Global;
 
 /// Where documents stand.

@@ -1,7 +1,7 @@
 // Why a line has no other answer.
+use group_world::HubFault;
 use host_types::{Refused, SiteFault};
 use page_store::KeeperFault;
-use session_core::HubFault;
 use site_store::SiteOpenFault;
 use std::alloc::{AllocError, AllocFailed};
 use thiserror::Error;

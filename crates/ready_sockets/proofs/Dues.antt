@@ -4,10 +4,10 @@ use Rattle.std.proofs.lemmas.Bool.{true≢false}
 use Rattle.std.proofs.lemmas.List.{append-nil, take_at}
 use Rattle.std.proofs.lemmas.Grind.{flat_map-append}
 use Rattle.std.specs.Prelude.{flat_map}
-use Rattle.session_core.specs.declared.event.Event.{Event}
-use Rattle.session_core.specs.declared.event.Outcome.{Outcome}
-use Rattle.session_core.specs.declared.event.Outcome.TheVariants as outcomes
-use Rattle.session_core.specs.declared.fault.HubFault.TheVariants as faults
+use Rattle.group_world.specs.declared.event.Event.{Event}
+use Rattle.group_world.specs.declared.event.Outcome.{Outcome}
+use Rattle.group_world.specs.declared.event.Outcome.TheVariants as outcomes
+use Rattle.group_world.specs.declared.fault.HubFault.TheVariants as faults
 use Rattle.turns.specs.WireCalls.{WireCall, Read, ReadFailed, ReadWaited, Wrote, WriteFailed, WriteWaited, Closed}
 use Rattle.turns.specs.Turns.{Trace, trace, nothing, heard_reply}
 use Rattle.ready_turns.specs.Seats.{SeatState, at, has_left, leaving, joined_state, heard_state, drawn_state, Listens, Replies, Writes, Finishes, Takes, Follows, WhereReady, Acts, Turn, DismissedAt, Dismissed}

@@ -1,7 +1,7 @@
 -- Passes that were made over clients.
 use Rattle.std.proofs.Common.{◌≡◌, ℕ, ◌≤◌, ◌<◌, true, List}
-use Rattle.session_core.specs.declared.event.Event.{Event}
-use Rattle.session_core.specs.declared.event.Outcome.{Outcome}
+use Rattle.group_world.specs.declared.event.Event.{Event}
+use Rattle.group_world.specs.declared.event.Outcome.{Outcome}
 use Rattle.turns.specs.Turns.{InOrder, Times}
 use Rattle.ready_sockets.specs.Visits.{HadTurn, HadPasses, all_wait}
 use Rattle.ready_sockets.specs.declared.visit.Visit.{Visit}

@@ -1,8 +1,8 @@
 -- How serving ends for a wait that failed.
 use Rattle.std.proofs.Common.{◌≡◌, ℕ, Bool, true, Option, Result, Ok, Err, List, [], sym, subst, ◌∙◌}
 use Rattle.std.specs.Result.{IsErrAnd}
-use Rattle.session_core.specs.declared.event.Event.{Event}
-use Rattle.session_core.specs.declared.event.Outcome.{Outcome}
+use Rattle.group_world.specs.declared.event.Event.{Event}
+use Rattle.group_world.specs.declared.event.Outcome.{Outcome}
 use Rattle.turns.specs.WireCalls.{WireCall}
 use Rattle.ready_sockets.specs.Rounds.{HasHadRounds, HasServed}
 use Rattle.ready_sockets.specs.Visits.{HasNotWaited}

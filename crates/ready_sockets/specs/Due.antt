@@ -1,8 +1,8 @@
 -- What a client was given, beside what was drawn for its session.
 use Rattle.std.specs.Prelude.{◌≡◌, ℕ, false, List, [], ◌++◌, flat_map, take}
-use Rattle.session_core.specs.declared.event.Event.{Event}
-use Rattle.session_core.specs.declared.event.Outcome.{Outcome}
-use Rattle.session_core.specs.declared.event.Outcome.TheVariants as outcomes
+use Rattle.group_world.specs.declared.event.Event.{Event}
+use Rattle.group_world.specs.declared.event.Outcome.{Outcome}
+use Rattle.group_world.specs.declared.event.Outcome.TheVariants as outcomes
 use Rattle.turns.specs.Turns.{heard_reply}
 use Rattle.turns.specs.WireCalls.{WireCall, Read, ReadFailed, ReadWaited, Wrote, WriteFailed, WriteWaited, Closed}
 use Rattle.ready_turns.specs.Seats.{SeatState, has_left, state_of}

@@ -8,12 +8,12 @@ use Rattle.host_types.specs.CrashStates.{CrashStates}
 use Rattle.host_types.specs.Site.{Site}
 use Rattle.host_types.specs.SiteState.{SiteState}
 use Rattle.host_types.specs.declared.site_fault.SiteFault.{SiteFault}
-use Rattle.session_core.specs.Calls.{HubRun}
-use Rattle.session_core.specs.Hub.{keeper_of}
-use Rattle.session_core.specs.declared.hub.Hub.{Hub}
-use Rattle.session_core.specs.declared.event.Event.{Event}
-use Rattle.session_core.specs.declared.event.Event.TheVariants as events
-use Rattle.session_core.specs.declared.event.Outcome.{Outcome}
+use Rattle.group_hub.specs.Calls.{HubRun}
+use Rattle.group_hub.specs.Hub.{keeper_of}
+use Rattle.group_hub.specs.declared.hub.Hub.{Hub}
+use Rattle.group_world.specs.declared.event.Event.{Event}
+use Rattle.group_world.specs.declared.event.Event.TheVariants as events
+use Rattle.group_world.specs.declared.event.Outcome.{Outcome}
 use Rattle.turns.specs.Runs.{HasRun}
 use Rattle.turns.specs.WireCalls.{WireCall}
 use Rattle.ready_sockets.specs.DoorCalls.{DoorCall, Came, NotHad, both_ways, is_nobody}

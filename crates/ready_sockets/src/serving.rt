@@ -1,7 +1,7 @@
 // Serves whoever comes.
 ghost use Rattle.std.specs.Prelude.{◌≡◌, ◌<◌, ◌≤◌, Some, [], ◌∷◌, ◌++◌, map, vec_len, vec_capacity, IfOk};
 ghost use Rattle.std.specs.String.{string_bytes};
-ghost use Rattle.session_core.specs.Calls.{HubRun};
+ghost use Rattle.group_hub.specs.Calls.{HubRun};
 ghost use Rattle.turns.specs.Runs.{HasRun};
 ghost use Rattle.turns.specs.Turns.{InOrder};
 ghost use Rattle.ready_turns.specs.Seats.{ending_of};
@@ -15,11 +15,11 @@ use crate::stopwatch::Stopwatch;
 use crate::visit::Visit;
 use crate::waking::all_wait;
 use crate::written::write_out;
+use group_hub::Hub;
 use host_types::Stamp;
 use mio::Token;
 use mio::net::TcpStream;
 use ready_turns::{Ending, dismiss, join, take_turn};
-use session_core::Hub;
 use socket_wires::SystemClock;
 use std::alloc::{AllocError, Global};
 use std::io::Write;

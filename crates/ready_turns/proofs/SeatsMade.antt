@@ -6,11 +6,11 @@ use Rattle.std.proofs.lemmas.List.{append-nil, take-append-drop, length-take-le}
 use Rattle.std.specs.Fmt.{digits}
 use Rattle.text_writer.specs.Errors.{error_reply, plus_error, words_of}
 use Rattle.text_writer.specs.declared.error.ErrorText.TheVariants.{TryAgainLater}
-use Rattle.session_core.specs.declared.event.Event.{Event}
-use Rattle.session_core.specs.declared.event.Event.TheVariants as events
-use Rattle.session_core.specs.declared.event.Outcome.{Outcome}
-use Rattle.session_core.specs.declared.fault.HubFault.{HubFault}
-use Rattle.session_core.specs.Outcomes.{join_outcome}
+use Rattle.group_world.specs.declared.event.Event.{Event}
+use Rattle.group_world.specs.declared.event.Event.TheVariants as events
+use Rattle.group_world.specs.declared.event.Outcome.{Outcome}
+use Rattle.group_world.specs.declared.fault.HubFault.{HubFault}
+use Rattle.group_world.specs.Outcomes.{join_outcome}
 use Rattle.turns.specs.WireCalls.{WireCall, HasMade, Read, ReadWaited, Wrote}
 use Rattle.turns.specs.Turns.{Trace, trace, nothing, heard_event, drawn_bytes}
 use Rattle.ready_turns.specs.Tries.{write_try, read_try}

@@ -1,7 +1,7 @@
 -- Worked examples of what a session does in a turn.
 use Rattle.std.specs.Prelude.{◌≡◌, true, false, [], codes, Some, None}
-use Rattle.session_core.specs.declared.event.Outcome.TheVariants as outcomes
-use Rattle.session_core.specs.declared.fault.HubFault.TheVariants as faults
+use Rattle.group_world.specs.declared.event.Outcome.TheVariants as outcomes
+use Rattle.group_world.specs.declared.fault.HubFault.TheVariants as faults
 use Rattle.ready_turns.specs.declared.seat.Ending.TheVariants.{Served, Full, Failed, Cut}
 use Rattle.ready_turns.specs.declared.seat.Stage.TheVariants.{Listening, Replying, Leaving, Closed}
 use Rattle.ready_turns.specs.Seats.{at, leaving, has_left, ending_of, joined_state, heard_state, drawn_state}
@@ -11,6 +11,7 @@ pub record SeatExamples : Type 0 where
   pub could_not_join : joined_state (outcomes.Fault faults.Failed) ≡ leaving Failed []
   pub a_reply_stands : heard_state 3 outcomes.Ready ≡ at (Replying 3) [] false
   pub early : heard_state 3 outcomes.Finished ≡ leaving Cut []
+  pub a_post_that_waits : heard_state 3 outcomes.Waiting ≡ leaving Failed []
   pub no_room : heard_state 3 (outcomes.Fault (faults.Full 9 4)) ≡ leaving Full (codes "--1\r\n2 Try again later\r\n.\r\n")
   pub no_memory : heard_state 3 (outcomes.Fault faults.Memory) ≡ leaving Failed []
   pub to_be_sent : drawn_state 3 (outcomes.Drawn (codes "Hello")) ≡ at (Replying 3) (codes "Hello") false

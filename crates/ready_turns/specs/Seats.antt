@@ -2,11 +2,11 @@
 use Rattle.std.specs.Prelude.{◌≡◌, ◌≢◌, ◌⊎◌, ◌≤◌, ℕ, Bool, true, false, not, List, [], ◌∷◌, ◌++◌, length, Option, Some, None}
 use Rattle.text_writer.specs.Errors.{error_reply}
 use Rattle.text_writer.specs.declared.error.ErrorText.TheVariants.{TryAgainLater}
-use Rattle.session_core.specs.declared.event.Event.{Event}
-use Rattle.session_core.specs.declared.event.Event.TheVariants as events
-use Rattle.session_core.specs.declared.event.Outcome.{Outcome}
-use Rattle.session_core.specs.declared.event.Outcome.TheVariants as outcomes
-use Rattle.session_core.specs.declared.fault.HubFault.TheVariants as faults
+use Rattle.group_world.specs.declared.event.Event.{Event}
+use Rattle.group_world.specs.declared.event.Event.TheVariants as events
+use Rattle.group_world.specs.declared.event.Outcome.{Outcome}
+use Rattle.group_world.specs.declared.event.Outcome.TheVariants as outcomes
+use Rattle.group_world.specs.declared.fault.HubFault.TheVariants as faults
 use Rattle.turns.specs.WireCalls.{WireCall, Read, ReadFailed, ReadWaited, Wrote, WriteFailed, WriteWaited, Closed}
 use Rattle.turns.specs.Turns.{Trace, trace, nothing, then, heard_event, drawn_bytes}
 use Rattle.ready_turns.specs.declared.seat.Ending.{Ending}
@@ -48,7 +48,7 @@ abbrev pub joined_state : Outcome → SeatState
 joined_state (outcomes.Joined id) = at (stages.Listening id) [] false
 joined_state outcome = leaving Failed []
 
--- Where there is no room for its post the client is asked to try again later; it hears of no other fault.
+-- Where there is no room for its post the client is asked to try again later; it hears of no other fault. In these hubs each post is made at once, so none waits. A session whose post did would go no further.
 abbrev pub heard_state : ℕ → Outcome → SeatState
 heard_state id outcomes.More = at (stages.Listening id) [] false
 heard_state id outcomes.Ready = at (stages.Replying id) [] false

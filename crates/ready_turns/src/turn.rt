@@ -1,7 +1,7 @@
 // One turn of a session: a read, a draw or a write.
 ghost use Rattle.std.specs.Prelude.{◌≡◌, false, [], ◌∷◌, ◌++◌};
-ghost use Rattle.session_core.specs.Calls.{HubCall, HubRun};
-ghost use Rattle.session_core.specs.Outcomes.{join_outcome, bytes_outcome};
+ghost use Rattle.group_hub.specs.Calls.{HubCall, HubRun};
+ghost use Rattle.group_world.specs.Outcomes.{join_outcome, bytes_outcome};
 ghost use Rattle.turns.specs.Runs.{HasRun};
 ghost use Rattle.turns.specs.WireCalls.{HasMade, Closed};
 ghost use Rattle.turns.specs.Turns.{trace};
@@ -12,7 +12,8 @@ use crate::ReadyWire;
 use crate::seat::{Ending, ROOM, Seat, Stage};
 use crate::writing::write_on;
 use arrayvec::ArrayVec;
-use session_core::{Drawn, Hub, HubFault, InputStatus};
+use group_hub::Hub;
+use group_world::{Drawn, HubFault, InputStatus};
 use turns::{Clock, PIECE, tell, try_again_later};
 use word_index::SearchKeeper;
 
@@ -48,6 +49,8 @@ fn heard<W>(seat: &mut Seat<W>, id: u64, answer: Result<InputStatus, HubFault>)
         Ok(InputStatus::More) => seat.become_stage(Stage::Listening(id), b""),
         Ok(InputStatus::Ready) => seat.become_stage(Stage::Replying(id), b""),
         Ok(InputStatus::Finished) => seat.become_stage(Stage::Leaving(Ending::Cut), b""),
+        // In these hubs each post is made at once, so none waits.
+        Ok(InputStatus::Waiting) => seat.become_stage(Stage::Leaving(Ending::Failed), b""),
         Err(HubFault::Full { .. }) => {
             seat.become_stage(Stage::Leaving(Ending::Full), try_again_later());
         }

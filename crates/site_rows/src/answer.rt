@@ -4,9 +4,10 @@ use crate::changes::change;
 use crate::fault::Fault;
 use crate::fields::{bytes, number};
 use crate::turns::by_turns;
+use group_hub::Hub;
+use group_world::Event;
 use host_script::{LineFault, ParsedLine, ask, fault_line, line_of, parse};
 use host_types::Stamp;
-use session_core::{Event, Hub};
 use std::alloc::Global;
 use word_index::SearchKeeper;
 

@@ -1,9 +1,10 @@
 // Sessions that ask, and what they are answered.
 use crate::fault::Fault;
+use group_hub::Hub;
+use group_world::{Drawn, Event, InputStatus, Outcome};
 use host_script::line_of;
 use host_types::{Bytes, Stamp};
 use printed_names::escaped;
-use session_core::{Drawn, Event, Hub, InputStatus, Outcome};
 use std::alloc::Global;
 use word_index::SearchKeeper;
 
@@ -143,6 +144,7 @@ pub fn by_calls<S: SearchKeeper>(
         InputStatus::More => String::from_str(alloc, "more")?,
         InputStatus::Ready => draw_all(alloc, hub, id, cut.room)?,
         InputStatus::Finished => String::from_str(alloc, "finished")?,
+        InputStatus::Waiting => String::from_str(alloc, "waiting")?,
     };
     hub.leave(id)?;
     Ok(line)

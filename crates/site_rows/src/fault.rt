@@ -1,6 +1,6 @@
 // Why a line of the rows has no other answer.
+use group_world::HubFault;
 use host_types::Refused;
-use session_core::HubFault;
 use std::alloc::{AllocError, AllocFailed};
 
 /// Why a line has no other answer. All but a fault of the hub end the program.

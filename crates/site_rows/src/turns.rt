@@ -2,8 +2,9 @@
 use crate::asking::reply_text;
 use crate::fault::Fault;
 use crate::fields::bytes;
+use group_hub::Hub;
+use group_world::Drawn;
 use host_types::{Bytes, Stamp};
-use session_core::{Drawn, Hub};
 use std::alloc::Global;
 use word_index::SearchKeeper;
 

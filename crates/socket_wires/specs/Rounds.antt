@@ -5,11 +5,11 @@ use Rattle.host_types.specs.CrashStates.{CrashStates}
 use Rattle.host_types.specs.Site.{Site}
 use Rattle.host_types.specs.SiteState.{SiteState}
 use Rattle.host_types.specs.declared.site_fault.SiteFault.{SiteFault}
-use Rattle.session_core.specs.Calls.{HubRun}
-use Rattle.session_core.specs.Hub.{keeper_of}
-use Rattle.session_core.specs.declared.event.Event.{Event}
-use Rattle.session_core.specs.declared.event.Outcome.{Outcome}
-use Rattle.session_core.specs.declared.hub.Hub.{Hub}
+use Rattle.group_hub.specs.Calls.{HubRun}
+use Rattle.group_hub.specs.Hub.{keeper_of}
+use Rattle.group_world.specs.declared.event.Event.{Event}
+use Rattle.group_world.specs.declared.event.Outcome.{Outcome}
+use Rattle.group_hub.specs.declared.hub.Hub.{Hub}
 use Rattle.turns.specs.Runs.{HasRun}
 use Rattle.turns.specs.Turns.{Serves, is_served}
 use Rattle.turns.specs.declared.connection.Connection.{Connection}

@@ -5,7 +5,7 @@ ghost use Rattle.socket_wires.specs.Taking.{had, IsShort};
 ghost use Rattle.socket_wires.specs.declared.gate.Taken.{Taken};
 
 use crate::{Gate, SocketWire};
-use session_core::Hub;
+use group_hub::Hub;
 use std::alloc::Global;
 use thiserror::Error;
 use turns::{Clock, Connection, take_turns};

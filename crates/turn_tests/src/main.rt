@@ -10,8 +10,8 @@ mod tree;
 mod visits;
 
 use crowd::CROWD;
+use group_hub::Hub;
 use memory_wire::{MemoryWire, StandingClock};
-use session_core::Hub;
 use site::{NotReady, memory_hub};
 use socket_wires::{Gate, SystemClock, serve_on};
 use std::alloc::Global;

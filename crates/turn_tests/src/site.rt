@@ -1,10 +1,10 @@
 // The site of the tests: a text, a board and a form for it, a search, and a top menu.
+use group_hub::Hub;
 use host_types::{
     Admin, Body, Bytes, Change, Entry, EntryList, Host, Item, Question, QuestionList, Refused,
     Selector, SiteFault, SiteKeeper, Stamp, Title,
 };
 use mem_site::MemSite;
-use session_core::Hub;
 use std::alloc::{AllocError, AllocFailed, Global};
 use word_index::SearchKeeper;
 

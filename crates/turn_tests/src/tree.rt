@@ -3,11 +3,11 @@ ghost use Rattle.std.specs.Prelude.{◌≡◌, [], IfOk};
 
 use crate::site::{NotReady, fill};
 use cow_tree::TreeKeeper;
+use group_hub::Hub;
 use host_on_disk::open_site;
 use host_types::{SiteKeeper, Stamp};
 use image_commands::{SiteNames, format_image};
 use sector_device::MemDisk;
-use session_core::Hub;
 use site_store::DiskSite;
 use std::alloc::Global;
 

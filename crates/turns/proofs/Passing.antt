@@ -2,8 +2,8 @@
 use Rattle.std.proofs.Common.{◌≡◌, ℕ, zero, suc, ◌+◌, ◌<◌, ◌≤◌, List, [], ◌∷◌, ◌++◌, length, take, drop, get_or, refl, sym, ap, subst, ◌∙◌, append_assoc, arith, drop-cons, add-one}
 use Rattle.std.proofs.Math.ListN.{set}
 use Rattle.std.proofs.lemmas.List.{append-nil, take_more, take_more_set, take_all}
-use Rattle.session_core.specs.declared.event.Event.{Event}
-use Rattle.session_core.specs.declared.event.Outcome.{Outcome}
+use Rattle.group_world.specs.declared.event.Event.{Event}
+use Rattle.group_world.specs.declared.event.Outcome.{Outcome}
 use Rattle.turns.specs.Turns.{StepOf, InOrder}
 
 in_order_push : {X : Type 0} (step : StepOf X) (xs ys : List X) (x y : X) (es fs : List Event) (os ps : List Outcome) → InOrder step xs es os ys → step x fs ps y → InOrder step (xs ++ x ∷ []) (es ++ fs) (os ++ ps) (ys ++ y ∷ [])

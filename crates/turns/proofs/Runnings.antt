@@ -7,14 +7,13 @@ use Rattle.host_types.specs.AllChanges.{Changes}
 use Rattle.host_types.specs.Site.{Site}
 use Rattle.host_types.specs.SiteState.{SiteState}
 use Rattle.host_types.specs.CrashStates.{CrashStates, may_crash_to}
-use Rattle.host_types.specs.declared.change.Change.{Change}
 use Rattle.host_types.specs.declared.site_fault.SiteFault.{SiteFault}
-use Rattle.session_core.specs.Calls.{HubCall, HubRun}
-use Rattle.session_core.specs.Hub.{keeper_of, world_of}
-use Rattle.session_core.specs.declared.hub.Hub.{Hub}
-use Rattle.session_core.specs.declared.event.Event.{Event}
-use Rattle.session_core.specs.declared.event.Outcome.{Outcome}
-use Rattle.session_core.proofs.CallLaws.{hub_run, hub_rests, hub_goes_on}
+use Rattle.group_hub.specs.Calls.{HubCall, HubRun}
+use Rattle.group_hub.specs.Hub.{keeper_of, world_of}
+use Rattle.group_hub.specs.declared.hub.Hub.{Hub}
+use Rattle.group_world.specs.declared.event.Event.{Event}
+use Rattle.group_world.specs.declared.event.Outcome.{Outcome}
+use Rattle.group_hub.proofs.CallLaws.{hub_run, hub_rests, hub_goes_on}
 use Rattle.turns.specs.Runs.{moment_of, moments, HasRun}
 
 -- What holds of some events holds otherwise of the same.

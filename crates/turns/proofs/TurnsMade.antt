@@ -2,17 +2,17 @@
 use Rattle.std.proofs.Common.{◌≡◌, ◌⊎◌, inl, inr, ⊎_elim, ℕ, suc, ◌+◌, ◌≤◌, ◌<◌, add-one, Bool, true, false, List, [], ◌∷◌, ◌++◌, length, take, refl, sym, ap, subst, ◌∙◌, append_assoc, arith, Result, Ok, Err, min}
 use Rattle.std.proofs.lemmas.List.{append-nil, take_all, length-take}
 use Rattle.std.proofs.lemmas.Bool.{cases_lt}
-use Rattle.session_core.specs.declared.event.Event.{Event}
-use Rattle.session_core.specs.declared.event.Event.TheVariants as events
-use Rattle.session_core.specs.declared.event.Outcome.{Outcome}
-use Rattle.session_core.specs.declared.event.Outcome.TheVariants as outcomes
-use Rattle.session_core.specs.declared.answer.InputStatus.{InputStatus}
-use Rattle.session_core.specs.declared.answer.InputStatus.TheVariants as statuses
-use Rattle.session_core.specs.declared.fault.HubFault.{HubFault}
-use Rattle.session_core.specs.declared.fault.HubFault.TheVariants as faults
-use Rattle.session_core.specs.Outcomes.{join_outcome, heard_outcome, bytes_outcome, draw_outcome}
-use Rattle.session_core.specs.declared.answer.Drawn.{Drawn}
-use Rattle.session_core.specs.declared.answer.Drawn.TheVariants as drawn
+use Rattle.group_world.specs.declared.event.Event.{Event}
+use Rattle.group_world.specs.declared.event.Event.TheVariants as events
+use Rattle.group_world.specs.declared.event.Outcome.{Outcome}
+use Rattle.group_world.specs.declared.event.Outcome.TheVariants as outcomes
+use Rattle.group_world.specs.declared.answer.InputStatus.{InputStatus}
+use Rattle.group_world.specs.declared.answer.InputStatus.TheVariants as statuses
+use Rattle.group_world.specs.declared.fault.HubFault.{HubFault}
+use Rattle.group_world.specs.declared.fault.HubFault.TheVariants as faults
+use Rattle.group_world.specs.Outcomes.{join_outcome, heard_outcome, bytes_outcome, draw_outcome}
+use Rattle.group_world.specs.declared.answer.Drawn.{Drawn}
+use Rattle.group_world.specs.declared.answer.Drawn.TheVariants as drawn
 use Rattle.turns.specs.Runs.{moment_of}
 use Rattle.turns.specs.WireCalls.{WireCall, Read, ReadFailed, Closed, HasMade, IsSent}
 use Rattle.turns.specs.Turns.{Trace, trace, nothing, is_closed, For, Turn, Ends, Joins, Takes, Follows, Leaves, Hears, HearsNothing, Replies, StepOf, InOrder, Times, Both, AreClosed, Passes, heard_event, heard_stage, heard_reply, drawn_bytes, replied_stage, joined_stage, joined_calls}
@@ -206,3 +206,4 @@ pub says_nothing : (status : InputStatus) → heard_reply (heard_outcome status)
 says_nothing statuses.More = refl
 says_nothing statuses.Ready = refl
 says_nothing statuses.Finished = refl
+says_nothing statuses.Waiting = refl

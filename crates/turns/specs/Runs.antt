@@ -1,8 +1,8 @@
 -- Events that were run over a hub, at moments that a clock gave.
 use Rattle.std.specs.Prelude.{◌≡◌, ℕ, List, [], ◌∷◌, ◌++◌, flat_map}
-use Rattle.session_core.specs.declared.event.Event.{Event}
-use Rattle.session_core.specs.declared.event.Event.TheVariants.{Join, Bytes, End, Draw, Leave, Admin}
-use Rattle.session_core.specs.declared.event.Outcome.{Outcome}
+use Rattle.group_world.specs.declared.event.Event.{Event}
+use Rattle.group_world.specs.declared.event.Event.TheVariants.{Join, Bytes, End, Draw, Leave, Admin, Flush}
+use Rattle.group_world.specs.declared.event.Outcome.{Outcome}
 
 -- the moment of an event, where it has one
 abbrev pub moment_of : Event → List ℕ
@@ -12,6 +12,7 @@ moment_of (End id now) = now ∷ []
 moment_of (Draw id room) = []
 moment_of (Leave id) = []
 moment_of (Admin change now) = now ∷ []
+moment_of Flush = []
 
 abbrev pub moments : List Event → List ℕ
 moments es = flat_map moment_of es

@@ -1,8 +1,8 @@
 -- Worked examples of what a session does in a turn.
 use Rattle.std.specs.Prelude.{◌≡◌, true, false, [], ◌∷◌, codes}
-use Rattle.session_core.specs.declared.event.Event.TheVariants.{Join, Bytes, End, Draw}
-use Rattle.session_core.specs.declared.event.Outcome.TheVariants as outcomes
-use Rattle.session_core.specs.declared.fault.HubFault.TheVariants.{Full, Memory, Failed}
+use Rattle.group_world.specs.declared.event.Event.TheVariants.{Join, Bytes, End, Draw, Flush}
+use Rattle.group_world.specs.declared.event.Outcome.TheVariants as outcomes
+use Rattle.group_world.specs.declared.fault.HubFault.TheVariants.{Full, Memory, Failed}
 use Rattle.turns.specs.Runs.{moments}
 use Rattle.turns.specs.Turns.{heard_event, heard_stage, heard_reply, replied_stage, joined_stage}
 use Rattle.turns.specs.declared.connection.Stage.TheVariants.{Replying, Served, Left}
@@ -14,8 +14,10 @@ pub record TurnExamples : Type 0 where
   pub no_memory : heard_reply (outcomes.Fault Memory) ≡ []
   pub a_reply_stands : heard_stage 3 outcomes.Ready ≡ Replying 3
   pub early : heard_stage 3 outcomes.Finished ≡ Left
+  pub a_post_that_waits : heard_stage 3 outcomes.Waiting ≡ Left
   pub goes_on : replied_stage 3 (outcomes.Drawn (codes "Hello")) true ≡ Replying 3
   pub not_taken : replied_stage 3 (outcomes.Drawn (codes "Hello")) false ≡ Left
   pub all_drawn : replied_stage 3 outcomes.Finished true ≡ Served
   pub could_not_join : joined_stage (outcomes.Fault Failed) ≡ Left
   pub moments_of_events : moments (Join ∷ Bytes 1 [] 5 ∷ Draw 1 512 ∷ End 2 7 ∷ []) ≡ 5 ∷ 7 ∷ []
+  pub a_flush_has_no_moment : moments (Bytes 1 [] 5 ∷ Flush ∷ End 2 7 ∷ []) ≡ 5 ∷ 7 ∷ []

@@ -2,11 +2,11 @@
 use Rattle.std.specs.Prelude.{◌≡◌, ◌⊎◌, ◌≤◌, ◌<◌, ℕ, zero, suc, Bool, true, false, List, [], ◌∷◌, ◌++◌, All, length}
 use Rattle.text_writer.specs.Errors.{error_reply}
 use Rattle.text_writer.specs.declared.error.ErrorText.TheVariants.{TryAgainLater}
-use Rattle.session_core.specs.declared.event.Event.{Event}
-use Rattle.session_core.specs.declared.event.Event.TheVariants as events
-use Rattle.session_core.specs.declared.event.Outcome.{Outcome}
-use Rattle.session_core.specs.declared.event.Outcome.TheVariants as outcomes
-use Rattle.session_core.specs.declared.fault.HubFault.TheVariants.{Full}
+use Rattle.group_world.specs.declared.event.Event.{Event}
+use Rattle.group_world.specs.declared.event.Event.TheVariants as events
+use Rattle.group_world.specs.declared.event.Outcome.{Outcome}
+use Rattle.group_world.specs.declared.event.Outcome.TheVariants as outcomes
+use Rattle.group_world.specs.declared.fault.HubFault.TheVariants.{Full}
 use Rattle.turns.specs.WireCalls.{WireCall, Read, ReadFailed, Closed, IsSent}
 use Rattle.turns.specs.declared.connection.Connection.{Connection}
 use Rattle.turns.specs.declared.connection.Stage.{Stage}
@@ -62,6 +62,7 @@ abbrev pub heard_event : ℕ → List ℕ → ℕ → Event
 heard_event id [] now = events.End id now
 heard_event id (b ∷ bytes) now = events.Bytes id (b ∷ bytes) now
 
+-- In these hubs each post is made at once, so none waits. A session whose post did would end.
 abbrev pub heard_stage : ℕ → Outcome → Stage
 heard_stage id outcomes.More = Listening id
 heard_stage id outcomes.Ready = Replying id

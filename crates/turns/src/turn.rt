@@ -2,9 +2,9 @@
 ghost use Rattle.std.specs.Prelude.{◌≡◌, ◌⊎◌, Bool, true, List, [], ◌++◌};
 ghost use Rattle.text_writer.specs.Errors.{error_reply};
 ghost use Rattle.text_writer.specs.declared.error.ErrorText.TheVariants.{TryAgainLater};
-ghost use Rattle.session_core.specs.Calls.{HubCall, HubRun};
-ghost use Rattle.session_core.specs.Outcomes.{bytes_outcome, heard_outcome};
-ghost use Rattle.session_core.specs.declared.event.Outcome.TheVariants.{Fault};
+ghost use Rattle.group_hub.specs.Calls.{HubCall, HubRun};
+ghost use Rattle.group_world.specs.Outcomes.{bytes_outcome, heard_outcome};
+ghost use Rattle.group_world.specs.declared.event.Outcome.TheVariants.{Fault};
 ghost use Rattle.turns.specs.Runs.{HasRun};
 ghost use Rattle.turns.specs.WireCalls.{WireCall, HasMade, IsSent};
 ghost use Rattle.turns.specs.Turns.{trace, is_closed, For, Joins, Turn, Ends, Hears, HearsNothing, Replies, Leaves, Follows, heard_event, heard_reply, heard_stage};
@@ -12,8 +12,9 @@ ghost use Rattle.turns.specs.Turns.{trace, is_closed, For, Joins, Turn, Ends, He
 use crate::connection::{Connection, Stage};
 use crate::sending::send;
 use crate::{Clock, Wire};
+use group_hub::Hub;
+use group_world::{Drawn, HubFault, InputStatus};
 use host_types::Stamp;
-use session_core::{Drawn, Hub, HubFault, InputStatus};
 use word_index::SearchKeeper;
 
 /// How many bytes are read or drawn in a turn, at most.
@@ -47,6 +48,8 @@ fn stage_after(id: u64, status: InputStatus) -> Stage
         InputStatus::More => Stage::Listening(id),
         InputStatus::Ready => Stage::Replying(id),
         InputStatus::Finished => Stage::Left,
+        // In these hubs each post is made at once, so none waits.
+        InputStatus::Waiting => Stage::Left,
     }
 }
 

@@ -1,13 +1,13 @@
 // Sessions over wires, which are served in turns.
 ghost use Rattle.std.specs.Prelude.{◌≡◌, [], length, filter, true};
-ghost use Rattle.session_core.specs.Calls.{HubRun};
+ghost use Rattle.group_hub.specs.Calls.{HubRun};
 ghost use Rattle.turns.specs.Runs.{HasRun};
 ghost use Rattle.turns.specs.Turns.{For, Joins, Turn, Ends, InOrder, Passes, Serves, AreClosed, is_served};
 
 use crate::connection::Connection;
 use crate::turn::{end, join, take_turn};
 use crate::{Clock, Wire};
-use session_core::Hub;
+use group_hub::Hub;
 use word_index::SearchKeeper;
 
 /// How many passes are made over the connections, at most.

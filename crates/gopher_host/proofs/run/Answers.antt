@@ -1,5 +1,6 @@
 use Rattle.std.proofs.Common.{ap}
 use Rattle.gopher_host.proofs.Opens.{opens_too}
+use Rattle.gopher_host.proofs.Scripts.{script_of}
 use Rattle.gopher_host.proofs.run.Goals as goal
 
 pub returns-in-Format-clause-command : goal.returns-in-Format-clause-command
@@ -22,3 +23,11 @@ returns-in-ServeClients-clause-sessions g c =
       unlogged = λ is. (c.serve.ensures.quiet is, new.result.calls, c.serve.new.asked.calls, new.ensures, opens_too _ _ _ _ _ (λ u. ap (λ a. a.calls) u) (c.serve.ensures.unlogged is));
       script = tt;
     })
+
+pub returns-in-Replay-clause-sessions : goal.returns-in-Replay-clause-sessions
+returns-in-Replay-clause-sessions g c = rw c.in-Replay.is (record {
+  rounds = tt;
+  logged = tt;
+  unlogged = tt;
+  script = script_of c.in-Replay.image c.in-Replay.group _ c.replay.ensures.image;
+})

@@ -9,7 +9,7 @@ use Rattle.request_reader.specs.RequestLine.{parsed_line}
 use Rattle.request_reader.specs.Verdict.{verdict}
 use Rattle.ask_forms.specs.Post.{post_text, title_of}
 use Rattle.site_replies.specs.Reply.{reply_of}
-use Rattle.session_core.specs.Step.{joined}
+use Rattle.group_world.specs.Step.{joined}
 use Rattle.accepted_changes.proofs.laws.worked_examples.Goals as goal
 
 pub returns : goal.returns

@@ -1,7 +1,7 @@
 use Rattle.std.proofs.Common.{codes}
 use Rattle.std.proofs.lemmas.Result.{IfOk-weaker}
 use Rattle.command_words.specs.CommandLine.{text_rule}
-use Rattle.command_words.proofs.BuilderLemmas.{conflicting, free_flag, may_be_missing, told, with_arg}
+use Rattle.command_words.proofs.BuilderLemmas.{conflicting, may_be_missing, told, with_arg}
 use Rattle.command_words.proofs.command_line.serve.Goals as goal
 
 pub returns : goal.returns
@@ -13,6 +13,5 @@ returns c =
     let missing = may_be_missing (text_rule (codes "listen")) c.text.result c.required.result c.text.ensures c.required.ensures in
     let listen = conflicting _ c.required.result c.in_ok-conflicts_with.field-0 _ missing c.in_ok-conflicts_with.ensures in
     let four = with_arg _ _ c.in_ok-arg-3.field-0 c.in_ok-arg-4.field-0 c.in_ok-conflicts_with.field-0 three listen c.in_ok-arg-4.ensures in
-    let flag = free_flag (codes "quiet") c.new-2.result c.long.result c.help.result c.action.result _ _ c.new-2.ensures.rule c.new-2.ensures.optional c.long.ensures c.help.ensures c.action.ensures in
-    let quiet = conflicting _ c.action.result c.in_ok-conflicts_with-2.field-0 _ flag c.in_ok-conflicts_with-2.ensures in
+    let quiet = conflicting _ c.flag.result c.in_ok-conflicts_with-2.field-0 _ c.flag.ensures c.in_ok-conflicts_with-2.ensures in
     IfOk-weaker c.arg-5.result _ _ (λ r adds. with_arg _ _ c.in_ok-arg-4.field-0 r c.in_ok-conflicts_with-2.field-0 four quiet adds) c.arg-5.ensures

@@ -1,6 +1,6 @@
 use Rattle.std.proofs.Common.{codes, refl}
 use Rattle.clap.specs.Words.{found_of, rows_of}
-use Rattle.command_words.proofs.FoundLemmas.{found_number, found_text, gives_none, no_number, no_text, not_both}
+use Rattle.command_words.proofs.FoundLemmas.{found_flag, found_number, found_text, gives_none, no_number, no_text, not_both}
 use Rattle.command_words.proofs.TaskLemmas.{apply_needs, format_needs, no_image, replayed, served, two_words}
 use Rattle.command_words.proofs.words.task_of.Goals as goal
 
@@ -91,7 +91,8 @@ returns-in_ok-image-in-upgrade c =
 
 pub returns-in-replay : goal.returns-in-replay
 returns-in-replay c =
-    replayed c.args.name.now (found_of c.args.matches.now) c.get_str-image.result c.in-replay.is c.get_str-image.ensures
+    replayed c.args.name.now (found_of c.args.matches.now) c.get_str-image.result c.get_flag.result c.in-replay.is c.get_str-image.ensures
+    (found_flag (found_of c.args.matches.now) (codes "group") c.get_flag.result c.get_flag.ensures.none c.get_flag.ensures.value c.get_flag.ensures.other)
 
 pub returns-in_ok-image-in-serve : goal.returns-in_ok-image-in-serve
 returns-in_ok-image-in-serve c =

@@ -1,33 +1,18 @@
-use Rattle.std.proofs.Common.{refl, sym, subst, ap, ◌∙◌, IsTrue}
+use Rattle.std.proofs.Common.{refl, sym, ap, ◌∙◌}
 use Rattle.cow_tree.specs.TreeSeen.{device_of}
 use Rattle.page_store.specs.Steps.{crash_states_of}
 use Rattle.site_store.specs.Seen.{keeper_of, seen_site}
+use Rattle.host_on_disk.proofs.Images.{valid_site}
 use Rattle.host_on_disk.proofs.Openings.{no_memory}
-use Rattle.host_on_disk.proofs.Runs.{survives}
+use Rattle.host_on_disk.proofs.Runs.{ran_on}
 use Rattle.host_on_disk.proofs.on_disk.run_on.Goals as goal
 
 pub returns-in-Ok-run_over-clause-ran : goal.returns-in-Ok-run_over-clause-ran
-unfolding survives
 returns-in-Ok-run_over-clause-ran g c =
-    let state = g.D.Device.state in
     let opened = c.in-Ok.ensures in
     let back = c.into_device.ensures ∙ ap (λ k. device_of k) c.into_keeper.ensures in
-    record {
-      calls = record {
-        opened = c.in-Ok.site;
-        closed = c.in-Ok-run_over.site;
-        shows = opened.site;
-        counted = opened.counts;
-        usable = opened.usable;
-        runs = c.in-Ok-run_over.ensures.calls;
-        handed = back;
-      };
-      survives = λ honest. survives state (crash_states_of g.D.Device.moment g.D.Device.possible_since) c.args.device c.in-Ok.site.keeper.device c.in-Ok-run_over.site.keeper.device c.into_device.result c.args.first c.args.events.now c.in-Ok-run_over.outcomes (seen_site c.in-Ok.site)
-          (opened.site honest) (opened.alone honest) (opened.at_crash honest) (c.in-Ok-run_over.ensures.run (subst IsTrue (sym opened.honest) honest)) back;
-      opened = λ honest. refl;
-      site = λ honest. refl;
-      honest = ap (λ d. (state d).honest) back ∙ c.in-Ok-run_over.ensures.honest ∙ opened.honest;
-    }
+    ran_on g.D.Device.state (λ d. device_of (keeper_of d)) _ _ (crash_states_of g.D.Device.moment g.D.Device.possible_since) (λ d. refl) c.args.device c.into_device.result c.in-Ok.site c.in-Ok-run_over.site c.args.grouped c.args.first c.args.events.now c.in-Ok-run_over.outcomes
+    (record { shows = opened.site; alone = opened.alone; counted = opened.counts; usable = opened.usable; no_new_crash_state = opened.at_crash; honest = opened.honest }) c.in-Ok-run_over.ensures.ran back
 
 pub returns-in-Err-run_over-clause-refused : goal.returns-in-Err-run_over-clause-refused
 returns-in-Err-run_over-clause-refused g c =
@@ -40,3 +25,6 @@ returns-in-Err-run_over-clause-refused g c =
       honest = rw back opened.honest;
       no_new_crash_state = rw back opened.at_crash;
     }
+
+pub run_over-requires-clause-valid : goal.run_over-requires-clause-valid
+run_over-requires-clause-valid g c = λ is honest. valid_site _ _ (c.in-Ok.ensures.site (sym c.in-Ok.ensures.honest ∙ honest))

@@ -1,7 +1,7 @@
 use Rattle.std.proofs.Common.{◌≡◌, [], ◌∷◌, inl, inr, refl, rules}
 use Rattle.std.specs.Prelude.{codes}
 use Rattle.std.specs.String.{string_bytes}
-use Rattle.session_core.proofs.CallLaws.{hub_rests, hub_goes_on}
+use Rattle.group_hub.proofs.CallLaws.{hub_rests, hub_goes_on}
 use Rattle.host_script.specs.Printed.{line_of}
 use Rattle.host_script.proofs.Replays.{so_none, by_none, if_ok, on_err, only_one}
 use Rattle.host_script.proofs.replaying.answer.Goals as goal
@@ -26,6 +26,6 @@ returns-clause-lost g c =
         c.args.event ∷ [],
         c.in-Ok.outcomes,
         inl (record { outcome = one.0; parsed = refl; fault_text = one.1; line = refl }),
-        record { calls = c.in-Ok.ensures.calls; at_crash = λ honest usable. c.in-Ok.ensures.at_crash honest usable },
+        c.in-Ok.ensures.run,
       ),
     )

@@ -1,6 +1,6 @@
 use Rattle.std.proofs.Common.{rules, refl, inl, inr, sym, subst, ◌∙◌}
 use Rattle.host_script.specs.Lines.{IsDone}
-use Rattle.session_core.proofs.CallLaws.{hub_rests, hub_goes_on}
+use Rattle.group_hub.proofs.CallLaws.{hub_rests, hub_goes_on}
 use Rattle.host_script.proofs.Replays.{so_none, by_none}
 use Rattle.host_script.proofs.replaying.answer_line.Goals as goal
 

@@ -1,5 +1,5 @@
 use Rattle.std.proofs.Common.{take, refl, ap, arith}
-use Rattle.session_core.proofs.CallLaws.{hub_rests, hub_goes_on}
+use Rattle.group_hub.proofs.CallLaws.{hub_rests, hub_goes_on}
 use Rattle.host_script.proofs.Replays.{so_none, so_on, read_none, read_more, at_end, on_ok, if_err, if_err_of, keeps_same, replayed_known, halted_unread, halted_at_last, halted_within}
 use Rattle.host_script.proofs.replaying.replay.Goals as goal
 

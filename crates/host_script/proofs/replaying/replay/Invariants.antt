@@ -1,5 +1,5 @@
 use Rattle.std.proofs.Common.{◌≡◌, length}
-use Rattle.session_core.specs.Calls.{HubRun}
+use Rattle.group_hub.specs.Calls.{HubRun}
 use Rattle.host_script.specs.Lines.{RanSo, place_of}
 use Rattle.host_script.proofs.Replays.{IsReadTo}
 use Rattle.host_script.proofs.replaying.replay.Given as goal

@@ -1,6 +1,6 @@
 use Rattle.std.proofs.Common.{[], ◌∷◌, ◌++◌, refl, inl, rules}
 use Rattle.std.proofs.lemmas.Bool.{ne_eqb}
-use Rattle.session_core.proofs.CallLaws.{hub_rests, hub_goes_on}
+use Rattle.group_hub.proofs.CallLaws.{hub_rests, hub_goes_on}
 use Rattle.host_script.proofs.Replays.{so_none, by_none, if_err_of, comes_lf, some_item, run_none, run_one, plain_more}
 use Rattle.host_script.proofs.replaying.run_byte.Goals as goal
 

@@ -1,5 +1,5 @@
 use Rattle.std.proofs.Common.{sym, ◌∙◌}
-use Rattle.session_core.proofs.CallLaws.{hub_rests, hub_goes_on}
+use Rattle.group_hub.proofs.CallLaws.{hub_rests, hub_goes_on}
 use Rattle.host_script.proofs.Replays.{so_none, if_err_of, last_none, last_one, some_line}
 use Rattle.host_script.proofs.replaying.run_last.Goals as goal
 

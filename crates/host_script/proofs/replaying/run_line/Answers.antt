@@ -1,5 +1,5 @@
 use Rattle.std.proofs.Common.{refl, rules}
-use Rattle.session_core.proofs.CallLaws.{hub_rests, hub_goes_on}
+use Rattle.group_hub.proofs.CallLaws.{hub_rests, hub_goes_on}
 use Rattle.host_script.proofs.Replays.{by_none}
 use Rattle.host_script.proofs.replaying.run_line.Goals as goal
 

@@ -1,6 +1,6 @@
 use Rattle.std.proofs.Common.{rules, [], ◌∷◌, ◌++◌, take, sym, append_assoc, get_or}
 use Rattle.std.proofs.lemmas.List.{take_more, append-nil}
-use Rattle.session_core.proofs.CallLaws.{hub_rests, hub_goes_on}
+use Rattle.group_hub.proofs.CallLaws.{hub_rests, hub_goes_on}
 use Rattle.host_script.proofs.Replays.{run_more, run_none, stopped_at, if_err_of, so_none, so_on}
 use Rattle.host_script.proofs.replaying.run_piece.Goals as goal
 

@@ -1,6 +1,6 @@
 use Rattle.std.proofs.Common.{◌≡◌, false, ◌++◌, take}
 use Rattle.std.specs.List.{list_any}
-use Rattle.session_core.specs.Calls.{HubRun}
+use Rattle.group_hub.specs.Calls.{HubRun}
 use Rattle.host_script.specs.Lines.{RanSo, IsRunTo, place_of, is_lf}
 use Rattle.host_script.proofs.replaying.run_piece.Given as goal
 

@@ -3,36 +3,21 @@ use Rattle.cow_tree.specs.TreeSeen.{device_of}
 use Rattle.page_store.specs.Steps.{crash_states_of}
 use Rattle.site_store.specs.Seen.{keeper_of, seen_site}
 use Rattle.host_on_disk.proofs.Openings.{no_memory}
-use Rattle.host_on_disk.proofs.Runs.{survives}
+use Rattle.host_on_disk.proofs.Runs.{ran_on}
 use Rattle.image_server.proofs.OtherRuns.{run_too}
 use Rattle.image_server.proofs.Places.{place_of}
-use Rattle.std.specs.Prelude.{None}
+use Rattle.std.specs.Prelude.{None, false}
 use Rattle.image_server.proofs.serving.serve_image.Goals as goal
 
 pub returns-in-Ok-serve_over-clause-served : goal.returns-in-Ok-serve_over-clause-served
-unfolding survives
 returns-in-Ok-serve_over-clause-served g c =
     let state = g.D.Device.state in
     let opened = c.in-Ok.ensures in
     let back = c.into_device-in-Ok-serve_over.ensures ∙ ap (λ k. device_of k) c.into_keeper-in-Ok-serve_over.ensures in
     record {
       run = run_too _ _ _ _ c.args.device c.into_device-in-Ok-serve_over.result
-          (λ events outcomes over. record {
-            calls = record {
-              opened = c.in-Ok.site;
-              closed = c.in-Ok-serve_over.site;
-              shows = opened.site;
-              counted = opened.counts;
-              usable = opened.usable;
-              runs = over.calls;
-              handed = back;
-            };
-            survives = λ honest. survives state (crash_states_of g.D.Device.moment g.D.Device.possible_since) c.args.device c.in-Ok.site.keeper.device c.in-Ok-serve_over.site.keeper.device c.into_device-in-Ok-serve_over.result 1 events outcomes (seen_site c.in-Ok.site)
-                (opened.site honest) (opened.alone honest) (opened.at_crash honest) (over.run (subst IsTrue (sym opened.honest) honest)) back;
-            opened = λ honest. refl;
-            site = λ honest. refl;
-            honest = ap (λ d. (state d).honest) back ∙ over.honest ∙ opened.honest;
-          })
+          (λ events outcomes over. ran_on g.D.Device.state (λ d. device_of (keeper_of d)) _ _ (crash_states_of g.D.Device.moment g.D.Device.possible_since) (λ d. refl) c.args.device c.into_device-in-Ok-serve_over.result c.in-Ok.site c.in-Ok-serve_over.site false 1 events outcomes
+          (record { shows = opened.site; alone = opened.alone; counted = opened.counts; usable = opened.usable; no_new_crash_state = opened.at_crash; honest = opened.honest }) over back)
           _ _ _ _
           (λ events outcomes serves. record {
             opened = c.in-Ok.site;

@@ -1,8 +1,7 @@
-use Rattle.std.proofs.Common.{◌≡◌, true, sym, ap, ◌∙◌, subst, IsTrue}
-use Rattle.session_core.specs.Calls.{HubRun}
-use Rattle.session_core.specs.Hub.{world_of}
-use Rattle.session_core.proofs.CallLaws.{calls_run, calls_honest}
-use Rattle.host_on_disk.proofs.Runs.{handed_over, handed_on, closed_honest}
+use Rattle.std.specs.Prelude.{false}
+use Rattle.group_hub.specs.Calls.{HubRun}
+use Rattle.group_hub.specs.Hub.{world_of}
+use Rattle.host_on_disk.proofs.Runs.{handed_over}
 use Rattle.image_sessions.specs.ImageRuns.{OverSite}
 use Rattle.image_server.proofs.OtherRuns.{run_too}
 use Rattle.image_server.proofs.serving.serve_over.Goals as goal
@@ -10,22 +9,12 @@ use Rattle.image_server.proofs.serving.serve_over.Goals as goal
 pub returns-clause-served : goal.returns-clause-served
 returns-clause-served g c =
     let s = g.S.SiteKeeper in
-    let is = c.in-Ok.ensures.keeper in
     let held = c.in-Ok.hub.site in
     let left = c.serve_on-served.new.hub.site in
-    let first = world_of s.site_state c.in-Ok.hub in
-    let last = world_of s.site_state c.serve_on-served.new.hub in
-    let usable : (s.site_state held).usable ≡ true = subst (λ x. (s.site_state x).usable ≡ true) (sym is) c.requires.usable in
     record {
-      run = run_too (HubRun s.site_state s.lacks s.crash_states s.represents) (OverSite s.site_state s.lacks s.crash_states s.represents) c.in-Ok.hub c.serve_on-served.new.hub c.args.site c.close.result
-          (λ events outcomes run. record {
-            calls = handed_on s.site_state s.lacks s.crash_states s.represents c.args.site held left c.close.result first last 1 events outcomes is c.in-Ok.ensures.world c.close.ensures.closed run.calls;
-            run = λ honest.
-                let honest1 : IsTrue (s.site_state held).honest = subst (λ x. IsTrue (s.site_state x).honest) (sym is) honest in
-                handed_over s.site_state s.represents s.crash_states c.args.site held left c.close.result first _ last events outcomes is c.in-Ok.ensures.world c.close.ensures.closed (subst IsTrue (sym (calls_honest s.site_state s.lacks s.crash_states s.represents first last held left events outcomes run.calls)) honest1)
-                (calls_run s.site_state s.lacks s.crash_states s.represents first last held left events outcomes honest1 run.calls) (run.at_crash honest1 usable);
-            honest = closed_honest s.site_state s.crash_states left c.close.result c.close.ensures.closed ∙ calls_honest s.site_state s.lacks s.crash_states s.represents first last held left events outcomes run.calls ∙ ap (λ x. (s.site_state x).honest) is;
-          })
+      run = run_too (HubRun s.site_state s.lacks s.crash_states s.represents) (OverSite false s.site_state s.lacks s.crash_states s.represents) c.in-Ok.hub c.serve_on-served.new.hub c.args.site c.close.result
+          (λ events outcomes run. handed_over s.site_state s.lacks s.crash_states s.represents c.args.site held left c.close.result (world_of s.site_state c.in-Ok.hub) (world_of s.site_state c.serve_on-served.new.hub) false 1 events outcomes
+          c.in-Ok.ensures.keeper c.in-Ok.ensures.world c.close.ensures.closed c.requires.usable run.calls run.at_crash)
           _ _ _ _
           (λ events outcomes serves. record {
             first = c.in-Ok.hub;

@@ -1,6 +1,6 @@
 use Rattle.std.proofs.Common.{Bool, true, false, List, [], ◌++◌, sym, subst, append-nil}
-use Rattle.session_core.specs.declared.event.Event.{Event}
-use Rattle.session_core.specs.declared.event.Outcome.{Outcome}
+use Rattle.group_world.specs.declared.event.Event.{Event}
+use Rattle.group_world.specs.declared.event.Outcome.{Outcome}
 use Rattle.turns.specs.Turns.{trace}
 use Rattle.ready_turns.specs.Seats.{state_of}
 use Rattle.ready_sockets.specs.Due.{WasGiven, IsGiven, all_due}

@@ -1,5 +1,5 @@
 use Rattle.std.proofs.Common.{[]}
-use Rattle.session_core.specs.Calls.{HubRun}
+use Rattle.group_hub.specs.Calls.{HubRun}
 use Rattle.turns.specs.Runs.{HasRun}
 use Rattle.ready_sockets.proofs.ComingIn.{IsLettingIn}
 use Rattle.ready_sockets.proofs.serving.admit.Given as goal

@@ -1,5 +1,5 @@
 use Rattle.std.proofs.Common.{◌≡◌, map}
-use Rattle.session_core.specs.Calls.{HubRun}
+use Rattle.group_hub.specs.Calls.{HubRun}
 use Rattle.turns.specs.Runs.{HasRun}
 use Rattle.turns.specs.Turns.{InOrder, Times}
 use Rattle.ready_sockets.specs.Rounds.{who}

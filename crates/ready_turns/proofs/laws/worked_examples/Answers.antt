@@ -10,6 +10,7 @@ returns c = record {
   could_not_join = refl;
   a_reply_stands = refl;
   early = refl;
+  a_post_that_waits = refl;
   no_room = refl;
   no_memory = refl;
   to_be_sent = refl;

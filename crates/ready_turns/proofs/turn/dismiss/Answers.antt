@@ -1,7 +1,7 @@
 use Rattle.std.proofs.Common.{refl, sym, [], ◌∷◌, ⊎_elim}
 use Rattle.std.proofs.lemmas.List.{append-nil}
-use Rattle.session_core.specs.Outcomes.{leave_outcome}
-use Rattle.session_core.specs.declared.event.Event.TheVariants.{Leave}
+use Rattle.group_world.specs.Outcomes.{leave_outcome}
+use Rattle.group_world.specs.declared.event.Event.TheVariants.{Leave}
 use Rattle.turns.specs.WireCalls.{Closed}
 use Rattle.turns.proofs.Runnings.{run_none, run_one}
 use Rattle.ready_turns.proofs.SeatsMade.{dismissed_at}

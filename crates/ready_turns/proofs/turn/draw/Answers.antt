@@ -1,6 +1,6 @@
 use Rattle.std.proofs.Common.{take, ap, sym, ◌∙◌, refl, false}
-use Rattle.session_core.specs.Outcomes.{draw_outcome}
-use Rattle.session_core.specs.declared.event.Event.TheVariants.{Draw}
+use Rattle.group_world.specs.Outcomes.{draw_outcome}
+use Rattle.group_world.specs.declared.event.Event.TheVariants.{Draw}
 use Rattle.turns.proofs.Runnings.{run_one}
 use Rattle.turns.proofs.TurnsMade.{drawn_is, draws_few, finished_is, take_min}
 use Rattle.ready_turns.specs.declared.seat.Stage.TheVariants as stages

@@ -1,6 +1,6 @@
 use Rattle.std.proofs.Common.{refl, sym, ◌∙◌, subst, [], ◌∷◌}
-use Rattle.session_core.specs.Outcomes.{leave_outcome}
-use Rattle.session_core.specs.declared.event.Event.TheVariants.{Leave}
+use Rattle.group_world.specs.Outcomes.{leave_outcome}
+use Rattle.group_world.specs.declared.event.Event.TheVariants.{Leave}
 use Rattle.turns.specs.Turns.{trace, nothing}
 use Rattle.turns.proofs.Runnings.{run_none, run_one}
 use Rattle.ready_turns.specs.Seats.{Follows}

@@ -1,6 +1,6 @@
 use Rattle.std.proofs.Common.{refl}
-use Rattle.session_core.specs.Outcomes.{join_outcome}
-use Rattle.session_core.specs.declared.event.Event.TheVariants.{Join}
+use Rattle.group_world.specs.Outcomes.{join_outcome}
+use Rattle.group_world.specs.declared.event.Event.TheVariants.{Join}
 use Rattle.turns.proofs.Runnings.{run_one}
 use Rattle.ready_turns.proofs.SeatsMade.{joined_at}
 use Rattle.ready_turns.proofs.turn.join.Goals as goal

@@ -1,5 +1,5 @@
-use Rattle.session_core.specs.Calls.{HubRun}
-use Rattle.session_core.specs.Hub.{keeper_of}
+use Rattle.group_hub.specs.Calls.{HubRun}
+use Rattle.group_hub.specs.Hub.{keeper_of}
 use Rattle.turns.specs.Runs.{HasRun}
 use Rattle.socket_wires.proofs.RoundsMade.{HasMadeRounds}
 use Rattle.socket_wires.proofs.serving.serve_on.Given as goal

@@ -12,9 +12,11 @@ returns c = record {
   no_memory = refl;
   a_reply_stands = refl;
   early = refl;
+  a_post_that_waits = refl;
   goes_on = refl;
   not_taken = refl;
   all_drawn = refl;
   could_not_join = refl;
   moments_of_events = refl;
+  a_flush_has_no_moment = refl;
 }

@@ -1,5 +1,5 @@
 use Rattle.std.proofs.Common.{take, ap, sym, ◌∙◌, [], ◌∷◌, ◌++◌, arith, refl, length-take}
-use Rattle.session_core.specs.Outcomes.{bytes_outcome}
+use Rattle.group_world.specs.Outcomes.{bytes_outcome}
 use Rattle.turns.specs.WireCalls.{Read, ReadFailed}
 use Rattle.turns.specs.Turns.{heard_event}
 use Rattle.turns.proofs.Runnings.{run_none, run_one}

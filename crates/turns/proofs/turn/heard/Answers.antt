@@ -1,5 +1,5 @@
 use Rattle.std.proofs.Common.{ap, ◌∙◌}
-use Rattle.session_core.specs.Outcomes.{bytes_outcome}
+use Rattle.group_world.specs.Outcomes.{bytes_outcome}
 use Rattle.turns.specs.Turns.{heard_reply}
 use Rattle.turns.proofs.TurnsMade.{sent_nothing, says_nothing}
 use Rattle.turns.proofs.turn.heard.Goals as goal

@@ -1,6 +1,6 @@
 use Rattle.std.proofs.Common.{refl}
-use Rattle.session_core.specs.Outcomes.{join_outcome}
-use Rattle.session_core.specs.declared.event.Event.TheVariants.{Join}
+use Rattle.group_world.specs.Outcomes.{join_outcome}
+use Rattle.group_world.specs.declared.event.Event.TheVariants.{Join}
 use Rattle.turns.specs.Turns.{Joins}
 use Rattle.turns.proofs.Runnings.{run_none, run_one}
 use Rattle.turns.proofs.TurnsMade.{joined_well, joined_not, does_nothing, joins_rest}

@@ -1,6 +1,6 @@
 use Rattle.std.proofs.Common.{refl}
-use Rattle.session_core.specs.Outcomes.{leave_outcome}
-use Rattle.session_core.specs.declared.event.Event.TheVariants.{Leave}
+use Rattle.group_world.specs.Outcomes.{leave_outcome}
+use Rattle.group_world.specs.declared.event.Event.TheVariants.{Leave}
 use Rattle.turns.proofs.Runnings.{run_one}
 use Rattle.turns.proofs.TurnsMade.{left_made}
 use Rattle.turns.proofs.turn.leave.Goals as goal

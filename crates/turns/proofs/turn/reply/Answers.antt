@@ -1,6 +1,6 @@
 use Rattle.std.proofs.Common.{take, ap, refl}
-use Rattle.session_core.specs.Outcomes.{draw_outcome}
-use Rattle.session_core.specs.declared.event.Event.TheVariants.{Draw}
+use Rattle.group_world.specs.Outcomes.{draw_outcome}
+use Rattle.group_world.specs.declared.event.Event.TheVariants.{Draw}
 use Rattle.turns.proofs.Runnings.{run_one}
 use Rattle.turns.proofs.TurnsMade.{replied_drawn, replied_finished, replied_fault, draws_few, drawn_is, finished_is, sent_drawn}
 use Rattle.turns.proofs.turn.reply.Goals as goal

@@ -1,5 +1,5 @@
 use Rattle.std.proofs.Common.{[]}
-use Rattle.session_core.specs.Calls.{HubRun}
+use Rattle.group_hub.specs.Calls.{HubRun}
 use Rattle.turns.specs.Runs.{HasRun}
 use Rattle.turns.specs.Turns.{For, Ends}
 use Rattle.turns.proofs.Passing.{IsDoneTo}

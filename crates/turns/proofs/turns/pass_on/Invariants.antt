@@ -1,4 +1,4 @@
-use Rattle.session_core.specs.Calls.{HubRun}
+use Rattle.group_hub.specs.Calls.{HubRun}
 use Rattle.turns.specs.Runs.{HasRun}
 use Rattle.turns.specs.Turns.{For, Turn, InOrder, Times}
 use Rattle.turns.proofs.turns.pass_on.Given as goal

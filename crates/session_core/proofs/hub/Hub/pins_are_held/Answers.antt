@@ -1,5 +1,0 @@
-use Rattle.session_core.proofs.SeatsHeld.{holds_for_replies}
-use Rattle.session_core.proofs.hub.Hub.pins_are_held.Goals as goal
-
-pub returns : goal.returns
-returns g c = holds_for_replies g.S.SiteKeeper.pinned (g.S.SiteKeeper.site_state c.args.self.now.site) c.args.self.now.sessions.items c.args.self.now.held c.args.self.now.sound
