@@ -1,4 +1,5 @@
 """Sessions of a script over a site, written once more by the document SCRIPT: nothing of the program is read here."""
+import copy
 import re
 
 from .replies import plain_error, reply_of
@@ -6,6 +7,7 @@ from .requests import Bad, request_of
 from .site import GREATEST_MOMENT, Item, Refused, selector_of, title_of
 
 MOST_SESSIONS = 32
+MOST_WAITING = 16
 ESCAPE = re.compile(rb"\\(?:x([0-9a-fA-F]{2})|([0nrt\\]))")
 LETTERS = {b"0": b"\0", b"n": b"\n", b"r": b"\r", b"t": b"\t", b"\\": b"\\"}
 SIGNS = {0: "\\0", 10: "\\n", 13: "\\r", 9: "\\t", 92: "\\\\"}
@@ -43,24 +45,65 @@ class Session:
         # what is left of the reply, or none before there is one
         self.reply = None
         self.has_ended = False
+        # the request of a post that waits, and its moment
+        self.waits = None
 
 
 class Sessions:
-    """Sessions over one site, at the moment that the last line `now` said."""
+    """Sessions over one site, at the moment that the last line `now` said; posts wait for one another, or don't."""
 
-    def __init__(self, site):
-        self.site, self.now, self.all, self.last = site, 0, {}, 0
+    def __init__(self, site, grouped=False):
+        self.site, self.now, self.all, self.last, self.grouped = site, 0, {}, 0, grouped
+        # those whose posts wait, in the order in which they came to wait
+        self.waiting = []
 
-    def heard(self, it, ended):
+    def stores(self, request):
+        """Whether the request has a right post."""
+        trial = copy.copy(self.site)
+        trial.items = dict(self.site.items)
+        reply_of(trial, request, self.now)
+        return trial.changes != self.site.changes
+
+    def heard(self, it, piece, ended):
         """What a session is answered to a piece, or to the end of input."""
+        if it.waits:
+            return "waiting"
         if it.reply is None and not it.has_ended:
+            before = it.heard
+            it.heard += piece
             try:
                 request = request_of(it.heard, ended)
+                if request is not None and self.grouped and self.stores(request):
+                    return self.comes_to_wait(it, request, before)
                 it.reply = None if request is None else reply_of(self.site, request, self.now)
             except Bad as bad:
                 it.reply = plain_error(bad.args[0])
             it.has_ended = ended and it.reply is None
         return "ready" if it.reply is not None else "finished" if it.has_ended else "more"
+
+    def comes_to_wait(self, it, request, before):
+        """A post comes to wait behind all others; where too many do, all is as before."""
+        if len(self.waiting) == MOST_WAITING:
+            it.heard = before
+            return "fault Crowded"
+        it.waits = (request, self.now)
+        self.waiting.append(it)
+        return "waiting"
+
+    def flush(self):
+        """The posts that wait are made in one step, each at its own moment; those without a form any more are answered first."""
+        count, before = len(self.waiting), self.site.changes
+        formless = [it for it in self.waiting if not self.finds_form(*it.waits)]
+        for it in [*formless, *(it for it in self.waiting if it not in formless)]:
+            request, now = it.waits
+            it.reply, it.waits = reply_of(self.site, request, now), None
+        self.waiting = []
+        self.site.changes = min(self.site.changes, before + 1)
+        return f"flushed {count} left 0"
+
+    def finds_form(self, request, now):
+        item = self.site.found(request.selector, now)
+        return item is not None and item.is_a("form")
 
     def drawn(self, it, room):
         if it.has_ended or it.reply == b"":
@@ -92,13 +135,13 @@ class Sessions:
         if it is None:
             return "fault Unknown"
         if word == "bytes":
-            if it.reply is None and not it.has_ended:
-                it.heard += unescaped(rest[0])
-            return self.heard(it, False)
+            return self.heard(it, unescaped(rest[0]), False)
         if word == "end":
-            return self.heard(it, True)
+            return self.heard(it, b"", True)
         if word == "draw":
             return self.drawn(it, int(rest[0]))
+        # a post that waits is withdrawn
+        self.waiting = [other for other in self.waiting if other is not it]
         del self.all[number]
         return "ok"
 
@@ -113,4 +156,6 @@ class Sessions:
             return self.put_text(*fields)
         if word == "join":
             return self.join()
+        if word == "flush":
+            return self.flush()
         return self.of_session(word, int(fields[0]), fields[1:])
