@@ -1,5 +1,5 @@
 -- Rounds of connections over a site that is handed in and back, and over the site of an image; and why nothing is served.
-use Rattle.std.specs.Prelude.{◌≡◌, ℕ, false, List, [], Result, IsTrue}
+use Rattle.std.specs.Prelude.{◌≡◌, ℕ, true, List, [], Result, IsTrue}
 use Rattle.host_types.specs.AllChanges.{Changes}
 use Rattle.host_types.specs.Site.{Site}
 use Rattle.host_types.specs.SiteState.{SiteState}
@@ -33,7 +33,7 @@ pub record ServesOver {S L Pin : Type 0} (ghosts : _) (site_state : S → SiteSt
   pub first : Hub S Pin ghosts
   pub last : Hub S Pin ghosts
   pub keeper : keeper_of first ≡ old
-  pub world : world_of site_state first ≡ started_as false (site_state old).site 1
+  pub world : world_of site_state first ≡ started_as true (site_state old).site 1
   pub serves : IsServing (HubRun site_state lacks crash_states stands) (λ hub. (site_state (keeper_of hub)).usable) together rounds result taken_before taken_now first es os last
   pub closes : IsClosed site_state crash_states (keeper_of last) new
 
@@ -48,11 +48,11 @@ pub record ServesImage {D S L Pin : Type 0} (ghosts : _) (state : D → State) (
 
 -- All that was done to a site is a run, by the events of these rounds.
 pub record ServedOver {S L Pin : Type 0} (ghosts : _) (site_state : S → SiteState) (lacks : S → Changes → SiteFault → Type 0) (crash_states : S → CrashStates L) (stands : L → Site → Type 0) (together rounds : ℕ) (result : Result ℕ ServeFault) (taken_before taken_now : List Taken) (old new : S) (told_before told_now : List ℕ) : Type 0 where
-  pub run : HasRun (OverSite false site_state lacks crash_states stands) old new told_before told_now (λ es os. ServesOver {Pin = Pin} ghosts site_state lacks crash_states stands together rounds result taken_before taken_now old es os new)
+  pub run : HasRun (OverSite true site_state lacks crash_states stands) old new told_before told_now (λ es os. ServesOver {Pin = Pin} ghosts site_state lacks crash_states stands together rounds result taken_before taken_now old es os new)
 
 -- And all that was done to a device.
 pub record ServedImage {D S L Pin : Type 0} (ghosts : _) (state : D → State) (device : S → D) (site_state : S → SiteState) (lacks : S → Changes → SiteFault → Type 0) (site_crash_states : S → CrashStates L) (stands : L → Site → Type 0) (crash_states : D → CrashStates Content) (together rounds : ℕ) (result : Result ℕ ServeFault) (old new : D) (told_before told_now : List ℕ) : Type 0 where
-  pub run : HasRun (OnImage false state device site_state lacks site_crash_states stands crash_states) old new told_before told_now (λ es os. ServesImage {Pin = Pin} ghosts state device site_state lacks site_crash_states stands together rounds result old es os new)
+  pub run : HasRun (OnImage true state device site_state lacks site_crash_states stands crash_states) old new told_before told_now (λ es os. ServesImage {Pin = Pin} ghosts state device site_state lacks site_crash_states stands together rounds result old es os new)
 
 -- The image's own fault, by its cause; or the port can't be listened on, and then the image was opened and nothing failed.
 abbrev pub IsServingFault : State → State → ServingFault → Type 0

@@ -1,5 +1,5 @@
 -- Clients that are served as they come, over the site of an image; and where connections are listened for, and what is asked of the system.
-use Rattle.std.specs.Prelude.{◌≡◌, ◌⊎◌, ℕ, false, List, [], ◌∷◌, ◌++◌, Option, Some, None, Result, IsTrue}
+use Rattle.std.specs.Prelude.{◌≡◌, ◌⊎◌, ℕ, true, List, [], ◌∷◌, ◌++◌, Option, Some, None, Result, IsTrue}
 use Rattle.std.specs.Net.Socket.{socket_ip, socket_port}
 use Rattle.std.specs.declared.net.ip_addr.IpAddr.TheVariants.{V4}
 use Rattle.std.specs.declared.net.socket_addr.SocketAddr.{SocketAddr}
@@ -53,12 +53,12 @@ pub record ServesClients {D S Log X : Type 0} (contents : Log → Option (List �
 -- All that was done to a site is a run, by the events of the clients that were served in a room.
 abbrev pub VisitedOver : {S L Log X : Type 0} → (S → SiteState) → (S → Changes → SiteFault → Type 0) → (S → CrashStates L) → (L → Site → Type 0) → (Log → Option (List ℕ)) → Result X VisitFault → S → S → Room × Log × List Reading → Room × Log × List Reading → List ℕ → List ℕ → Type 0
 VisitedOver site_state lacks crash_states stands contents result old new first last told_before told_now =
-    HasRun (OverSite false site_state lacks crash_states stands) old new told_before told_now (λ es os. HasServed contents result (site_state new).usable first es os last)
+    HasRun (OverSite true site_state lacks crash_states stands) old new told_before told_now (λ es os. HasServed contents result (site_state new).usable first es os last)
 
 -- And all that was done to a device.
 abbrev pub VisitedImage : {D S L Log X : Type 0} → (Log → Option (List ℕ)) → (D → State) → (S → D) → (S → SiteState) → (S → Changes → SiteFault → Type 0) → (S → CrashStates L) → (L → Site → Type 0) → (D → CrashStates Content) → Result X VisitFault → D → D → Log × List Reading → Log × List Reading → List ℕ → List ℕ → Type 0
 VisitedImage contents state device site_state lacks site_crash_states stands crash_states result old new log_before log_now told_before told_now =
-    HasRun (OnImage false state device site_state lacks site_crash_states stands crash_states) old new told_before told_now (λ es os. ServesClients contents state device site_state old new log_before log_now result es os)
+    HasRun (OnImage true state device site_state lacks site_crash_states stands crash_states) old new told_before told_now (λ es os. ServesClients contents state device site_state old new log_before log_now result es os)
 
 -- What was asked of the system where no client is served: `Net` comes where a listener was not had; lack of memory before one was asked for, or behind one that was had; all else before.
 abbrev pub IsAskedInVain : {C : Type 0} → (SocketAddr → C) → (SocketAddr → C) → State → Option SocketAddr → List C → List C → ServingFault → Type 0

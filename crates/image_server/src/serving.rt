@@ -1,5 +1,6 @@
 // Serves connections over a site that is handed in, and over the site of an image.
-ghost use Rattle.std.specs.Prelude.{◌≡◌, true, [], None, IfOk, IfErr, OnOk};
+ghost use Rattle.std.specs.Prelude.{◌≡◌, true, [], None, IfOk, IfErr, OnOk, IsTrue};
+ghost use Rattle.host_types.specs.Site.{IsSite};
 ghost use Rattle.page_store.specs.Steps.{crash_states_of};
 ghost use Rattle.cow_tree.specs.TreeSeen.{device_of};
 ghost use Rattle.site_store.specs.Seen.{keeper_of};
@@ -31,7 +32,7 @@ pub enum ServingFault {
     Net,
 }
 
-/// Serves so many rounds of connections over a site in one hub, whose sessions count from 1, and hands the site back. `Memory` comes before the first connection.
+/// Serves so many rounds of connections over a valid site in one hub, in which posts wait for one another and whose sessions count from 1, and hands the site back. `Memory` comes before the first connection.
 pub fn serve_over<S: SearchKeeper, C: Clock>(
     alloc: Global,
     site: S,
@@ -42,12 +43,13 @@ pub fn serve_over<S: SearchKeeper, C: Clock>(
 ) -> Result<(Result<u64, ServeFault>, S), (OpenFault, S)>
     requires usable { (S.site_state site).usable ≡ true }
     requires unpinned { (S.site_state site).pins ≡ [] }
+    requires valid { IsTrue (S.site_state site).honest → ∥ IsSite (S.site_state site).site ∥₁ }
     ensures served { IfOk result (λ r. ServedOver ⟦<S as SiteKeeper>⟧ S.site_state S.lacks S.crash_states S.represents together rounds r.0 gate.old.taken.calls gate.new.taken.calls site r.1 (C.given clock.old) (C.given clock.new)) }
     ensures unpinned { IfOk result (λ r. (S.site_state r.1).pins ≡ []) }
     ensures err { IfErr result (λ e. (e.0 ≡ OpenFault.Memory) × (e.1 ≡ site)) }
     ensures untold { IfErr result (λ e. (clock.new ≡ clock.old) × (gate.new ≡ gate.old)) }
 {
-    let mut hub = match Hub::new(alloc, site, 1) {
+    let mut hub = match Hub::grouped(alloc, site, 1) {
         Ok(hub) => hub,
         Err((_, site)) => return Err((OpenFault::Memory, site)),
     };

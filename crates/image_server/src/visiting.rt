@@ -1,5 +1,6 @@
 // Serves whoever comes, over a site that is handed in, and over the site of an image.
-ghost use Rattle.std.specs.Prelude.{◌≡◌, true, [], IfOk, IfErr, OnErr, OnOk};
+ghost use Rattle.std.specs.Prelude.{◌≡◌, true, [], IfOk, IfErr, OnErr, OnOk, IsTrue};
+ghost use Rattle.host_types.specs.Site.{IsSite};
 ghost use Rattle.page_store.specs.Steps.{crash_states_of};
 ghost use Rattle.cow_tree.specs.TreeSeen.{device_of};
 ghost use Rattle.site_store.specs.Seen.{keeper_of};
@@ -46,7 +47,7 @@ pub(crate) fn given_or_own(address: Option<SocketAddr>, port: u16) -> SocketAddr
     }
 }
 
-/// Serves whoever comes, over a site in one hub, whose sessions count from 1, and hands the site back once that has ended. `Memory` comes before the first client, and
+/// Serves whoever comes, over a valid site in one hub, in which posts wait for one another and whose sessions count from 1, and hands the site back once that has ended. `Memory` comes before the first client, and
 /// before anything is asked of the room's door.
 pub fn visits_over<S: SearchKeeper, C: Clock, R: Time, L: Write>(
     alloc: Global,
@@ -59,13 +60,14 @@ pub fn visits_over<S: SearchKeeper, C: Clock, R: Time, L: Write>(
 ) -> Result<(Result<(), VisitFault>, S), (OpenFault, S)>
     requires usable { (S.site_state site).usable ≡ true }
     requires unpinned { (S.site_state site).pins ≡ [] }
+    requires valid { IsTrue (S.site_state site).honest → ∥ IsSite (S.site_state site).site ∥₁ }
     ensures served { IfOk result (λ r. VisitedOver S.site_state S.lacks S.crash_states S.represents L.contents r.0 site r.1 (room.old, log.old, watch.old.read.readings) (room.new, log.new, watch.new.read.readings) (C.given clock.old) (C.given clock.new)) }
     ensures unasked { OnErr result ((room.new ≡ room.old) × (log.new ≡ log.old) × (watch.new ≡ watch.old)) }
     ensures unpinned { IfOk result (λ r. (S.site_state r.1).pins ≡ []) }
     ensures err { IfErr result (λ e. (e.0 ≡ OpenFault.Memory) × (e.1 ≡ site)) }
     ensures untold { IfErr result (λ e. clock.new ≡ clock.old) }
 {
-    let mut hub = match Hub::new(alloc, site, 1) {
+    let mut hub = match Hub::grouped(alloc, site, 1) {
         Ok(hub) => hub,
         Err((_, site)) => return Err((OpenFault::Memory, site)),
     };

@@ -9,7 +9,7 @@ use Rattle.group_world.specs.declared.event.Event.{Event}
 use Rattle.group_world.specs.declared.event.Event.TheVariants as events
 use Rattle.group_world.specs.declared.event.Outcome.{Outcome}
 use Rattle.group_world.specs.declared.event.Outcome.TheVariants as outcomes
-use Rattle.ready_turns.specs.Seats.{SeatState, IsSeated, Dismissed, For, joined_state, ending_of}
+use Rattle.ready_turns.specs.Seats.{SeatState, IsSeated, Dismissed, For, joined_state, acts}
 use Rattle.ready_turns.specs.declared.seat.Seat.{Seat}
 use Rattle.ready_sockets.specs.declared.ready_socket.ReadySocket.{ReadySocket}
 use Rattle.ready_sockets.specs.DoorCalls.{DoorCall, Came, NotHad, both_ways}
@@ -19,7 +19,7 @@ use Rattle.ready_sockets.specs.declared.room.Room.{Room}
 use Rattle.ready_sockets.specs.declared.visit.Visit.{Visit}
 
 -- a session that has joined or could not has a turn
-joined_turn : (outcome : Outcome) → (not (joined_state outcome).waits && not (is_some (ending_of (joined_state outcome).stage))) ≡ true
+joined_turn : (outcome : Outcome) → (not (joined_state outcome).waits && acts (joined_state outcome).stage) ≡ true
 joined_turn (outcomes.Joined id) = refl
 joined_turn outcome = refl
 
@@ -37,7 +37,7 @@ comes_in has_space from token now wire seat old new es os unread is seated = com
     moved = refl;
     unread = ap (λ (w : ReadySocket). w.made.calls) seated.wire_is ∙ unread;
     session = seated.state_is;
-    turn = ap (λ (s : SeatState). not s.waits && not (is_some (ending_of s.stage))) seated.state_is ∙ joined_turn seated.outcome;
+    turn = ap (λ (s : SeatState). not s.waits && acts s.stage) seated.state_is ∙ joined_turn seated.outcome;
   };
 })
 

@@ -9,13 +9,15 @@ use Rattle.group_world.specs.declared.event.Outcome.{Outcome}
 use Rattle.group_world.specs.declared.event.Outcome.TheVariants as outcomes
 use Rattle.group_world.specs.declared.fault.HubFault.TheVariants as faults
 use Rattle.turns.specs.WireCalls.{WireCall, Read, ReadFailed, ReadWaited, Wrote, WriteFailed, WriteWaited, Closed}
-use Rattle.turns.specs.Turns.{Trace, trace, nothing, heard_reply}
-use Rattle.ready_turns.specs.Seats.{SeatState, at, has_left, leaving, joined_state, heard_state, drawn_state, Listens, Replies, Writes, Finishes, Takes, Follows, WhereReady, Acts, Turn, DismissedAt, Dismissed}
+use Rattle.group_world.specs.declared.event.Event.TheVariants as events
+use Rattle.group_world.specs.declared.fault.HubFault.{HubFault}
+use Rattle.turns.specs.Turns.{Trace, trace, nothing, IsTold, once, again, heard_event, heard_reply, drawn_bytes}
+use Rattle.ready_turns.specs.Seats.{SeatState, at, has_left, leaving, joined_state, refused_state, heard_state, learned_state, drawn_state, Listens, Asks, Replies, Writes, Finishes, Takes, Follows, WhereReady, Acts, Turn, LearnsAt, Learns, DismissedAt, Dismissed}
 use Rattle.ready_turns.specs.declared.seat.Stage.{Stage}
 use Rattle.ready_turns.specs.declared.seat.Stage.TheVariants as stages
 use Rattle.ready_turns.specs.declared.seat.Ending.{Ending}
 use Rattle.ready_turns.specs.declared.seat.Ending.TheVariants.{Cut, Late}
-use Rattle.ready_sockets.specs.Due.{bytes_by, due_by, all_due, IsGiven}
+use Rattle.ready_sockets.specs.Due.{bytes_by, due_by, all_due, is_answered, IsGiven}
 
 abbrev written : List WireCall → List ℕ
 written calls = flat_map bytes_by calls
@@ -31,7 +33,7 @@ same_behind due calls call state after none stage unsent given = record {
   dropped = given.dropped;
   is = given.is ∙ ap (λ (l : List ℕ). l ++ (state.unsent ++ given.dropped)) (sym (one_unwritten calls call none)) ∙ ap (λ (l : List ℕ). written (calls ++ call ∷ []) ++ (l ++ given.dropped)) (sym unsent);
   all = λ in_hub. given.all (ap has_left (sym stage) ∙ in_hub);
-  hears = λ id is. unsent ∙ given.hears id (sym stage ∙ is);
+  hears = λ is. unsent ∙ given.hears (ap is_answered (sym stage) ∙ is);
 }
 
 -- it has left, and the rest is dropped
@@ -40,7 +42,7 @@ dropped_behind due calls call state after none left unsent given = record {
   dropped = state.unsent ++ given.dropped;
   is = given.is ∙ ap (λ (l : List ℕ). l ++ (state.unsent ++ given.dropped)) (sym (one_unwritten calls call none)) ∙ ap (λ (l : List ℕ). written (calls ++ call ∷ []) ++ (l ++ (state.unsent ++ given.dropped))) (sym unsent);
   all = λ in_hub. absurd (true≢false (sym left ∙ in_hub));
-  hears = λ id is. unsent;
+  hears = λ is. unsent;
 }
 
 -- ---- what follows an outcome
@@ -50,26 +52,39 @@ pub record IsDueBy (due : List ℕ) (state : SeatState) : Type 0 where
   pub dropped : List ℕ
   pub is : due ≡ state.unsent ++ dropped
   pub all : has_left state.stage ≡ false → dropped ≡ []
-  pub hears : (id : ℕ) → state.stage ≡ stages.Listening id → state.unsent ≡ []
+  pub hears : is_answered state.stage ≡ false → state.unsent ≡ []
 
-all_of : (due : List ℕ) (state : SeatState) → state.unsent ≡ due → ((id : ℕ) → state.stage ≡ stages.Listening id → state.unsent ≡ []) → IsDueBy due state
+all_of : (due : List ℕ) (state : SeatState) → state.unsent ≡ due → (is_answered state.stage ≡ false → state.unsent ≡ []) → IsDueBy due state
 all_of due state is hears = record { dropped = []; is = sym is ∙ sym (append-nil state.unsent); all = λ in_hub. refl; hears = hears }
 
 none_of : (due : List ℕ) (ending : Ending) → IsDueBy due (leaving ending [])
-none_of due ending = record { dropped = due; is = refl; all = λ in_hub. absurd (true≢false in_hub); hears = λ id is. refl }
+none_of due ending = record { dropped = due; is = refl; all = λ in_hub. absurd (true≢false in_hub); hears = λ is. refl }
+
+refused_due : (fault : HubFault) → IsDueBy (due_by (outcomes.Fault fault)) (refused_state fault)
+refused_due (faults.Full need free) = all_of (heard_reply (outcomes.Fault (faults.Full need free))) _ refl (λ is. absurd (true≢false is))
+refused_due faults.Crowded = all_of (heard_reply (outcomes.Fault faults.Crowded)) _ refl (λ is. absurd (true≢false is))
+refused_due faults.NotReady = all_of (heard_reply (outcomes.Fault faults.NotReady)) _ refl (λ is. absurd (true≢false is))
+refused_due fault = none_of [] _
 
 pub heard_due : (id : ℕ) (outcome : Outcome) → IsDueBy (due_by outcome) (heard_state id outcome)
-heard_due id outcomes.More = all_of [] _ refl (λ i is. refl)
-heard_due id outcomes.Ready = all_of [] _ refl (λ i is. refl)
+heard_due id outcomes.More = all_of [] _ refl (λ is. refl)
+heard_due id outcomes.Waiting = all_of [] _ refl (λ is. refl)
+heard_due id outcomes.Ready = all_of [] _ refl (λ is. refl)
 heard_due id outcomes.Finished = none_of [] _
-heard_due id (outcomes.Fault (faults.Full need free)) = all_of (heard_reply (outcomes.Fault (faults.Full need free))) _ refl (λ i is. absurd cc)
+heard_due id (outcomes.Fault fault) = refused_due fault
 heard_due id (outcomes.Drawn bytes) = none_of bytes _
 heard_due id outcome = none_of [] _
 
+pub learned_due : (id : ℕ) (outcome : Outcome) → drawn_bytes outcome ≡ [] → IsDueBy (due_by outcome) (learned_state id outcome)
+learned_due id (outcomes.Drawn bytes) none = all_of bytes _ (sym none) (λ is. refl)
+learned_due id outcomes.Finished none = all_of [] _ refl (λ is. refl)
+learned_due id (outcomes.Fault fault) none = refused_due fault
+learned_due id outcome none = none_of [] _
+
 pub drawn_due : (id : ℕ) (outcome : Outcome) → IsDueBy (due_by outcome) (drawn_state id outcome)
-drawn_due id (outcomes.Drawn bytes) = all_of bytes _ refl (λ i is. absurd cc)
+drawn_due id (outcomes.Drawn bytes) = all_of bytes _ refl (λ is. absurd (true≢false is))
 drawn_due id outcomes.Finished = none_of [] _
-drawn_due id (outcomes.Fault (faults.Full need free)) = none_of (heard_reply (outcomes.Fault (faults.Full need free))) _
+drawn_due id (outcomes.Fault fault) = none_of (heard_reply (outcomes.Fault fault)) _
 drawn_due id outcome = none_of [] _
 
 -- so it is where nothing was to be sent before
@@ -98,29 +113,60 @@ more_due due more calls state left given = record {
 same_due : (due : List ℕ) (calls : List WireCall) (state : SeatState) → IsGiven due calls state → IsGiven (due ++ []) calls state
 same_due due calls state given = subst (λ (l : List ℕ). IsGiven l calls state) (sym (append-nil due)) given
 
-follows_due : (id : ℕ) (left : Bool) (rest : Trace) (due : List ℕ) (calls : List WireCall) (state : SeatState) → left ≡ has_left state.stage → Follows id left rest → IsGiven due calls state → IsGiven (due ++ all_due rest.outcomes) (calls ++ rest.calls) state
-follows_due id true rest due calls state is follows given = subst (λ (t : Trace). IsGiven (due ++ all_due t.outcomes) (calls ++ t.calls) state) (sym follows.1)
-    (subst (λ (l : List WireCall). IsGiven (due ++ all_due (follows.0 ∷ [])) l state) (sym (append-nil calls)) (more_due due (all_due (follows.0 ∷ [])) calls state (sym is) given))
-follows_due id false rest due calls state is follows given = subst (λ (t : Trace). IsGiven (due ++ all_due t.outcomes) (calls ++ t.calls) state) (sym follows)
-    (subst (λ (l : List WireCall). IsGiven (due ++ []) l state) (sym (append-nil calls)) (same_due due calls state given))
+-- what a trace has for the client is counted apart from what a departure behind it has
+abbrev pub CountsApart : Trace → Type 0
+CountsApart t = (id : ℕ) (outcome : Outcome) → all_due (t.events ++ events.Leave id ∷ []) (t.outcomes ++ outcome ∷ []) ≡ all_due t.events t.outcomes ++ (due_by outcome ++ [])
 
 -- ---- a turn
 
 -- such a trace leads from one state to another
 abbrev Leads : SeatState → Trace → SeatState → Type 0
-Leads before t after = (due : List ℕ) (calls : List WireCall) → IsGiven due calls before → IsGiven (due ++ all_due t.outcomes) (calls ++ t.calls) after
+Leads before t after = (due : List ℕ) (calls : List WireCall) → IsGiven due calls before → IsGiven (due ++ all_due t.events t.outcomes) (calls ++ t.calls) after
 
-takes_due : (id : ℕ) (Does : Trace → SeatState → Type 0) (before after : SeatState) (t : Trace) → ((done : Trace) → Does done after → Leads before done after) → Takes id Does t after → Leads before t after
-takes_due id Does before after t leads takes due calls given =
-    let first = leads takes.done takes.does due calls given in
-    let both = follows_due id (has_left after.stage) takes.rest (due ++ all_due takes.done.outcomes) (calls ++ takes.done.calls) after refl takes.follows first in
-    subst (λ (u : Trace). IsGiven (due ++ all_due u.outcomes) (calls ++ u.calls) after) (sym takes.is)
-    (subst (λ (l : List ℕ). IsGiven l (calls ++ (takes.done.calls ++ takes.rest.calls)) after) (append_assoc due (all_due takes.done.outcomes) (all_due takes.rest.outcomes) ∙ ap (λ (l : List ℕ). due ++ l) (sym (flat_map-append due_by takes.done.outcomes takes.rest.outcomes)))
-    (subst (λ (l : List WireCall). IsGiven ((due ++ all_due takes.done.outcomes) ++ all_due takes.rest.outcomes) l after) (append_assoc calls takes.done.calls takes.rest.calls) both))
+takes_due : (id : ℕ) (Does : Trace → SeatState → Type 0) (before after : SeatState) (t : Trace) → ((done : Trace) → Does done after → Leads before done after) → ((done : Trace) → Does done after → CountsApart done) → Takes id Does t after → Leads before t after
+takes_due id Does before after t leads apart takes due calls given =
+    subst (λ (u : Trace). IsGiven (due ++ all_due u.events u.outcomes) (calls ++ u.calls) after) (sym takes.is) (follows (has_left after.stage) refl takes.follows)
+  where
+    first : IsGiven (due ++ all_due takes.done.events takes.done.outcomes) (calls ++ takes.done.calls) after
+    first = leads takes.done takes.does due calls given
+
+    follows : (left : Bool) → left ≡ has_left after.stage → Follows id left takes.rest → IsGiven (due ++ all_due (takes.done.events ++ takes.rest.events) (takes.done.outcomes ++ takes.rest.outcomes)) (calls ++ (takes.done.calls ++ takes.rest.calls)) after
+    follows true is f = subst (λ (r : Trace). IsGiven (due ++ all_due (takes.done.events ++ r.events) (takes.done.outcomes ++ r.outcomes)) (calls ++ (takes.done.calls ++ r.calls)) after) (sym f.1)
+        (subst (λ (l : List WireCall). IsGiven (due ++ all_due (takes.done.events ++ events.Leave id ∷ []) (takes.done.outcomes ++ f.0 ∷ [])) (calls ++ l) after) (sym (append-nil takes.done.calls))
+        (subst (λ (l : List ℕ). IsGiven l (calls ++ takes.done.calls) after) (append_assoc due (all_due takes.done.events takes.done.outcomes) (due_by f.0 ++ []) ∙ ap (λ (l : List ℕ). due ++ l) (sym (apart takes.done takes.does id f.0)))
+        (more_due (due ++ all_due takes.done.events takes.done.outcomes) (due_by f.0 ++ []) (calls ++ takes.done.calls) after (sym is) first)))
+    follows false is f = subst (λ (r : Trace). IsGiven (due ++ all_due (takes.done.events ++ r.events) (takes.done.outcomes ++ r.outcomes)) (calls ++ (takes.done.calls ++ r.calls)) after) (sym f)
+        (subst (λ (l : List WireCall). IsGiven (due ++ all_due (takes.done.events ++ []) (takes.done.outcomes ++ [])) (calls ++ l) after) (sym (append-nil takes.done.calls))
+        (subst (λ (l : List Event). IsGiven (due ++ all_due l (takes.done.outcomes ++ [])) (calls ++ takes.done.calls) after) (sym (append-nil takes.done.events))
+        (subst (λ (l : List Outcome). IsGiven (due ++ all_due takes.done.events l) (calls ++ takes.done.calls) after) (sym (append-nil takes.done.outcomes)) first)))
+
+-- of no event, of one, and of input that the hub was told of
+apart_none : (t : Trace) (calls : List WireCall) → t ≡ trace calls [] [] → CountsApart t
+apart_none t calls is = subst CountsApart (sym is) (λ id outcome. refl)
+
+apart_one : (t : Trace) (calls : List WireCall) (room id : ℕ) (o : Outcome) → t ≡ trace calls (events.Draw id room ∷ []) (o ∷ []) → CountsApart t
+apart_one t calls room id o is = subst CountsApart (sym is) (λ i outcome. sym (append_assoc (due_by o) [] (due_by outcome ++ [])))
+
+heard_apart : (id now : ℕ) (piece : List ℕ) (o : Outcome) (i : ℕ) (outcome : Outcome) → all_due (heard_event id piece now ∷ events.Leave i ∷ []) (o ∷ outcome ∷ []) ≡ all_due (heard_event id piece now ∷ []) (o ∷ []) ++ (due_by outcome ++ [])
+heard_apart id now [] o i outcome = sym (append_assoc (due_by o) [] (due_by outcome ++ []))
+heard_apart id now (b ∷ piece) o i outcome = sym (append_assoc (due_by o) [] (due_by outcome ++ []))
+
+heard_alone : (id now : ℕ) (piece : List ℕ) (o : Outcome) → all_due (heard_event id piece now ∷ []) (o ∷ []) ≡ due_by o ++ []
+heard_alone id now [] o = refl
+heard_alone id now (b ∷ piece) o = refl
+
+told_apart : (id : ℕ) (piece : List ℕ) (es : List Event) (os : List Outcome) (o : Outcome) (calls : List WireCall) → IsTold id piece es os o → CountsApart (trace calls es os)
+told_apart id piece es os o calls (once now is are other) = subst (λ (l : List Event). CountsApart (trace calls l os)) (sym is) (subst (λ (l : List Outcome). CountsApart (trace calls (heard_event id piece now ∷ []) l)) (sym are) (λ i outcome. heard_apart id now piece o i outcome))
+told_apart id piece es os o calls (again now later flushed is are) = subst (λ (l : List Event). CountsApart (trace calls l os)) (sym is)
+    (subst (λ (l : List Outcome). CountsApart (trace calls (heard_event id piece now ∷ events.Flush ∷ heard_event id piece later ∷ []) l)) (sym are) (λ i outcome. heard_apart id later piece o i outcome))
+
+told_due : (id : ℕ) (piece : List ℕ) (es : List Event) (os : List Outcome) (o : Outcome) → IsTold id piece es os o → all_due es os ≡ due_by o
+told_due id piece es os o (once now is are other) = ap (λ (l : List Event). all_due l os) is ∙ ap (λ (l : List Outcome). all_due (heard_event id piece now ∷ []) l) are ∙ heard_alone id now piece o ∙ append-nil (due_by o)
+told_due id piece es os o (again now later flushed is are) = ap (λ (l : List Event). all_due l os) is ∙ ap (λ (l : List Outcome). all_due (heard_event id piece now ∷ events.Flush ∷ heard_event id piece later ∷ []) l) are ∙ heard_alone id later piece o ∙ append-nil (due_by o)
 
 -- one call, without an outcome
 one_call : (before after : SeatState) (call : WireCall) (t : Trace) → t ≡ trace (call ∷ []) [] [] → ((due : List ℕ) (calls : List WireCall) → IsGiven due calls before → IsGiven due (calls ++ call ∷ []) after) → Leads before t after
-one_call before after call t is f due calls given = subst (λ (u : Trace). IsGiven (due ++ all_due u.outcomes) (calls ++ u.calls) after) (sym is) (same_due due (calls ++ call ∷ []) after (f due calls given))
+one_call before after call t is f due calls given = subst (λ (u : Trace). IsGiven (due ++ all_due u.events u.outcomes) (calls ++ u.calls) after) (sym is) (same_due due (calls ++ call ∷ []) after (f due calls given))
 
 cut_due : (before after : SeatState) (call : WireCall) (t : Trace) → bytes_by call ≡ [] → t ≡ trace (call ∷ []) [] [] → after ≡ leaving Cut [] → Leads before t after
 cut_due before after call t none is after_is = one_call before after call t is (λ due calls given. dropped_behind due calls call before after none (ap (λ s. has_left s.stage) after_is) (ap (λ s. s.unsent) after_is) given)
@@ -129,19 +175,23 @@ waits_due : (before after : SeatState) (call : WireCall) (t : Trace) → bytes_b
 waits_due before after call t none is after_is = one_call before after call t is (λ due calls given. same_behind due calls call before after none (ap (λ s. s.stage) after_is) (ap (λ s. s.unsent) after_is) given)
 
 rests_due : (before after : SeatState) (t : Trace) → t ≡ nothing → after ≡ before → Leads before t after
-rests_due before after t is after_is due calls given = subst (λ (u : Trace). IsGiven (due ++ all_due u.outcomes) (calls ++ u.calls) after) (sym is)
+rests_due before after t is after_is due calls given = subst (λ (u : Trace). IsGiven (due ++ all_due u.events u.outcomes) (calls ++ u.calls) after) (sym is)
     (subst (λ (l : List WireCall). IsGiven (due ++ []) l after) (sym (append-nil calls)) (same_due due calls after (subst (λ s. IsGiven due calls s) (sym after_is) given)))
 
 listens_due : (id : ℕ) (unsent : List ℕ) (t : Trace) (after : SeatState) → Listens id unsent t after → Leads (at (stages.Listening id) unsent false) t after
 listens_due id unsent t after does = ⊎_elim
-    (λ h due calls given. subst (λ (u : Trace). IsGiven (due ++ all_due u.outcomes) (calls ++ u.calls) after) (sym h.is)
-    (due_next due (due_by h.outcome ++ []) calls (Read 512 h.piece ∷ []) (at (stages.Listening id) unsent false) after refl (given.hears id refl) refl
-    (subst (λ (l : List ℕ). IsDueBy l after) (sym (append-nil (due_by h.outcome))) (subst (λ s. IsDueBy (due_by h.outcome) s) (sym h.after_is) (heard_due id h.outcome))) given))
+    (λ h due calls given.
+    subst (λ (l : List WireCall). IsGiven (due ++ all_due t.events t.outcomes) (calls ++ l) after) (sym h.calls_are)
+    (due_next due (all_due t.events t.outcomes) calls (Read 512 h.piece ∷ []) (at (stages.Listening id) unsent false) after refl (given.hears refl) refl
+    (subst (λ (l : List ℕ). IsDueBy l after) (sym (told_due id h.piece t.events t.outcomes h.outcome h.told)) (subst (λ s. IsDueBy (due_by h.outcome) s) (sym h.after_is) (heard_due id h.outcome))) given))
     (λ more. ⊎_elim
     (λ f. cut_due (at (stages.Listening id) unsent false) after (ReadFailed 512) t refl f.0 f.1)
     (λ w. waits_due (at (stages.Listening id) unsent false) after (ReadWaited 512) t refl w.0 w.1)
     more)
     does
+
+listens_apart : (id : ℕ) (unsent : List ℕ) (t : Trace) (after : SeatState) → Listens id unsent t after → CountsApart t
+listens_apart id unsent t after does = ⊎_elim (λ h. told_apart id h.piece t.events t.outcomes h.outcome t.calls h.told) (λ more. ⊎_elim (λ f. apart_none t _ f.0) (λ w. apart_none t _ w.0) more) does
 
 -- of no bytes none are left
 rest_none : (piece rest : List ℕ) → piece ++ rest ≡ [] → rest ≡ []
@@ -158,7 +208,7 @@ sends_due before after piece rest t unsent is after_is = one_call before after (
       is = given.is ∙ ap (λ (l : List ℕ). written calls ++ (l ++ given.dropped)) unsent ∙ ap (λ (l : List ℕ). written calls ++ l) (append_assoc piece rest given.dropped) ∙ sym (append_assoc (written calls) piece (rest ++ given.dropped))
           ∙ ap (λ (l : List ℕ). l ++ (rest ++ given.dropped)) (sym now) ∙ ap (λ (l : List ℕ). written (calls ++ Wrote before.unsent (length piece) ∷ []) ++ (l ++ given.dropped)) (sym (ap (λ s. s.unsent) after_is));
       all = λ in_hub. given.all (ap has_left (sym (ap (λ s. s.stage) after_is)) ∙ in_hub);
-      hears = λ i at_i. ap (λ s. s.unsent) after_is ∙ rest_none piece rest (sym unsent ∙ given.hears i (sym (ap (λ s. s.stage) after_is) ∙ at_i));
+      hears = λ is. ap (λ s. s.unsent) after_is ∙ rest_none piece rest (sym unsent ∙ given.hears (sym (ap (λ s. is_answered s.stage) after_is) ∙ is));
     })
 
 writes_due : (before after : SeatState) (t : Trace) → Writes before t after → Leads before t after
@@ -171,10 +221,25 @@ writes_due before after t does = ⊎_elim
     does
 
 replies_due : (id : ℕ) (unsent : List ℕ) (t : Trace) (after : SeatState) → Replies id unsent t after → Leads (at (stages.Replying id) unsent false) t after
-replies_due id [] t after d due calls given = subst (λ (u : Trace). IsGiven (due ++ all_due u.outcomes) (calls ++ u.calls) after) (sym d.is)
+replies_due id [] t after d due calls given = subst (λ (u : Trace). IsGiven (due ++ all_due u.events u.outcomes) (calls ++ u.calls) after) (sym d.is)
     (due_next due (due_by d.outcome ++ []) calls [] (at (stages.Replying id) [] false) after refl refl refl
     (subst (λ (l : List ℕ). IsDueBy l after) (sym (append-nil (due_by d.outcome))) (subst (λ s. IsDueBy (due_by d.outcome) s) (sym d.after_is) (drawn_due id d.outcome))) given)
 replies_due id (b ∷ bytes) t after w due calls given = writes_due (at (stages.Replying id) (b ∷ bytes) false) after t w due calls given
+
+writes_apart : (before after : SeatState) (t : Trace) → Writes before t after → CountsApart t
+writes_apart before after t does = ⊎_elim (λ s. apart_none t _ s.is) (λ more. ⊎_elim (λ f. ⊎_elim (λ failed. apart_none t _ failed) (λ none. apart_none t _ none) f.0) (λ w. apart_none t _ w.0) more) does
+
+replies_apart : (id : ℕ) (unsent : List ℕ) (t : Trace) (after : SeatState) → Replies id unsent t after → CountsApart t
+replies_apart id [] t after d = apart_one t [] 4096 id d.outcome d.is
+replies_apart id (b ∷ bytes) t after w = writes_apart (at (stages.Replying id) (b ∷ bytes) false) after t w
+
+asks_due : (id : ℕ) (unsent : List ℕ) (waits : Bool) (t : Trace) (after : SeatState) → Asks id t after → Leads (at (stages.Waiting id) unsent waits) t after
+asks_due id unsent waits t after a due calls given = subst (λ (u : Trace). IsGiven (due ++ all_due u.events u.outcomes) (calls ++ u.calls) after) (sym a.is)
+    (due_next due (due_by a.outcome ++ []) calls [] (at (stages.Waiting id) unsent waits) after refl (given.hears refl) refl
+    (subst (λ (l : List ℕ). IsDueBy l after) (sym (append-nil (due_by a.outcome))) (subst (λ s. IsDueBy (due_by a.outcome) s) (sym a.after_is) (learned_due id a.outcome a.none))) given)
+
+asks_apart : (id : ℕ) (t : Trace) (after : SeatState) → Asks id t after → CountsApart t
+asks_apart id t after a = apart_one t [] 0 id a.outcome a.is
 
 closes_due : (before after : SeatState) (ending : Ending) (t : Trace) → t ≡ trace (Closed ∷ []) [] [] → after ≡ at (stages.Closed ending) [] false → Leads before t after
 closes_due before after ending t is after_is = one_call before after Closed t is (λ due calls given. dropped_behind due calls Closed before after refl (ap (λ s. has_left s.stage) after_is) (ap (λ s. s.unsent) after_is) given)
@@ -184,8 +249,9 @@ finishes_due ending [] t after c = closes_due (leaving ending []) after ending t
 finishes_due ending (b ∷ bytes) t after w = writes_due (leaving ending (b ∷ bytes)) after t w
 
 acts_due : (stage : Stage) (unsent : List ℕ) (t : Trace) (after : SeatState) → Acts stage unsent t after → Leads (at stage unsent false) t after
-acts_due (stages.Listening id) unsent t after a = takes_due id (Listens id unsent) (at (stages.Listening id) unsent false) after t (λ done does. listens_due id unsent done after does) a
-acts_due (stages.Replying id) unsent t after a = takes_due id (Replies id unsent) (at (stages.Replying id) unsent false) after t (λ done does. replies_due id unsent done after does) a
+acts_due (stages.Listening id) unsent t after a = takes_due id (Listens id unsent) (at (stages.Listening id) unsent false) after t (λ done does. listens_due id unsent done after does) (λ done does. listens_apart id unsent done after does) a
+acts_due (stages.Waiting id) unsent t after a = rests_due (at (stages.Waiting id) unsent false) after t a.0 a.1
+acts_due (stages.Replying id) unsent t after a = takes_due id (Replies id unsent) (at (stages.Replying id) unsent false) after t (λ done does. replies_due id unsent done after does) (λ done does. replies_apart id unsent done after does) a
 acts_due (stages.Leaving ending) unsent t after a = finishes_due ending unsent t after a
 acts_due (stages.Closed ending) unsent t after a = rests_due (at (stages.Closed ending) unsent false) after t a.0 a.1
 
@@ -193,26 +259,39 @@ ready_due : (waits : Bool) (stage : Stage) (unsent : List ℕ) (t : Trace) (afte
 ready_due true stage unsent t after r = rests_due (at stage unsent true) after t r.0 r.1
 ready_due false stage unsent t after a = acts_due stage unsent t after a
 
-pub turn_due : (before after : SeatState) (t : Trace) → Turn before t after → (due : List ℕ) (calls : List WireCall) → IsGiven due calls before → IsGiven (due ++ all_due t.outcomes) (calls ++ t.calls) after
+pub turn_due : (before after : SeatState) (t : Trace) → Turn before t after → (due : List ℕ) (calls : List WireCall) → IsGiven due calls before → IsGiven (due ++ all_due t.events t.outcomes) (calls ++ t.calls) after
 turn_due before after t turn = ready_due before.waits before.stage before.unsent t after turn
+
+-- ---- what came of a post
+
+learns_at_due : (stage : Stage) (unsent : List ℕ) (waits : Bool) (t : Trace) (after : SeatState) → LearnsAt stage (at stage unsent waits) t after → Leads (at stage unsent waits) t after
+learns_at_due (stages.Waiting id) unsent waits t after l = takes_due id (Asks id) (at (stages.Waiting id) unsent waits) after t (λ done does. asks_due id unsent waits done after does) (λ done does. asks_apart id done after does) l
+learns_at_due (stages.Listening id) unsent waits t after l = rests_due (at (stages.Listening id) unsent waits) after t l.0 l.1
+learns_at_due (stages.Replying id) unsent waits t after l = rests_due (at (stages.Replying id) unsent waits) after t l.0 l.1
+learns_at_due (stages.Leaving ending) unsent waits t after l = rests_due (at (stages.Leaving ending) unsent waits) after t l.0 l.1
+learns_at_due (stages.Closed ending) unsent waits t after l = rests_due (at (stages.Closed ending) unsent waits) after t l.0 l.1
+
+pub learning_due : (before after : SeatState) (t : Trace) → Learns before t after → (due : List ℕ) (calls : List WireCall) → IsGiven due calls before → IsGiven (due ++ all_due t.events t.outcomes) (calls ++ t.calls) after
+learning_due before after t l = learns_at_due before.stage before.unsent before.waits t after l
 
 -- ---- a dismissal
 
 late_due : (id : ℕ) (before after : SeatState) (t : Trace) (outcome : Outcome) (e : Event) → t ≡ trace (Closed ∷ []) (e ∷ []) (outcome ∷ []) → after ≡ at (stages.Closed Late) [] false → Leads before t after
-late_due id before after t outcome e is after_is due calls given = subst (λ (u : Trace). IsGiven (due ++ all_due u.outcomes) (calls ++ u.calls) after) (sym is)
-    (more_due due (all_due (outcome ∷ [])) (calls ++ Closed ∷ []) after (ap (λ s. has_left s.stage) after_is) (dropped_behind due calls Closed before after refl (ap (λ s. has_left s.stage) after_is) (ap (λ s. s.unsent) after_is) given))
+late_due id before after t outcome e is after_is due calls given = subst (λ (u : Trace). IsGiven (due ++ all_due u.events u.outcomes) (calls ++ u.calls) after) (sym is)
+    (more_due due (all_due (e ∷ []) (outcome ∷ [])) (calls ++ Closed ∷ []) after (ap (λ s. has_left s.stage) after_is) (dropped_behind due calls Closed before after refl (ap (λ s. has_left s.stage) after_is) (ap (λ s. s.unsent) after_is) given))
 
 dismissed_at_due : (stage : Stage) (before after : SeatState) (t : Trace) → DismissedAt stage before t after → Leads before t after
 dismissed_at_due (stages.Listening id) before after t d = late_due id before after t d.0 _ d.1 d.2
+dismissed_at_due (stages.Waiting id) before after t d = late_due id before after t d.0 _ d.1 d.2
 dismissed_at_due (stages.Replying id) before after t d = late_due id before after t d.0 _ d.1 d.2
 dismissed_at_due (stages.Leaving ending) before after t d = closes_due before after Late t d.0 d.1
 dismissed_at_due (stages.Closed ending) before after t d = rests_due before after t d.0 d.1
 
-pub dismissal_due : (before after : SeatState) (t : Trace) → Dismissed before t after → (due : List ℕ) (calls : List WireCall) → IsGiven due calls before → IsGiven (due ++ all_due t.outcomes) (calls ++ t.calls) after
+pub dismissal_due : (before after : SeatState) (t : Trace) → Dismissed before t after → (due : List ℕ) (calls : List WireCall) → IsGiven due calls before → IsGiven (due ++ all_due t.events t.outcomes) (calls ++ t.calls) after
 dismissal_due before after t d = dismissed_at_due before.stage before after t d
 
 -- ---- who comes in
 
 pub joined_due : (outcome : Outcome) → IsGiven [] [] (joined_state outcome)
-joined_due (outcomes.Joined id) = record { dropped = []; is = refl; all = λ in_hub. refl; hears = λ i is. refl }
-joined_due outcome = record { dropped = []; is = refl; all = λ in_hub. refl; hears = λ i is. refl }
+joined_due (outcomes.Joined id) = record { dropped = []; is = refl; all = λ in_hub. refl; hears = λ is. refl }
+joined_due outcome = record { dropped = []; is = refl; all = λ in_hub. refl; hears = λ is. refl }

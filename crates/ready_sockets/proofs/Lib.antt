@@ -7,3 +7,4 @@ pub mod Rounds
 pub mod SameClients
 pub mod SocketCalls
 pub mod ToldOnes
+pub mod NobodyWaits

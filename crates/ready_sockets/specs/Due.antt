@@ -1,13 +1,15 @@
 -- What a client was given, beside what was drawn for its session.
-use Rattle.std.specs.Prelude.{◌≡◌, ℕ, false, List, [], ◌++◌, flat_map, take}
+use Rattle.std.specs.Prelude.{◌≡◌, ℕ, Bool, true, false, List, [], ◌∷◌, ◌++◌, flat_map, take}
 use Rattle.group_world.specs.declared.event.Event.{Event}
+use Rattle.group_world.specs.declared.event.Event.TheVariants.{Flush}
 use Rattle.group_world.specs.declared.event.Outcome.{Outcome}
 use Rattle.group_world.specs.declared.event.Outcome.TheVariants as outcomes
 use Rattle.turns.specs.Turns.{heard_reply}
 use Rattle.turns.specs.WireCalls.{WireCall, Read, ReadFailed, ReadWaited, Wrote, WriteFailed, WriteWaited, Closed}
 use Rattle.ready_turns.specs.Seats.{SeatState, has_left, state_of}
-use Rattle.ready_turns.specs.declared.seat.Stage.TheVariants.{Listening}
-use Rattle.ready_sockets.specs.Visits.{HadTurn, WasDismissed, IsNew, woken}
+use Rattle.ready_turns.specs.declared.seat.Stage.{Stage}
+use Rattle.ready_turns.specs.declared.seat.Stage.TheVariants.{Listening, Waiting}
+use Rattle.ready_sockets.specs.Visits.{HadTurn, Learned, WasDismissed, IsNew, woken}
 use Rattle.ready_sockets.specs.declared.visit.Visit.{Visit}
 
 -- the bytes that a call wrote
@@ -20,28 +22,38 @@ bytes_by (WriteFailed bytes) = []
 bytes_by (WriteWaited bytes) = []
 bytes_by Closed = []
 
--- what an outcome has for a client: what was drawn, or that it is to try again later where there was no room for its post
+-- what an outcome has for a client: what was drawn, or that it is to try again later where its post is not made
 abbrev pub due_by : Outcome → List ℕ
 due_by (outcomes.Drawn bytes) = bytes
 due_by outcome = heard_reply outcome
 
-abbrev pub all_due : List Outcome → List ℕ
-all_due os = flat_map due_by os
+-- What the outcomes of some events of its session have for it. A flush has nothing, and neither has what was answered right before one, since the hub is told of the same input once more.
+abbrev pub all_due : List Event → List Outcome → List ℕ
+all_due (e ∷ Flush ∷ es) (o ∷ flushed ∷ os) = all_due es os
+all_due (e ∷ es) (o ∷ os) = due_by o ++ all_due es os
+all_due es os = []
+
+-- a reply is given, or it has left
+abbrev pub is_answered : Stage → Bool
+is_answered (Listening id) = false
+is_answered (Waiting id) = false
+is_answered stage = true
 
 -- What was due was written by these calls, in order, and then what is left of it is to be sent; only where the session has left the hub, the rest of it may be dropped.
 pub record IsGiven (due : List ℕ) (calls : List WireCall) (state : SeatState) : Type 0 where
   pub dropped : List ℕ
   pub is : due ≡ flat_map bytes_by calls ++ (state.unsent ++ dropped)
   pub all : has_left state.stage ≡ false → dropped ≡ []
-  pub hears : (id : ℕ) → state.stage ≡ Listening id → state.unsent ≡ []
+  pub hears : is_answered state.stage ≡ false → state.unsent ≡ []
 
 -- a client was given of what was due to it
 abbrev pub WasGiven : List ℕ → Visit → Type 0
 WasGiven due visit = IsGiven due visit.seat.wire.made.calls (state_of visit.seat)
 
--- Nothing is due to who comes in. By each turn, and by a dismissal, what the outcomes of its own events have for a client is due to it next, and no more; a wait changes nothing.
+-- Nothing is due to who comes in. By each turn, by what it learns of its post, and by a dismissal, what the outcomes of its own events have for a client is due to it next, and no more; a wait changes nothing.
 pub record GivesWhatIsDue : Type 0 where
   pub at_first : (now : ℕ) (outcome : Outcome) (visit : Visit) → IsNew now outcome visit → WasGiven [] visit
-  pub by_turn : (due : List ℕ) (now : ℕ) (old new : Visit) (es : List Event) (os : List Outcome) → WasGiven due old → HadTurn now old es os new → WasGiven (due ++ all_due os) new
-  pub by_dismissal : (due : List ℕ) (now : ℕ) (old new : Visit) (es : List Event) (os : List Outcome) → WasGiven due old → WasDismissed now old es os new → WasGiven (due ++ all_due os) new
+  pub by_turn : (due : List ℕ) (now : ℕ) (old new : Visit) (es : List Event) (os : List Outcome) → WasGiven due old → HadTurn now old es os new → WasGiven (due ++ all_due es os) new
+  pub by_learning : (due : List ℕ) (old new : Visit) (es : List Event) (os : List Outcome) → WasGiven due old → Learned old es os new → WasGiven (due ++ all_due es os) new
+  pub by_dismissal : (due : List ℕ) (now : ℕ) (old new : Visit) (es : List Event) (os : List Outcome) → WasGiven due old → WasDismissed now old es os new → WasGiven (due ++ all_due es os) new
   pub by_wait : (due : List ℕ) (visit : Visit) → WasGiven due visit → WasGiven due (woken visit)

@@ -19,7 +19,7 @@ use Rattle.turns.specs.WireCalls.{WireCall}
 use Rattle.ready_sockets.specs.DoorCalls.{DoorCall, Came, NotHad, both_ways, is_nobody}
 use Rattle.ready_sockets.specs.Logged.{IsLogged}
 use Rattle.ready_sockets.specs.Readings.{seconds_of}
-use Rattle.ready_sockets.specs.Visits.{has_gone, asks, AreNew, HasWaited, HasNotWaited, WereServed}
+use Rattle.ready_sockets.specs.Visits.{has_gone, asks, AreNew, HasWaited, HasNotWaited, WereServed, NobodyWaits}
 use Rattle.ready_sockets.specs.declared.door_log.Missed.{Missed}
 use Rattle.ready_sockets.specs.declared.room.Room.{Room}
 use Rattle.ready_sockets.specs.declared.stopwatch.Reading.{Reading}
@@ -58,7 +58,7 @@ pub record HasLetIn (now : ℕ) (old : Room) (es : List Event) (os : List Outcom
 abbrev pub who : Visit → IpAddr × Token × ℕ
 who visit = (visit.from, visit.token, visit.came)
 
--- Whoever is at the door was let in, and their sessions joined. Then all who are in were served, nobody else came or went, and no more was asked of the door.
+-- Whoever is at the door was let in, and their sessions joined. Then all who are in were served, nobody else came or went, no more was asked of the door, and nobody's post waits any more.
 pub record HasHadTurns (now : ℕ) (old : Room) (es : List Event) (os : List Outcome) (new : Room) : Type 0 where
   pub full : Room
   pub join_events : List Event
@@ -72,6 +72,7 @@ pub record HasHadTurns (now : ℕ) (old : Room) (es : List Event) (os : List Out
   pub door : new.door ≡ full.door
   pub may_accept : new.may_accept ≡ full.may_accept
   pub clients : map who new.visits.items ≡ map who full.visits.items
+  pub nobody_waits : NobodyWaits new.visits.items
 
 -- Who has gone is in no more, and no more was asked of the door.
 pub record HasSeenOff (old new : Room) : Type 0 where

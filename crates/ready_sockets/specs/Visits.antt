@@ -1,5 +1,5 @@
 -- What is done for clients that are in.
-use Rattle.std.specs.Prelude.{◌≡◌, ◌≤◌, ◌<◌, ◌==◌, ℕ, Bool, true, false, not, ◌&&◌, ◌||◌, is_some, if◌then◌else◌, Option, Some, None, List, [], ◌∷◌, ◌++◌, nat_lt, map, length}
+use Rattle.std.specs.Prelude.{◌≡◌, ◌≤◌, ◌<◌, ◌==◌, ℕ, Bool, true, false, not, ◌&&◌, ◌||◌, is_some, if◌then◌else◌, Option, Some, None, List, [], ◌∷◌, ◌++◌, All, nat_lt, map, length}
 use Rattle.std.specs.List.{list_all, list_any}
 use Rattle.std.specs.declared.net.ip_addr.IpAddr.{IpAddr}
 use Rattle.mio.specs.Event.{event_token}
@@ -8,8 +8,8 @@ use Rattle.mio.specs.declared.token.Token.{Token}
 use Rattle.group_world.specs.declared.event.Event.{Event}
 use Rattle.group_world.specs.declared.event.Event.TheVariants as events
 use Rattle.group_world.specs.declared.event.Outcome.{Outcome}
-use Rattle.turns.specs.Turns.{Both, InOrder, Times}
-use Rattle.ready_turns.specs.Seats.{For, Turn, Dismissed, IsSeated, ending_of, joined_state, state_of}
+use Rattle.turns.specs.Turns.{Both, InOrder, IsFlushed, Times}
+use Rattle.ready_turns.specs.Seats.{For, Turn, Learns, Dismissed, IsSeated, acts, is_waiting, ending_of, joined_state, state_of}
 use Rattle.ready_turns.specs.declared.seat.Seat.{Seat}
 use Rattle.ready_sockets.specs.DoorCalls.{DoorCall, Waited, WaitFailed, Came, NotHad, both_ways, is_nobody}
 use Rattle.ready_sockets.specs.Doors.{listener_token, HasSameListener}
@@ -25,12 +25,22 @@ has_gone visit = is_some (ending_of visit.seat.stage)
 
 -- it would do something in its turn
 abbrev pub has_turn : Visit → Bool
-has_turn visit = not visit.seat.waits && not (has_gone visit)
+has_turn visit = not visit.seat.waits && acts visit.seat.stage
+
+-- no client's post waits for others
+abbrev pub NobodyWaits : List Visit → Type 0
+NobodyWaits visits = All (λ visit. is_waiting visit.seat.stage ≡ false) visits
 
 -- A turn of its session at this moment: where it doesn't rest afterwards, it moved.
 pub record HadTurn (now : ℕ) (old : Visit) (es : List Event) (os : List Outcome) (new : Visit) : Type 0 where
   pub turn : For (λ (socket : ReadySocket). socket.made.calls) Turn old.seat es os new.seat
   pub moved : new.moved ≡ (if new.seat.waits then old.moved else now)
+
+-- Where its post waited its session learns what came of it, and else nothing is done.
+pub record Learned (old : Visit) (es : List Event) (os : List Outcome) (new : Visit) : Type 0 where
+  pub learns : For (λ (socket : ReadySocket). socket.made.calls) Learns old.seat es os new.seat
+  pub came : new.came ≡ old.came
+  pub moved : new.moved ≡ old.moved
 
 -- its session is dismissed where its time is over, and else nothing is done
 abbrev pub GoesIf : Bool → Visit → List Event → List Outcome → Visit → Type 0
@@ -125,9 +135,9 @@ pub record HadPasses (now : ℕ) (old : List Visit) (es : List Event) (os : List
   pub passes : Times count (InOrder (HadTurn now)) old es os new
   pub until : count < 16 → all_wait new ≡ true
 
--- Passes were made over all, and then those were dismissed whose time is over.
+-- Passes were made over all. Then the posts that wait were made, once, and each client whose post waited learned what came of it, in order. Then those were dismissed whose time is over.
 abbrev pub WereServed : ℕ → List Visit → List Event → List Outcome → List Visit → Type 0
-WereServed now old es os new = Both (HadPasses now) (InOrder (WasDismissed now)) old es os new
+WereServed now old es os new = Both (HadPasses now) (Both (Both IsFlushed (InOrder Learned)) (InOrder (WasDismissed now))) old es os new
 
 -- ---- who comes in
 

@@ -3,10 +3,10 @@ ghost use Rattle.std.specs.Prelude.{◌≡◌, ◌<◌, ◌≤◌, Some, [], ◌
 ghost use Rattle.std.specs.String.{string_bytes};
 ghost use Rattle.group_hub.specs.Calls.{HubRun};
 ghost use Rattle.turns.specs.Runs.{HasRun};
-ghost use Rattle.turns.specs.Turns.{InOrder};
 ghost use Rattle.ready_turns.specs.Seats.{ending_of};
 ghost use Rattle.ready_sockets.specs.Rounds.{who, HasLetIn, HasHadTurns, HasSeenOff, ServesVisits};
-ghost use Rattle.ready_sockets.specs.Visits.{HadTurn, WasDismissed, HadPasses, WereServed, ComesInOrNot};
+ghost use Rattle.turns.specs.Turns.{Both, InOrder, IsFlushed};
+ghost use Rattle.ready_sockets.specs.Visits.{NobodyWaits, HadTurn, Learned, WasDismissed, HadPasses, WereServed, ComesInOrNot};
 ghost use Rattle.ready_sockets.specs.Logged.{line_of, IsTold, AreTold, IsLogged};
 
 use crate::ReadySocket;
@@ -19,7 +19,7 @@ use group_hub::Hub;
 use host_types::Stamp;
 use mio::Token;
 use mio::net::TcpStream;
-use ready_turns::{Ending, dismiss, join, take_turn};
+use ready_turns::{Ending, dismiss, join, learn, take_turn};
 use socket_wires::SystemClock;
 use std::alloc::{AllocError, Global};
 use std::io::Write;
@@ -109,6 +109,33 @@ fn give_turns<S: SearchKeeper, C: Clock>(
     }
 }
 
+/// A client whose post waited learns what came of it.
+fn learn_of<S: SearchKeeper>(visit: &mut Visit, hub: &mut Hub<S>)
+    ensures run { HasRun (HubRun S.site_state S.lacks S.crash_states S.represents) hub.old hub.new [] [] (λ es os. Learned visit.old es os visit.new) }
+    ensures who { who visit.new ≡ who visit.old }
+{
+    learn(hub, &mut visit.seat);
+}
+
+/// Each client whose post waited learns what came of it, in order.
+fn learn_all<S: SearchKeeper>(visits: &mut [Visit], hub: &mut Hub<S>)
+    ensures run { HasRun (HubRun S.site_state S.lacks S.crash_states S.represents) hub.old hub.new [] [] (λ es os. InOrder Learned visits.old es os visits.new) }
+    ensures clients { map who visits.new ≡ map who visits.old }
+{
+    for visit in visits.iter_mut() {
+        learn_of(visit, hub);
+    }
+}
+
+/// The posts that wait are made, and their clients learn what came of them.
+fn make_posts<S: SearchKeeper>(visits: &mut [Visit], hub: &mut Hub<S>)
+    ensures run { HasRun (HubRun S.site_state S.lacks S.crash_states S.represents) hub.old hub.new [] [] (λ es os. Both IsFlushed (InOrder Learned) visits.old es os visits.new) }
+    ensures clients { map who visits.new ≡ map who visits.old }
+{
+    let _ = hub.flush();
+    learn_all(visits, hub);
+}
+
 /// A client goes whose time is over.
 fn dismiss_if_over<S: SearchKeeper>(visit: &mut Visit, hub: &mut Hub<S>, now: u64)
     ensures run { HasRun (HubRun S.site_state S.lacks S.crash_states S.represents) hub.old hub.new [] [] (λ es os. WasDismissed now visit.old es os visit.new) }
@@ -129,7 +156,7 @@ fn dismiss_late<S: SearchKeeper>(visits: &mut [Visit], hub: &mut Hub<S>, now: u6
     }
 }
 
-/// Turns for all clients, and then whose time is over goes.
+/// Turns for all clients. Then the posts that wait are made, and whose time is over goes.
 fn serve_all<S: SearchKeeper, C: Clock>(
     visits: &mut [Visit],
     hub: &mut Hub<S>,
@@ -138,8 +165,10 @@ fn serve_all<S: SearchKeeper, C: Clock>(
 )
     ensures run { HasRun (HubRun S.site_state S.lacks S.crash_states S.represents) hub.old hub.new (C.given clock.old) (C.given clock.new) (λ es os. WereServed now visits.old es os visits.new) }
     ensures clients { map who visits.new ≡ map who visits.old }
+    ensures nobody_waits { NobodyWaits visits.new }
 {
     give_turns(visits, hub, clock, now);
+    make_posts(visits, hub);
     dismiss_late(visits, hub, now);
 }
 
@@ -235,6 +264,7 @@ fn round<S: SearchKeeper, C: Clock>(room: &mut Room, hub: &mut Hub<S>, clock: &m
 }
 
 /// Serves whoever comes, up to 32 clients at a time, until a write or a sync of what the site is kept on has failed, or no socket can be waited for.
+/// Where posts wait for one another they are made behind the turns of each round, and behind a round nobody waits: who did learned that the post is stored, or is asked to try again later.
 /// For each client that has gone the log gets a line, as far as it takes it. The watch is read once a round.
 pub fn serve_visits<S: SearchKeeper, C: Clock, R: Time, L: Write>(
     alloc: Global,

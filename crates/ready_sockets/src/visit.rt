@@ -64,7 +64,7 @@ impl Visit {
     pub(crate) fn has_turn(&self) -> bool
         ensures { result ≡ has_turn self.now }
     {
-        !self.seat.waits() && !self.is_closed()
+        !self.seat.waits() && self.seat.stage().acts()
     }
 
     /// The line of the log, without its LF.

@@ -1,5 +1,5 @@
 -- What is done in a turn, put together.
-use Rattle.std.proofs.Common.{◌≡◌, inl, ℕ, ◌≤◌, Bool, true, false, not, List, [], ◌∷◌, ◌++◌, length, take, drop, refl, sym, ap, subst, ◌∙◌, arith, Result, Ok, Option, Some, None}
+use Rattle.std.proofs.Common.{◌≡◌, inl, ℕ, ◌≤◌, Bool, true, false, not, List, [], ◌∷◌, ◌++◌, length, take, drop, refl, sym, ap, subst, ◌∙◌, arith, Result, Ok, Err, Option, Some, None}
 use Rattle.std.proofs.lemmas.Bool.{true≢false}
 use Rattle.std.specs.Prelude.{IfSome, ◌==◌}
 use Rattle.std.proofs.lemmas.List.{append-nil, take-append-drop, length-take-le}
@@ -10,15 +10,18 @@ use Rattle.group_world.specs.declared.event.Event.{Event}
 use Rattle.group_world.specs.declared.event.Event.TheVariants as events
 use Rattle.group_world.specs.declared.event.Outcome.{Outcome}
 use Rattle.group_world.specs.declared.fault.HubFault.{HubFault}
-use Rattle.group_world.specs.Outcomes.{join_outcome}
+use Rattle.group_world.specs.Outcomes.{join_outcome, drawn_outcome, draw_outcome}
+use Rattle.group_world.specs.declared.answer.Drawn.{Drawn}
+use Rattle.group_world.specs.declared.answer.Drawn.TheVariants as drawn
 use Rattle.turns.specs.WireCalls.{WireCall, HasMade, Read, ReadWaited, Wrote}
-use Rattle.turns.specs.Turns.{Trace, trace, nothing, heard_event, drawn_bytes}
+use Rattle.turns.proofs.TurnsMade.{draws_few}
+use Rattle.turns.specs.Turns.{Trace, trace, nothing, IsTold, drawn_bytes}
 use Rattle.ready_turns.specs.Tries.{write_try, read_try}
 use Rattle.ready_turns.specs.declared.seat.Seat.{Seat}
 use Rattle.ready_turns.specs.declared.seat.Stage.{Stage}
 use Rattle.ready_turns.specs.declared.seat.Ending.{Ending}
 use Rattle.ready_turns.specs.declared.seat.Stage.TheVariants as stages
-use Rattle.ready_turns.specs.Seats.{SeatState, at, state_of, leaving, has_left, joined_state, heard_state, drawn_state, Listens, Draws, Replies, Writes, Finishes, Takes, Follows, WhereReady, Acts, Turn, DismissedAt, Dismissed, For}
+use Rattle.ready_turns.specs.Seats.{SeatState, at, state_of, leaving, has_left, joined_state, refused_state, heard_state, learned_state, drawn_state, Listens, Asks, Draws, Replies, Writes, Finishes, Takes, Follows, WhereReady, Acts, Turn, LearnsAt, Learns, DismissedAt, Dismissed, For}
 
 abbrev ok_of : {E : Type 0} → Option ℕ → Result (Option ℕ) E
 ok_of field = Ok field
@@ -74,9 +77,28 @@ joined_at result stage unsent is none = ap (λ u. at stage u false) none ∙ is
 pub drawn_made : (id : ℕ) (outcome : Outcome) (after : SeatState) → length (drawn_bytes outcome) ≤ 4096 → after ≡ drawn_state id outcome → Draws id (trace [] (events.Draw id 4096 ∷ []) (outcome ∷ [])) after
 drawn_made id outcome after room is = record { outcome = outcome; room = room; is = refl; after_is = is }
 
-pub heard_made : (id : ℕ) (unsent : List ℕ) (old new : List WireCall) (piece : List ℕ) (now : ℕ) (outcome : Outcome) (after : SeatState) → length piece ≤ 512 → new ≡ old ++ Read 512 piece ∷ [] → after ≡ heard_state id outcome →
-    HasMade old new (λ made. Listens id unsent (trace made (heard_event id piece now ∷ []) (outcome ∷ [])) after)
-heard_made id unsent old new piece now outcome after room read is = (Read 512 piece ∷ [], read, inl (record { piece = piece; now = now; outcome = outcome; room = room; is = refl; after_is = is }))
+pub heard_made : (id : ℕ) (unsent : List ℕ) (old new : List WireCall) (piece : List ℕ) (es : List Event) (os : List Outcome) (outcome : Outcome) (after : SeatState) → length piece ≤ 512 → new ≡ old ++ Read 512 piece ∷ [] → IsTold id piece es os outcome → after ≡ heard_state id outcome →
+    HasMade old new (λ made. Listens id unsent (trace made es os) after)
+heard_made id unsent old new piece es os outcome after room read told is = (Read 512 piece ∷ [], read, inl (record { piece = piece; outcome = outcome; room = room; calls_are = refl; told = told; after_is = is }))
+
+none_of : (bytes : List ℕ) → length bytes ≤ 0 → bytes ≡ []
+none_of [] few = refl
+none_of (b ∷ bytes) few = absurd (omega (arith, few))
+
+asked_made : (id : ℕ) (outcome : Outcome) (after : SeatState) → length (drawn_bytes outcome) ≤ 0 → after ≡ learned_state id outcome → Asks id (trace [] (events.Draw id 0 ∷ []) (outcome ∷ [])) after
+asked_made id outcome after few is = record { outcome = outcome; none = none_of (drawn_bytes outcome) few; is = refl; after_is = is }
+
+-- a session whose post waited, and its reply stands
+pub learned_well : (id : ℕ) (result : Result Drawn HubFault) (d : Drawn) (buffer : List ℕ) (after : SeatState) → length buffer ≡ 0 → result ≡ Ok d → after ≡ at (stages.Replying id) [] false → Asks id (trace [] (events.Draw id 0 ∷ []) (draw_outcome result buffer ∷ [])) after
+learned_well id result d buffer after size is so = asked_made id (draw_outcome result buffer) after (draws_few 0 result buffer size) (so ∙ sym (ap (λ r. learned_state id (draw_outcome r buffer)) is ∙ replies d))
+  where
+    replies : (d : Drawn) → learned_state id (drawn_outcome d buffer) ≡ at (stages.Replying id) [] false
+    replies (drawn.Bytes n) = refl
+    replies drawn.Finished = refl
+
+-- or a fault
+pub learned_fault : (id : ℕ) (result : Result Drawn HubFault) (fault : HubFault) (buffer : List ℕ) (after : SeatState) → length buffer ≡ 0 → result ≡ Err fault → after ≡ refused_state fault → Asks id (trace [] (events.Draw id 0 ∷ []) (draw_outcome result buffer ∷ [])) after
+learned_fault id result fault buffer after size is so = asked_made id (draw_outcome result buffer) after (draws_few 0 result buffer size) (so ∙ sym (ap (λ r. learned_state id (draw_outcome r buffer)) is))
 
 -- the text fits
 pub later_fits : (text : List ℕ) → text ≡ error_reply true TryAgainLater [] → length text ≤ 4096
@@ -117,6 +139,33 @@ nothing_left calls seat ending ready is = record {
   calls_are = sym (append-nil (calls seat.wire));
   does = turn_of seat seat (stages.Closed ending) nothing ready is (refl, at_same seat.stage (stages.Closed ending) seat.unsent.items seat.unsent.items seat.waits false is refl ready);
 }
+
+-- one whose post waits
+pub still_waits : {W : Type 0} (calls : W → List WireCall) (seat : Seat W) (id : ℕ) → seat.waits ≡ false → seat.stage ≡ stages.Waiting id → For calls Turn seat [] [] seat
+still_waits calls seat id ready is = record {
+  made = [];
+  calls_are = sym (append-nil (calls seat.wire));
+  does = turn_of seat seat (stages.Waiting id) nothing ready is (refl, at_same seat.stage (stages.Waiting id) seat.unsent.items seat.unsent.items seat.waits false is refl ready);
+}
+
+-- ---- what came of a post
+
+pub learned : {W : Type 0} (calls : W → List WireCall) (old new : Seat W) (id : ℕ) (es fs : List Event) (os ps : List Outcome) → old.stage ≡ stages.Waiting id → new.wire ≡ old.wire → Asks id (trace [] es os) (state_of new) → Follows id (has_left new.stage) (trace [] fs ps) → For calls Learns old (es ++ fs) (os ++ ps) new
+learned calls old new id es fs os ps is wire first second = record {
+  made = [];
+  calls_are = ap calls wire ∙ sym (append-nil (calls old.wire));
+  does = subst (λ s. LearnsAt s (state_of old) (trace [] (es ++ fs) (os ++ ps)) (state_of new)) (sym is) (record { done = trace [] es os; rest = trace [] fs ps; is = refl; does = first; follows = second });
+}
+
+pub learns_nothing : {W : Type 0} (calls : W → List WireCall) (seat : Seat W) → ((id : ℕ) → seat.stage ≡ stages.Waiting id → ⊥) → For calls Learns seat [] [] seat
+learns_nothing calls seat other = record { made = []; calls_are = sym (append-nil (calls seat.wire)); does = rests seat.stage (state_of seat) other }
+  where
+    rests : (stage : Stage) (state : SeatState) → ((id : ℕ) → stage ≡ stages.Waiting id → ⊥) → LearnsAt stage state nothing state
+    rests (stages.Waiting id) state other = absurd (other id refl)
+    rests (stages.Listening id) state other = (refl, refl)
+    rests (stages.Replying id) state other = (refl, refl)
+    rests (stages.Leaving ending) state other = (refl, refl)
+    rests (stages.Closed ending) state other = (refl, refl)
 
 -- ---- those whose time is over
 

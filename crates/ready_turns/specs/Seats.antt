@@ -6,9 +6,10 @@ use Rattle.group_world.specs.declared.event.Event.{Event}
 use Rattle.group_world.specs.declared.event.Event.TheVariants as events
 use Rattle.group_world.specs.declared.event.Outcome.{Outcome}
 use Rattle.group_world.specs.declared.event.Outcome.TheVariants as outcomes
+use Rattle.group_world.specs.declared.fault.HubFault.{HubFault}
 use Rattle.group_world.specs.declared.fault.HubFault.TheVariants as faults
 use Rattle.turns.specs.WireCalls.{WireCall, Read, ReadFailed, ReadWaited, Wrote, WriteFailed, WriteWaited, Closed}
-use Rattle.turns.specs.Turns.{Trace, trace, nothing, then, heard_event, drawn_bytes}
+use Rattle.turns.specs.Turns.{Trace, trace, nothing, then, IsTold, drawn_bytes}
 use Rattle.ready_turns.specs.declared.seat.Ending.{Ending}
 use Rattle.ready_turns.specs.declared.seat.Ending.TheVariants.{Served, Full, Failed, Cut, Late}
 use Rattle.ready_turns.specs.declared.seat.Stage.{Stage}
@@ -33,9 +34,23 @@ leaving ending unsent = at (stages.Leaving ending) unsent false
 
 abbrev pub has_left : Stage → Bool
 has_left (stages.Listening id) = false
+has_left (stages.Waiting id) = false
 has_left (stages.Replying id) = false
 has_left (stages.Leaving ending) = true
 has_left (stages.Closed ending) = true
+
+-- there is something to do in its turn
+abbrev pub acts : Stage → Bool
+acts (stages.Listening id) = true
+acts (stages.Waiting id) = false
+acts (stages.Replying id) = true
+acts (stages.Leaving ending) = true
+acts (stages.Closed ending) = false
+
+-- its post waits for others
+abbrev pub is_waiting : Stage → Bool
+is_waiting (stages.Waiting id) = true
+is_waiting stage = false
 
 -- how the session of a closed wire ended
 abbrev pub ending_of : Stage → Option Ending
@@ -48,13 +63,27 @@ abbrev pub joined_state : Outcome → SeatState
 joined_state (outcomes.Joined id) = at (stages.Listening id) [] false
 joined_state outcome = leaving Failed []
 
--- Where there is no room for its post the client is asked to try again later; it hears of no other fault. In these hubs each post is made at once, so none waits. A session whose post did would go no further.
+-- A client is asked to try again later where there is no room for its post, too many wait, or its own still waits once the others were made; it hears of no other fault.
+abbrev pub refused_state : HubFault → SeatState
+refused_state (faults.Full need free) = leaving Full (error_reply true TryAgainLater [])
+refused_state faults.Crowded = leaving Full (error_reply true TryAgainLater [])
+refused_state faults.NotReady = leaving Full (error_reply true TryAgainLater [])
+refused_state fault = leaving Failed []
+
 abbrev pub heard_state : ℕ → Outcome → SeatState
 heard_state id outcomes.More = at (stages.Listening id) [] false
+heard_state id outcomes.Waiting = at (stages.Waiting id) [] false
 heard_state id outcomes.Ready = at (stages.Replying id) [] false
 heard_state id outcomes.Finished = leaving Cut []
-heard_state id (outcomes.Fault (faults.Full need free)) = leaving Full (error_reply true TryAgainLater [])
+heard_state id (outcomes.Fault fault) = refused_state fault
 heard_state id outcome = leaving Failed []
+
+-- of a session whose post waited, once the posts were made, by what a draw of no bytes answers
+abbrev pub learned_state : ℕ → Outcome → SeatState
+learned_state id (outcomes.Drawn bytes) = at (stages.Replying id) [] false
+learned_state id outcomes.Finished = at (stages.Replying id) [] false
+learned_state id (outcomes.Fault fault) = refused_state fault
+learned_state id outcome = leaving Failed []
 
 abbrev pub drawn_state : ℕ → Outcome → SeatState
 drawn_state id (outcomes.Drawn bytes) = at (stages.Replying id) bytes false
@@ -63,13 +92,13 @@ drawn_state id outcome = leaving Failed []
 
 -- ---- what is done in a turn
 
--- One read into room for 512 bytes, which the hub gets as one event at a moment.
+-- One read into room for 512 bytes, of which the hub is told.
 pub record Hears (id : ℕ) (t : Trace) (after : SeatState) : Type 0 where
   pub piece : List ℕ
-  pub now : ℕ
   pub outcome : Outcome
   pub room : length piece ≤ 512
-  pub is : t ≡ trace (Read 512 piece ∷ []) (heard_event id piece now ∷ []) (outcome ∷ [])
+  pub calls_are : t.calls ≡ Read 512 piece ∷ []
+  pub told : IsTold id piece t.events t.outcomes outcome
   pub after_is : after ≡ heard_state id outcome
 
 -- A read that failed: the hub gets nothing.
@@ -86,6 +115,13 @@ pub record Draws (id : ℕ) (t : Trace) (after : SeatState) : Type 0 where
   pub room : length (drawn_bytes outcome) ≤ 4096
   pub is : t ≡ trace [] (events.Draw id 4096 ∷ []) (outcome ∷ [])
   pub after_is : after ≡ drawn_state id outcome
+
+-- A session whose post waited is asked by a draw of no bytes.
+pub record Asks (id : ℕ) (t : Trace) (after : SeatState) : Type 0 where
+  pub outcome : Outcome
+  pub none : drawn_bytes outcome ≡ []
+  pub is : t ≡ trace [] (events.Draw id 0 ∷ []) (outcome ∷ [])
+  pub after_is : after ≡ learned_state id outcome
 
 -- One write of all the bytes that are to be sent, which takes the next of them.
 pub record Sends (before : SeatState) (t : Trace) (after : SeatState) : Type 0 where
@@ -140,6 +176,7 @@ Finishes ending (b ∷ bytes) t after = Writes (leaving ending (b ∷ bytes)) t 
 -- One turn of a session that doesn't rest.
 abbrev pub Acts : Stage → List ℕ → Trace → SeatState → Type 0
 Acts (stages.Listening id) unsent t after = Takes id (Listens id unsent) t after
+Acts (stages.Waiting id) unsent t after = Rests (at (stages.Waiting id) unsent false) t after
 Acts (stages.Replying id) unsent t after = Takes id (Replies id unsent) t after
 Acts (stages.Leaving ending) unsent t after = Finishes ending unsent t after
 Acts (stages.Closed ending) unsent t after = Rests (at (stages.Closed ending) unsent false) t after
@@ -152,12 +189,21 @@ WhereReady false before t after = Rests before t after
 abbrev pub Turn : SeatState → Trace → SeatState → Type 0
 Turn before t after = WhereReady (not before.waits) before t after
 
+abbrev pub LearnsAt : Stage → SeatState → Trace → SeatState → Type 0
+LearnsAt (stages.Waiting id) before t after = Takes id (Asks id) t after
+LearnsAt stage before t after = Rests before t after
+
+-- What is done for a session once the posts that wait were made: one whose post waited learns what came of it.
+abbrev pub Learns : SeatState → Trace → SeatState → Type 0
+Learns before t after = LearnsAt before.stage before t after
+
 -- the session leaves the hub, and its wire is closed
 abbrev pub LeavesLate : ℕ → Trace → SeatState → Type 0
 LeavesLate id t after = (outcome : Outcome) × (t ≡ trace (Closed ∷ []) (events.Leave id ∷ []) (outcome ∷ [])) × (after ≡ at (stages.Closed Late) [] false)
 
 abbrev pub DismissedAt : Stage → SeatState → Trace → SeatState → Type 0
 DismissedAt (stages.Listening id) before t after = LeavesLate id t after
+DismissedAt (stages.Waiting id) before t after = LeavesLate id t after
 DismissedAt (stages.Replying id) before t after = LeavesLate id t after
 DismissedAt (stages.Leaving ending) before t after = Closes Late t after
 DismissedAt (stages.Closed ending) before t after = Rests before t after

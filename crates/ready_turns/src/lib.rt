@@ -10,4 +10,4 @@ mod writing;
 pub use laws::worked_examples;
 pub use ready_wire::ReadyWire;
 pub use seat::{Ending, ROOM, Seat, Stage};
-pub use turn::{dismiss, join, take_turn};
+pub use turn::{dismiss, join, learn, take_turn};

@@ -1,6 +1,6 @@
 // A wire and the session on it.
 ghost use Rattle.std.specs.Prelude.{◌≡◌, ◌≤◌, false, [], length, Option, Some, None};
-ghost use Rattle.ready_turns.specs.Seats.{at, has_left, ending_of, state_of};
+ghost use Rattle.ready_turns.specs.Seats.{at, acts, has_left, ending_of, state_of};
 
 use arrayvec::ArrayVec;
 
@@ -12,7 +12,7 @@ pub const ROOM: usize = 4096;
 pub enum Ending {
     /// All of a reply was drawn for it.
     Served,
-    /// There was no room for its post.
+    /// Its post could not be made, and its client is asked to try again later.
     Full,
     /// The hub answered another fault.
     Failed,
@@ -27,6 +27,8 @@ pub enum Ending {
 pub enum Stage {
     /// The session of this number hears what is read.
     Listening(u64),
+    /// The post of the session of this number waits for others.
+    Waiting(u64),
     /// The reply to the session of this number is drawn and sent.
     Replying(u64),
     /// It has left the hub, and the rest is sent.
@@ -41,8 +43,18 @@ impl Stage {
         ensures { result ≡ has_left self }
     {
         match self {
-            Stage::Listening(_) | Stage::Replying(_) => false,
+            Stage::Listening(_) | Stage::Waiting(_) | Stage::Replying(_) => false,
             Stage::Leaving(_) | Stage::Closed(_) => true,
+        }
+    }
+
+    /// Whether there is something to do in a turn of the session.
+    pub fn acts(self) -> bool
+        ensures { result ≡ acts self }
+    {
+        match self {
+            Stage::Listening(_) | Stage::Replying(_) | Stage::Leaving(_) => true,
+            Stage::Waiting(_) | Stage::Closed(_) => false,
         }
     }
 

@@ -6,7 +6,7 @@ ghost use Rattle.turns.specs.Runs.{HasRun};
 ghost use Rattle.turns.specs.WireCalls.{HasMade, Closed};
 ghost use Rattle.turns.specs.Turns.{trace};
 ghost use Rattle.ready_turns.specs.declared.seat.Stage.TheVariants as Stage;
-ghost use Rattle.ready_turns.specs.Seats.{at, state_of, has_left, joined_state, heard_state, Listens, Draws, Replies, Follows, Finishes, Turn, Dismissed, IsSeated, For};
+ghost use Rattle.ready_turns.specs.Seats.{at, state_of, has_left, joined_state, refused_state, heard_state, Listens, Asks, Draws, Replies, Follows, Finishes, Turn, Learns, Dismissed, IsSeated, For};
 
 use crate::ReadyWire;
 use crate::seat::{Ending, ROOM, Seat, Stage};
@@ -40,6 +40,19 @@ pub fn join<S: SearchKeeper, W: ReadyWire>(hub: &mut Hub<S>, wire: W) -> Seat<W>
     }
 }
 
+/// The client is asked to try again later where there is no room for its post, or too many wait, or its own is left; it hears of no other fault.
+fn refused<W>(seat: &mut Seat<W>, fault: HubFault)
+    ensures state { state_of seat.new ≡ refused_state fault }
+    ensures wire { seat.new.wire ≡ seat.old.wire }
+{
+    match fault {
+        HubFault::Full { .. } | HubFault::Crowded | HubFault::NotReady => {
+            seat.become_stage(Stage::Leaving(Ending::Full), try_again_later());
+        }
+        _ => seat.become_stage(Stage::Leaving(Ending::Failed), b""),
+    }
+}
+
 /// Where a session is once what it heard is answered, and what its client hears of that.
 fn heard<W>(seat: &mut Seat<W>, id: u64, answer: Result<InputStatus, HubFault>)
     ensures state { state_of seat.new ≡ heard_state id (bytes_outcome answer) }
@@ -49,12 +62,8 @@ fn heard<W>(seat: &mut Seat<W>, id: u64, answer: Result<InputStatus, HubFault>)
         Ok(InputStatus::More) => seat.become_stage(Stage::Listening(id), b""),
         Ok(InputStatus::Ready) => seat.become_stage(Stage::Replying(id), b""),
         Ok(InputStatus::Finished) => seat.become_stage(Stage::Leaving(Ending::Cut), b""),
-        // In these hubs each post is made at once, so none waits.
-        Ok(InputStatus::Waiting) => seat.become_stage(Stage::Leaving(Ending::Failed), b""),
-        Err(HubFault::Full { .. }) => {
-            seat.become_stage(Stage::Leaving(Ending::Full), try_again_later());
-        }
-        Err(_) => seat.become_stage(Stage::Leaving(Ending::Failed), b""),
+        Ok(InputStatus::Waiting) => seat.become_stage(Stage::Waiting(id), b""),
+        Err(fault) => refused(seat, fault),
     }
 }
 
@@ -71,7 +80,7 @@ fn hear<S: SearchKeeper, W: ReadyWire, C: Clock>(
     let mut buffer = [0; PIECE];
     match seat.wire.read(&mut buffer) {
         Ok(Some(count)) => {
-            let answer = tell(hub, id, &buffer[..count], clock.now());
+            let answer = tell(hub, id, &buffer[..count], clock);
             heard(seat, id, answer);
         }
         Ok(None) => seat.waits = true,
@@ -91,6 +100,17 @@ fn draw<S: SearchKeeper, W>(hub: &mut Hub<S>, seat: &mut Seat<W>, id: u64)
         }
         Ok(Drawn::Finished) => seat.become_stage(Stage::Leaving(Ending::Served), b""),
         Err(_) => seat.become_stage(Stage::Leaving(Ending::Failed), b""),
+    }
+}
+
+/// Where a session is whose post waited, once the posts were made: its reply stands, or its post is left, and its client is to hear of that.
+fn ask<S: SearchKeeper, W>(hub: &mut Hub<S>, seat: &mut Seat<W>, id: u64)
+    ensures run { HasRun (HubRun S.site_state S.lacks S.crash_states S.represents) hub.old hub.new [] [] (λ es os. Asks id (trace [] es os) (state_of seat.new)) }
+    ensures wire { seat.new.wire ≡ seat.old.wire }
+{
+    match hub.draw(id, &mut []) {
+        Ok(_) => seat.become_stage(Stage::Replying(id), b""),
+        Err(fault) => refused(seat, fault),
     }
 }
 
@@ -159,7 +179,21 @@ pub fn take_turn<S: SearchKeeper, W: ReadyWire, C: Clock>(
             follow(hub, seat.stage, id);
         }
         Stage::Leaving(ending) => finish(seat, ending),
+        Stage::Waiting(_) => {}
         Stage::Closed(_) => {}
+    }
+}
+
+/// A session whose post waited learns what came of it, once the posts that wait were made.
+pub fn learn<S: SearchKeeper, W: ReadyWire>(hub: &mut Hub<S>, seat: &mut Seat<W>)
+    ensures { HasRun (HubRun S.site_state S.lacks S.crash_states S.represents) hub.old hub.new [] [] (λ es os. For W.calls Learns seat.old es os seat.new) }
+{
+    match seat.stage {
+        Stage::Waiting(id) => {
+            ask(hub, seat, id);
+            follow(hub, seat.stage, id);
+        }
+        _ => {}
     }
 }
 
@@ -168,7 +202,7 @@ pub fn dismiss<S: SearchKeeper, W: ReadyWire>(hub: &mut Hub<S>, seat: &mut Seat<
     ensures { HasRun (HubRun S.site_state S.lacks S.crash_states S.represents) hub.old hub.new [] [] (λ es os. For W.calls Dismissed seat.old es os seat.new) }
 {
     match seat.stage {
-        Stage::Listening(id) | Stage::Replying(id) => {
+        Stage::Listening(id) | Stage::Waiting(id) | Stage::Replying(id) => {
             let _ = hub.leave(id);
             shut(seat, Ending::Late);
         }

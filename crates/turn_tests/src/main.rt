@@ -3,7 +3,9 @@
 #![tactic(auto)]
 
 mod crowd;
+mod groups;
 mod memory_wire;
+mod place;
 mod shy_wire;
 mod site;
 mod tree;
@@ -11,7 +13,9 @@ mod visits;
 
 use crowd::CROWD;
 use group_hub::Hub;
+use groups::{GROUP, show_no_room};
 use memory_wire::{MemoryWire, StandingClock};
+use place::Place;
 use site::{NotReady, memory_hub};
 use socket_wires::{Gate, SystemClock, serve_on};
 use std::alloc::Global;
@@ -78,10 +82,22 @@ fn rounds_of(alloc: Global, name: &str) -> Result<Vec<Vec<MemoryWire>>, NotReady
     if name == CROWD {
         return crowd::rounds(alloc);
     }
+    if name == GROUP {
+        return groups::rounds(alloc);
+    }
     let mut rounds = Vec::new(alloc);
     rounds.push(wires_of(alloc, name)?)?;
     Ok(rounds)
 }
+
+/// The tests in which posts wait for one another.
+const GROUPED: [&str; 5] = [
+    "post in three reads",
+    "post in one read",
+    "post on the second wire",
+    "failed write",
+    GROUP,
+];
 
 const NAMES: [&str; 9] = [
     "post in three reads",
@@ -129,16 +145,12 @@ fn serve_over<S: SearchKeeper + Drop>(hub: Hub<S>, rounds: &mut [Round]) {
 }
 
 /// Serves rounds of wires over the site of the tests, in memory or on a disk.
-fn serve(
-    alloc: Global,
-    wires: Vec<Vec<MemoryWire>>,
-    is_on_disk: bool,
-) -> Result<Vec<Round>, NotReady> {
+fn serve(alloc: Global, wires: Vec<Vec<MemoryWire>>, place: Place) -> Result<Vec<Round>, NotReady> {
     let mut rounds = ready_rounds(alloc, wires)?;
-    if is_on_disk {
-        serve_over(tree_hub(alloc)?, &mut rounds);
+    if place.is_on_disk {
+        serve_over(tree_hub(alloc, place.is_grouped)?, &mut rounds);
     } else {
-        serve_over(memory_hub(alloc)?, &mut rounds);
+        serve_over(memory_hub(alloc, place.is_grouped)?, &mut rounds);
     }
     Ok(rounds)
 }
@@ -157,11 +169,10 @@ fn show_round(rt: &HostRuntime, round: &Round) -> io::Result<()> {
     Ok(())
 }
 
-fn show(rt: &HostRuntime, name: &str, is_on_disk: bool) -> io::Result<()> {
-    let place = if is_on_disk { ", on a disk" } else { "" };
-    println!(rt; "{name}{place}")?;
+fn show(rt: &HostRuntime, name: &str, place: Place) -> io::Result<()> {
+    println!(rt; "{name}{}", place.words())?;
     let answered = match rounds_of(rt.alloc(), name) {
-        Ok(wires) => serve(rt.alloc(), wires, is_on_disk),
+        Ok(wires) => serve(rt.alloc(), wires, place),
         Err(fault) => Err(fault),
     };
     let Ok(rounds) = answered else {
@@ -179,7 +190,7 @@ fn show_loopback(rt: &HostRuntime) -> io::Result<()> {
     let port = listener.local_addr()?.port();
     let mut client = TcpStream::connect(rt, ("127.0.0.1", port))?;
     client.write_all(b"/about\r\n")?;
-    let Ok(mut hub) = memory_hub(rt.alloc()) else {
+    let Ok(mut hub) = memory_hub(rt.alloc(), false) else {
         return Err(io::ErrorKind::OutOfMemory.into());
     };
     let mut clock = SystemClock::new(rt);
@@ -199,24 +210,74 @@ fn show_loopback(rt: &HostRuntime) -> io::Result<()> {
     }
 }
 
-fn main(rt: HostRuntime) -> io::Result<()> {
+/// The tests of each kind of hub.
+fn show_turns(rt: &HostRuntime) -> io::Result<()> {
     for name in NAMES {
-        show(&rt, name, false)?;
+        show(rt, name, Place::MEMORY)?;
     }
     for name in NAMES {
-        show(&rt, name, true)?;
+        show(rt, name, Place::DISK)?;
     }
+    for name in GROUPED {
+        show(rt, name, Place::MEMORY.grouped())?;
+    }
+    for name in GROUPED {
+        show(rt, name, Place::DISK.grouped())?;
+    }
+    Ok(())
+}
+
+/// The same over wires that never wait.
+fn show_all_visits(rt: &HostRuntime) -> io::Result<()> {
+    let alloc = rt.alloc();
     for name in NAMES {
-        show_visits(&rt, name, rounds_of(rt.alloc(), name), all_passes(), false)?;
+        show_visits(
+            rt,
+            name,
+            rounds_of(alloc, name),
+            all_passes(),
+            Place::MEMORY,
+        )?;
     }
     show_visits(
-        &rt,
+        rt,
         "time over",
-        rounds_of(rt.alloc(), "writes in part"),
+        rounds_of(alloc, "writes in part"),
         4,
-        false,
+        Place::MEMORY,
     )?;
-    show_visits(&rt, CROWD, rounds_of(rt.alloc(), CROWD), all_passes(), true)?;
+    show_visits(
+        rt,
+        CROWD,
+        rounds_of(alloc, CROWD),
+        all_passes(),
+        Place::DISK,
+    )?;
+    for name in GROUPED {
+        show_visits(
+            rt,
+            name,
+            rounds_of(alloc, name),
+            all_passes(),
+            Place::MEMORY.grouped(),
+        )?;
+    }
+    for name in GROUPED {
+        show_visits(
+            rt,
+            name,
+            rounds_of(alloc, name),
+            all_passes(),
+            Place::DISK.grouped(),
+        )?;
+    }
+    Ok(())
+}
+
+fn main(rt: HostRuntime) -> io::Result<()> {
+    show_turns(&rt)?;
+    show_all_visits(&rt)?;
+    show_no_room(&rt)?;
     show_log_line(&rt)?;
     show_loopback(&rt)
 }

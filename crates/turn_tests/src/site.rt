@@ -1,4 +1,7 @@
 // The site of the tests: a text, a board and a form for it, a search, and a top menu.
+ghost use Rattle.std.specs.Prelude.{◌≡◌, [], IfOk, IsTrue};
+ghost use Rattle.host_types.specs.Site.{IsSite};
+
 use group_hub::Hub;
 use host_types::{
     Admin, Body, Bytes, Change, Entry, EntryList, Host, Item, Question, QuestionList, Refused,
@@ -37,7 +40,7 @@ impl From<SiteFault> for NotReady {
 }
 
 /// A change that puts an item.
-fn put(alloc: Global, selector: &[u8], title: &[u8], body: Body) -> Result<Change, NotReady> {
+pub fn put(alloc: Global, selector: &[u8], title: &[u8], body: Body) -> Result<Change, NotReady> {
     let item = Item {
         title: Title::new(title)?,
         stamp: Stamp::start(),
@@ -90,36 +93,55 @@ fn change(alloc: Global, place: usize) -> Result<Change, NotReady> {
     }
 }
 
-/// A site in memory with all of it.
-fn test_site(alloc: Global) -> Result<MemSite, NotReady> {
-    let mut site = MemSite::new(
+/// A site in memory whose top menu has no entries.
+fn empty_site(alloc: Global) -> Result<MemSite, NotReady>
+    ensures { IfOk result IsSite }
+{
+    Ok(MemSite::new(
         alloc,
         Host::new(b"localhost")?,
         7070,
         Admin::new(b"Ada <ada@localhost>")?,
         Title::new(b"Top")?,
         Stamp::start(),
-    )?;
-    for place in 0..CHANGES {
-        site.change(change(alloc, place)?, Stamp::start())?;
-    }
-    Ok(site)
-}
-
-/// A hub over that site.
-pub fn memory_hub(alloc: Global) -> Result<Hub<MemSite>, NotReady> {
-    match Hub::new(alloc, test_site(alloc)?, 1) {
-        Ok(hub) => Ok(hub),
-        Err(_) => Err(NotReady),
-    }
+    )?)
 }
 
 /// Puts all of it into the site of a hub.
-pub fn fill<S: SearchKeeper>(alloc: Global, hub: &mut Hub<S>) -> Result<(), NotReady> {
+fn fill<S: SearchKeeper>(alloc: Global, hub: &mut Hub<S>) -> Result<(), NotReady> {
     for place in 0..CHANGES {
         if hub.admin(change(alloc, place)?, Stamp::start()).is_err() {
             return Err(NotReady);
         }
     }
     Ok(())
+}
+
+/// A hub over a site that gets all of it, in which posts wait or don't. No pin of the site is out.
+pub fn filled_hub<S: SearchKeeper + Drop>(
+    alloc: Global,
+    site: S,
+    is_grouped: bool,
+) -> Result<Hub<S>, NotReady>
+    requires unpinned { (S.site_state site).pins ≡ [] }
+    requires valid { IsTrue (S.site_state site).honest → ∥ IsSite (S.site_state site).site ∥₁ }
+{
+    if !site.is_usable() {
+        return Err(NotReady);
+    }
+    let Ok(mut hub) = Hub::started(alloc, is_grouped, site, 1) else {
+        return Err(NotReady);
+    };
+    match fill(alloc, &mut hub) {
+        Ok(()) => Ok(hub),
+        Err(fault) => {
+            let _ = hub.close();
+            Err(fault)
+        }
+    }
+}
+
+/// Such a hub over a site in memory.
+pub fn memory_hub(alloc: Global, is_grouped: bool) -> Result<Hub<MemSite>, NotReady> {
+    filled_hub(alloc, empty_site(alloc)?, is_grouped)
 }

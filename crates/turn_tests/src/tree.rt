@@ -1,7 +1,8 @@
 // The same site over a tree on a disk in memory.
-ghost use Rattle.std.specs.Prelude.{◌≡◌, [], IfOk};
+ghost use Rattle.std.specs.Prelude.{◌≡◌, [], IfOk, IsTrue};
+ghost use Rattle.host_types.specs.Site.{IsSite};
 
-use crate::site::{NotReady, fill};
+use crate::site::{NotReady, filled_hub};
 use cow_tree::TreeKeeper;
 use group_hub::Hub;
 use host_on_disk::open_site;
@@ -14,11 +15,12 @@ use std::alloc::Global;
 /// How many pages the disk has.
 const PAGES: u16 = 64;
 
-type TreeSite = DiskSite<TreeKeeper<MemDisk>>;
+pub type TreeSite = DiskSite<TreeKeeper<MemDisk>>;
 
 /// An empty site on a disk. No pin of it is out.
 fn empty_tree(alloc: Global) -> Result<TreeSite, NotReady>
-    ensures { IfOk result (λ site. (⟦<DiskSite<TreeKeeper<MemDisk>> as SiteKeeper>⟧.site_state site).pins ≡ []) }
+    ensures unpinned { IfOk result (λ site. (⟦<DiskSite<TreeKeeper<MemDisk>> as SiteKeeper>⟧.site_state site).pins ≡ []) }
+    ensures valid { IfOk result (λ site. IsTrue (⟦<DiskSite<TreeKeeper<MemDisk>> as SiteKeeper>⟧.site_state site).honest → ∥ IsSite (⟦<DiskSite<TreeKeeper<MemDisk>> as SiteKeeper>⟧.site_state site).site ∥₁) }
 {
     let names = SiteNames::new(b"localhost", b"Ada <ada@localhost>", b"Top")?;
     let mut disk = MemDisk::new(alloc, 8 * usize::from(PAGES))?;
@@ -39,20 +41,7 @@ fn empty_tree(alloc: Global) -> Result<TreeSite, NotReady>
     }
 }
 
-/// A hub over the site of the tests on a disk.
-pub fn tree_hub(alloc: Global) -> Result<Hub<TreeSite>, NotReady> {
-    let site = empty_tree(alloc)?;
-    if !site.is_usable() {
-        return Err(NotReady);
-    }
-    let Ok(mut hub) = Hub::new(alloc, site, 1) else {
-        return Err(NotReady);
-    };
-    match fill(alloc, &mut hub) {
-        Ok(()) => Ok(hub),
-        Err(fault) => {
-            let _ = hub.close();
-            Err(fault)
-        }
-    }
+/// A hub over the site of the tests on a disk, in which posts wait or don't.
+pub fn tree_hub(alloc: Global, is_grouped: bool) -> Result<Hub<TreeSite>, NotReady> {
+    filled_hub(alloc, empty_tree(alloc)?, is_grouped)
 }

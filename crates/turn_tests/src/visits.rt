@@ -1,12 +1,13 @@
 // Sessions over wires that never wait.
 use crate::memory_wire::{MemoryWire, StandingClock};
+use crate::place::Place;
 use crate::shy_wire::ShyWire;
 use crate::site::{NotReady, memory_hub};
 use crate::tree::tree_hub;
 use group_hub::Hub;
 use host_types::Stamp;
 use ready_sockets::{Head, Record, log_line};
-use ready_turns::{Ending, Seat, dismiss, join, take_turn};
+use ready_turns::{Ending, Seat, dismiss, join, learn, take_turn};
 use std::alloc::Global;
 use std::io;
 use word_index::SearchKeeper;
@@ -14,7 +15,7 @@ use word_index::SearchKeeper;
 /// How many passes are made, at most.
 const MOST_PASSES: u32 = 1000;
 
-/// Serves wires together over a hub: all have a turn, and then all are ready again. Whoever is still in after so many passes goes.
+/// Serves wires together over a hub: all have a turn, then the posts that wait are made, and then all are ready again. Whoever is still in after so many passes goes.
 fn serve_round<S: SearchKeeper>(
     alloc: Global,
     hub: &mut Hub<S>,
@@ -32,6 +33,10 @@ fn serve_round<S: SearchKeeper>(
         for seat in seats.iter_mut() {
             take_turn(hub, seat, &mut clock);
             seat.wake();
+        }
+        let _ = hub.flush();
+        for seat in seats.iter_mut() {
+            learn(hub, seat);
         }
     }
     for seat in seats.iter_mut() {
@@ -74,12 +79,12 @@ fn serve(
     alloc: Global,
     rounds: Vec<Vec<MemoryWire>>,
     passes: u32,
-    is_on_disk: bool,
+    place: Place,
 ) -> Result<Vec<Seat<ShyWire>>, NotReady> {
-    if is_on_disk {
-        return serve_over(alloc, tree_hub(alloc)?, rounds, passes);
+    if place.is_on_disk {
+        return serve_over(alloc, tree_hub(alloc, place.is_grouped)?, rounds, passes);
     }
-    serve_over(alloc, memory_hub(alloc)?, rounds, passes)
+    serve_over(alloc, memory_hub(alloc, place.is_grouped)?, rounds, passes)
 }
 
 /// Prints how each session ended, and what its wire was given.
@@ -88,12 +93,11 @@ pub fn show_visits(
     name: &str,
     rounds: Result<Vec<Vec<MemoryWire>>, NotReady>,
     passes: u32,
-    is_on_disk: bool,
+    place: Place,
 ) -> io::Result<()> {
-    let place = if is_on_disk { ", on a disk" } else { "" };
-    println!(rt; "{name}{place}, where nobody waits")?;
+    println!(rt; "{name}{}, where nobody waits", place.words())?;
     let served = match rounds {
-        Ok(rounds) => serve(rt.alloc(), rounds, passes, is_on_disk),
+        Ok(rounds) => serve(rt.alloc(), rounds, passes, place),
         Err(fault) => Err(fault),
     };
     let Ok(seats) = served else {

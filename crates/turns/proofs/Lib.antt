@@ -3,3 +3,4 @@ pub mod Runnings
 pub mod Passing
 pub mod TurnsMade
 pub mod AllClosed
+pub mod Telling

@@ -15,11 +15,20 @@ use Rattle.group_world.specs.declared.answer.Drawn.{Drawn}
 use Rattle.group_world.specs.declared.answer.Drawn.TheVariants as drawn
 use Rattle.turns.specs.Runs.{moment_of}
 use Rattle.turns.specs.WireCalls.{WireCall, Read, ReadFailed, Closed, HasMade, IsSent}
-use Rattle.turns.specs.Turns.{Trace, trace, nothing, is_closed, For, Turn, Ends, Joins, Takes, Follows, Leaves, Hears, HearsNothing, Replies, StepOf, InOrder, Times, Both, AreClosed, Passes, heard_event, heard_stage, heard_reply, drawn_bytes, replied_stage, joined_stage, joined_calls}
+use Rattle.turns.specs.Turns.{Trace, trace, nothing, is_closed, For, Turn, Learns, Ends, Joins, Takes, Follows, Leaves, Hears, HearsNothing, IsTold, Asks, Replies, StepOf, InOrder, Times, Both, IsFlushed, Pass, AreClosed, Passes, heard_event, heard_stage, heard_reply, drawn_bytes, learned_stage, replied_stage, joined_stage, joined_calls}
 use Rattle.turns.specs.declared.connection.Connection.{Connection}
 use Rattle.turns.specs.declared.connection.Stage.{Stage}
-use Rattle.turns.specs.declared.connection.Stage.TheVariants.{New, Listening, Replying, Served, Left}
+use Rattle.turns.specs.declared.connection.Stage.TheVariants.{New, Listening, Waiting, Replying, Served, Left}
 use Rattle.turns.proofs.Sendings.{sent_none}
+
+abbrev ok_of : Drawn → Result Drawn HubFault
+ok_of d = Ok d
+
+-- no more bytes are drawn than there is room for
+pub draws_few : (room : ℕ) (result : Result Drawn HubFault) (buffer : List ℕ) → length buffer ≡ room → length (drawn_bytes (draw_outcome result buffer)) ≤ room
+draws_few room (Ok (drawn.Bytes n)) buffer size = omega (arith, size, length-take n buffer)
+draws_few room (Ok drawn.Finished) buffer size = omega arith
+draws_few room (Err fault) buffer size = omega arith
 
 pub sent_nothing : (calls : List WireCall) (bytes : List ℕ) → bytes ≡ [] → HasMade calls calls (λ made. (whole : Bool) × IsSent bytes made whole)
 sent_nothing calls bytes none =
@@ -36,21 +45,19 @@ heard_moment id now [] = refl
 heard_moment id now (b ∷ bytes) = refl
 
 -- a read, and the sending of a reply to it
-pub heard_made : (id : ℕ) (old mid new : List WireCall) (piece : List ℕ) (now : ℕ) (outcome : Outcome) (after : Stage) → length piece ≤ 512 → mid ≡ old ++ Read 512 piece ∷ [] → HasMade mid new (λ made. (whole : Bool) × IsSent (heard_reply outcome) made whole) → after ≡ heard_stage id outcome →
-    HasMade old new (λ made. Hears id (trace made (heard_event id piece now ∷ []) (outcome ∷ [])) after ⊎ HearsNothing (trace made (heard_event id piece now ∷ []) (outcome ∷ [])) after)
-heard_made id old mid new piece now outcome after room read sent is = (
+pub heard_made : (id : ℕ) (old mid new : List WireCall) (piece : List ℕ) (es : List Event) (os : List Outcome) (outcome : Outcome) (after : Stage) → length piece ≤ 512 → mid ≡ old ++ Read 512 piece ∷ [] → IsTold id piece es os outcome →
+    HasMade mid new (λ made. (whole : Bool) × IsSent (heard_reply outcome) made whole) → after ≡ heard_stage id outcome → HasMade old new (λ made. Hears id (trace made es os) after ⊎ HearsNothing (trace made es os) after)
+heard_made id old mid new piece es os outcome after room read told sent is = (
   Read 512 piece ∷ sent.0,
   sent.1 ∙ ap (λ l. l ++ sent.0) read ∙ append_assoc old (Read 512 piece ∷ []) sent.0,
   inl (record {
     piece = piece;
-    now = now;
     outcome = outcome;
     sent = sent.0;
     whole = sent.2.0;
     room = room;
     calls_are = refl;
-    events_are = refl;
-    outcomes_are = refl;
+    told = told;
     reply = sent.2.1;
     after_is = is;
   }),
@@ -62,6 +69,37 @@ heard_nothing id old new after read is = (ReadFailed 512 ∷ [], read, inr (reco
 -- a draw, and its sending
 pub replied_made : (id : ℕ) (old new : List WireCall) (outcome : Outcome) (whole : Bool) (after : Stage) → length (drawn_bytes outcome) ≤ 512 → HasMade old new (λ made. IsSent (drawn_bytes outcome) made whole) → after ≡ replied_stage id outcome whole → HasMade old new (λ made. Replies id (trace made (events.Draw id 512 ∷ []) (outcome ∷ [])) after)
 replied_made id old new outcome whole after room sent is = (sent.0, sent.1, record { outcome = outcome; whole = whole; room = room; events_are = refl; outcomes_are = refl; sent = sent.2; after_is = is })
+
+-- a session whose post waited is asked, and its client hears of what came of it
+pub asked_made : (id : ℕ) (old new : List WireCall) (outcome : Outcome) (after : Stage) → length (drawn_bytes outcome) ≤ 0 → HasMade old new (λ made. (whole : Bool) × IsSent (heard_reply outcome) made whole) → after ≡ learned_stage id outcome → HasMade old new (λ made. Asks id (trace made (events.Draw id 0 ∷ []) (outcome ∷ [])) after)
+asked_made id old new outcome after few sent is =
+    (sent.0, sent.1, record { outcome = outcome; whole = sent.2.0; none = none_of (drawn_bytes outcome) few; events_are = refl; outcomes_are = refl; sent = sent.2.1; after_is = is })
+  where
+    none_of : (bytes : List ℕ) → length bytes ≤ 0 → bytes ≡ []
+    none_of [] few = refl
+    none_of (b ∷ bytes) few = absurd (omega (arith, few))
+
+-- its reply stands
+pub learned_well : (id : ℕ) (calls : List WireCall) (result : Result Drawn HubFault) (d : Drawn) (buffer : List ℕ) → length buffer ≡ 0 → result ≡ Ok d → HasMade calls calls (λ made. Asks id (trace made (events.Draw id 0 ∷ []) (draw_outcome result buffer ∷ [])) (Replying id))
+learned_well id calls result d buffer size is = asked_made id calls calls (draw_outcome result buffer) (Replying id) (draws_few 0 result buffer size)
+    (sent_nothing calls (heard_reply (draw_outcome result buffer)) (ap (λ r. heard_reply (draw_outcome r buffer)) is ∙ unheard d)) (sym (ap (λ r. learned_stage id (draw_outcome r buffer)) is ∙ replies d))
+  where
+    unheard : (d : Drawn) → heard_reply (draw_outcome (ok_of d) buffer) ≡ []
+    unheard (drawn.Bytes n) = refl
+    unheard drawn.Finished = refl
+
+    replies : (d : Drawn) → learned_stage id (draw_outcome (ok_of d) buffer) ≡ Replying id
+    replies (drawn.Bytes n) = refl
+    replies drawn.Finished = refl
+
+-- or a fault, of which it may hear
+pub learned_fault : (id : ℕ) (old new : List WireCall) (result : Result Drawn HubFault) (fault : HubFault) (buffer : List ℕ) → length buffer ≡ 0 → result ≡ Err fault → HasMade old new (λ made. (whole : Bool) × IsSent (heard_reply (outcomes.Fault fault)) made whole) →
+    HasMade old new (λ made. Asks id (trace made (events.Draw id 0 ∷ []) (draw_outcome result buffer ∷ [])) Left)
+learned_fault id old new result fault buffer size is sent = asked_made id old new (draw_outcome result buffer) Left (draws_few 0 result buffer size)
+    (sent.0, sent.1, (sent.2.0, subst (λ o. IsSent (heard_reply o) sent.0 sent.2.0) (sym outcome) sent.2.1)) (ap (learned_stage id) (sym outcome))
+  where
+    outcome : draw_outcome result buffer ≡ outcomes.Fault fault
+    outcome = ap (λ r. draw_outcome r buffer) is
 
 pub left_made : (id : ℕ) (old new : List WireCall) (outcome : Outcome) → new ≡ old ++ Closed ∷ [] → HasMade old new (λ made. Leaves id (trace made (events.Leave id ∷ []) (outcome ∷ [])))
 left_made id old new outcome closed = (Closed ∷ [], closed, record { outcome = outcome; is = refl })
@@ -91,6 +129,12 @@ module _ {W : Type 0} (calls : W → List WireCall) (old new : Connection W) whe
       let m = takes_made id (Replies id) (calls old.wire) mid (calls new.wire) after es fs os ps first second in
       record { made = m.0; calls_are = m.1; does = subst (λ s. Turn s (trace m.0 (es ++ fs) (os ++ ps)) new.stage) (sym was) (subst (λ s. Turn (Replying id) (trace m.0 (es ++ fs) (os ++ ps)) s) (sym is) m.2) }
 
+  pub learned : (id : ℕ) (after : Stage) (mid : List WireCall) (es fs : List Event) (os ps : List Outcome) → old.stage ≡ Waiting id → new.stage ≡ after → HasMade (calls old.wire) mid (λ made. Asks id (trace made es os) after) →
+      HasMade mid (calls new.wire) (λ made. Follows id (is_closed after) (trace made fs ps)) → For calls Learns old (es ++ fs) (os ++ ps) new
+  learned id after mid es fs os ps was is first second =
+      let m = takes_made id (Asks id) (calls old.wire) mid (calls new.wire) after es fs os ps first second in
+      record { made = m.0; calls_are = m.1; does = subst (λ s. Learns s (trace m.0 (es ++ fs) (os ++ ps)) new.stage) (sym was) (subst (λ s. Learns (Waiting id) (trace m.0 (es ++ fs) (os ++ ps)) s) (sym is) m.2) }
+
   -- nothing is done for a connection that is as it was
   pub does_nothing : (Does : Stage → Trace → Stage → Type 0) → new ≡ old → Does old.stage nothing old.stage → For calls Does old [] [] new
   does_nothing Does same rests = subst (λ c. For calls Does old [] [] c) (sym same) (record { made = []; calls_are = sym (append-nil (calls old.wire)); does = rests })
@@ -102,29 +146,26 @@ times_more n step old mid new es fs os ps before one = record { mid = mid; first
 pub both_made : {X : Type 0} (First Second : StepOf X) (old mid new : X) (es fs : List Event) (os ps : List Outcome) → First old es os mid → Second mid fs ps new → Both First Second old (es ++ fs) (os ++ ps) new
 both_made First Second old mid new es fs os ps first later = record { mid = mid; first_events = es; first_outcomes = os; later_events = fs; later_outcomes = ps; first = first; later = later; events_are = refl; outcomes_are = refl }
 
+-- the posts that wait are made
+pub flush_made : {X : Type 0} (x : X) (outcome : Outcome) → IsFlushed x (events.Flush ∷ []) (outcome ∷ []) x
+flush_made x outcome = record { outcome = outcome; events_are = refl; outcomes_are = refl; same = refl }
+
 -- ---- outcomes of the hub's calls
 
 pub heard_is : (answer : Result InputStatus HubFault) (status : InputStatus) → answer ≡ Ok status → bytes_outcome answer ≡ bytes_outcome (Ok status)
 heard_is answer status is = ap bytes_outcome is
 
-pub told_nothing : (fault : HubFault) → ((need free : ℕ) → fault ≡ faults.Full need free → ⊥) → heard_reply (outcomes.Fault fault) ≡ []
-told_nothing (faults.Full need free) other = absurd (other need free refl)
-told_nothing fault other = refl
+pub told_nothing : (fault : HubFault) → ((need free : ℕ) → fault ≡ faults.Full need free → ⊥) → (fault ≡ faults.Crowded → ⊥) → (fault ≡ faults.NotReady → ⊥) → heard_reply (outcomes.Fault fault) ≡ []
+told_nothing (faults.Full need free) full crowded waits = absurd (full need free refl)
+told_nothing faults.Crowded full crowded waits = absurd (crowded refl)
+told_nothing faults.NotReady full crowded waits = absurd (waits refl)
+told_nothing fault full crowded waits = refl
 
 pub fault_is : (answer : Result InputStatus HubFault) (fault : HubFault) → answer ≡ Err fault → bytes_outcome answer ≡ outcomes.Fault fault
 fault_is answer fault is = ap bytes_outcome is
 
-abbrev ok_of : Drawn → Result Drawn HubFault
-ok_of d = Ok d
-
 pub drawn_is : (result : Result Drawn HubFault) (d : Drawn) (count : ℕ) (buffer : List ℕ) → result ≡ Ok d → d ≡ drawn.Bytes count → draw_outcome result buffer ≡ outcomes.Drawn (take count buffer)
 drawn_is result d count buffer is which = ap (λ r. draw_outcome r buffer) is ∙ ap (λ (x : Drawn). draw_outcome (ok_of x) buffer) which
-
--- no more bytes are drawn than there is room for
-pub draws_few : (room : ℕ) (result : Result Drawn HubFault) (buffer : List ℕ) → length buffer ≡ room → length (drawn_bytes (draw_outcome result buffer)) ≤ room
-draws_few room (Ok (drawn.Bytes n)) buffer size = omega (arith, size, length-take n buffer)
-draws_few room (Ok drawn.Finished) buffer size = omega arith
-draws_few room (Err fault) buffer size = omega arith
 
 -- as many as fit
 pub take_min : (count room : ℕ) (buffer : List ℕ) → length buffer ≡ room → take (min count room) buffer ≡ take count buffer
@@ -150,6 +191,7 @@ replied_fault id calls outcome fault room is =
 pub joins_rest : (stage : Stage) → (stage ≡ New → ⊥) → Joins stage nothing stage
 joins_rest New other = absurd (other refl)
 joins_rest (Listening id) other = (refl, refl)
+joins_rest (Waiting id) other = (refl, refl)
 joins_rest (Replying id) other = (refl, refl)
 joins_rest Served other = (refl, refl)
 joins_rest Left other = (refl, refl)
@@ -157,16 +199,26 @@ joins_rest Left other = (refl, refl)
 pub turn_rests : (stage : Stage) → ((id : ℕ) → stage ≡ Listening id → ⊥) → ((id : ℕ) → stage ≡ Replying id → ⊥) → Turn stage nothing stage
 turn_rests New a b = (refl, refl)
 turn_rests (Listening id) a b = absurd (a id refl)
+turn_rests (Waiting id) a b = (refl, refl)
 turn_rests (Replying id) a b = absurd (b id refl)
 turn_rests Served a b = (refl, refl)
 turn_rests Left a b = (refl, refl)
 
-pub ends_rest : (stage : Stage) → ((id : ℕ) → stage ≡ Listening id → ⊥) → ((id : ℕ) → stage ≡ Replying id → ⊥) → Ends stage nothing stage
-ends_rest New a b = (refl, refl)
-ends_rest (Listening id) a b = absurd (a id refl)
-ends_rest (Replying id) a b = absurd (b id refl)
-ends_rest Served a b = (refl, refl)
-ends_rest Left a b = (refl, refl)
+pub learns_rests : (stage : Stage) → ((id : ℕ) → stage ≡ Waiting id → ⊥) → Learns stage nothing stage
+learns_rests (Waiting id) a = absurd (a id refl)
+learns_rests New a = (refl, refl)
+learns_rests (Listening id) a = (refl, refl)
+learns_rests (Replying id) a = (refl, refl)
+learns_rests Served a = (refl, refl)
+learns_rests Left a = (refl, refl)
+
+pub ends_rest : (stage : Stage) → ((id : ℕ) → stage ≡ Listening id → ⊥) → ((id : ℕ) → stage ≡ Waiting id → ⊥) → ((id : ℕ) → stage ≡ Replying id → ⊥) → Ends stage nothing stage
+ends_rest New a w b = (refl, refl)
+ends_rest (Listening id) a w b = absurd (a id refl)
+ends_rest (Waiting id) a w b = absurd (w id refl)
+ends_rest (Replying id) a w b = absurd (b id refl)
+ends_rest Served a w b = (refl, refl)
+ends_rest Left a w b = (refl, refl)
 
 -- a session that joined, or could not
 pub joined_made : {W : Type 0} (calls : W → List WireCall) (old new : Connection W) (outcome : Outcome) → old.stage ≡ New → calls new.wire ≡ calls old.wire ++ joined_calls outcome → new.stage ≡ joined_stage outcome → For calls Joins old (events.Join ∷ []) (outcome ∷ []) new
@@ -198,7 +250,7 @@ pub times_next : {X : Type 0} (n : ℕ) (step : StepOf X) (old mid new : X) (es 
 times_next n step old mid new es fs os ps before one = subst (λ m. Times m step old (es ++ fs) (os ++ ps) new) (sym (add-one n)) (times_more n step old mid new es fs os ps before one)
 
 -- the passes end
-pub passes_made : {W : Type 0} (calls : W → List WireCall) (count : ℕ) (old new : List (Connection W)) (es : List Event) (os : List Outcome) → count ≤ 1000000 → (count < 1000000 → AreClosed new) → Times count (InOrder (For calls Turn)) old es os new → Passes calls old es os new
+pub passes_made : {W : Type 0} (calls : W → List WireCall) (count : ℕ) (old new : List (Connection W)) (es : List Event) (os : List Outcome) → count ≤ 1000000 → (count < 1000000 → AreClosed new) → Times count (Pass calls) old es os new → Passes calls old es os new
 passes_made calls count old new es os few until passes = record { count = count; few = few; passes = passes; until = until }
 
 -- a client hears nothing of what the hub took

@@ -1,16 +1,16 @@
 -- What is done for a session in its turn, and how turns make up the whole.
-use Rattle.std.specs.Prelude.{◌≡◌, ◌⊎◌, ◌≤◌, ◌<◌, ℕ, zero, suc, Bool, true, false, List, [], ◌∷◌, ◌++◌, All, length}
+use Rattle.std.specs.Prelude.{◌≡◌, ◌≢◌, ◌⊎◌, ◌≤◌, ◌<◌, ℕ, zero, suc, Bool, true, false, List, [], ◌∷◌, ◌++◌, All, length}
 use Rattle.text_writer.specs.Errors.{error_reply}
 use Rattle.text_writer.specs.declared.error.ErrorText.TheVariants.{TryAgainLater}
 use Rattle.group_world.specs.declared.event.Event.{Event}
 use Rattle.group_world.specs.declared.event.Event.TheVariants as events
 use Rattle.group_world.specs.declared.event.Outcome.{Outcome}
 use Rattle.group_world.specs.declared.event.Outcome.TheVariants as outcomes
-use Rattle.group_world.specs.declared.fault.HubFault.TheVariants.{Full}
+use Rattle.group_world.specs.declared.fault.HubFault.TheVariants.{Full, Crowded, NotReady}
 use Rattle.turns.specs.WireCalls.{WireCall, Read, ReadFailed, Closed, IsSent}
 use Rattle.turns.specs.declared.connection.Connection.{Connection}
 use Rattle.turns.specs.declared.connection.Stage.{Stage}
-use Rattle.turns.specs.declared.connection.Stage.TheVariants.{New, Listening, Replying, Served, Left}
+use Rattle.turns.specs.declared.connection.Stage.TheVariants.{New, Listening, Waiting, Replying, Served, Left}
 
 -- ---- one connection
 
@@ -33,6 +33,7 @@ then s t = record { calls = s.calls ++ t.calls; events = s.events ++ t.events; o
 abbrev pub is_closed : Stage → Bool
 is_closed New = false
 is_closed (Listening id) = false
+is_closed (Waiting id) = false
 is_closed (Replying id) = false
 is_closed Served = true
 is_closed Left = true
@@ -62,28 +63,33 @@ abbrev pub heard_event : ℕ → List ℕ → ℕ → Event
 heard_event id [] now = events.End id now
 heard_event id (b ∷ bytes) now = events.Bytes id (b ∷ bytes) now
 
--- In these hubs each post is made at once, so none waits. A session whose post did would end.
 abbrev pub heard_stage : ℕ → Outcome → Stage
 heard_stage id outcomes.More = Listening id
+heard_stage id outcomes.Waiting = Waiting id
 heard_stage id outcomes.Ready = Replying id
 heard_stage id outcome = Left
 
--- Where there is no room for its post the client is asked to try again later; it hears of no other fault.
+-- A client is asked to try again later where there is no room for its post, too many wait, or its own still waits once the others were made; it hears of no other fault.
 abbrev pub heard_reply : Outcome → List ℕ
 heard_reply (outcomes.Fault (Full need free)) = error_reply true TryAgainLater []
+heard_reply (outcomes.Fault Crowded) = error_reply true TryAgainLater []
+heard_reply (outcomes.Fault NotReady) = error_reply true TryAgainLater []
 heard_reply outcome = []
 
--- One read into room for 512 bytes, which the hub gets as one event at a moment.
+-- The hub gets a read as one event at a moment. Where no more posts may wait those that do are made, and it gets it once more, at a later moment; what it answers last counts.
+pub data IsTold (id : ℕ) (piece : List ℕ) (es : List Event) (os : List Outcome) (outcome : Outcome) : Type 0 where
+  once : (now : ℕ) → es ≡ heard_event id piece now ∷ [] → os ≡ outcome ∷ [] → outcome ≢ outcomes.Fault Crowded → IsTold id piece es os outcome
+  again : (now later : ℕ) (flushed : Outcome) → es ≡ heard_event id piece now ∷ events.Flush ∷ heard_event id piece later ∷ [] → os ≡ outcomes.Fault Crowded ∷ flushed ∷ outcome ∷ [] → IsTold id piece es os outcome
+
+-- One read into room for 512 bytes, of which the hub is told.
 pub record Hears (id : ℕ) (t : Trace) (after : Stage) : Type 0 where
   pub piece : List ℕ
-  pub now : ℕ
   pub outcome : Outcome
   pub sent : List WireCall
   pub whole : Bool
   pub room : length piece ≤ 512
   pub calls_are : t.calls ≡ Read 512 piece ∷ sent
-  pub events_are : t.events ≡ heard_event id piece now ∷ []
-  pub outcomes_are : t.outcomes ≡ outcome ∷ []
+  pub told : IsTold id piece t.events t.outcomes outcome
   pub reply : IsSent (heard_reply outcome) sent whole
   pub after_is : after ≡ heard_stage id outcome
 
@@ -112,6 +118,21 @@ pub record Replies (id : ℕ) (t : Trace) (after : Stage) : Type 0 where
   pub outcomes_are : t.outcomes ≡ outcome ∷ []
   pub sent : IsSent (drawn_bytes outcome) t.calls whole
   pub after_is : after ≡ replied_stage id outcome whole
+
+-- A session whose post waited is asked by a draw of no bytes: a reply stands, or it leaves; its client is asked to try again later where the post still waits.
+abbrev pub learned_stage : ℕ → Outcome → Stage
+learned_stage id (outcomes.Drawn bytes) = Replying id
+learned_stage id outcomes.Finished = Replying id
+learned_stage id outcome = Left
+
+pub record Asks (id : ℕ) (t : Trace) (after : Stage) : Type 0 where
+  pub outcome : Outcome
+  pub whole : Bool
+  pub none : drawn_bytes outcome ≡ []
+  pub events_are : t.events ≡ events.Draw id 0 ∷ []
+  pub outcomes_are : t.outcomes ≡ outcome ∷ []
+  pub sent : IsSent (heard_reply outcome) t.calls whole
+  pub after_is : after ≡ learned_stage id outcome
 
 -- A session leaves, and its wire is closed.
 pub record Leaves (id : ℕ) (t : Trace) : Type 0 where
@@ -146,9 +167,15 @@ Turn (Listening id) t after = Takes id (λ s stage. Hears id s stage ⊎ HearsNo
 Turn (Replying id) t after = Takes id (Replies id) t after
 Turn stage t after = Rests stage t after
 
+-- What is done for a connection behind a pass, once the posts that wait were made: a session whose post waited learns what came of it.
+abbrev pub Learns : Stage → Trace → Stage → Type 0
+Learns (Waiting id) t after = Takes id (Asks id) t after
+Learns stage t after = Rests stage t after
+
 -- What is done for a connection at the end: one that is still open leaves.
 abbrev pub Ends : Stage → Trace → Stage → Type 0
 Ends (Listening id) t after = Leaves id t × (after ≡ Left)
+Ends (Waiting id) t after = Leaves id t × (after ≡ Left)
 Ends (Replying id) t after = Leaves id t × (after ≡ Left)
 Ends stage t after = Rests stage t after
 
@@ -202,11 +229,30 @@ Times (suc n) step old es os new = Both (λ x fs ps y. Times n step x fs ps y) s
 abbrev pub AreClosed : {W : Type 0} → List (Connection W) → Type 0
 AreClosed connections = All (λ c. is_closed c.stage ≡ true) connections
 
--- Passes over all connections, in each of which each has one turn, in order; they end where all are closed, or after 1,000,000.
+-- The posts that wait are made, and nothing is done for a connection.
+pub record IsFlushed {X : Type 0} (old : X) (es : List Event) (os : List Outcome) (new : X) : Type 0 where
+  pub outcome : Outcome
+  pub events_are : es ≡ events.Flush ∷ []
+  pub outcomes_are : os ≡ outcome ∷ []
+  pub same : new ≡ old
+
+-- One pass: each connection has one turn, in order; then the posts that wait are made, and each session whose post waited learns what came of it, in order.
+abbrev pub Pass : {W : Type 0} → (W → List WireCall) → StepOf (List (Connection W))
+Pass calls old es os new = Both (InOrder (For calls Turn)) (Both IsFlushed (InOrder (For calls Learns))) old es os new
+
+abbrev pub is_waiting : Stage → Bool
+is_waiting (Waiting id) = true
+is_waiting stage = false
+
+-- no post of theirs waits
+abbrev pub NobodyWaits : {W : Type 0} → List (Connection W) → Type 0
+NobodyWaits connections = All (λ c. is_waiting c.stage ≡ false) connections
+
+-- Passes over all connections; they end where all are closed, or after 1,000,000.
 pub record Passes {W : Type 0} (calls : W → List WireCall) (old : List (Connection W)) (es : List Event) (os : List Outcome) (new : List (Connection W)) : Type 0 where
   pub count : ℕ
   pub few : count ≤ 1000000
-  pub passes : Times count (InOrder (For calls Turn)) old es os new
+  pub passes : Times count (Pass calls) old es os new
   pub until : count < 1000000 → AreClosed new
 
 -- All that is done for some connections: those that are new join in order, passes are made over all, and who is still open leaves.

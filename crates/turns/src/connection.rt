@@ -10,6 +10,8 @@ pub enum Stage {
     New,
     /// The session of this number hears what is read.
     Listening(u64),
+    /// The post of the session of this number waits for others.
+    Waiting(u64),
     /// The reply to the session of this number is drawn and written.
     Replying(u64),
     /// All of its reply was written. It has left, and the wire is closed.
@@ -24,7 +26,7 @@ impl Stage {
         ensures { result ≡ is_closed self }
     {
         match self {
-            Stage::New | Stage::Listening(_) | Stage::Replying(_) => false,
+            Stage::New | Stage::Listening(_) | Stage::Waiting(_) | Stage::Replying(_) => false,
             Stage::Served | Stage::Left => true,
         }
     }

@@ -13,7 +13,7 @@ mod wire;
 pub use call_log::{CallKind, CallLog};
 pub use clock::{Clock, MomentLog};
 pub use connection::{Connection, Stage};
-pub use laws::worked_examples;
+pub use laws::{nobody_waits_behind_a_pass, worked_examples};
 pub use turn::{PIECE, tell, try_again_later};
 pub use turns::{MOST_PASSES, take_turns};
 pub use wire::{Wire, WireFault};

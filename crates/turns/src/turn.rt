@@ -7,7 +7,7 @@ ghost use Rattle.group_world.specs.Outcomes.{bytes_outcome, heard_outcome};
 ghost use Rattle.group_world.specs.declared.event.Outcome.TheVariants.{Fault};
 ghost use Rattle.turns.specs.Runs.{HasRun};
 ghost use Rattle.turns.specs.WireCalls.{WireCall, HasMade, IsSent};
-ghost use Rattle.turns.specs.Turns.{trace, is_closed, For, Joins, Turn, Ends, Hears, HearsNothing, Replies, Leaves, Follows, heard_event, heard_reply, heard_stage};
+ghost use Rattle.turns.specs.Turns.{trace, is_closed, For, Joins, Turn, Learns, Ends, Hears, HearsNothing, IsTold, Asks, Replies, Leaves, Follows, heard_event, heard_reply, heard_stage};
 
 use crate::connection::{Connection, Stage};
 use crate::sending::send;
@@ -20,7 +20,7 @@ use word_index::SearchKeeper;
 /// How many bytes are read or drawn in a turn, at most.
 pub const PIECE: usize = 512;
 
-/// What a client gets where there is no room for its post, by Gopher+.
+/// What a client gets whose post could not be made, by Gopher+.
 #[tactic(auto, unfolding(text_writer::specs::Errors::plus_error, text_writer::specs::Errors::words_of))]
 pub fn try_again_later() -> &'static [u8]
     ensures { result.now ≡ error_reply true TryAgainLater [] }
@@ -28,12 +28,12 @@ pub fn try_again_later() -> &'static [u8]
     b"--1\r\n2 Try again later\r\n.\r\n"
 }
 
-/// The client is asked to try again later where there is no room for its post, and of no other fault.
+/// The client is asked to try again later where there is no room for its post, or too many wait, or its own is left; it hears of no other fault.
 fn refused<W: Wire>(wire: &mut W, fault: HubFault)
     ensures { HasMade (W.calls wire.old) (W.calls wire.new) (λ made. (whole : Bool) × IsSent (heard_reply (Fault fault)) made whole) }
 {
     match fault {
-        HubFault::Full { .. } => {
+        HubFault::Full { .. } | HubFault::Crowded | HubFault::NotReady => {
             let _ = send(wire, try_again_later());
         }
         _ => {}
@@ -48,8 +48,7 @@ fn stage_after(id: u64, status: InputStatus) -> Stage
         InputStatus::More => Stage::Listening(id),
         InputStatus::Ready => Stage::Replying(id),
         InputStatus::Finished => Stage::Left,
-        // In these hubs each post is made at once, so none waits.
-        InputStatus::Waiting => Stage::Left,
+        InputStatus::Waiting => Stage::Waiting(id),
     }
 }
 
@@ -68,7 +67,7 @@ fn heard<W: Wire>(wire: &mut W, id: u64, answer: Result<InputStatus, HubFault>) 
 }
 
 /// The hub gets what was read: no bytes are the end.
-pub fn tell<S: SearchKeeper>(
+fn tell_at<S: SearchKeeper>(
     hub: &mut Hub<S>,
     id: u64,
     piece: &[u8],
@@ -80,6 +79,27 @@ pub fn tell<S: SearchKeeper>(
         hub.end(id, now)
     } else {
         hub.bytes(id, piece, now)
+    }
+}
+
+/// The hub gets what was read, at a moment of the clock. Where no more posts may wait those that do are made, and then it gets it once more.
+pub fn tell<S: SearchKeeper, C: Clock>(
+    hub: &mut Hub<S>,
+    id: u64,
+    piece: &[u8],
+    clock: &mut C,
+) -> Result<InputStatus, HubFault>
+    ensures { HasRun (HubRun S.site_state S.lacks S.crash_states S.represents) hub.old hub.new (C.given clock.old) (C.given clock.new) (λ es os. IsTold id piece.now es os (bytes_outcome result)) }
+{
+    match tell_at(hub, id, piece, clock.now()) {
+        Ok(status) => Ok(status),
+        Err(fault) => match fault {
+            HubFault::Crowded => {
+                let _ = hub.flush();
+                tell_at(hub, id, piece, clock.now())
+            }
+            _ => Err(fault),
+        },
     }
 }
 
@@ -96,7 +116,7 @@ fn hear<S: SearchKeeper, W: Wire, C: Clock>(
     let Ok(count) = wire.read(&mut buffer) else {
         return Stage::Left;
     };
-    let answer = tell(hub, id, &buffer[..count], clock.now());
+    let answer = tell(hub, id, &buffer[..count], clock);
     heard(wire, id, answer)
 }
 
@@ -115,6 +135,19 @@ fn reply<S: SearchKeeper, W: Wire>(hub: &mut Hub<S>, wire: &mut W, id: u64) -> S
         }
         Ok(Drawn::Finished) => Stage::Served,
         Err(_) => Stage::Left,
+    }
+}
+
+/// Where a session is whose post waited, once the posts were made: its reply stands, or its post is left, and its client hears of that.
+fn ask<S: SearchKeeper, W: Wire>(hub: &mut Hub<S>, wire: &mut W, id: u64) -> Stage
+    ensures { HasRun (HubRun S.site_state S.lacks S.crash_states S.represents) hub.old hub.new [] [] (λ es os. HasMade (W.calls wire.old) (W.calls wire.new) (λ made. Asks id (trace made es os) result)) }
+{
+    match hub.draw(id, &mut []) {
+        Ok(_) => Stage::Replying(id),
+        Err(fault) => {
+            refused(wire, fault);
+            Stage::Left
+        }
     }
 }
 
@@ -179,12 +212,25 @@ pub(crate) fn take_turn<S: SearchKeeper, W: Wire, C: Clock>(
     }
 }
 
+/// A session whose post waited learns what came of it. One that doesn't go on leaves the hub, and its wire is closed.
+pub(crate) fn learn<S: SearchKeeper, W: Wire>(hub: &mut Hub<S>, connection: &mut Connection<W>)
+    ensures { HasRun (HubRun S.site_state S.lacks S.crash_states S.represents) hub.old hub.new [] [] (λ es os. For W.calls Learns connection.old es os connection.new) }
+{
+    match connection.stage {
+        Stage::Waiting(id) => {
+            let after = ask(hub, &mut connection.wire, id);
+            go_on(hub, connection, id, after);
+        }
+        _ => {}
+    }
+}
+
 /// A session that is still open leaves, and its wire is closed.
 pub(crate) fn end<S: SearchKeeper, W: Wire>(hub: &mut Hub<S>, connection: &mut Connection<W>)
     ensures { HasRun (HubRun S.site_state S.lacks S.crash_states S.represents) hub.old hub.new [] [] (λ es os. For W.calls Ends connection.old es os connection.new) }
 {
     match connection.stage {
-        Stage::Listening(id) | Stage::Replying(id) => {
+        Stage::Listening(id) | Stage::Waiting(id) | Stage::Replying(id) => {
             leave(hub, &mut connection.wire, id);
             connection.stage = Stage::Left;
         }

@@ -2,10 +2,10 @@
 ghost use Rattle.std.specs.Prelude.{◌≡◌, [], length, filter, true};
 ghost use Rattle.group_hub.specs.Calls.{HubRun};
 ghost use Rattle.turns.specs.Runs.{HasRun};
-ghost use Rattle.turns.specs.Turns.{For, Joins, Turn, Ends, InOrder, Passes, Serves, AreClosed, is_served};
+ghost use Rattle.turns.specs.Turns.{For, Joins, Turn, Learns, Ends, InOrder, Pass, Passes, Serves, AreClosed, is_served};
 
 use crate::connection::Connection;
-use crate::turn::{end, join, take_turn};
+use crate::turn::{end, join, learn, take_turn};
 use crate::{Clock, Wire};
 use group_hub::Hub;
 use word_index::SearchKeeper;
@@ -23,7 +23,7 @@ fn join_all<S: SearchKeeper, W: Wire>(hub: &mut Hub<S>, connections: &mut [Conne
 }
 
 /// One turn for each connection, in order.
-fn pass<S: SearchKeeper, W: Wire, C: Clock>(
+fn give_turns<S: SearchKeeper, W: Wire, C: Clock>(
     hub: &mut Hub<S>,
     connections: &mut [Connection<W>],
     clock: &mut C,
@@ -33,6 +33,28 @@ fn pass<S: SearchKeeper, W: Wire, C: Clock>(
     for connection in connections.iter_mut() {
         take_turn(hub, connection, clock);
     }
+}
+
+/// Each session whose post waited learns what came of it, in order.
+fn learn_all<S: SearchKeeper, W: Wire>(hub: &mut Hub<S>, connections: &mut [Connection<W>])
+    ensures { HasRun (HubRun S.site_state S.lacks S.crash_states S.represents) hub.old hub.new [] [] (λ es os. InOrder (For W.calls Learns) connections.old es os connections.new) }
+{
+    for connection in connections.iter_mut() {
+        learn(hub, connection);
+    }
+}
+
+/// One turn for each connection, in order. Then the posts that wait are made, and their sessions learn what came of them.
+fn pass<S: SearchKeeper, W: Wire, C: Clock>(
+    hub: &mut Hub<S>,
+    connections: &mut [Connection<W>],
+    clock: &mut C,
+)
+    ensures { HasRun (HubRun S.site_state S.lacks S.crash_states S.represents) hub.old hub.new (C.given clock.old) (C.given clock.new) (λ es os. Pass W.calls connections.old es os connections.new) }
+{
+    give_turns(hub, connections, clock);
+    let _ = hub.flush();
+    learn_all(hub, connections);
 }
 
 /// Whether all are closed.
@@ -67,7 +89,8 @@ fn end_all<S: SearchKeeper, W: Wire>(hub: &mut Hub<S>, connections: &mut [Connec
     }
 }
 
-/// A session joins on each connection that is new, and each open one gets one read or one draw in its turn, until all are closed.
+/// A session joins on each connection that is new, and each open one gets one read or one draw in its turn, until all are closed. Behind each pass over them the posts that wait are made; who still waits
+/// then is asked to try again later, and leaves.
 /// It answers how many replies were written whole. It takes no memory but what the hub takes.
 pub fn take_turns<S: SearchKeeper, W: Wire, C: Clock>(
     hub: &mut Hub<S>,

@@ -2,11 +2,12 @@ use Rattle.std.proofs.Common.{refl, inr, sym, subst, ap, ◌∙◌, IsTrue}
 use Rattle.cow_tree.specs.TreeSeen.{device_of}
 use Rattle.page_store.specs.Steps.{crash_states_of}
 use Rattle.site_store.specs.Seen.{keeper_of, seen_site}
+use Rattle.host_on_disk.proofs.Images.{valid_site}
 use Rattle.host_on_disk.proofs.Openings.{no_memory}
 use Rattle.host_on_disk.proofs.Runs.{ran_on}
 use Rattle.image_server.proofs.OtherRuns.{run_too}
 use Rattle.image_server.proofs.Places.{place_of}
-use Rattle.std.specs.Prelude.{None, false}
+use Rattle.std.specs.Prelude.{None, true}
 use Rattle.image_server.proofs.serving.serve_image.Goals as goal
 
 pub returns-in-Ok-serve_over-clause-served : goal.returns-in-Ok-serve_over-clause-served
@@ -16,7 +17,7 @@ returns-in-Ok-serve_over-clause-served g c =
     let back = c.into_device-in-Ok-serve_over.ensures ∙ ap (λ k. device_of k) c.into_keeper-in-Ok-serve_over.ensures in
     record {
       run = run_too _ _ _ _ c.args.device c.into_device-in-Ok-serve_over.result
-          (λ events outcomes over. ran_on g.D.Device.state (λ d. device_of (keeper_of d)) _ _ (crash_states_of g.D.Device.moment g.D.Device.possible_since) (λ d. refl) c.args.device c.into_device-in-Ok-serve_over.result c.in-Ok.site c.in-Ok-serve_over.site false 1 events outcomes
+          (λ events outcomes over. ran_on g.D.Device.state (λ d. device_of (keeper_of d)) _ _ (crash_states_of g.D.Device.moment g.D.Device.possible_since) (λ d. refl) c.args.device c.into_device-in-Ok-serve_over.result c.in-Ok.site c.in-Ok-serve_over.site true 1 events outcomes
           (record { shows = opened.site; alone = opened.alone; counted = opened.counts; usable = opened.usable; no_new_crash_state = opened.at_crash; honest = opened.honest }) over back)
           _ _ _ _
           (λ events outcomes serves. record {
@@ -62,3 +63,6 @@ returns-in-Ok-serve_over-clause-listened g c =
     let place = place_of (g.D.Device.state c.args.device) None c.given_or_own-at.result c.given_or_own.inside.port (seen_site c.in-Ok.site) c.given_or_own-at.ensures opened.site
     (λ honest. ap (λ a. a.port) (c.given_or_own.view_is) ∙ ap (λ a. a.port) (c.front.ensures (subst IsTrue (sym opened.honest) honest))) in
     (c.given_or_own-at.result, place, c.in-Ok-listen.ensures.asked)
+
+pub serve_over-requires-clause-valid : goal.serve_over-requires-clause-valid
+serve_over-requires-clause-valid g c = λ honest. valid_site _ _ (c.in-Ok.ensures.site (sym c.in-Ok.ensures.honest ∙ honest))

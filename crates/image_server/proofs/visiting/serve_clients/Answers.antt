@@ -1,9 +1,10 @@
 use Rattle.std.proofs.Common.{refl, inl, inr, sym, subst, ap, ◌∙◌, IsTrue}
 use Rattle.std.proofs.lemmas.List.{append-nil}
-use Rattle.std.specs.Prelude.{false}
+use Rattle.std.specs.Prelude.{true}
 use Rattle.cow_tree.specs.TreeSeen.{device_of}
 use Rattle.page_store.specs.Steps.{crash_states_of}
 use Rattle.site_store.specs.Seen.{keeper_of, seen_site}
+use Rattle.host_on_disk.proofs.Images.{valid_site}
 use Rattle.host_on_disk.proofs.Openings.{no_memory}
 use Rattle.host_on_disk.proofs.Runs.{ran_on}
 use Rattle.image_server.proofs.OtherRuns.{run_too}
@@ -16,7 +17,7 @@ returns-in-Ok-visits_over-clause-served g c =
     let opened = c.in-Ok.ensures in
     let back = c.into_device-in-Ok-visits_over.ensures ∙ ap (λ k. device_of k) c.into_keeper-in-Ok-visits_over.ensures in
     run_too _ _ _ _ c.args.device c.into_device-in-Ok-visits_over.result
-    (λ events outcomes over. ran_on g.D.Device.state (λ d. device_of (keeper_of d)) _ _ (crash_states_of g.D.Device.moment g.D.Device.possible_since) (λ d. refl) c.args.device c.into_device-in-Ok-visits_over.result c.in-Ok.site c.in-Ok-visits_over.site false 1 events outcomes
+    (λ events outcomes over. ran_on g.D.Device.state (λ d. device_of (keeper_of d)) _ _ (crash_states_of g.D.Device.moment g.D.Device.possible_since) (λ d. refl) c.args.device c.into_device-in-Ok-visits_over.result c.in-Ok.site c.in-Ok-visits_over.site true 1 events outcomes
     (record { shows = opened.site; alone = opened.alone; counted = opened.counts; usable = opened.usable; no_new_crash_state = opened.at_crash; honest = opened.honest }) over back)
     _ _ _ _
     (λ events outcomes served. record {
@@ -77,3 +78,6 @@ returns-in-Ok-visits_over-clause-listened g c =
     let place = place_of (g.D.Device.state c.args.device) c.args.address c.given_or_own-at.result c.given_or_own.inside.port (seen_site c.in-Ok.site) c.given_or_own-at.ensures opened.site
     (λ honest. ap (λ a. a.port) (c.given_or_own.view_is) ∙ ap (λ a. a.port) (c.front.ensures (subst IsTrue (sym opened.honest) honest))) in
     (c.given_or_own-at.result, place, c.in-Ok-open.ensures.asked)
+
+pub visits_over-requires-clause-valid : goal.visits_over-requires-clause-valid
+visits_over-requires-clause-valid g c = λ honest. valid_site _ _ (c.in-Ok.ensures.site (sym c.in-Ok.ensures.honest ∙ honest))

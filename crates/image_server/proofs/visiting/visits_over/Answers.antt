@@ -1,5 +1,5 @@
 use Rattle.std.proofs.Common.{sym, ap, subst}
-use Rattle.std.specs.Prelude.{false}
+use Rattle.std.specs.Prelude.{true}
 use Rattle.group_hub.specs.Calls.{HubRun}
 use Rattle.group_hub.specs.Hub.{world_of}
 use Rattle.host_on_disk.proofs.Runs.{handed_over}
@@ -14,8 +14,8 @@ returns-clause-served g c =
     let s = g.S.SiteKeeper in
     let held = c.in-Ok.hub.site in
     let left = c.serve_visits-ended.new.hub.site in
-    run_too (HubRun s.site_state s.lacks s.crash_states s.represents) (OverSite false s.site_state s.lacks s.crash_states s.represents) c.in-Ok.hub c.serve_visits-ended.new.hub c.args.site c.close.result
-    (λ events outcomes run. handed_over s.site_state s.lacks s.crash_states s.represents c.args.site held left c.close.result (world_of s.site_state c.in-Ok.hub) (world_of s.site_state c.serve_visits-ended.new.hub) false 1 events outcomes
+    run_too (HubRun s.site_state s.lacks s.crash_states s.represents) (OverSite true s.site_state s.lacks s.crash_states s.represents) c.in-Ok.hub c.serve_visits-ended.new.hub c.args.site c.close.result
+    (λ events outcomes run. handed_over s.site_state s.lacks s.crash_states s.represents c.args.site held left c.close.result (world_of s.site_state c.in-Ok.hub) (world_of s.site_state c.serve_visits-ended.new.hub) true 1 events outcomes
     c.in-Ok.ensures.keeper c.in-Ok.ensures.world c.close.ensures.closed c.requires.usable run.calls run.at_crash)
     _ _ _ _
     -- to end the hub leaves whether its site is usable

@@ -1,11 +1,12 @@
 use Rattle.std.proofs.Common.{◌≡◌, Bool, true, false, not, ◌&&◌, ◌||◌, refl}
-use Rattle.ready_sockets.specs.Visits.{has_gone, is_called, woken_where, IsSameClient}
+use Rattle.ready_turns.specs.Seats.{acts}
+use Rattle.ready_sockets.specs.Visits.{is_called, woken_where, IsSameClient}
 use Rattle.ready_sockets.specs.declared.visit.Visit.{Visit}
 use Rattle.ready_sockets.proofs.laws.wait_keeps_clients.Goals as goal
 
-later_too : (rests gone : Bool) → (not rests && not gone) ≡ true → (not false && not gone) ≡ true
-later_too true gone had = cc
-later_too false gone had = had
+later_too : (rests acts : Bool) → (not rests && acts) ≡ true → (not false && acts) ≡ true
+later_too true acts had = cc
+later_too false acts had = had
 
 kept : (wakes : Bool) (visit : Visit) → IsSameClient visit (woken_where wakes visit)
 kept true visit = record {
@@ -16,7 +17,7 @@ kept true visit = record {
   token = refl;
   came = refl;
   moved = refl;
-  turn = later_too visit.seat.waits (has_gone visit);
+  turn = later_too visit.seat.waits (acts visit.seat.stage);
 }
 kept false visit = record {
   wire = refl;

@@ -17,5 +17,8 @@ pub returns-in-Listening : goal.returns-in-Listening
 returns-in-Listening g c = run_one _ _ _ _ g.met.S.SiteKeeper.crash_states_represent _ _ (Leave c.in-Listening.id) (leave_outcome c.leave.result) _ _ _ c.leave.ensures.call refl
     (⊎_elim
     (λ is. dismissed_at g.W.ReadyWire.calls _ _ _ (Closed ∷ []) (Leave c.in-Listening.id ∷ []) (leave_outcome c.leave.result ∷ []) is c.shut-in-Listening.ensures.calls (leave_outcome c.leave.result, refl, c.shut-in-Listening.ensures.state))
+    (λ more. ⊎_elim
     (λ is. dismissed_at g.W.ReadyWire.calls _ _ _ (Closed ∷ []) (Leave c.in-Listening.id ∷ []) (leave_outcome c.leave.result ∷ []) is c.shut-in-Listening.ensures.calls (leave_outcome c.leave.result, refl, c.shut-in-Listening.ensures.state))
+    (λ is. dismissed_at g.W.ReadyWire.calls _ _ _ (Closed ∷ []) (Leave c.in-Listening.id ∷ []) (leave_outcome c.leave.result ∷ []) is c.shut-in-Listening.ensures.calls (leave_outcome c.leave.result, refl, c.shut-in-Listening.ensures.state))
+    more)
     c.in-Listening.is)

@@ -1,21 +1,17 @@
-use Rattle.std.proofs.Common.{take, ap, sym, ◌∙◌, ◌++◌, arith, refl, length-take, inl, inr, ◌∷◌, []}
-use Rattle.group_world.specs.Outcomes.{bytes_outcome}
+use Rattle.std.proofs.Common.{take, ap, ◌∙◌, ◌++◌, arith, refl, length-take, inl, inr, ◌∷◌, []}
 use Rattle.turns.specs.WireCalls.{Read, ReadFailed, ReadWaited}
-use Rattle.turns.specs.Turns.{heard_event}
-use Rattle.turns.proofs.Runnings.{run_none, run_one}
-use Rattle.turns.proofs.TurnsMade.{heard_moment}
+use Rattle.turns.proofs.Runnings.{run_none, run_as}
 use Rattle.ready_turns.proofs.SeatsMade.{heard_made, read_is, no_read_is, at_same}
 use Rattle.ready_turns.proofs.turn.hear.Goals as goal
 
 pub returns-in-Ok-Some : goal.returns-in-Ok-Some
 returns-in-Ok-Some g c =
     let piece = take c.in-Ok-Some.count c.read.new.buffer in
-    run_one _ _ _ _ g.met.S.SiteKeeper.crash_states_represent _ _ (heard_event c.args.id piece c.now.result) (bytes_outcome c.tell-answer.result) _ _ _ c.tell-answer.ensures
-    (c.now.ensures ∙ ap (λ l. g.C.Clock.given c.args.clock.now ++ l) (sym (heard_moment c.args.id c.now.result piece)))
-    (heard_made c.args.id _ _ _ piece c.now.result _ _ (omega (arith, length-take c.in-Ok-Some.count c.read.new.buffer, c.read.auto.buffer))
+    run_as _ _ _ _ _ _ _ c.tell-answer.ensures
+    (λ es os told. heard_made c.args.id _ _ _ piece es os _ _ (omega (arith, length-take c.in-Ok-Some.count c.read.new.buffer, c.read.auto.buffer))
     (ap g.W.ReadyWire.calls c.heard.ensures.wire ∙ c.read.ensures.calls ∙ ap (λ w. g.W.ReadyWire.calls c.args.seat.now.wire ++ w ∷ []) (read_is c.read.result c.in-Ok-Some.field-0 c.in-Ok-Some.count c.read.new.buffer c.in-Ok-Some.is c.in-Ok-Some.field-0-is)
     ∙ ap (λ n. g.W.ReadyWire.calls c.args.seat.now.wire ++ Read n piece ∷ []) c.read.auto.buffer)
-    c.heard.ensures.state)
+    told c.heard.ensures.state)
 
 pub returns-in-Ok-None : goal.returns-in-Ok-None
 returns-in-Ok-None g c = run_none _ _ _ _ g.met.S.SiteKeeper.crash_states_represent _ _ _

@@ -1,7 +1,7 @@
 use Rattle.turns.proofs.Runnings.{run_none, run_both, untold}
 use Rattle.ready_turns.specs.declared.seat.Stage.TheVariants as stages
 use Rattle.ready_turns.specs.Seats.{Listens, Replies}
-use Rattle.ready_turns.proofs.SeatsMade.{rested, took, finished, nothing_left}
+use Rattle.ready_turns.proofs.SeatsMade.{rested, took, finished, still_waits, nothing_left}
 use Rattle.ready_turns.proofs.turn.take_turn.Goals as goal
 
 pub returns-then-seat : goal.returns-then-seat
@@ -20,3 +20,6 @@ returns-in-Leaving g c = untold _ _ _ _ _ (run_none _ _ _ _ g.met.S.SiteKeeper.c
 
 pub returns-in-Closed : goal.returns-in-Closed
 returns-in-Closed g c = run_none _ _ _ _ g.met.S.SiteKeeper.crash_states_represent _ _ _ (nothing_left g.W.ReadyWire.calls c.args.seat.now c.in-Closed.field-0 c.if-seat.false c.in-Closed.is)
+
+pub returns-in-Waiting : goal.returns-in-Waiting
+returns-in-Waiting g c = run_none _ _ _ _ g.met.S.SiteKeeper.crash_states_represent _ _ _ (still_waits g.W.ReadyWire.calls c.args.seat.now c.in-Waiting.field-0 c.if-seat.false c.in-Waiting.is)

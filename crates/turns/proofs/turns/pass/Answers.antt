@@ -1,11 +1,13 @@
-use Rattle.std.proofs.Common.{arith}
-use Rattle.turns.proofs.Runnings.{run_none, run_both}
-use Rattle.turns.proofs.Passing.{done_none, done_next}
+use Rattle.std.proofs.Common.{refl}
+use Rattle.group_world.specs.Outcomes.{flush_outcome}
+use Rattle.group_world.specs.declared.event.Event.TheVariants.{Flush}
+use Rattle.turns.specs.Turns.{IsFlushed}
+use Rattle.turns.proofs.Runnings.{run_one, run_both, untold}
+use Rattle.turns.proofs.TurnsMade.{both_made, flush_made}
 use Rattle.turns.proofs.turns.pass.Goals as goal
 
-pub loop-connection-init : goal.loop-connection-init
-loop-connection-init g c = run_none _ _ _ _ g.met.S.SiteKeeper.crash_states_represent _ _ _ (done_none _ _)
-
-pub loop-connection-preserved : goal.loop-connection-preserved
-loop-connection-preserved g c = run_both _ _ _ _ g.met.S.SiteKeeper.crash_states_represent _ _ _ _ _ _ _ _ _ c.loop-connection.invariant c.take_turn.ensures
-    (λ es fs os ps p q. done_next _ c.loop-connection.connection-index _ c.loop-connection.connections c.connection-item.result c.take_turn.new.connection es fs os ps p (omega (arith, c.loop-connection-test.true, c.loop-connection.auto.connections)) c.connection-item.is q)
+pub returns : goal.returns
+returns g c = run_both _ _ _ _ g.met.S.SiteKeeper.crash_states_represent _ _ _ _ _ _ _ _ _ c.give_turns.ensures (untold _ _ _ _ _
+    (run_both _ _ _ _ g.met.S.SiteKeeper.crash_states_represent _ _ _ _ _ _ (λ es os. IsFlushed c.give_turns.new.connections es os c.give_turns.new.connections) _ _
+    (run_one _ _ _ _ g.met.S.SiteKeeper.crash_states_represent _ _ Flush (flush_outcome c.flush.result) _ _ _ c.flush.ensures refl (flush_made _ _)) c.learn_all.ensures (λ es fs os ps p q. both_made _ _ _ _ _ es fs os ps p q)))
+    (λ es fs os ps p q. both_made _ _ _ _ _ es fs os ps p q)

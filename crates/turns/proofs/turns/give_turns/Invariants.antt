@@ -2,7 +2,7 @@ use Rattle.group_hub.specs.Calls.{HubRun}
 use Rattle.turns.specs.Runs.{HasRun}
 use Rattle.turns.specs.Turns.{For, Turn}
 use Rattle.turns.proofs.Passing.{IsDoneTo}
-use Rattle.turns.proofs.turns.pass.Given as goal
+use Rattle.turns.proofs.turns.give_turns.Given as goal
 
 -- so many of them are done
 abbrev pub invariant-loop-connection : goal.invariant-loop-connection
