@@ -1,7 +1,8 @@
 // What the lines of a run share, and which call a word names.
 use crate::crashes::{disk_of, in_memory};
-use crate::line::{Line, number};
+use crate::line::{Line, copy, number};
 use crate::lying::{stored_and_told, switched};
+use crate::tested::{TestedDisk, disk_under, failing_once, fused, lying, plain};
 use crate::trouble::Trouble;
 use crate::{devices, disks, events, keepers, records, sites, texts};
 use cow_tree::TreeKeeper;
@@ -11,7 +12,7 @@ use host_on_disk::{open_site, run_on};
 use host_types::{Bytes, Change, Stamp};
 use mem_site::MemSite;
 use page_store::FlatKeeper;
-use sector_device::{FuseDisk, MemDisk};
+use sector_device::MemDisk;
 use site_store::DiskSite;
 use std::alloc::Global;
 use std::mem;
@@ -59,19 +60,19 @@ fn show_outcomes(line: &mut Line, outcomes: &OutcomeList) -> Result<(), Trouble>
 pub enum Held {
     Nothing,
     Disk(MemDisk),
-    Fuse(FuseDisk<MemDisk>),
-    Flat(FlatKeeper<FuseDisk<MemDisk>>),
-    Tree(TreeKeeper<FuseDisk<MemDisk>>),
-    Site(DiskSite<TreeKeeper<FuseDisk<MemDisk>>>),
+    Device(TestedDisk),
+    Flat(FlatKeeper<TestedDisk>),
+    Tree(TreeKeeper<TestedDisk>),
+    Site(DiskSite<TreeKeeper<TestedDisk>>),
     Memory(MemSite),
 }
 
 impl Held {
     /// The device under it, which fails by no plan where it had none.
-    fn into_device(self) -> Result<FuseDisk<MemDisk>, Trouble> {
+    fn into_device(self) -> Result<TestedDisk, Trouble> {
         match self {
-            Held::Disk(disk) => Ok(FuseDisk::new(disk, u64::MAX)),
-            Held::Fuse(fuse) => Ok(fuse),
+            Held::Disk(disk) => Ok(plain(disk)),
+            Held::Device(device) => Ok(device),
             Held::Flat(keeper) => Ok(keeper.into_device()),
             Held::Tree(keeper) => Ok(keeper.into_device()),
             Held::Site(site) => Ok(site.into_keeper().into_device()),
@@ -110,13 +111,13 @@ impl Bench {
     }
 
     /// The device under what is held, which is held no more.
-    fn take_device(&mut self) -> Result<FuseDisk<MemDisk>, Trouble> {
+    fn take_device(&mut self) -> Result<TestedDisk, Trouble> {
         mem::replace(&mut self.held, Held::Nothing).into_device()
     }
 
     /// The disk under what is held, which is held no more.
     fn take_disk(&mut self) -> Result<MemDisk, Trouble> {
-        Ok(self.take_device()?.into_inner())
+        Ok(disk_under(self.take_device()?))
     }
 
     /// `open`: the keeper of the image of flat pages on the device.
@@ -127,7 +128,7 @@ impl Bench {
                 Ok(())
             }
             Err((fault, device)) => {
-                self.held = Held::Fuse(device);
+                self.held = Held::Device(device);
                 Err(Trouble::from(fault))
             }
         }
@@ -141,18 +142,18 @@ impl Bench {
                 Ok(())
             }
             Err((fault, device)) => {
-                self.held = Held::Fuse(device);
+                self.held = Held::Device(device);
                 Err(Trouble::from(fault))
             }
         }
     }
 
     /// The site of the tree on a device. Where it is none, the tree is held.
-    fn open_tree(&mut self, device: FuseDisk<MemDisk>) -> Result<(), Trouble> {
+    fn open_tree(&mut self, device: TestedDisk) -> Result<(), Trouble> {
         let keeper = match TreeKeeper::open(self.alloc, device) {
             Ok(keeper) => keeper,
             Err((fault, device)) => {
-                self.held = Held::Fuse(device);
+                self.held = Held::Device(device);
                 return Err(Trouble::from(fault));
             }
         };
@@ -185,11 +186,11 @@ impl Bench {
         let first = number(first)?;
         match run_on(self.alloc, false, self.take_device()?, first, &self.events) {
             Ok((outcomes, device)) => {
-                self.held = Held::Fuse(device);
+                self.held = Held::Device(device);
                 show_outcomes(line, &outcomes)
             }
             Err((fault, device)) => {
-                self.held = Held::Fuse(device);
+                self.held = Held::Device(device);
                 Err(Trouble::from(fault))
             }
         }
@@ -241,7 +242,23 @@ impl Bench {
     /// `fuse CALLS`
     fn hold_fuse(&mut self, calls: &[u8]) -> Result<(), Trouble> {
         let calls = number(calls)?;
-        self.held = Held::Fuse(FuseDisk::new(self.take_disk()?, calls));
+        self.held = Held::Device(fused(self.take_disk()?, calls));
+        Ok(())
+    }
+
+    /// `once CALL`
+    fn hold_once(&mut self, call: &[u8]) -> Result<(), Trouble> {
+        let call = number(call)?;
+        self.held = Held::Device(failing_once(self.take_disk()?, call));
+        Ok(())
+    }
+
+    /// `lie CALLS SECTOR BYTES`, with zeros behind the bytes.
+    fn hold_lie(&mut self, calls: &[u8], n: &[u8], bytes: &[u8]) -> Result<(), Trouble> {
+        let (calls, n) = (number(calls)?, number(n)?);
+        let mut told = [0; 512];
+        copy(&mut told, bytes);
+        self.held = Held::Device(lying(self.take_disk()?, calls, n, told));
         Ok(())
     }
 
@@ -300,24 +317,24 @@ pub fn of_none(
     }
 }
 
-/// The words of a fuse.
-fn on_fuse(
-    fuse: &mut FuseDisk<MemDisk>,
+/// The words of a device around a disk.
+fn on_device(
+    device: &mut TestedDisk,
     line: &mut Line,
     word: &str,
     fields: &[Vec<u8>],
 ) -> Result<(), Trouble> {
     if word != "refused" {
-        return devices::call(fuse, line, word, fields);
+        return devices::call(device, line, word, fields);
     }
-    line.number(fuse.refused_reads())?;
-    line.number(fuse.refused_writes())
+    line.number(device.refused_reads())?;
+    line.number(device.refused_writes())
 }
 
 /// The words of a site on a disk.
 fn on_site(
     alloc: Global,
-    site: &mut DiskSite<TreeKeeper<FuseDisk<MemDisk>>>,
+    site: &mut DiskSite<TreeKeeper<TestedDisk>>,
     line: &mut Line,
     now: Stamp,
     word: &str,
@@ -341,7 +358,7 @@ pub fn on_held(
     let (alloc, now) = (bench.alloc, bench.now);
     match &mut bench.held {
         Held::Disk(disk) => disks::call(alloc, disk, line, word, fields),
-        Held::Fuse(fuse) => on_fuse(fuse, line, word, fields),
+        Held::Device(device) => on_device(device, line, word, fields),
         Held::Flat(keeper) => keepers::call(alloc, keeper, line, word, fields),
         Held::Tree(keeper) => keepers::call(alloc, keeper, line, word, fields),
         Held::Site(site) => on_site(alloc, site, line, now, word, fields),
@@ -362,6 +379,8 @@ pub fn call(
         ("now", [seconds]) => bench.set_now(seconds),
         ("disk", [sectors]) => bench.hold_disk(sectors),
         ("fuse", [calls]) => bench.hold_fuse(calls),
+        ("once", [call]) => bench.hold_once(call),
+        ("lie", [calls, n, bytes]) => bench.hold_lie(calls, n, bytes),
         ("run", [first]) => bench.run(line, first),
         (_, []) => of_held(bench, line, word),
         _ => events::call(bench, line, word, fields),

@@ -192,6 +192,33 @@ pub fn sets_of(alloc: Global, writes: usize, seed: u64) -> Result<Vec<Vec<usize>
     Ok(sets)
 }
 
+fn is_one_of(kept: &[Bytes], sites: &[&Vec<Bytes>]) -> bool {
+    for site in sites {
+        if kept == site.as_slice() {
+            return true;
+        }
+    }
+    false
+}
+
+/// Each image that a crash leaves now, by the sets of the writes since the last sync, is one of these sites, and can be used.
+pub fn leaves(
+    alloc: Global,
+    disk: &MemDisk,
+    seed: u64,
+    used: &[Event],
+    sites: &[&Vec<Bytes>],
+) -> Result<(), Trouble> {
+    for picks in &sets_of(alloc, unsynced(disk), seed)? {
+        let left = MemDisk::of(alloc, disk.after_stop(alloc, picks)?)?;
+        let kept = kept_and_used(alloc, left, used)?;
+        if !is_one_of(kept.as_slice(), sites) {
+            return Err(Trouble::Wrong("another site"));
+        }
+    }
+    Ok(())
+}
+
 /// Events on a disk that crashes after so many calls: whether all were answered, or none where not even the opening ended. Each image that the crash
 /// leaves, by the sets of the writes since the last sync, is the site after all events that were answered, or the one with
 /// the change that was under way too, and can be used.
@@ -207,23 +234,15 @@ pub fn survives(
     };
     let acknowledged = kept_after(alloc, image, events, answered)?;
     let unacknowledged = kept_after(alloc, image, events, answered.saturating_add(1))?;
-    for picks in &sets_of(alloc, unsynced(&disk), calls)? {
-        let left = MemDisk::of(alloc, disk.after_stop(alloc, picks)?)?;
-        let kept = kept_and_used(alloc, left, used)?;
-        if kept.as_slice() != acknowledged.as_slice()
-            && kept.as_slice() != unacknowledged.as_slice()
-        {
-            return Err(Trouble::Wrong("neither the site before nor after"));
-        }
-    }
+    leaves(alloc, &disk, calls, used, &[&acknowledged, &unacknowledged])?;
     Ok(Some(answered == events.len()))
 }
 
-/// Whether the image on a disk was written anew, and the disk.
-fn compacted(alloc: Global, fuse: FuseDisk<MemDisk>) -> (bool, MemDisk) {
-    match compact_image(alloc, fuse) {
-        Ok((_line, fuse)) => (true, fuse.into_inner()),
-        Err((_fault, fuse)) => (false, fuse.into_inner()),
+/// Whether the image on a device was written anew, and the device.
+pub fn compacted<D: Device + Drop>(alloc: Global, device: D) -> (bool, D) {
+    match compact_image(alloc, device) {
+        Ok((_line, device)) => (true, device),
+        Err((_fault, device)) => (false, device),
     }
 }
 
@@ -236,13 +255,8 @@ pub fn compacts(
     used: &[Event],
 ) -> Result<bool, Trouble> {
     let fuse = FuseDisk::new(disk_of(alloc, image)?, calls);
-    let (is_done, disk) = compacted(alloc, fuse);
+    let (is_done, fuse) = compacted(alloc, fuse);
     let before = kept_after(alloc, image, &[], 0)?;
-    for picks in &sets_of(alloc, unsynced(&disk), calls)? {
-        let left = MemDisk::of(alloc, disk.after_stop(alloc, picks)?)?;
-        if kept_and_used(alloc, left, used)?.as_slice() != before.as_slice() {
-            return Err(Trouble::Wrong("another site"));
-        }
-    }
+    leaves(alloc, &fuse.into_inner(), calls, used, &[&before])?;
     Ok(is_done)
 }

@@ -10,7 +10,7 @@ use std::alloc::Global;
 /// How many writes a disk took since its last sync.
 pub fn unsynced(disk: &MemDisk) -> usize {
     let mut count = 0usize;
-    for call in disk.calls() {
+    for call in disk.writes_and_syncs() {
         match call {
             Call::Write(_, _) => count = count.saturating_add(1),
             Call::Sync => count = 0,
@@ -125,7 +125,7 @@ fn looks(
     fields: &[Vec<u8>],
 ) -> Result<(), Trouble> {
     match word {
-        "calls" => line.number(disk.calls().len() as u64),
+        "calls" => line.number(disk.calls()),
         "failed_writes" => line.number(disk.failed_writes()),
         "unsynced" => line.number(unsynced(disk) as u64),
         _ => show_left(alloc, line, disk, fields),

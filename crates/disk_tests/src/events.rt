@@ -5,6 +5,7 @@ use crate::crashes::{compacts, disk_of, is_alike, kept_after, kept_and_used, sur
 use crate::groups::{groups, together};
 use crate::items::{change, event};
 use crate::line::{Line, number, small_number, text_of};
+use crate::once::{compacts_once, once};
 use crate::scripts::{Dice, script};
 use crate::trouble::Trouble;
 use crate::upgrades::{outcome, upgrades};
@@ -22,6 +23,18 @@ fn show_survival(bench: &Bench, line: &mut Line, calls: &[u8]) -> Result<(), Tro
         Some(false) => "stopped",
         Some(true) => "answered",
     })
+}
+
+/// `survives_once CALL`: what becomes of the events, the last of them made twice, on a disk with the image of whose calls this one fails.
+fn show_once(bench: &Bench, line: &mut Line, call: &[u8]) -> Result<(), Trouble> {
+    let call = number(call)?;
+    line.word(once(bench.alloc, &bench.image, &bench.events, call, &bench.used)?)
+}
+
+/// `compacts_once CALL`: whether the image is written anew on a disk of whose calls this one fails. Where it isn't, it is when that is tried again.
+fn show_compaction_once(bench: &Bench, line: &mut Line, call: &[u8]) -> Result<(), Trouble> {
+    let is_done = compacts_once(bench.alloc, &bench.image, number(call)?, &bench.used)?;
+    line.word(if is_done { "done" } else { "refused" })
 }
 
 /// `compacts CALLS`: whether the image is written anew on a disk that crashes after so many calls. What the crash leaves is always the same site, and can be used.
@@ -168,6 +181,8 @@ pub fn call(
         ("choice", [times, word, rest @ ..]) => choose(bench, times, word, rest),
         ("request", [bytes]) => request(bench, bytes),
         ("survives", [calls]) => show_survival(bench, line, calls),
+        ("survives_once", [call]) => show_once(bench, line, call),
+        ("compacts_once", [call]) => show_compaction_once(bench, line, call),
         ("compacts", [calls]) => show_compaction(bench, line, calls),
         ("upgrades", [calls]) => show_upgrade(bench, line, calls),
         ("upgraded", [pages]) => show_outcome(bench, line, pages),

@@ -1,62 +1,17 @@
-// A device that is not honest.
+// Callers over a device that lies.
 ghost use Rattle.std.specs.Prelude.{◌≡◌, IfOk};
-ghost use Rattle.sector_device.specs.Lying.{lying, lies};
 
 use crate::made;
 use crate::trouble::Trouble;
 use page_store::{NewPage, Root, Slot, commit_pages, read_page, switch_root};
-use sector_device::{Device, DeviceFault, MemDisk, store};
+use sector_device::{LieDisk, MemDisk, store};
 use std::alloc::Global;
 
-/// A device whose reads give the same bytes whatever was written.
-#[derive(Drop)]
-struct LyingDisk<D: Device> {
-    inner: D,
-    lie: [u8; 512],
-}
-
-impl<D: Device> Device for LyingDisk<D> {
-    ghost state = { λ d. lying (D.state d.inner) };
-
-    ghost moment = { λ d. D.moment d.inner };
-
-    ghost possible_since = { λ d. D.possible_since d.inner };
-
-    ghost crash_states_are_images = { λ d c h left. lies h };
-
-    ghost each_image_is_a_crash_state = { λ d c h image. lies h };
-
-    ghost view_is_image = { λ d h. lies h };
-
-    ghost base_has_size = { λ d h. lies h };
-
-    fn sectors(&self) -> u64 {
-        self.inner.sectors()
-    }
-
-    fn read(&mut self, n: u64, buffer: &mut [u8; 512]) -> Result<(), DeviceFault> {
-        self.inner.read(n, buffer)?;
-        *buffer = self.lie;
-        Ok(())
-    }
-
-    fn write(&mut self, n: u64, bytes: &[u8; 512]) -> Result<(), DeviceFault> {
-        self.inner.write(n, bytes)
-    }
-
-    fn sync(&mut self) -> Result<(), DeviceFault> {
-        self.inner.sync()
-    }
-}
-
-/// What the same caller reads behind its write of sevens over an honest device, and behind that of eights over one whose reads give nines.
+/// What the same caller reads behind its write of sevens over an honest device, and behind that of eights over one whose reads of that sector give nines.
 pub fn stored_and_told(alloc: Global) -> Result<[[u8; 512]; 2], Trouble> {
     let mut disk = MemDisk::new(alloc, 2)?;
     let stored = store(&mut disk, 1, &[7; 512])?;
-    let mut lying = LyingDisk {
-        inner: disk,
-        lie: [9; 512],
-    };
+    let mut lying = LieDisk::new(disk, 0, 1, [9; 512]);
     let lie = store(&mut lying, 1, &[8; 512])?;
     Ok([stored, lie])
 }
@@ -78,17 +33,14 @@ fn slot(number: u32, seal: u64) -> Result<Slot, Trouble>
 
 /// What stands in pages 1, 0 and 5 once a root is switched to slot 1, and a commit of page 5 goes to slot 0, over a device that promises nothing.
 pub fn switched(alloc: Global) -> Result<[[u8; 4096]; 3], Trouble> {
-    let mut lying = LyingDisk {
-        inner: MemDisk::new(alloc, 128)?,
-        lie: [9; 512],
-    };
+    let mut lying = LieDisk::new(MemDisk::new(alloc, 128)?, 0, 0, [9; 512]);
     switch_root(&mut lying, &slot(1, 1)?, &[1; 4096])?;
     let page = NewPage {
         number: 5,
         bytes: [5; 4096],
     };
     commit_pages(&mut lying, &[page], &slot(0, 2)?, &[2; 4096])?;
-    let LyingDisk { mut inner, lie: _ } = lying;
+    let mut inner = lying.into_inner();
     let mut pages = [[0; 4096]; 3];
     read_page(&mut inner, 1, &mut pages[0])?;
     read_page(&mut inner, 0, &mut pages[1])?;

@@ -6,7 +6,8 @@
 //! digits, and `a{9}` is nine letters. `each FIRST LAST CALLS` makes the calls of a line for each number in the place of `#`, and prints what they
 //! answer at each number where it is not what they answered before.
 //!
-//! - Of what is held: `disk SECTORS` a new disk, `fuse CALLS` the disk behind a fuse, `open` a keeper, `site` a site, `turn` the site of a keeper or
+//! - Of what is held: `disk SECTORS` a new disk, `fuse CALLS` the disk behind a fuse, `once CALL` the disk of whose calls that one fails, `lie CALLS SECTOR BYTES` the disk that lies about a
+//!   sector, `open` a keeper, `site` a site, `turn` the site of a keeper or
 //!   the keeper of a site, `close` the disk under it, `crash WRITE ..` what a crash leaves of that, `memory` a site in memory.
 //! - `save` saves the image, `same` compares with it, `again` is a disk with it. `now SECONDS` is the moment of what follows.
 //! - `event` adds one to the events, which `events` empties and `used` moves to those that a site is used by after a crash; `run FIRST` runs them.
@@ -26,10 +27,12 @@ mod keepers;
 mod line;
 mod lying;
 mod made;
+mod once;
 mod records;
 mod refused;
 mod scripts;
 mod sites;
+mod tested;
 mod texts;
 mod trouble;
 mod upgrades;

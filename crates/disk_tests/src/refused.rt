@@ -58,7 +58,7 @@ pub fn written_often(alloc: Global) -> Result<(u8, usize), &'static str> {
             }
         }
     }
-    Ok((shown, disk.calls().len()))
+    Ok((shown, disk.writes_and_syncs().len()))
 }
 
 /// A disk of 16 pages with an empty top menu. A format that finds no memory writes nothing, or fails as the disk does.
@@ -66,7 +66,7 @@ fn formatted(alloc: Global) -> Result<MemDisk, &'static str> {
     let mut disk = disk_of(alloc, 128)?;
     match make_site(alloc, &mut disk, 16) {
         Ok(()) => return Ok(disk),
-        Err(KeeperFault::Memory) if disk.calls().is_empty() => {}
+        Err(KeeperFault::Memory) if disk.writes_and_syncs().is_empty() => {}
         Err(KeeperFault::Failed) if disk.failed_writes() > 0 => {}
         Err(_) => return Err("another fault of a format"),
     }

@@ -25,7 +25,7 @@ pub struct Seen {
 /// How many writes came since the last sync.
 fn unsynced(disk: &MemDisk) -> usize {
     let mut count = 0usize;
-    for call in disk.calls() {
+    for call in disk.writes_and_syncs() {
         match call {
             Call::Write(_, _) => count = count.saturating_add(1),
             Call::Sync => count = 0,

@@ -1,18 +1,33 @@
 -- A disk in memory, by the calls that were made of it.
-use Rattle.std.specs.Prelude.{◌≤◌, ℕ, List, [], ◌∷◌, length, take, replicate}
+use Rattle.std.specs.Prelude.{◌≤◌, ℕ, true, List, [], ◌∷◌, ◌++◌, length, take, replicate}
+use Rattle.common_types.specs.Counts.{counted}
+use Rattle.sector_device.specs.Device.{State}
 use Rattle.sector_device.specs.Disk.{Disk, IsImage, written, synced}
 use Rattle.sector_device.specs.declared.call.Call.{Call}
 use Rattle.sector_device.specs.declared.call.Call.TheVariants.{Write, Sync}
 
--- A disk in memory: its sectors at first, the writes and syncs that it took, and how many it could not take.
+-- A disk in memory: its sectors at first, the writes and syncs that it took, how many it could not take, and how many calls were made of it, reads too.
 pub record History : Type 0 where
   pub first : List (List ℕ)
-  pub calls : List Call
+  pub writes_and_syncs : List Call
   pub failed_writes : ℕ
+  pub calls : ℕ
 
 -- a disk in memory of which nothing was asked yet
 abbrev pub unused : List (List ℕ) → History
-unused sectors = record { first = sectors; calls = []; failed_writes = 0 }
+unused sectors = record { first = sectors; writes_and_syncs = []; failed_writes = 0; calls = 0 }
+
+-- after one call more, which changed nothing else
+abbrev pub asked : History → History
+asked h = record { first = h.first; writes_and_syncs = h.writes_and_syncs; failed_writes = h.failed_writes; calls = counted h.calls }
+
+-- after a write or a sync that it took
+abbrev pub took : Call → History → History
+took call h = record { first = h.first; writes_and_syncs = h.writes_and_syncs ++ call ∷ []; failed_writes = h.failed_writes; calls = counted h.calls }
+
+-- after a write or a sync that it could not take
+abbrev pub refused : History → History
+refused h = record { first = h.first; writes_and_syncs = h.writes_and_syncs; failed_writes = counted h.failed_writes; calls = counted h.calls }
 
 -- so many sectors of zeros
 unfoldable pub zeros : ℕ → List (List ℕ)
@@ -32,7 +47,11 @@ replay d [] = d
 replay d (call ∷ calls) = replay (after call d) calls
 
 abbrev pub disk_of : History → Disk
-disk_of h = replay (fresh h.first) h.calls
+disk_of h = replay (fresh h.first) h.writes_and_syncs
+
+-- what callers see of a disk in memory
+abbrev pub mem_state : History → State
+mem_state h = record { disk = disk_of h; size = length h.first; honest = true; failed_reads = 0; failed_writes = h.failed_writes }
 
 -- the writes among these calls
 abbrev pub writes_of : List Call → List (ℕ × List ℕ)

@@ -7,5 +7,8 @@ pub mod CrashExamples
 pub mod Fuse
 pub mod FuseState
 pub mod Images
+pub mod LieState
 pub mod Lying
 pub mod MemDisk
+pub mod Once
+pub mod OnceState

@@ -23,13 +23,20 @@ pub enum DeviceFault {
     Memory,
 }
 
-/// Counts a call that fails, and gives its fault.
+/// Counts one more. At the greatest u64 the count stays.
 #[tactic(auto, unfolding(common_types::specs::Counts::counted))]
+pub(crate) fn count(calls: &mut u64)
+    ensures { calls.new ≡ counted calls.old }
+{
+    *calls = calls.saturating_add(1);
+}
+
+/// Counts a call that fails, and gives its fault.
 pub(crate) fn counted(failed: &mut u64) -> DeviceFault
     ensures next { failed.new ≡ counted failed.old }
     ensures fault { result ≡ Failing }
 {
-    *failed = failed.saturating_add(1);
+    count(failed);
     DeviceFault::Device
 }
 

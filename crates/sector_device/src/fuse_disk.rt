@@ -18,7 +18,7 @@ pub struct FuseDisk<D: Device> {
 }
 
 /// Takes one of the calls that are left, and says whether there was one.
-fn burns(calls_left: &mut u64) -> bool
+pub(crate) fn burns(calls_left: &mut u64) -> bool
     ensures burns { calls_left.new ≡ calls_left.old - 1 }
     ensures passes { IsTrue result ↔ 0 < calls_left.old }
 {

@@ -6,6 +6,7 @@ ghost use Rattle.sector_device.specs.Effects.{IsSameDevice};
 ghost use Rattle.sector_device.specs.declared.device.DeviceFault.TheVariants.{Device as Failing};
 ghost use Rattle.sector_device.specs.AfterStop.{after_stop};
 ghost use Rattle.sector_device.specs.CrashExamples.{CrashExamples};
+ghost use Rattle.sector_device.specs.Once.{OnlyFails};
 
 use crate::{Device, DeviceFault};
 
@@ -22,6 +23,11 @@ pub fn picks_leave_images()
 /// Every image is left by some picks.
 pub fn each_image_is_picked()
     ensures { (disk : Disk) (image : Sectors) → IsImage disk image → (picks : List ℕ) × (after_stop picks disk ≡ image) }
+{}
+
+/// Of a device of which one call fails, it is the call of the number that it was made with.
+pub fn only_that_call_fails()
+    ensures { (call : ℕ) → OnlyFails call }
 {}
 
 /// Writes a sector, makes sure of it, and reads it again, up to the first call that fails.

@@ -5,10 +5,16 @@ mod call;
 mod device;
 mod fuse_disk;
 mod laws;
+mod lie_disk;
 mod mem_disk;
+mod once_disk;
 
 pub use call::Call;
 pub use device::{Device, DeviceFault};
 pub use fuse_disk::FuseDisk;
-pub use laws::{each_image_is_picked, picks_leave_images, store, worked_examples};
+pub use laws::{
+    each_image_is_picked, only_that_call_fails, picks_leave_images, store, worked_examples,
+};
+pub use lie_disk::LieDisk;
 pub use mem_disk::MemDisk;
+pub use once_disk::OnceDisk;

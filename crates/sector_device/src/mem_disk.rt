@@ -1,12 +1,15 @@
 // A disk in memory. It keeps all its writes and syncs, so a crash may leave all that is allowed.
-ghost use Rattle.std.specs.Prelude.{◌≡◌, ◌≤◌, ◌+◌, ℕ, length, true, IfOk, [], slice_set};
-ghost use Rattle.sector_device.specs.Disk.{IsImage};
+ghost use Rattle.std.specs.Prelude.{◌≡◌, ◌≤◌, ◌<◌, ◌+◌, ℕ, length, IfOk, OnOk, OnErr, IsOk, IsTrue, [], Some, slice_get, slice_set};
+ghost use Rattle.sector_device.specs.Disk.{IsImage, written, synced, WriteFailed, SyncFailed};
 ghost use Rattle.sector_device.specs.AfterStop.{done, done_where, after_stop};
-ghost use Rattle.sector_device.specs.Calls.{fresh, replay, disk_of, writes_of, unused, zeros, PossibleSince};
+ghost use Rattle.sector_device.specs.Calls.{fresh, replay, disk_of, mem_state, writes_of, unused, asked, took, refused, zeros, PossibleSince};
+ghost use Rattle.sector_device.specs.Device.{Elapses};
+ghost use Rattle.sector_device.specs.Effects.{ReadOutcome, WriteOutcome};
 ghost use Rattle.sector_device.specs.Images.{good, only_images, all_images};
+ghost use Rattle.sector_device.specs.declared.call.Call.TheVariants.{Write, Sync};
 
 use crate::call::Call;
-use crate::device::counted;
+use crate::device::{count, counted};
 use crate::{Device, DeviceFault};
 use std::alloc::{AllocError, Global};
 use std::marker::Model;
@@ -15,11 +18,12 @@ use std::marker::Model;
 #[derive(Drop)]
 pub struct MemDisk {
     first: Vec<[u8; 512]>,
-    calls: Vec<Call>,
+    writes_and_syncs: Vec<Call>,
     /// How many of the calls came up to the last sync, with it.
     synced: usize,
     view: Vec<[u8; 512]>,
     failed_writes: u64,
+    calls: u64,
 }
 
 impl Model for MemDisk {
@@ -28,9 +32,9 @@ impl Model for MemDisk {
 
     ghost Value = { History };
 
-    ghost view = { λ m. record { first = m.first.items; calls = m.calls.items; failed_writes = m.failed_writes } };
+    ghost view = { λ m. record { first = m.first.items; writes_and_syncs = m.writes_and_syncs.items; failed_writes = m.failed_writes; calls = m.calls } };
 
-    ghost invariant = { λ m. IsReadBack m.first.items m.calls.items m.synced m.view.items };
+    ghost invariant = { λ m. IsReadBack m.first.items m.writes_and_syncs.items m.synced m.view.items };
 }
 
 fn copied(alloc: Global, sectors: &[[u8; 512]]) -> Result<Vec<[u8; 512]>, AllocError>
@@ -106,18 +110,26 @@ impl MemDisk {
         let view = copied(alloc, &sectors)?;
         Ok(MemDisk {
             first: sectors,
-            calls: Vec::new(alloc),
+            writes_and_syncs: Vec::new(alloc),
             synced: 0,
             view,
             failed_writes: 0,
+            calls: 0,
         })
     }
 
     /// The writes and syncs that were taken, the oldest first.
-    pub fn calls(&self) -> &[Call]
-        ensures { result.now ≡ self.now.calls }
+    pub fn writes_and_syncs(&self) -> &[Call]
+        ensures { result.now ≡ self.now.writes_and_syncs }
     {
-        &self.calls
+        &self.writes_and_syncs
+    }
+
+    /// How many reads, writes and syncs were called for, those that failed too. At the greatest u64 the count stays.
+    pub fn calls(&self) -> u64
+        ensures { result ≡ self.now.calls }
+    {
+        self.calls
     }
 
     /// How many writes and syncs failed. At the greatest u64 the count stays.
@@ -132,8 +144,8 @@ impl MemDisk {
         ensures { IfOk result (λ left. left.items ≡ after_stop picks.now (disk_of self.now)) }
     {
         let mut sectors = copied(alloc, &self.first)?;
-        redo(&mut sectors, &self.calls[..self.synced]);
-        redo_picked(&mut sectors, &self.calls[self.synced..], picks);
+        redo(&mut sectors, &self.writes_and_syncs[..self.synced]);
+        redo_picked(&mut sectors, &self.writes_and_syncs[self.synced..], picks);
         Ok(sectors)
     }
 
@@ -149,31 +161,50 @@ impl MemDisk {
 }
 
 impl Device for MemDisk {
-    ghost state = { λ m. record { disk = disk_of m; size = length m.first; honest = true; failed_reads = 0; failed_writes = m.failed_writes } };
+    ghost state = { mem_state };
 
-    ghost moment = { λ m. length m.calls };
+    ghost moment = { λ m. length m.writes_and_syncs };
 
-    ghost possible_since = { λ m. PossibleSince m.first m.calls };
+    ghost possible_since = { λ m. PossibleSince m.first m.writes_and_syncs };
 
-    ghost crash_states_are_images = { λ m c h left. only_images m.first m.calls c left };
+    ghost crash_states_are_images = { λ m c h left. only_images m.first m.writes_and_syncs c left };
 
-    ghost each_image_is_a_crash_state = { λ m c h image. all_images m.first m.calls c image };
+    ghost each_image_is_a_crash_state = { λ m c h image. all_images m.first m.writes_and_syncs c image };
 
-    ghost view_is_image = { λ m h. (good m.first m.calls).view };
+    ghost view_is_image = { λ m h. (good m.first m.writes_and_syncs).view };
 
-    ghost base_has_size = { λ m h. (good m.first m.calls).size_is };
+    ghost base_has_size = { λ m h. (good m.first m.writes_and_syncs).size_is };
 
     fn sectors(&self) -> u64 {
         self.first.len() as u64
     }
 
-    fn read(&mut self, n: u64, buffer: &mut [u8; 512]) -> Result<(), DeviceFault> {
+    /// It never fails.
+    fn read(&mut self, n: u64, buffer: &mut [u8; 512]) -> Result<(), DeviceFault>
+        requires { n < (mem_state self.old).size }
+        ensures read { IsTrue (mem_state self.old).honest → OnOk result (slice_get (mem_state self.old).disk.view n ≡ Some buffer.new) }
+        ensures outcome { ReadOutcome result (mem_state self.old) (mem_state self.new) }
+        ensures time { IsTrue (mem_state self.old).honest → Elapses (length self.old.writes_and_syncs) (length self.new.writes_and_syncs) (PossibleSince self.old.first self.old.writes_and_syncs) (PossibleSince self.new.first self.new.writes_and_syncs) }
+        ensures never_fails { IsOk result }
+        ensures asked { self.new ≡ asked self.old }
+    {
+        count(&mut self.calls);
         *buffer = self.view[n as usize];
         Ok(())
     }
 
-    fn write(&mut self, n: u64, bytes: &[u8; 512]) -> Result<(), DeviceFault> {
-        match self.calls.push(Call::Write(n, *bytes)) {
+    /// It fails where the list of writes and syncs can't grow.
+    fn write(&mut self, n: u64, bytes: &[u8; 512]) -> Result<(), DeviceFault>
+        requires { n < (mem_state self.old).size }
+        ensures written { IsTrue (mem_state self.old).honest → OnOk result ((mem_state self.new).disk ≡ written n bytes.now (mem_state self.old).disk) }
+        ensures failed { IsTrue (mem_state self.old).honest → OnErr result (WriteFailed n bytes.now (mem_state self.old).disk (mem_state self.new).disk) }
+        ensures outcome { WriteOutcome result (mem_state self.old) (mem_state self.new) }
+        ensures time { IsTrue (mem_state self.old).honest → Elapses (length self.old.writes_and_syncs) (length self.new.writes_and_syncs) (PossibleSince self.old.first self.old.writes_and_syncs) (PossibleSince self.new.first self.new.writes_and_syncs) }
+        ensures took { OnOk result (self.new ≡ took (Write n bytes.now) self.old) }
+        ensures refused { OnErr result (self.new ≡ refused self.old) }
+    {
+        count(&mut self.calls);
+        match self.writes_and_syncs.push(Call::Write(n, *bytes)) {
             Ok(()) => {
                 self.view[n as usize] = *bytes;
                 Ok(())
@@ -182,10 +213,19 @@ impl Device for MemDisk {
         }
     }
 
-    fn sync(&mut self) -> Result<(), DeviceFault> {
-        match self.calls.push(Call::Sync) {
+    /// It fails where the list of writes and syncs can't grow.
+    fn sync(&mut self) -> Result<(), DeviceFault>
+        ensures synced { IsTrue (mem_state self.old).honest → OnOk result ((mem_state self.new).disk ≡ synced (mem_state self.old).disk) }
+        ensures failed { IsTrue (mem_state self.old).honest → OnErr result (SyncFailed (mem_state self.old).disk (mem_state self.new).disk) }
+        ensures outcome { WriteOutcome result (mem_state self.old) (mem_state self.new) }
+        ensures time { IsTrue (mem_state self.old).honest → Elapses (length self.old.writes_and_syncs) (length self.new.writes_and_syncs) (PossibleSince self.old.first self.old.writes_and_syncs) (PossibleSince self.new.first self.new.writes_and_syncs) }
+        ensures took { OnOk result (self.new ≡ took Sync self.old) }
+        ensures refused { OnErr result (self.new ≡ refused self.old) }
+    {
+        count(&mut self.calls);
+        match self.writes_and_syncs.push(Call::Sync) {
             Ok(()) => {
-                let taken = self.calls.len();
+                let taken = self.writes_and_syncs.len();
                 self.synced = taken;
                 Ok(())
             }

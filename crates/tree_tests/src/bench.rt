@@ -1,6 +1,6 @@
 // Which call a word names.
 use crate::trouble::Trouble;
-use crate::{crashes, full, random, roots};
+use crate::{crashes, full, opening, random, roots};
 use std::alloc::Global;
 
 /// The number that decimal digits write.
@@ -36,6 +36,12 @@ fn crashes(alloc: Global, fields: &str) -> Result<String, Trouble> {
     let seen = crashes::survives(alloc, &image, &crashes::batch_of(alloc, height, word)?)?;
     let (crashes, images, new) = (seen.crashes, seen.images, seen.new);
     Ok(format!(in alloc; " {crashes} crashes, {images} images, {new} of them new")?)
+}
+
+/// `opening HEIGHT`
+fn opening(alloc: Global, height: &str) -> Result<String, Trouble> {
+    let opening::Seen { calls, held } = opening::opening(alloc, number(height)?)?;
+    Ok(format!(in alloc; " {calls} calls for the root slots and {held} pages")?)
 }
 
 /// `switched`
@@ -80,6 +86,7 @@ pub fn call(alloc: Global, text: &str) -> Result<String, Trouble> {
     match word {
         "random" => random(alloc, fields),
         "crashes" => crashes(alloc, fields),
+        "opening" => opening(alloc, fields),
         "switched" => switched(alloc),
         "torn" => torn(alloc, fields),
         "both_torn" => nothing(alloc, roots::both_torn(alloc, number(fields)?.into())),

@@ -111,7 +111,7 @@ pub fn batch_of(alloc: Global, height: u16, word: &str) -> Result<Vec<Edit>, Tro
 /// Counts the writes since a disk's last sync.
 fn unsynced(disk: &MemDisk) -> usize {
     let mut count = 0usize;
-    for call in disk.calls() {
+    for call in disk.writes_and_syncs() {
         match call {
             Call::Write(_, _) => count = count.saturating_add(1),
             Call::Sync => count = 0,

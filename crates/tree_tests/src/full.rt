@@ -42,7 +42,7 @@ pub fn room(alloc: Global) -> Result<u8, Trouble> {
 /// The put of one pair more than there is room for. It changes neither the pairs nor the figures, and calls for no write.
 pub fn one_more(alloc: Global, pairs: u8) -> Result<(), Trouble> {
     let disk = filled(alloc, pairs)?.into_device();
-    let (image, calls) = (image_of(alloc, &disk)?, disk.calls().len());
+    let (image, calls) = (image_of(alloc, &disk)?, disk.writes_and_syncs().len());
     let mut keeper = filled(alloc, pairs)?;
     let before = kept_by(alloc, &mut keeper)?;
     let answer = put(alloc, &mut keeper, pairs);
@@ -50,7 +50,7 @@ pub fn one_more(alloc: Global, pairs: u8) -> Result<(), Trouble> {
         return Err(Trouble::Wrong("a refused commit changes what is kept"));
     }
     let disk = keeper.into_device();
-    if disk.calls().len() != calls || image_of(alloc, &disk)? != image {
+    if disk.writes_and_syncs().len() != calls || image_of(alloc, &disk)? != image {
         return Err(Trouble::Wrong("a refused commit writes"));
     }
     answer

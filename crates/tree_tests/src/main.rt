@@ -7,6 +7,7 @@
 //! - `crashes HEIGHT BATCH` ends the commit of a batch, `new`, `over`, `delete` or `split`, at each call of the device, and opens what may be left.
 //! - `switched` commits over root slots of generations 98 and 99; `torn HALF` opens an image whose newer root slot has lost that half, 0 or 1, and `both_torn HALF` one with
 //!   two such slots; `spent SECTORS` commits where so many sectors of the second slot are of the last generation.
+//! - `opening HEIGHT` counts the calls of an opening.
 //! - `room` fills an image of 16 pages; `one_more PAIRS` puts another pair into one with so many; `emptied PAIRS` takes all from it.
 #![tactic(auto)]
 
@@ -16,6 +17,7 @@ mod crashes;
 mod dice;
 mod full;
 mod made;
+mod opening;
 mod pairs;
 mod random;
 mod roots;

@@ -10,4 +10,4 @@ returns-clause-image c =
 pub returns-clause-left : goal.returns-clause-left
 returns-clause-left c =
     let disk = c.args.self.now in
-    if_ok c.picked.result (λ left is. all_images disk.first disk.calls left.items (left_of c.args.picks.now disk left.items is)) c.picked.ensures
+    if_ok c.picked.result (λ left is. all_images disk.first disk.writes_and_syncs left.items (left_of c.args.picks.now disk left.items is)) c.picked.ensures

@@ -8,19 +8,19 @@ use Rattle.sector_device.proofs.mem_disk.MemDiskDevice.write.Goals as goal
 pub index_mut-requires : goal.index_mut-requires
 index_mut-requires c =
     let m = c.self.inside in
-    omega (arith, as_many m.first.items m.calls.items m.synced m.view.items c.self.invariant, ap (λ (h : History). length h.first) c.self.view_is, m.view.ok.0, c.requires)
+    omega (arith, as_many m.first.items m.writes_and_syncs.items m.synced m.view.items c.self.invariant, ap (λ (h : History). length h.first) c.self.view_is, m.view.ok.0, c.requires)
 
 pub invariant_of-self : goal.invariant_of-self
 invariant_of-self c =
     let m = c.self.inside in
-    kept_write m.first.items m.calls.items _ m.synced m.view.items c.args.n c.args.bytes.now c.self.invariant c.in-Ok.ensures.items
+    kept_write m.first.items m.writes_and_syncs.items _ m.synced m.view.items c.args.n c.args.bytes.now c.self.invariant c.in-Ok.ensures.items
 
 pub returns-in-Ok-clause-written : goal.returns-in-Ok-clause-written
 returns-in-Ok-clause-written c =
     let m = c.self.inside in
-    λ honest. rw (← c.self.view_is) (replayed m.first.items m.calls.items _ (Write c.args.n c.args.bytes.now) c.in-Ok.ensures.items)
+    λ honest. rw (← c.self.view_is) (replayed m.first.items m.writes_and_syncs.items _ (Write c.args.n c.args.bytes.now) c.in-Ok.ensures.items)
 
 pub returns-in-Ok-clause-time : goal.returns-in-Ok-clause-time
 returns-in-Ok-clause-time c =
     let m = c.self.inside in
-    λ honest. rw (← c.self.view_is) (elapses_to m.first.items m.calls.items _ (Write c.args.n c.args.bytes.now) c.in-Ok.ensures.items)
+    λ honest. rw (← c.self.view_is) (elapses_to m.first.items m.writes_and_syncs.items _ (Write c.args.n c.args.bytes.now) c.in-Ok.ensures.items)

@@ -1,0 +1,25 @@
+-- What callers see of a device of which one call fails.
+use Rattle.std.specs.Prelude.{ℕ, Option}
+use Rattle.sector_device.specs.Device.{State}
+use Rattle.sector_device.specs.Fuse.{with_failures}
+use Rattle.sector_device.specs.declared.once_disk.OnceDisk.{OnceDisk}
+
+-- the device inside
+abbrev pub inside : {D : Type 0} → OnceDisk D → D
+inside once = once.inner
+
+-- how many calls pass before the one that fails; none, once that one was made
+abbrev pub calls_before : {D : Type 0} → OnceDisk D → Option ℕ
+calls_before once = once.calls_before
+
+-- how many reads it failed itself
+abbrev pub refused_reads : {D : Type 0} → OnceDisk D → ℕ
+refused_reads once = once.failed_reads
+
+-- how many writes and syncs it failed itself
+abbrev pub refused_writes : {D : Type 0} → OnceDisk D → ℕ
+refused_writes once = once.failed_writes
+
+-- the device inside, which has failed so often besides
+abbrev pub once_state : {D : Type 0} → (D → State) → OnceDisk D → State
+once_state state once = with_failures (state once.inner) once.failed_reads once.failed_writes
