@@ -1,16 +1,40 @@
 -- What is read of a page of a tree by its head alone.
-use Rattle.std.proofs.Common.{◌≡◌, ℕ, zero, suc, ◌-◌, ◌<◌, List, [], ◌∷◌, Option, Some, None, sym, ap, subst, ◌∙◌, arith}
-use Rattle.std.specs.Prelude.{IfSome}
-use Rattle.page_store.specs.Reading.{◌>>=◌}
+use Rattle.std.proofs.Common.{◌≡◌, ℕ, zero, suc, ◌-◌, ◌<◌, ◌≤◌, Bool, true, false, List, [], ◌∷◌, length, Option, Some, None, refl, sym, ap, subst, ◌∙◌, arith}
+use Rattle.std.specs.Prelude.{IfSome, IfOk, IfErr, Result, Ok, Err, nat_lt}
+use Rattle.std.proofs.lemmas.Bool.{ltb-true, lt-ltb}
+use Rattle.page_store.specs.Reading.{◌>>=◌, where_true}
 use Rattle.page_store.specs.Pages.{Pair, Child, pair_at, child_at, leaf_of, branch_of}
+use Rattle.page_store.specs.Batch.{value_at}
 use Rattle.page_store.specs.Content.{Found, Bounds, place_in, fan, walk}
-use Rattle.page_store.proofs.Fields.{bind_some}
-use Rattle.tree_nodes.specs.PageViews.{entries_by_head}
+use Rattle.page_store.proofs.Fields.{bind_some, test_passed}
+use Rattle.tree_nodes.specs.PageViews.{entries_by_head, has_head}
+use Rattle.tree_nodes.proofs.KeyOrder.{both_true}
 use Rattle.tree_nodes.proofs.PageForm.{leaf_told, branch_told}
+use Rattle.tree_nodes.proofs.PageHeads.{leaf_headed, branch_headed}
 use Rattle.tree_nodes.proofs.WalksWithinBounds.{some_is}
-use Rattle.cow_tree.specs.Ways.{pages_around, IsOnWay}
+use Rattle.cow_tree.specs.Ways.{pages_around, is_page_or_none, are_inside, around_in, IsOnWay, IsAnswer}
+use Rattle.cow_tree.specs.declared.page_fault.PageFault.{PageFault}
+use Rattle.cow_tree.specs.declared.page_fault.PageFault.TheVariants.{Damaged}
 use Rattle.cow_tree.proofs.OnTheWay.{branch_way, branch_keys, no_page, around_inside}
 use Rattle.cow_tree.proofs.Pages.{names_inside}
+
+-- ---- pages of an image of so many
+
+inside_next : (pages : ℕ) (next : Option ℕ) → is_page_or_none pages next ≡ true → IfSome next (λ page. page < pages)
+inside_next pages None t = tt
+inside_next pages (Some page) t = ltb-true page pages t
+
+next_inside : (pages : ℕ) (next : Option ℕ) → IfSome next (λ page. page < pages) → is_page_or_none pages next ≡ true
+next_inside pages None t = refl
+next_inside pages (Some page) t = lt-ltb page pages t
+
+pub inside_told : (pages : ℕ) (around : ℕ × Option ℕ) → are_inside pages around ≡ true → (around.0 < pages) × IfSome around.1 (λ page. page < pages)
+inside_told pages around t =
+    let both = both_true (nat_lt around.0 pages) (is_page_or_none pages around.1) t in
+    (ltb-true around.0 pages both.0, inside_next pages around.1 both.1)
+
+told_inside : (pages : ℕ) (around : ℕ × Option ℕ) → around.0 < pages → IfSome around.1 (λ page. page < pages) → are_inside pages around ≡ true
+told_inside pages around here next = rw (lt-ltb around.0 pages here, next_inside pages around.1 next) refl
 
 module _ (a : ℕ → List ℕ) (bounds : Bounds) (page : ℕ) (found : Found) where
   -- ---- a leaf
@@ -25,6 +49,17 @@ module _ (a : ℕ → List ℕ) (bounds : Bounds) (page : ℕ) (found : Found) w
   pairs_told bytes is e =
       let l = leaf_walked e in
       ap (entries_by_head pair_at) (sym is) ∙ leaf_told (place_in bounds 0 page) [] None (a page) l.0 l.1 ∙ l.2
+
+  pub leaf_head_told : (bytes : List ℕ) → a page ≡ bytes → length bytes ≤ 4096 → walk a bounds 0 page [] None ≡ Some found → has_head (place_in bounds 0 page) bytes ≡ true
+  leaf_head_told bytes is size e =
+      let l = leaf_walked e in
+      leaf_headed (place_in bounds 0 page) [] None bytes l.0 refl size (ap (leaf_of (place_in bounds 0 page) [] None) (sym is) ∙ l.1)
+
+  -- what looking a value up there answers
+  pub value_answered : (bytes : List ℕ) → a page ≡ bytes → length bytes ≤ 4096 → walk a bounds 0 page [] None ≡ Some found → (key : List ℕ) (shown : Option ℕ → Option (List ℕ)) (r : Result (Option ℕ) PageFault)
+      → IfOk r (λ x. shown x ≡ value_at (entries_by_head pair_at bytes) key) → IfErr r (λ e. (e ≡ Damaged page) × (has_head (place_in bounds 0 page) bytes ≡ false)) → IsAnswer r (λ x. shown x ≡ value_at found.pairs key)
+  value_answered bytes is size e key shown (Ok x) value fault = value ∙ ap (λ (l : List Pair). value_at l key) (pairs_told bytes is e)
+  value_answered bytes is size e key shown (Err f) value fault = let both = sym fault.1 ∙ leaf_head_told bytes is size e in absurd (cc both)
 
   -- ---- a branch
 
@@ -52,3 +87,34 @@ module _ (a : ℕ → List ℕ) (bounds : Bounds) (page : ℕ) (found : Found) w
     -- they are pages of the image
     pub around_within : (around : ℕ × Option ℕ) → Some around ≡ pages_around key children → (around.0 < bounds.pages) × IfSome around.1 (λ page. page < bounds.pages)
     around_within around around_is = around_inside bounds.pages key children around (names_inside (place_in bounds level page) [] None (a page) children there) around_is
+
+  module _ (level : ℕ) (some : 0 < level) (e : walk a bounds level page [] None ≡ Some found) (key : List ℕ) (bytes : List ℕ) (is : a page ≡ bytes) (size : length bytes ≤ 4096) where
+    branch_head_told : has_head (place_in bounds level page) bytes ≡ true
+    branch_head_told =
+        let b = branch_walked level some e in
+        branch_headed (place_in bounds level page) (level - 1) [] None bytes b.0 (omega (arith, some)) size (ap (branch_of (place_in bounds level page) [] None) (sym is) ∙ b.1)
+
+    -- what the bytes of the page say is on its way
+    pub around_told : (around : ℕ × Option ℕ) → around_in (place_in bounds level page) key bytes ≡ Some around → IsOnWay a bounds (level - 1) key found around
+    around_told around read =
+        let f = bind_some (where_true (has_head (place_in bounds level page) bytes) (pages_around key (entries_by_head child_at bytes))) (λ x. where_true (are_inside bounds.pages x) (Some x)) around read in
+        let t = test_passed (has_head (place_in bounds level page) bytes) (pages_around key (entries_by_head child_at bytes)) f.0 f.1 in
+        let u = test_passed (are_inside bounds.pages f.0) (Some f.0) around f.2 in
+        way_told level some e key bytes (entries_by_head child_at bytes) is refl around (t.1 ∙ u.1)
+
+    -- they say something
+    pub around_said : around_in (place_in bounds level page) key bytes ≡ None → ⊥
+    around_said none = go (pages_around key (entries_by_head child_at bytes)) refl (subst (λ (b : Bool). (where_true b (pages_around key (entries_by_head child_at bytes)) >>= λ x. where_true (are_inside bounds.pages x) (Some x)) ≡ None) branch_head_told none)
+      where
+        go : (r : Option (ℕ × Option ℕ)) → r ≡ pages_around key (entries_by_head child_at bytes) → (r >>= λ x. where_true (are_inside bounds.pages x) (Some x)) ≡ None → ⊥
+        go None r n = around_there level some e key bytes (entries_by_head child_at bytes) is refl r
+        go (Some around) r n =
+            let within = around_within level some e key bytes (entries_by_head child_at bytes) is refl around r in
+            let inside = told_inside bounds.pages around within.0 within.1 in
+            let some : Some around ≡ None = subst (λ (b : Bool). where_true b (Some around) ≡ None) inside n in
+            absurd (cc some)
+
+    -- what reading along it answers
+    pub around_answered : (r : Result (ℕ × Option ℕ) PageFault) → IfOk r (λ around. around_in (place_in bounds level page) key bytes ≡ Some around) → IfErr r (λ e. (e ≡ Damaged page) × (around_in (place_in bounds level page) key bytes ≡ None)) → IsAnswer r (IsOnWay a bounds (level - 1) key found)
+    around_answered (Ok around) read fault = around_told around read
+    around_answered (Err f) read fault = absurd (around_said fault.1)

@@ -1,10 +1,12 @@
 -- The way of a key through a tree of pages, and what reading along it answers.
-use Rattle.std.specs.Prelude.{◌≡◌, ℕ, List, [], ◌∷◌, Option, Some, None, Result, Ok, Err, if◌then◌else◌}
+use Rattle.std.specs.Prelude.{◌≡◌, ◌&&◌, nat_lt, ℕ, Bool, true, List, [], ◌∷◌, Option, Some, None, Result, Ok, Err, if◌then◌else◌}
 use Rattle.std.specs.Option.{option_or}
+use Rattle.page_store.specs.Reading.{◌>>=◌, where_true}
 use Rattle.page_store.specs.Keys.{precedes}
-use Rattle.page_store.specs.Pages.{Pair, Child}
+use Rattle.page_store.specs.Pages.{Pair, Child, Place, child_at}
 use Rattle.page_store.specs.Batch.{value_at, pair_after}
 use Rattle.page_store.specs.Content.{Found, Bounds, walk}
+use Rattle.tree_nodes.specs.PageViews.{entries_by_head, has_head}
 use Rattle.cow_tree.specs.KeptLeaves.{IsPart}
 use Rattle.cow_tree.specs.declared.page_fault.PageFault.{PageFault}
 use Rattle.cow_tree.specs.declared.page_fault.PageFault.TheVariants.{Device, Damaged}
@@ -14,6 +16,20 @@ abbrev pub pages_around : List ℕ → List Child → Option (ℕ × Option ℕ)
 pages_around key [] = None
 pages_around key (child ∷ []) = Some (child.page, None)
 pages_around key (child ∷ next ∷ children) = if precedes key next.key then Some (child.page, Some next.page) else pages_around key (next ∷ children)
+
+-- a page of an image of so many, or none
+abbrev pub is_page_or_none : ℕ → Option ℕ → Bool
+is_page_or_none pages None = true
+is_page_or_none pages (Some page) = nat_lt page pages
+
+abbrev pub are_inside : ℕ → ℕ × Option ℕ → Bool
+are_inside pages around = nat_lt around.0 pages && is_page_or_none pages around.1
+
+-- the pages around a key by the bytes of a branch's page: nothing where these don't begin with the head of that page, or name no pages of the image there
+abbrev pub around_in : Place → List ℕ → List ℕ → Option (ℕ × Option ℕ)
+around_in place key bytes = do
+  around ← where_true (has_head place bytes) (pages_around key (entries_by_head child_at bytes))
+  where_true (are_inside place.pages around) (Some around)
 
 -- An answer from the pages of a tree, of which none is damaged.
 abbrev pub IsAnswer : {T : Type 0} → Result T PageFault → (T → Type 0) → Type 0

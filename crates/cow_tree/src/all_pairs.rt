@@ -58,7 +58,7 @@ fn pair_behind<D: Device>(
     }
 }
 
-/// All pairs of a slot's tree. More than an image may have are `Damaged`, which can come of a lying device alone.
+/// All pairs of a slot's tree. Where they aren't as many as the slot says it is `Damaged`, which can come of a lying device alone.
 pub(crate) fn all_pairs<D: Device>(
     alloc: Global,
     device: &mut D,
@@ -70,6 +70,7 @@ pub(crate) fn all_pairs<D: Device>(
         Tells ⊥ result (λ pairs. pairs.items ≡ found.pairs) }
     ensures map { IfOk result (λ pairs. is_map pairs.items ≡ true) }
     ensures few { IfOk result (λ pairs. length pairs.items ≤ most_pairs) }
+    ensures counted { IfOk result (λ pairs. length pairs.items ≡ slot.now.root.keys) }
     ensures reads { ReadsPairs D.state (crash_states_of D.moment D.possible_since) device.old device.new result }
 {
     let mut pairs = Vec::new(alloc);
@@ -79,6 +80,9 @@ pub(crate) fn all_pairs<D: Device>(
             return Err(KeeperFault::Damaged { page: slot.number });
         }
         pairs.push(pair)?;
+    }
+    if pairs.len() as u64 != slot.root.keys {
+        return Err(KeeperFault::Damaged { page: slot.number });
     }
     Ok(pairs)
 }

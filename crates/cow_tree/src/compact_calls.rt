@@ -40,6 +40,9 @@ impl<D: Device> CompactKeeper for TreeKeeper<D> {
         ensures no_new_crash_state { IsTrue (held D.state self.old).honest → IfErr result (λ e. (held D.state self.new).usable ≡ true → AddsNone (crash_states_of D.moment D.possible_since (device_of self.old)) (crash_states_of D.moment D.possible_since (device_of self.new))) }
         ensures no_new_crash_state_when_closed { IsTrue (held D.state self.old).honest → (held D.state self.old).usable ≡ false → AddsNone (crash_states_of D.moment D.possible_since (device_of self.old)) (crash_states_of D.moment D.possible_since (device_of self.new)) }
 
+        // On every device, honest or not, the new root tells as many pairs as the old one: where others were read, nothing is written.
+        ensures keys { OnOk result ((slot_of self.new).root.keys ≡ (slot_of self.old).root.keys) }
+
         // How it writes: a crash leaves what one before the call might have left, or an image on the way to the other slot.
         ensures between { IsTrue (held D.state self.old).honest → (held D.state self.old).usable ≡ true →
             AddsOnly (crash_states_of D.moment D.possible_since (device_of self.old)) (crash_states_of D.moment D.possible_since (device_of self.new))

@@ -54,6 +54,7 @@ fn plan_pairs(
     ensures room { IfOk result (λ plan. length plan.pages.items ≤ free_count ledger.old) }
     ensures count { IfOk result (λ plan. length plan.pages.items ≡ owned_under (filled pairs.items).root) }
     ensures levels { IfOk result (λ plan. plan.slot.root.height ≡ (filled pairs.items).height) }
+    ensures keys { IfOk result (λ plan. plan.slot.root.keys ≡ length pairs.items) }
     ensures none { (n : ℕ) → IfOk result (λ plan. is_alive ledger.new n ≡ false) }
     ensures planned { (view : Image) (top : ℕ) → IsHeld view slot.now top ledger.old → ((n : ℕ) → is_taken (mark_of ledger.old n) ≡ false) → seal ≡ top + 1 →
         Tells ⊥ result (IsPlanned view slot.now top pairs.items ledger.new) }
@@ -79,6 +80,7 @@ pub(crate) fn plan_compaction<D: Device>(
     requires fitted { IsFitted (D.state device.old).size slot.now ledger.old }
     requires later { slot.now.seal < seal }
     ensures made { IfOk result (IsMade slot.now seal slot.now.root.banner) }
+    ensures keys { IfOk result (λ plan. plan.slot.root.keys ≡ slot.now.root.keys) }
     ensures room { IfOk result (λ plan. length plan.pages.items ≤ free_count ledger.old) }
     ensures planned { IsTrue (D.state device.old).honest → (top : ℕ) → IsHeld (D.state device.old).disk.view slot.now top ledger.old → IsThere (D.state device.old).disk.view slot.now ledger.old → seal ≡ top + 1 →
         Tells ⊥ result (λ plan. IsFillPlan (D.state device.old).disk.view slot.now top ledger.new plan × HasRoomToFill slot.now (D.state device.old).disk.view (free_count ledger.old)) }

@@ -15,6 +15,7 @@ ghost use Rattle.cow_tree.specs.declared.page_fault.PageFault.{PageFault as Page
 
 use crate::opening_walk::{count_pairs, load_page};
 use crate::page_fault::PageFault;
+use crate::page_heads::leaf_by_head;
 use page_store::pair_at;
 use sector_device::Device;
 use std::cmp::Ordering;
@@ -78,7 +79,7 @@ impl KeptLeaf {
         self.last = NOWHERE;
     }
 
-    /// Reads a leaf from its page, which was tested before.
+    /// Reads a leaf from its page, of which the opening has tested all, or which a commit has written: only its head is tested again.
     pub(crate) fn read<D: Device>(
         &mut self,
         device: &mut D,
@@ -93,7 +94,8 @@ impl KeptLeaf {
     {
         self.last.left = 0;
         load_page(device, page, &mut self.bytes)?;
-        self.count = count_pairs(Leaf::of_tested(&self.bytes));
+        let leaf = leaf_by_head(bounds, page, &self.bytes)?;
+        self.count = count_pairs(leaf);
         Ok(())
     }
 

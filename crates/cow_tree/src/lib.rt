@@ -14,6 +14,7 @@ mod opening;
 mod opening_walk;
 mod page_bounds;
 mod page_fault;
+mod page_heads;
 mod page_reads;
 mod pin_calls;
 mod pinned_reads;

@@ -1,20 +1,21 @@
-// Pages on the way of a key. Each page of a tree was tested when the image was opened, or written by a commit since: its form is not tested again.
-ghost use Rattle.std.specs.Prelude.{◌≡◌, ◌≤◌, ◌<◌, ◌-◌, ◌*◌, [], None, Some, Ok, IsTrue, IfOk, IfSome, Decides, length, option_map, take};
+// Pages on the way of a key. Each page of a tree was tested when the image was opened, or written by a commit since: only its head is tested again.
+ghost use Rattle.std.specs.Prelude.{◌≡◌, ◌≤◌, ◌<◌, ◌-◌, ◌*◌, [], None, Some, true, false, IsTrue, IfOk, IfErr, IfSome, length, option_map, take};
 ghost use Rattle.page_store.specs.Sectors.{page_of};
 ghost use Rattle.page_store.specs.Steps.{crash_states_of};
 ghost use Rattle.page_store.specs.Batch.{value_at, pair_after};
 ghost use Rattle.page_store.specs.StoreState.{IsFilled};
-ghost use Rattle.page_store.specs.Content.{Found, walk};
+ghost use Rattle.page_store.specs.Content.{Found, place_in, walk};
 ghost use Rattle.page_store.specs.Pages.{pair_at};
-ghost use Rattle.tree_nodes.specs.PageViews.{bounds_of, pairs_in, children_in, entries_by_head};
+ghost use Rattle.tree_nodes.specs.PageViews.{bounds_of, pairs_in, children_in, entries_by_head, has_head};
 ghost use Rattle.cow_tree.specs.LookUps.{LooksUp, ReadsNextLeaf};
 ghost use Rattle.cow_tree.specs.Walks.{ReadsPages};
-ghost use Rattle.cow_tree.specs.Ways.{pages_around, IsAnswer, IsOnWay};
-ghost use Rattle.cow_tree.specs.declared.page_fault.PageFault.{PageFault as PageFaultValue};
+ghost use Rattle.cow_tree.specs.Ways.{pages_around, are_inside, around_in, IsAnswer, IsOnWay};
+ghost use Rattle.cow_tree.specs.declared.page_fault.PageFault.TheVariants.{Damaged};
 
 use crate::kept_leaf::KeptLeaf;
 use crate::opening_walk::load_page;
 use crate::page_fault::PageFault;
+use crate::page_heads::{branch_by_head, leaf_by_head};
 use sector_device::Device;
 use std::cmp::Ordering;
 use tree_nodes::{Branch, ImageBounds, Leaf};
@@ -38,12 +39,33 @@ fn pages_around(branch: &Branch<'_>, key: &[u8]) -> Option<(u32, Option<u32>)>
 
 /// Whether the pages around a key are pages of an image of so many.
 fn are_inside(pages: u32, around: (u32, Option<u32>)) -> bool
-    ensures { Decides result ((around.0 < pages) × IfSome around.1 (λ page. page < pages)) }
+    ensures { result ≡ are_inside pages around }
 {
     let (here, next) = around;
     match next {
         Some(next) => here < pages && next < pages,
         None => here < pages,
+    }
+}
+
+/// The page under which a key stands, and the page after it, by the bytes of a branch's page; `Damaged` exactly where these don't begin with the head of that page, or name no pages
+/// of the image there.
+fn around_in(
+    bounds: ImageBounds,
+    level: u16,
+    page: u32,
+    bytes: &[u8; 4096],
+    key: &[u8],
+) -> Result<(u32, Option<u32>), PageFault>
+    ensures around { IfOk result (λ around. around_in (place_in (bounds_of bounds) level page) key.now bytes.now ≡ Some around) }
+    ensures first { IfOk result (λ around. around.0 < bounds.pages) }
+    ensures second { IfOk result (λ around. IfSome around.1 (λ page. page < bounds.pages)) }
+    ensures fault { IfErr result (λ e. (e ≡ Damaged page) × (around_in (place_in (bounds_of bounds) level page) key.now bytes.now ≡ None)) }
+{
+    let branch = branch_by_head(bounds, level, page, bytes)?;
+    match pages_around(&branch, key) {
+        Some(around) if are_inside(bounds.pages, around) => Ok(around),
+        _ => Err(PageFault::Damaged { page }),
     }
 }
 
@@ -66,10 +88,7 @@ fn children_around<D: Device>(
 {
     let mut bytes = [0; 4096];
     load_page(device, page, &mut bytes)?;
-    match pages_around(&Branch::of_tested(&bytes), key) {
-        Some(around) if are_inside(bounds.pages, around) => Ok(around),
-        _ => Err(PageFault::Damaged { page }),
-    }
+    around_in(bounds, level, page, &bytes, key)
 }
 
 /// The value at a key of a leaf.
@@ -81,15 +100,26 @@ fn value_of<'a>(leaf: &Leaf<'a>, key: &[u8]) -> Option<&'a [u8]>
     Some(value)
 }
 
-/// Puts the value at a key of a leaf's page into the buffer.
-fn copy_value(bytes: &[u8; 4096], key: &[u8], buffer: &mut [u8; 1024]) -> Option<usize>
-    ensures within { IfSome result (λ n. n ≤ 1024) }
-    ensures value { option_map (λ n. take n buffer.new) result ≡ value_at (entries_by_head pair_at bytes.now) key.now }
-    ensures buffer { IsFilled {E = PageFaultValue} (λ n. n) (Ok result) buffer.old buffer.new }
+/// Puts the value at a key of a leaf's page into the buffer; `Damaged` exactly where the bytes don't begin with the head of that leaf.
+fn copy_value(
+    bounds: ImageBounds,
+    page: u32,
+    bytes: &[u8; 4096],
+    key: &[u8],
+    buffer: &mut [u8; 1024],
+) -> Result<Option<usize>, PageFault>
+    ensures within { IfOk result (λ found. IfSome found (λ n. n ≤ 1024)) }
+    ensures value { IfOk result (λ found. option_map (λ n. take n buffer.new) found ≡ value_at (entries_by_head pair_at bytes.now) key.now) }
+    ensures head { IfOk result (λ found. has_head (place_in (bounds_of bounds) 0 page) bytes.now ≡ true) }
+    ensures fault { IfErr result (λ e. (e ≡ Damaged page) × (has_head (place_in (bounds_of bounds) 0 page) bytes.now ≡ false)) }
+    ensures buffer { IsFilled (λ n. n) result buffer.old buffer.new }
 {
-    let value = value_of(&Leaf::of_tested(bytes), key)?;
+    let leaf = leaf_by_head(bounds, page, bytes)?;
+    let Some(value) = value_of(&leaf, key) else {
+        return Ok(None);
+    };
     buffer[..value.len()].copy_from_slice(value);
-    Some(value.len())
+    Ok(Some(value.len()))
 }
 
 /// Puts the value at a key of a leaf into the buffer.
@@ -106,7 +136,7 @@ fn get_in_leaf<D: Device>(
 {
     let mut bytes = [0; 4096];
     load_page(device, page, &mut bytes)?;
-    Ok(copy_value(&bytes, key, buffer))
+    copy_value(bounds, page, &bytes, key, buffer)
 }
 
 /// Reads a leaf, and tells whether it has a pair after a key.

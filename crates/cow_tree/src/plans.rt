@@ -84,6 +84,7 @@ pub(crate) fn plan_draft(
     ensures enough { IfOk result (λ plan. min (owned_under (state_of draft.now.tree).root) (2 ^ 64 - 1) ≤ free_count ledger.old) }
     ensures used { IfOk result (λ plan. length plan.pages.items ≡ owned_under (state_of draft.now.tree).root) }
     ensures levels { IfOk result (λ plan. plan.slot.root.height ≡ levels_of (state_of draft.now.tree)) }
+    ensures keys { IfOk result (λ plan. plan.slot.root.keys ≡ draft.now.keys) }
     ensures alive { (n : ℕ) → length ledger.old.marks ≡ length ledger.old.lives → IfOk result (λ plan. is_alive ledger.new n ≡ is_alive ledger.old n) }
     ensures planned { (view : Image) (top edits : ℕ) (pairs : List Pair) → IsHeld view slot.now top ledger.old → IsCounted slot.now view edits pairs ledger.old draft.now → seal ≡ top + 1 → IsTrue (is_tree_version banner.version) →
         Tells (Unit {0}) result (IsPlanned view slot.now top pairs ledger.new) }

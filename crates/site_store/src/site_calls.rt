@@ -1,6 +1,9 @@
 // The calls of a site over a key-value store.
-ghost use Rattle.std.specs.Prelude.{◌≡◌, ◌∷◌, [], IfOk};
-ghost use Rattle.host_types.specs.Pins.{Numbered};
+ghost use Rattle.std.specs.Prelude.{◌≡◌, ◌∷◌, [], false, IsTrue, IfOk, IfErr, IsErrOf};
+ghost use Rattle.common_types.specs.CrashStates.{AddsNone};
+ghost use Rattle.host_types.specs.Pins.{Numbered, IsPinned, IsPinFault};
+ghost use Rattle.host_types.specs.SiteState.{LacksTheSame};
+ghost use Rattle.host_types.specs.declared.pin_fault.SitePinFault.TheVariants.{Failed as PinFailed, Memory as PinMemory};
 ghost use Rattle.site_store.specs.Represented.{site_state_of, site_of, Represents};
 ghost use Rattle.site_store.specs.Lacking.{IsLacking};
 ghost use Rattle.site_store.specs.CrashStatesRepresent.{crash_states_represent_site};
@@ -63,7 +66,16 @@ impl<K: PinKeeper> SiteKeeper for DiskSite<K> {
         }
     }
 
-    fn pin_site(&mut self) -> Result<K::Pin, SitePinFault> {
+    fn pin_site(&mut self) -> Result<K::Pin, SitePinFault>
+        ensures pinned { IfOk result (λ pin. IsPinned (site_state_of (K.store_state self.old.keeper) self.old.kept) (site_state_of (K.store_state self.new.keeper) self.new.kept) (Numbered (K.number pin))) }
+        ensures fault { IfErr result (IsPinFault (site_state_of (K.store_state self.old.keeper) self.old.kept) (site_state_of (K.store_state self.new.keeper) self.new.kept)) }
+        ensures closed { (site_state_of (K.store_state self.old.keeper) self.old.kept).usable ≡ false → IsErrOf result PinFailed }
+        ensures lacking { LacksTheSame (IsLacking K.store_state K.may_need self.old.keeper (site_of (K.store_state self.old.keeper) self.old.kept)) (IsLacking K.store_state K.may_need self.new.keeper (site_of (K.store_state self.new.keeper) self.new.kept)) }
+        ensures at_crash { IsTrue (site_state_of (K.store_state self.old.keeper) self.old.kept).honest → AddsNone (K.crash_states self.old.keeper) (K.crash_states self.new.keeper) }
+
+        // It takes no memory, so that there is another cause of each fault.
+        ensures memory { IfErr result (λ e. e ≡ PinMemory → ⊥) }
+    {
         match self.keeper.pin() {
             Ok(pin) => Ok(pin),
             Err(fault) => Err(pin_fault_comes(fault)),

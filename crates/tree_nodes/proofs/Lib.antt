@@ -24,3 +24,4 @@ pub mod OwnedCounts
 pub mod PathsDown
 pub mod LevelsCome
 pub mod KeysKnown
+pub mod PageHeads

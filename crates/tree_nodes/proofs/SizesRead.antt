@@ -121,7 +121,7 @@ children_read (suc n) bytes x e =
 
 -- ---- a page
 
-head_size : (magic bytes : List ℕ) (x : Head × List ℕ) → head_at magic bytes ≡ Some x → length x.1 + 24 ≡ length bytes
+pub head_size : (magic bytes : List ℕ) (x : Head × List ℕ) → head_at magic bytes ≡ Some x → length x.1 + 24 ≡ length bytes
 unfolding head_at
 head_size magic bytes x e =
     let a = bind_some (piece_at 8 bytes) (λ word. number_at w32 word.1 >>= λ number. number_at w64 number.1 >>= λ generation. number_at w16 generation.1 >>= λ level. number_at w16 level.1 >>= λ count.

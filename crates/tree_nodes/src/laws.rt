@@ -5,11 +5,12 @@ ghost use Rattle.std.specs.Map.{remove_entry};
 ghost use Rattle.std.specs.BTreeMap.{insert_entry, is_at};
 ghost use Rattle.common_types.specs.ByteOrder.{byte_cmp};
 ghost use Rattle.page_store.specs.Keys.{is_between};
-ghost use Rattle.page_store.specs.Pages.{Pair, leaf_of, branch_of, is_inside};
+ghost use Rattle.page_store.specs.Pages.{Pair, Child, leaf_of, branch_of, is_inside};
 ghost use Rattle.page_store.specs.Batch.{is_pair};
 ghost use Rattle.page_store.specs.Content.{Bounds, Found, place_in, walk};
 ghost use Rattle.tree_nodes.specs.Image.{old_of};
 ghost use Rattle.tree_nodes.specs.PageBytes.{leaf_page, branch_page, branch_entries};
+ghost use Rattle.tree_nodes.specs.PageViews.{has_head};
 ghost use Rattle.tree_nodes.specs.Supplied.{Supplies};
 ghost use Rattle.tree_nodes.specs.Steps.{Step, RootState, AreSteps, IsValidRoot, after_steps, after_changes, root_pairs, no_tree};
 ghost use Rattle.tree_nodes.specs.Tree.{Tree, Others, branch, OldPages, pairs_of, pages_of, owned_at, other_count, way};
@@ -86,6 +87,14 @@ pub fn a_page_is_read_again()
     ensures branch { (old : OldPages) (bounds : Bounds) (level n generation : ℕ) (first : Tree) (others : Others) (low : List ℕ) (high : Option (List ℕ)) → bounds.pages ≤ 2 ^ 32 → n < 2 ^ 32 → generation < 2 ^ 64 → suc level < 2 ^ 16 → 1 ≤ generation → generation ≤ bounds.seal →
         IsValid old (suc level) (branch first others) low high → list_all (is_inside bounds.pages) (branch_entries first others) ≡ true →
         branch_of (place_in bounds (suc level) n) low high (branch_page n generation (suc level) (branch_entries first others)) ≡ Some (branch_entries first others) }
+{}
+
+/// Bytes with the form of a page begin with its head, so that a test of the head alone refuses none of them.
+pub fn a_page_begins_with_its_head()
+    ensures leaf { (bounds : Bounds) (n : ℕ) (low : List ℕ) (high : Option (List ℕ)) (bytes : List ℕ) (pairs : List Pair) → length bytes ≤ 4096 →
+        leaf_of (place_in bounds 0 n) low high bytes ≡ Some pairs → has_head (place_in bounds 0 n) bytes ≡ true }
+    ensures branch { (bounds : Bounds) (level n : ℕ) (low : List ℕ) (high : Option (List ℕ)) (bytes : List ℕ) (children : List Child) → length bytes ≤ 4096 →
+        branch_of (place_in bounds (suc level) n) low high bytes ≡ Some children → has_head (place_in bounds (suc level) n) bytes ≡ true }
 {}
 
 /// Any list of puts, deletes and supplies, from any valid tree or from none, leaves a valid tree with the pairs that its changes make.

@@ -18,9 +18,9 @@ pub use encoding::{encode, encode_leaf, is_writable};
 pub use fault::NodeFault;
 pub use laws::{
     a_delete_changes_one_key, a_delete_makes_no_node, a_delete_stays_valid, a_leaf_grows,
-    a_page_is_read_again, a_put_adds_at_most_one_level, a_put_changes_one_key,
-    a_put_makes_one_node_on_each_level, a_put_stays_valid, a_supply_keeps_the_pairs,
-    any_list_of_steps, pages_of_an_image,
+    a_page_begins_with_its_head, a_page_is_read_again, a_put_adds_at_most_one_level,
+    a_put_changes_one_key, a_put_makes_one_node_on_each_level, a_put_stays_valid,
+    a_supply_keeps_the_pairs, any_list_of_steps, pages_of_an_image,
 };
 pub use node::{Node, NodeGrown, needed};
 pub use owned_tree::{Answer, OwnedTree};

@@ -1,5 +1,5 @@
 // Entries of a page, lent from its bytes.
-ghost use Rattle.std.specs.Prelude.{◌≡◌, ◌∷◌, ◌<◌, [], Some, None, IfOk, IfErr, MatchOption, option_map, option_copied, map, drop};
+ghost use Rattle.std.specs.Prelude.{◌≡◌, ◌∷◌, ◌<◌, true, false, [], Some, None, IfOk, IfErr, MatchOption, option_map, option_copied, map, drop};
 ghost use Rattle.page_store.specs.Keys.{rises, is_between};
 ghost use Rattle.page_store.specs.Pages.{pair_at, child_at, entries_at, key_of, child_key, fits_place, starts_empty, leaf_of, branch_of, is_inside};
 ghost use Rattle.page_store.specs.Batch.{value_at, pair_after};
@@ -8,9 +8,10 @@ ghost use Rattle.page_store.specs.Heads.{seen_head, seen_child};
 ghost use Rattle.std.specs.List.{list_all};
 ghost use Rattle.tree_nodes.specs.NodeView.{others_view};
 ghost use Rattle.tree_nodes.specs.Supply.{others_named};
-ghost use Rattle.tree_nodes.specs.PageViews.{bounds_of, pairs_in, children_in, entries_by_head, after_entries, are_children, page_on_path};
+ghost use Rattle.tree_nodes.specs.PageViews.{bounds_of, pairs_in, children_in, entries_by_head, least_entry, is_head_of, has_head, after_entries, are_children, page_on_path};
 ghost use Rattle.tree_nodes.specs.declared.fault.NodeFault.TheVariants.{Damaged};
 
+use crate::splitting::ENTRY_ROOM;
 use crate::{Node, NodeFault};
 use common_types::Bytes;
 use page_store::{PageHead, Pair, are_zero, child_at, head_at, pair_at};
@@ -52,6 +53,24 @@ fn fits_place(bounds: ImageBounds, level: u16, page: u32, head: PageHead) -> boo
         && head.generation >= 1
         && head.generation <= bounds.seal
         && head.count >= 1
+}
+
+/// How many bytes an entry of a level takes at least: a pair has two lengths and a key of one byte, a child a length and a number.
+fn least_entry(level: u16) -> usize
+    ensures { result ≡ least_entry level }
+{
+    match level {
+        0 => 5,
+        _ => 6,
+    }
+}
+
+/// Whether a head is that of a page of this number and level, and counts no more entries than a page has room for.
+fn is_head_of(bounds: ImageBounds, level: u16, page: u32, head: PageHead) -> bool
+    ensures { result ≡ is_head_of (place_in (bounds_of bounds) level page) (seen_head head) }
+{
+    let least = head.count as usize * least_entry(level);
+    fits_place(bounds, level, page, head) && least <= ENTRY_ROOM
 }
 
 /// Whether a key is none below the first, and below the second, where there is one.
@@ -99,19 +118,23 @@ impl<'a> Leaf<'a> {
         Leaf { count, entries }
     }
 
-    /// The pairs of a page that was tested before, as many as its head counts: nothing is tested again but their sizes. It takes no memory.
-    pub fn of_tested(bytes: &'a [u8; 4096]) -> Leaf<'a>
-        ensures { pairs_in result.count result.entries.now ≡ entries_by_head pair_at bytes.now }
+    /// The pairs of a page, as many as its head counts; `Damaged` exactly where the bytes don't begin with the head of that leaf. Behind the head nothing is tested but the sizes of
+    /// pairs, as they are read. It takes no memory.
+    pub fn by_head(
+        bounds: ImageBounds,
+        page: u32,
+        bytes: &'a [u8; 4096],
+    ) -> Result<Leaf<'a>, NodeFault>
+        ensures pairs { IfOk result (λ leaf. pairs_in leaf.count leaf.entries.now ≡ entries_by_head pair_at bytes.now) }
+        ensures head { IfOk result (λ leaf. has_head (place_in (bounds_of bounds) 0 page) bytes.now ≡ true) }
+        ensures fault { IfErr result (λ e. (e ≡ Damaged page) × (has_head (place_in (bounds_of bounds) 0 page) bytes.now ≡ false)) }
     {
         match head_at(&PAGE_WORD, bytes) {
-            Some((head, entries)) => Leaf {
+            Some((head, entries)) if is_head_of(bounds, 0, page, head) => Ok(Leaf {
                 count: head.count,
                 entries,
-            },
-            None => Leaf {
-                count: 0,
-                entries: bytes,
-            },
+            }),
+            _ => Err(NodeFault::Damaged { page }),
         }
     }
 
@@ -281,19 +304,24 @@ impl<'a> Branch<'a> {
         }
     }
 
-    /// The children of a page that was tested before, as many as its head counts: nothing is tested again but the sizes of their keys. It takes no memory.
-    pub fn of_tested(bytes: &'a [u8; 4096]) -> Branch<'a>
-        ensures { children_in result.count result.entries.now ≡ entries_by_head child_at bytes.now }
+    /// The children of a page, as many as its head counts; `Damaged` exactly where the bytes don't begin with the head of that page. Behind the head nothing is tested but the sizes of
+    /// keys, as they are read. It takes no memory.
+    pub fn by_head(
+        bounds: ImageBounds,
+        level: u16,
+        page: u32,
+        bytes: &'a [u8; 4096],
+    ) -> Result<Branch<'a>, NodeFault>
+        ensures children { IfOk result (λ branch. children_in branch.count branch.entries.now ≡ entries_by_head child_at bytes.now) }
+        ensures head { IfOk result (λ branch. has_head (place_in (bounds_of bounds) level page) bytes.now ≡ true) }
+        ensures fault { IfErr result (λ e. (e ≡ Damaged page) × (has_head (place_in (bounds_of bounds) level page) bytes.now ≡ false)) }
     {
         match head_at(&PAGE_WORD, bytes) {
-            Some((head, entries)) => Branch {
+            Some((head, entries)) if is_head_of(bounds, level, page, head) => Ok(Branch {
                 count: head.count,
                 entries,
-            },
-            None => Branch {
-                count: 0,
-                entries: bytes,
-            },
+            }),
+            _ => Err(NodeFault::Damaged { page }),
         }
     }
 

@@ -11,7 +11,7 @@ use page_store::Pair;
 use std::alloc::{AllocError, Global};
 
 /// How many bytes of a page are for its entries.
-const ENTRY_ROOM: usize = 4072;
+pub(crate) const ENTRY_ROOM: usize = 4072;
 
 /// How many bytes the first part of a split leaf has at most.
 const FRONT_OF_LEAF: usize = 2700;

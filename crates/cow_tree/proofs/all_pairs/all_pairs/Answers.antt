@@ -12,6 +12,7 @@ use Rattle.page_store.proofs.PairsInOrder.{first_more, first_all}
 use Rattle.cow_tree.specs.Opening.{bounds_under}
 use Rattle.cow_tree.specs.KeptLeaves.{IsKeptLeaf}
 use Rattle.cow_tree.specs.Compacting.{most_pairs}
+use Rattle.cow_tree.proofs.KeeperReads.{keys_told}
 use Rattle.cow_tree.proofs.PathReads.{tells_fault}
 use Rattle.cow_tree.proofs.PairsRead.{map_more, one_too_many}
 use Rattle.cow_tree.proofs.ReadsInTurn.{reads_again}
@@ -72,6 +73,22 @@ loop-pairs-preserved g c =
       device = reads_again inv.device c.pair_behind.ensures.reads.counted.device;
       reads = answered.reads.counted.reads ∙ inv.reads;
     }
+
+pub returns-then-len-slot-clause-pairs : goal.returns-then-len-slot-clause-pairs
+returns-then-len-slot-clause-pairs g c = λ keeps found is few.
+    let state = g.D.Device.state in
+    let slot = c.args.slot.now in
+    let inv = c.loop-pairs.invariant in
+    let same : (state c.loop-pairs.device).disk.view ≡ (state c.args.device.now).disk.view = ap (λ (x : Disk). x.view) (inv.device.only.disk keeps) in
+    let here = subst (λ (v : Image). tree_found slot (page_of v) ≡ Some found) (sym same) is in
+    let kept = subst (λ (v : Image). IsKeptLeaf (page_of v) (bounds_under slot) found c.loop-pairs.kept) (sym same) (inv.first keeps found is).1 in
+    let next : None ≡ pair_after found.pairs (last_key c.loop-pairs.pairs.items) =
+    sym c.in_default.is ∙ c.in_ok-pair.ensures.pair (subst IsTrue (sym inv.device.only.same.honest) keeps) found here kept ∙ ap (λ (l : List Pair). pair_after found.pairs (last_key l)) c.deref.ensures.value in
+    let all = first_all c.loop-pairs.pairs.items found.pairs (found_map slot (page_of (state c.args.device.now).disk.view) found is) (inv.first keeps found is).0 next in
+    let differ = c.if-len-slot.true in
+    let size = c.len-2.ensures in
+    let as_many = ap (λ (l : List Pair). length l) all ∙ sym (keys_told slot (page_of (state c.args.device.now).disk.view) found is) in
+    absurd (omega (arith, differ, size, as_many))
 
 pub returns-clause-pairs : goal.returns-clause-pairs
 returns-clause-pairs g c = λ keeps found is few.

@@ -1,9 +1,8 @@
-use Rattle.std.proofs.Common.{◌∙◌, List, ap}
+use Rattle.std.proofs.Common.{ℕ, Option, arith, rules}
+use Rattle.std.specs.Prelude.{option_map, take}
 use Rattle.page_store.specs.Sectors.{page_of}
-use Rattle.page_store.specs.Pages.{Pair}
-use Rattle.page_store.specs.Batch.{value_at}
 use Rattle.tree_nodes.specs.PageViews.{bounds_of}
-use Rattle.cow_tree.proofs.PagesTold.{pairs_told}
+use Rattle.cow_tree.proofs.PagesTold.{value_answered}
 use Rattle.cow_tree.proofs.page_reads.get_in_leaf.Goals as goal
 
 pub returns : goal.returns
@@ -13,9 +12,9 @@ returns g c =
       found = record {
         within = c.copy_value.ensures.within;
         value = λ keeps found walked.
-            let same = pairs_told (page_of (g.D.Device.state c.args.device.now).disk.view) (bounds_of c.args.bounds) c.args.page found c.load_page.new.bytes (c.in_ok-load_page.ensures.page keeps) walked in
-            c.copy_value.ensures.value ∙ ap (λ (l : List Pair). value_at l c.args.key.now) same;
+            value_answered (page_of (g.D.Device.state c.args.device.now).disk.view) (bounds_of c.args.bounds) c.args.page found c.load_page.new.bytes (c.in_ok-load_page.ensures.page keeps) (let long = c.load_page.array_long in omega (arith, long)) walked c.args.key.now
+            (λ (size : Option ℕ). option_map (λ (n : ℕ). take n c.copy_value.new.buffer) size) c.copy_value.result c.copy_value.ensures.value c.copy_value.ensures.fault;
         buffer = c.copy_value.ensures.buffer;
-        reads = record { device = loaded.device; reads = loaded.reads };
+        reads = search rules;
       };
     }
