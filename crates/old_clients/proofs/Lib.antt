@@ -1,0 +1,10 @@
+pub mod Places
+pub mod Runs
+pub mod Joins
+pub mod Signs
+pub mod Requests
+pub mod Replies
+pub mod Menus
+pub mod CallRuns
+pub mod Hearings
+pub mod Fetches
