@@ -3,15 +3,12 @@
 //
 //   bare PORT SELECTOR FILE [SELECTOR FILE]..
 #define _GNU_SOURCE
-#include <arpa/inet.h>
-#include <netinet/in.h>
 #include <netinet/tcp.h>
 #include <signal.h>
-#include <stdio.h>
-#include <stdlib.h>
 #include <string.h>
-#include <sys/socket.h>
 #include <unistd.h>
+
+#include "listening.h"
 
 enum { MOST_REPLIES = 16, MOST_REPLY = 1 << 20, MOST_LINE = 1024 };
 
@@ -24,11 +21,6 @@ struct reply {
 static struct reply replies[MOST_REPLIES];
 static int count;
 
-static void give_up(const char *what) {
-    perror(what);
-    exit(1);
-}
-
 static void take_reply(const char *selector, const char *file) {
     struct reply *it = &replies[count++];
     FILE *opened = fopen(file, "rb");
@@ -38,15 +30,6 @@ static void take_reply(const char *selector, const char *file) {
     if (!it->bytes) give_up("malloc");
     it->length = fread(it->bytes, 1, MOST_REPLY, opened);
     fclose(opened);
-}
-
-static int listening_on(int port) {
-    struct sockaddr_in address = {.sin_family = AF_INET, .sin_port = htons(port), .sin_addr.s_addr = htonl(INADDR_LOOPBACK)};
-    int it = socket(AF_INET, SOCK_STREAM, 0);
-    setsockopt(it, SOL_SOCKET, SO_REUSEADDR, &(int){1}, sizeof(int));
-    if (bind(it, (struct sockaddr *)&address, sizeof address)) give_up("bind");
-    if (listen(it, 128)) give_up("listen");
-    return it;
 }
 
 // The reply to the line that comes, or none.

@@ -44,6 +44,11 @@ def guest_book():
     return put("/book", "Book", "board = 100") + put("/sign", "Sign", 'form = {board = "/book", questions = [{ask = "Name"}]}')
 
 
+def long_form():
+    """A second form of the board, which asks for a text too."""
+    return put("/tell", "Tell", 'form = {board = "/book", questions = [{ask = "Name"}, {ask = "Text"}]}')
+
+
 def search():
     """A search of all items."""
     return put("/find", "Find", 'search = ""')

@@ -2,6 +2,7 @@
 //
 //   load get PORT CONNECTIONS SECONDS SELECTOR     each reply has to have as many bytes as the first
 //   load post PORT CONNECTIONS SECONDS FORM        each post has a title of its own, and has to be acknowledged
+//   load post PORT CONNECTIONS SECONDS FORM WORDS  each has a second answer too, of so many different words out of 2,000
 //
 // It prints one line: requests N seconds S faults F bytes B median M p99 P. B are the bytes of the first reply, M and P microseconds from before the connection
 // until its end. What is under way when the time is over is not counted; one request is waited for.
@@ -19,7 +20,7 @@
 #include <time.h>
 #include <unistd.h>
 
-enum { MOST_CONNECTIONS = 1024, MOST_SAMPLES = 1 << 20, GRACE = 10 };
+enum { MOST_CONNECTIONS = 1024, MOST_SAMPLES = 1 << 20, GRACE = 60, MOST_REQUEST = 1024, MOST_WORDS = 64, VOCABULARY = 2000, WORD_STEP = 67 };
 
 static const char ACKNOWLEDGED[] = "+-1\r\n0";
 
@@ -36,7 +37,7 @@ static size_t requests, faults, first_bytes;
 static bool is_post;
 static const char *asked;
 static struct sockaddr_in server;
-static int waiting;
+static int waiting, second_words;
 
 static double now(void) {
     struct timespec it;
@@ -49,16 +50,28 @@ static void give_up(const char *what) {
     exit(1);
 }
 
+// Writes the second answer of a post, and gives its length. The words are other ones in each post, and lie far apart.
+static int write_words(char *room, size_t size) {
+    static unsigned seed = 1;
+    int length = 0;
+    seed = seed * 1103515245 + 12345;
+    unsigned first = seed >> 16;
+    for (int i = 0; i < second_words; i++) length += snprintf(room + length, size - length, "word%u%s", (first + i * WORD_STEP) % VOCABULARY, i + 1 < second_words ? " " : "\r\n");
+    return length;
+}
+
 // Writes the next request into the room, and gives its length.
 static int next_request(char *room, size_t size) {
     static size_t posts;
-    if (is_post) return snprintf(room, size, "%s\t+\t1\r\n+-1\r\nb%d-%zu\r\n.\r\n", asked, getpid(), ++posts);
-    return snprintf(room, size, "%s\r\n", asked);
+    if (!is_post) return snprintf(room, size, "%s\r\n", asked);
+    int length = snprintf(room, size, "%s\t+\t1\r\n+-1\r\nb%d-%zu\r\n", asked, getpid(), ++posts);
+    length += write_words(room + length, size - length);
+    return length + snprintf(room + length, size - length, ".\r\n");
 }
 
 // Connects and sends a request. The reply is waited for by epoll.
 static void ask(struct client *it) {
-    char request[512];
+    char request[MOST_REQUEST];
     struct timeval patience = {.tv_sec = 5};
     struct epoll_event event = {.events = EPOLLIN, .data.ptr = it};
     it->began = now();
@@ -125,13 +138,14 @@ static void run(int connections, double seconds) {
 }
 
 int main(int words, char **word) {
-    if (words != 6) {
-        fprintf(stderr, "load get|post PORT CONNECTIONS SECONDS SELECTOR\n");
+    if (words != 6 && words != 7) {
+        fprintf(stderr, "load get|post PORT CONNECTIONS SECONDS SELECTOR [WORDS]\n");
         return 2;
     }
+    second_words = words == 7 ? atoi(word[6]) : 0;
     int connections = atoi(word[3]);
     double seconds = atof(word[4]);
-    if (connections < 1 || connections > MOST_CONNECTIONS) return 2;
+    if (connections < 1 || connections > MOST_CONNECTIONS || second_words < 0 || second_words > MOST_WORDS) return 2;
     is_post = !strcmp(word[1], "post");
     asked = word[5];
     server = (struct sockaddr_in){.sin_family = AF_INET, .sin_port = htons(atoi(word[2])), .sin_addr.s_addr = htonl(INADDR_LOOPBACK)};

@@ -3,6 +3,7 @@ import contextlib
 import os
 import shutil
 import signal
+import struct
 import subprocess
 import sys
 import time
@@ -17,6 +18,7 @@ from common import host as program
 ENDLESS = "4294967295"
 GREATEST = "2147483647"
 SHARED_MEMORY = "0xbeeb0008"
+COUNTS = struct.Struct("=QQ")
 
 
 def is_daily(host):
@@ -26,11 +28,15 @@ def is_daily(host):
 
 
 def compiled(folder):
-    """The programs in C of this folder, by name."""
+    """The programs in C of this folder, by name, with the library that counts what a process writes. The one over SQLite is left out where its library isn't there."""
     made = {}
     for name in ("load", "bare", "inetd"):
         made[name] = f"{folder}/{name}"
         subprocess.run(["cc", "-O2", "-o", made[name], f"{HERE}/{name}.c"], check=True, timeout=60)
+    made["counted"] = f"{folder}/counted.so"
+    subprocess.run(["cc", "-O2", "-shared", "-fPIC", "-o", made["counted"], f"{HERE}/counted.c", "-ldl"], check=True, timeout=60)
+    if not subprocess.run(["cc", "-O2", "-o", f"{folder}/rows", f"{HERE}/rows.c", "-lsqlite3"], stderr=subprocess.DEVNULL, check=False, timeout=60).returncode:
+        made["rows"] = f"{folder}/rows"
     return made
 
 
@@ -47,9 +53,9 @@ def end(server):
 
 
 @contextlib.contextmanager
-def running(words, port, patience=60):
+def running(words, port, patience=60, env=None):
     """A server that takes connections, until the block ends."""
-    server = subprocess.Popen(words, stdin=subprocess.DEVNULL, stdout=subprocess.DEVNULL, start_new_session=True)
+    server = subprocess.Popen(words, stdin=subprocess.DEVNULL, stdout=subprocess.DEVNULL, start_new_session=True, env=env)
     try:
         wait_for(server, port, patience)
         yield server
@@ -60,6 +66,21 @@ def running(words, port, patience=60):
 def serve_words(host, image, together, daily):
     """The words that serve an image at the site's port."""
     return [host, "serve", image, "--quiet"] if daily else [host, "serve", image, "--together", str(together), "--rounds", ENDLESS]
+
+
+class Counts:
+    """What a process, begun with `env`, has synced and written so far, by the library that counts it."""
+
+    def __init__(self, library, file):
+        self.file = file
+        with open(file, "wb") as it:
+            it.write(bytes(COUNTS.size))
+        self.env = {**os.environ, "LD_PRELOAD": library, "COUNTS": file}
+
+    def now(self):
+        """The syncs, and the bytes that were written."""
+        with open(self.file, "rb") as it:
+            return COUNTS.unpack(it.read(COUNTS.size))
 
 
 def bare_words(bare, port, replies):

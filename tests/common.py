@@ -2,6 +2,7 @@
 import contextlib
 import functools
 import os
+import shutil
 import signal
 import socket
 import subprocess
@@ -41,6 +42,11 @@ def made(image, changes, port, pages=1024):
     printed("apply", image, changes, "--now", moment)
 
 
+def generation(image):
+    """Which commit an image is of: one more for each."""
+    return int(printed("check", image).split()[-1])
+
+
 def free_port():
     with socket.socket() as it:
         it.bind(("127.0.0.1", 0))
@@ -63,6 +69,15 @@ def asked(port, request):
         return rest(it)
 
 
+def send_at_once(clients, requests):
+    """Sends each connected client's request: first all but the last byte of each, and then these bytes, one right behind the other."""
+    for it, request in zip(clients, requests, strict=True):
+        it.setsockopt(socket.IPPROTO_TCP, socket.TCP_NODELAY, 1)
+        it.sendall(request[:-1])
+    for it, request in zip(clients, requests):
+        it.sendall(request[-1:])
+
+
 def wait_for(server, port, patience=PATIENCE):
     """Waits until a server takes connections."""
     end_of_patience = time.monotonic() + patience
@@ -76,9 +91,17 @@ def wait_for(server, port, patience=PATIENCE):
     raise SystemExit(f"{server.args} takes no connections")
 
 
-def serve(image, port, *words, log=subprocess.DEVNULL):
+def failing_calls(folder):
+    """The library that lists a program's calls on files, and fails one of them (fail_call.c); None where it can't be compiled."""
+    kit, library = os.path.dirname(os.path.dirname(os.path.realpath(shutil.which("rt") or "/opt/rattle/bin/rt"))), f"{folder}/fail_call.so"
+    compiler = shutil.which("cc") or f"{kit}/toolchain/bin/clang"
+    made = subprocess.run([compiler, "-shared", "-fPIC", "-O1", "-o", library, f"{TOP}/tests/fail_call.c", "-ldl"], check=False)
+    return None if made.returncode else library
+
+
+def serve(image, port, *words, log=subprocess.DEVNULL, env=None):
     """A server for daily use that takes connections on this port."""
-    server = subprocess.Popen([host(), "serve", image, "--listen", f"127.0.0.1:{port}", *words], stdin=subprocess.DEVNULL, stdout=subprocess.DEVNULL, stderr=log)
+    server = subprocess.Popen([host(), "serve", image, "--listen", f"127.0.0.1:{port}", *words], stdin=subprocess.DEVNULL, stdout=subprocess.DEVNULL, stderr=log, env=env)
     wait_for(server, port)
     return server
 
@@ -92,6 +115,46 @@ def end(server, how=signal.SIGTERM, patience=20):
         server.kill()
         server.wait()
         return None
+
+
+def process_state(pid):
+    """The letter that says what a process does: `S` where it waits, `T` where it was stopped."""
+    with open(f"/proc/{pid}/stat", encoding="utf-8", errors="replace") as it:
+        return it.read().rpartition(")")[2].split()[0]
+
+
+def sockets(pid):
+    """How many sockets a process has open."""
+    count, files = 0, f"/proc/{pid}/fd"
+    for it in os.listdir(files):
+        with contextlib.suppress(OSError):
+            count += os.readlink(f"{files}/{it}").startswith("socket:")
+    return count
+
+
+def wait_until(holds, what, patience=PATIENCE):
+    """Waits until something holds."""
+    end_of_patience = time.monotonic() + patience
+    while not holds():
+        if time.monotonic() > end_of_patience:
+            raise SystemExit(f"not so after {patience} seconds: {what}")
+        time.sleep(0.001)
+
+
+def found_together(held, server, port, requests):
+    """The clients of requests that a server for daily use finds whole, all of them when it looks next: it has let these clients in, and stands still while they send. It has no others."""
+    wait_until(lambda: sockets(server.pid) == 1, "the server has no client")
+    clients = [held.enter_context(connected(port)) for _ in requests]
+    # whoever waits has nothing left to do
+    wait_until(lambda: sockets(server.pid) == 1 + len(clients) and process_state(server.pid) == "S", "the server has let all clients in")
+    server.send_signal(signal.SIGSTOP)
+    try:
+        wait_until(lambda: process_state(server.pid) == "T", "the server stands still")
+        for it, request in zip(clients, requests):
+            it.sendall(request)
+    finally:
+        server.send_signal(signal.SIGCONT)
+    return clients
 
 
 class Tally:

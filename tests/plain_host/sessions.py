@@ -56,6 +56,8 @@ class Sessions:
         self.site, self.now, self.all, self.last, self.grouped = site, 0, {}, 0, grouped
         # those whose posts wait, in the order in which they came to wait
         self.waiting = []
+        # how many more steps were made at most, if the posts of each flush were made one by one
+        self.spare = 0
 
     def stores(self, request):
         """Whether the request has a right post."""
@@ -90,16 +92,19 @@ class Sessions:
         self.waiting.append(it)
         return "waiting"
 
-    def flush(self):
-        """The posts that wait are made in one step, each at its own moment; those without a form any more are answered first."""
-        count, before = len(self.waiting), self.site.changes
-        formless = [it for it in self.waiting if not self.finds_form(*it.waits)]
-        for it in [*formless, *(it for it in self.waiting if it not in formless)]:
+    def flush(self, left=()):
+        """The posts that wait are made in one step, each at its own moment; those without a form any more are answered first. Where there is too little room for all, some are left, and go on waiting."""
+        before = self.site.changes
+        made = [it for it in self.waiting if it not in left]
+        formless = [it for it in made if not self.finds_form(*it.waits)]
+        for it in [*formless, *(it for it in made if it not in formless)]:
             request, now = it.waits
             it.reply, it.waits = reply_of(self.site, request, now), None
-        self.waiting = []
+        self.waiting = [it for it in self.waiting if it in left]
+        # as many steps may be made as posts where they are made one by one
+        self.spare += max(0, self.site.changes - before - 1)
         self.site.changes = min(self.site.changes, before + 1)
-        return f"flushed {count} left 0"
+        return f"flushed {len(made)} left {len(self.waiting)}"
 
     def finds_form(self, request, now):
         item = self.site.found(request.selector, now)
