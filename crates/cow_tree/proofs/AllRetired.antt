@@ -1,7 +1,7 @@
 -- All pages of a generation are given up, and its pairs stand in a filled tree.
-use Rattle.std.proofs.Common.{◌≡◌, ◌≢◌, ◌≤◌, ◌<◌, ◌+◌, ◌*◌, inl, inr, ℕ, zero, suc, Bool, true, false, List, [], length, Option, None, Some, refl, sym, ap, subst, ◌∙◌, arith, IsTrue, get_or-set_same, get_or-set_other}
-use Rattle.std.specs.Prelude.{◌-◌, ◌^◌, min, ◌&&◌, not, Result, Ok, Err, IfErr}
-use Rattle.std.proofs.lemmas.Bool.{cases_eq}
+use Rattle.std.proofs.Common.{◌≡◌, ◌≢◌, ◌≤◌, ◌<◌, ◌+◌, ◌*◌, inl, inr, ℕ, zero, suc, Bool, true, false, List, [], ◌∷◌, length, Option, None, Some, refl, sym, ap, subst, ◌∙◌, arith, IsTrue, get_or-set_same, get_or-set_other}
+use Rattle.std.specs.Prelude.{◌-◌, ◌^◌, min, max, ◌++◌, ◌&&◌, not, Result, Ok, Err, IfErr}
+use Rattle.std.proofs.lemmas.Bool.{cases_eq, cases_lt}
 use Rattle.std.proofs.lemmas.List.{length-set, get_or_past}
 use Rattle.page_alloc.specs.declared.life.Life.{Life}
 use Rattle.page_alloc.specs.declared.life.Life.TheVariants.{Never}
@@ -13,14 +13,14 @@ use Rattle.page_store.specs.Pages.{Pair}
 use Rattle.page_store.specs.Batch.{is_map}
 use Rattle.page_store.specs.Commit.{numbers}
 use Rattle.page_store.specs.declared.slot.Slot.{Slot}
-use Rattle.tree_nodes.specs.Tree.{Tree, OldPages, page, leaf, branch}
-use Rattle.tree_nodes.specs.Valid.{IsValid, left_pages}
+use Rattle.tree_nodes.specs.Tree.{Tree, Others, OldPages, page, leaf, branch, none, other, pages_of, row_pages}
+use Rattle.tree_nodes.specs.Valid.{IsValid, IsValidRow, others_high, left_pages}
 use Rattle.tree_nodes.specs.Steps.{RootState, IsValidRoot}
 use Rattle.tree_nodes.specs.OwnedTrees.{state_of}
-use Rattle.tree_nodes.specs.Growth.{owned_under, HasGrown, MayHaveGrown}
+use Rattle.tree_nodes.specs.Growth.{owned_under, AreBranches, AreRowBranches, edits_in, edits_for_levels, HasGrown, MayHaveGrown}
 use Rattle.tree_pages.specs.Reached.{times}
 use Rattle.tree_loading.specs.Filled.{filled}
-use Rattle.tree_loading.proofs.RootsMade.{filled_pages, filled_reaches, filled_owned, filled_height, filled_valid, filled_pairs}
+use Rattle.tree_loading.proofs.RootsMade.{filled_pages, filled_reaches, filled_owned, filled_valid, filled_pairs}
 use Rattle.cow_tree.specs.Opening.{bounds_under}
 use Rattle.page_store.specs.declared.fault.KeeperFault.{KeeperFault}
 use Rattle.page_store.specs.declared.fault.KeeperFault.TheVariants as faults
@@ -83,43 +83,64 @@ dead_beyond s n le = ap (λ (l : Life). lives_at s.generation l && not (is_retir
 
 -- ---- the filled tree as a draft, where nothing of the old tree is left
 
-no_page : (root : Option Tree) (n : ℕ) → root ≡ Some (page n) → left_pages root ≡ [] → ⊥
-no_page root n is none = let e = sym (ap left_pages is) ∙ none in absurd (cc e)
+both_empty : (xs ys : List ℕ) → xs ++ ys ≡ [] → (xs ≡ []) × (ys ≡ [])
+both_empty [] ys h = (refl, h)
+both_empty (x ∷ xs) ys h = absurd (cc h)
 
--- more edits than the filled tree has nodes and levels
-abbrev pub edits_for : List Pair → ℕ
-edits_for pairs = 200 + owned_under (filled pairs).root
+mutual
+  -- above the leaves of a tree without pages are branches
+  upper_branches : (tree : Tree) (old : OldPages) (level n : ℕ) (low : List ℕ) (high : Option (List ℕ)) → IsValid old level tree low high → pages_of tree ≡ [] → n ≤ level → AreBranches n tree
+  upper_branches tree old level zero low high valid empty le = tt
+  upper_branches (page m) old level (suc n) low high valid empty le = absurd (cc empty)
+  upper_branches (leaf ps) old zero (suc n) low high valid empty le = absurd (omega (arith, le))
+  upper_branches (leaf ps) old (suc level) (suc n) low high valid empty le = absurd valid
+  upper_branches (branch tree others) old zero (suc n) low high valid empty le = absurd valid
+  upper_branches (branch tree others) old (suc level) (suc n) low high valid empty le =
+      let both = both_empty (pages_of tree) (row_pages others) empty in
+      (upper_branches tree old level n low (others_high others high) valid.0 both.0 (omega (arith, le)), upper_rows others old level n low high valid.1 both.1 (omega (arith, le)))
 
-leaf_lies_low : (old : OldPages) (level : ℕ) (ps : List Pair) → IsValid old level (leaf ps) [] None → level ≡ 0
-leaf_lies_low old zero ps valid = refl
-leaf_lies_low old (suc level) ps valid = absurd valid
+  upper_rows : (others : Others) (old : OldPages) (level n : ℕ) (low : List ℕ) (high : Option (List ℕ)) → IsValidRow old level others low high → row_pages others ≡ [] → n ≤ level → AreRowBranches n others
+  upper_rows none old level n low high valid empty le = tt
+  upper_rows (other key tree others) old level n low high valid empty le =
+      let both = both_empty (pages_of tree) (row_pages others) empty in
+      (upper_branches tree old level n key (others_high others high) valid.3 both.0 le, upper_rows others old level n key high valid.4 both.1 le)
 
-may_have_grown : (old : OldPages) (from : ℕ) (pairs : List Pair) → is_map pairs ≡ true → length pairs ≤ most_pairs → MayHaveGrown from (edits_for pairs) (filled pairs)
-may_have_grown old from pairs map few = go (filled pairs).root refl
+-- how many edits so many levels of a tree took
+abbrev pub edits_of : ℕ → Option Tree → ℕ
+edits_of n None = 0
+edits_of n (Some tree) = edits_for_levels n + edits_in n tree
+
+-- more edits than the filled tree has nodes, and than its levels took beyond so many
+abbrev pub edits_for : ℕ → List Pair → ℕ
+edits_for from pairs = 200 + owned_under (filled pairs).root + edits_of ((filled pairs).height - max 1 from) (filled pairs).root
+
+may_have_grown : (old : OldPages) (from : ℕ) (pairs : List Pair) → is_map pairs ≡ true → MayHaveGrown from (edits_for from pairs) (filled pairs)
+may_have_grown old from pairs map = go (filled pairs).root refl
   where
-    low : (filled pairs).height ≤ 14
-    low = filled_height pairs map few
-
     valid : IsValidRoot old (filled pairs).root (filled pairs).height
     valid = filled_valid old pairs map
 
-    go : (root : Option Tree) → (filled pairs).root ≡ root → MayHaveGrown from (edits_for pairs) (filled pairs)
+    go : (root : Option Tree) → (filled pairs).root ≡ root → MayHaveGrown from (edits_for from pairs) (filled pairs)
     go None is =
         let v = subst (λ (o : Option Tree). IsValidRoot old o (filled pairs).height) is valid in
         inl (omega (arith, v))
-    go (Some (page n)) is = absurd (no_page (filled pairs).root n is (filled_pages pairs))
-    go (Some (leaf ps)) is =
+    go (Some tree) is =
         let v = subst (λ (o : Option Tree). IsValidRoot old o (filled pairs).height) is valid in
-        let zero_is = leaf_lies_low old v.0 ps v.2 in
         let tall = v.1 in
-        inl (omega (arith, tall, zero_is))
-    go (Some (branch first others)) is = inr (subst (λ (o : Option Tree). HasGrown from (edits_for pairs) o (filled pairs).height) (sym is) (omega (arith, low)))
+        let n = (filled pairs).height - max 1 from in
+        elim (cases_lt (max 1 from) (filled pairs).height) [
+          | inl lt ↦
+              let upper = upper_branches tree old v.0 n [] None v.2 (sym (ap left_pages is) ∙ filled_pages pairs) (omega (arith, tall)) in
+              let paid = ap (edits_of n) is in
+              inr (subst (λ (o : Option Tree). HasGrown from (edits_for from pairs) o (filled pairs).height) (sym is) (n, omega (arith, lt), upper, omega (arith, paid)))
+          | inr le ↦ inl le
+        ]
 
 times_more : (edits rate : ℕ) → edits ≤ edits * (rate + 16)
 times_more edits rate = omega (arith)
 
 filled_draft : (slot : Slot) (view : Image) (pairs : List Pair) (ledger : LedgerState) → is_map pairs ≡ true → length pairs ≤ most_pairs → length ledger.marks ≡ slot.root.pages → ((n : ℕ) → is_alive ledger n ≡ false) → ((n : ℕ) → is_taken (mark_of ledger n) ≡ false)
-    → IsDraft slot view (edits_for pairs) 0 pairs ledger (filled pairs)
+    → IsDraft slot view (edits_for slot.root.height pairs) 0 pairs ledger (filled pairs)
 filled_draft slot view pairs ledger map few marked dead untaken = record {
   valid = filled_valid (old_under slot view) pairs map;
   pairs_are = filled_pairs (old_under slot view) pairs map;
@@ -131,8 +152,8 @@ filled_draft slot view pairs ledger map few marked dead untaken = record {
     marked = marked;
     untaken = untaken;
   };
-  few = let more = times_more (edits_for pairs) slot.root.height in omega (arith, more);
-  grown = may_have_grown (old_under slot view) slot.root.height pairs map few;
+  few = let more = times_more (edits_for slot.root.height pairs) slot.root.height in omega (arith, more);
+  grown = may_have_grown (old_under slot view) slot.root.height pairs map;
 }
   where
     not_both : (b : Bool) → IsTrue b → b ≡ false → ⊥
@@ -140,9 +161,9 @@ filled_draft slot view pairs ledger map few marked dead untaken = record {
     not_both false h e = absurd (cc h)
 
 pub filled_counted : (slot : Slot) (view : Image) (pairs : List Pair) (ledger : LedgerState) (draft : Draft) → is_map pairs ≡ true → length pairs ≤ most_pairs → length ledger.marks ≡ slot.root.pages → ((n : ℕ) → is_alive ledger n ≡ false) → ((n : ℕ) → is_taken (mark_of ledger n) ≡ false)
-    → state_of draft.tree ≡ filled pairs → draft.keys ≡ length pairs → IsCounted slot view (edits_for pairs) pairs ledger draft
+    → state_of draft.tree ≡ filled pairs → draft.keys ≡ length pairs → IsCounted slot view (edits_for slot.root.height pairs) pairs ledger draft
 filled_counted slot view pairs ledger draft map few marked dead untaken is keys = record {
-  draft_is = subst (λ (s : RootState). IsDraft slot view (edits_for pairs) 0 pairs ledger s) (sym is) (filled_draft slot view pairs ledger map few marked dead untaken);
+  draft_is = subst (λ (s : RootState). IsDraft slot view (edits_for slot.root.height pairs) 0 pairs ledger s) (sym is) (filled_draft slot view pairs ledger map few marked dead untaken);
   keys = keys;
   map = map;
 }

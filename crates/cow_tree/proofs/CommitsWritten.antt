@@ -1,5 +1,5 @@
 -- What stands once a plan is written, where a write failed, and after a crash in between.
-use Rattle.std.proofs.Common.{◌≡◌, ◌⊎◌, ◌≤◌, ◌<◌, ◌+◌, ◌*◌, ◌-◌, inl, inr, ⊎_elim, ℕ, Bool, true, false, List, ◌∷◌, length, refl, sym, ap, subst, arith, IsTrue}
+use Rattle.std.proofs.Common.{◌≡◌, ◌⊎◌, ◌≤◌, ◌<◌, ◌+◌, ◌*◌, ◌-◌, inl, inr, ⊎_elim, ℕ, Bool, true, false, List, ◌∷◌, length, sym, ap, subst, arith, IsTrue}
 use Rattle.std.specs.Prelude.{◌==◌, ◌||◌}
 use Rattle.std.proofs.lemmas.Bool.{cases_Bool, ne_eqb}
 use Rattle.common_types.specs.CrashStates.{CrashStates, AddsOnly}
@@ -12,12 +12,13 @@ use Rattle.page_store.specs.Content.{Found, is_among, pairs_and_banner}
 use Rattle.page_store.specs.Commit.{numbers, Commit, IsReady, IsBetween, IsDone, Shows}
 use Rattle.page_store.proofs.UntouchedPages.{page_of-same}
 use Rattle.page_store.specs.declared.banner.Banner.{Banner}
+use Rattle.page_store.specs.declared.commit.NewPage.{NewPage}
 use Rattle.page_store.specs.declared.slot.Slot.{Slot}
 use Rattle.cow_tree.specs.PinnedTrees.{HeldPagesStay}
 use Rattle.cow_tree.specs.TreeState.{found_under}
 use Rattle.cow_tree.specs.Opening.{bounds_under}
 use Rattle.cow_tree.specs.Plans.{tree_commit}
-use Rattle.cow_tree.specs.Committed.{TreeHas, MayBeWritten, IsCommitted, IsTreeBetween, is_tree_version}
+use Rattle.cow_tree.specs.Committed.{TreeHas, MayBeWritten, IsCommitted, is_tree_version}
 use Rattle.cow_tree.specs.declared.plans.Plan.{Plan}
 use Rattle.cow_tree.proofs.Openings.{tree_is}
 use Rattle.cow_tree.proofs.Finding.{tree_inside}
@@ -29,10 +30,11 @@ shows_has : (slot : Slot) (found : Found) (bytes : ℕ → List ℕ) (c : Image)
 shows_has slot found bytes c version s = (ap pairs_and_banner s.content_is, version)
 
 -- what a crash within a commit leaves has the pairs and the banner from before, or the new ones
-pub old_or_new : (view : Image) (slot : Slot) (top : ℕ) (pairs : List Pair) (banner : Banner) (c : Image) → IsTrue (is_tree_version slot.root.banner.version) → IsTreeBetween view slot top pairs banner c → TreeHas c (found_under slot view).pairs slot.root.banner ⊎ TreeHas c pairs banner
-old_or_new view slot top pairs banner c version b =
+pub old_or_new : (view : Image) (slot new : Slot) (found : Found) (pages : List NewPage) (pairs : List Pair) (banner : Banner) (c : Image) → IsTrue (is_tree_version slot.root.banner.version) → IsTrue (is_tree_version new.root.banner.version) → new.root.banner ≡ banner → found.pairs ≡ pairs
+    → IsBetween (tree_commit slot view new found) pages view c → TreeHas c (found_under slot view).pairs slot.root.banner ⊎ TreeHas c pairs banner
+old_or_new view slot new found pages pairs banner c version next banner_is pairs_are b =
     ⊎_elim (λ s. inl (shows_has slot (found_under slot view) _ c version s))
-    (λ s. inr (subst (λ (x : Banner). TreeHas c pairs x) b.banner_is (subst (λ (l : List Pair). TreeHas c l b.new.root.banner) b.pairs_are (shows_has b.new b.found _ c b.plan_is.version s)))) b.between.shows
+    (λ s. inr (subst (λ (x : Banner). TreeHas c pairs x) banner_is (subst (λ (l : List Pair). TreeHas c l new.root.banner) pairs_are (shows_has new found _ c next s)))) b.shows
 
 pub adds_weaker : {L : Type 0} (old new : CrashStates L) (P Q : L → Type 0) → ((c : L) → P c → Q c) → AddsOnly old new P → AddsOnly old new Q
 adds_weaker old new P Q f a = record {
@@ -48,17 +50,6 @@ module _ (view : Image) (crash_states : CrashStates Image) (slot : Slot) (ledger
 
   pub ready : IsReady the_commit plan.pages.items view
   ready = is_ready view slot w.top ledger plan.pages.items plan.slot w.planned.found w.held w.planned.plan_is
-
-  pub tree_between : (c : Image) → IsBetween the_commit plan.pages.items view c → IsTreeBetween view slot w.top w.pairs plan.slot.root.banner c
-  tree_between c b = record {
-    pages = plan.pages.items;
-    new = plan.slot;
-    found = w.planned.found;
-    plan_is = w.planned.plan_is;
-    banner_is = refl;
-    pairs_are = w.planned.pairs_are;
-    between = b;
-  }
 
   old_inside : (n : ℕ) → IsTrue (is_among n (found_under slot view).pages) → 2 ≤ n
   old_inside n among =

@@ -93,7 +93,7 @@ module _ (slot : Slot) (image : Image) (edits : ℕ) (pairs : List Pair) (ledger
   put_told value w (Err faults.Failed) is v small made count low fault = absurd fault
   put_told value w (Err faults.Memory) is v small made count low fault = tt
   put_told value w (Err faults.Deep) is v small made count low fault =
-      levels_deep slot.root.height (edits + 1) (edits + 1) (put_under key value tree.root tree.height) (omega arith) (levels_put (old_under slot image) slot.root.height edits tree key value d.valid (edit_sizes edit key value w sizes k is v) d.grown) fault
+      levels_deep slot.root.height (edits + 1) (edits + 1) (put_under key value tree.root tree.height) (omega arith) (omega arith) (levels_put (old_under slot image) slot.root.height edits tree key value d.valid (edit_sizes edit key value w sizes k is v) d.grown) fault
 
   pub delete_told : (x : Draft) → edit.value ≡ None → state_of x.tree ≡ delete_under key tree.root tree.height → x.keys ≡ keys_without (has_under key tree.root) keys → IsCounted slot image (edits + 1) (edited pairs edit) ledger x
   delete_told x is made count =

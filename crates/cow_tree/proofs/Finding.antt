@@ -97,7 +97,7 @@ module _ (slot : Slot) (a : ℕ → List ℕ) (new : LedgerState) where
   abbrev first : LedgerState
   first = fresh slot.root.pages slot.seal
 
-  exact : (count : ℕ) → slot.root.pages ≤ 65536 → (w : IsWalked tree first new count) → count ≡ length w.found.pairs
+  pub exact : (count : ℕ) → slot.root.pages ≤ 65536 → (w : IsWalked tree first new count) → count ≡ length w.found.pairs
   exact count small w =
       let few = fresh_few first w.found.pages w.fresh in
       let size = length-replicate slot.root.pages Never in

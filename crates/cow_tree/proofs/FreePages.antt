@@ -27,7 +27,7 @@ module _ (image : Image) (slot : Slot) (ledger : LedgerState) (trees : List (Opt
   pinned_have (Some tree ∷ some) k n =
       ap (λ (b : Bool). b || have_page ledger (pinned (map seal_of some)) n) ((k zero tree refl).has n) ∙ ap (λ (b : Bool). is_among n (found_at tree image).pages || b) (pinned_have some (λ number t is. k (suc number) t is) n)
 
-  held_is : (n : ℕ) → is_held ledger n ≡ (keep_page image trees n || is_among n (found_under slot image).pages)
+  pub held_is : (n : ℕ) → is_held ledger n ≡ (keep_page image trees n || is_among n (found_under slot image).pages)
   held_is n =
       ap (λ (pins : List (Option ℕ)). have_page ledger (ledger.generation ∷ pinned pins) n) seals
       ∙ ap (λ (b : Bool). has_page ledger ledger.generation n || b) (pinned_have trees kept n)

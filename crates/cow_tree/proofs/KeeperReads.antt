@@ -13,11 +13,13 @@ use Rattle.tree_nodes.proofs.KeyOrder.{both_true}
 use Rattle.tree_nodes.proofs.WalksWithinBounds.{some_is}
 use Rattle.page_store.specs.Content.{Found, tree_of, tree_found, are_distinct}
 use Rattle.page_store.specs.StoreState.{NeedsTheSame, HasRead, IsReadFault}
+use Rattle.page_store.specs.Compaction.{CompactsTheSame}
 use Rattle.page_store.specs.declared.slot.Slot.{Slot}
 use Rattle.cow_tree.specs.Walks.{CountsPages}
 use Rattle.cow_tree.specs.Ways.{IsAnswer}
 use Rattle.cow_tree.specs.Opening.{fault_of, bounds_under}
 use Rattle.cow_tree.specs.Needs.{MayNeed, NeedsPages}
+use Rattle.cow_tree.specs.Compacting.{MayNeedFilled, NeedsFilled}
 use Rattle.cow_tree.specs.PinnedTrees.{pins_from}
 use Rattle.cow_tree.specs.TreeState.{found_under, tree_holding}
 use Rattle.cow_tree.specs.declared.tree_root.TreeRoot.{TreeRoot}
@@ -34,7 +36,7 @@ module _ (old new : State) (slot : Slot) (ledger : LedgerState) (top : ℕ) (usa
       usable = refl;
       generation = refl;
       top = refl;
-      free = λ keeps. refl;
+      free = refl;
       height = refl;
       out = same_numbers new.disk.view old.disk.view 0 trees;
       pins = λ keeps. ap (λ (d : Disk). pins_from d.view 0 trees) (only.disk keeps);
@@ -58,6 +60,13 @@ pub needs_again : (old new : State) (slot : Slot) → OnlyReads old new → Need
 needs_again old new slot only = record {
   after = λ batch need before now. let keeps = subst IsTrue only.same.honest now in subst (λ (d : Disk). NeedsPages slot d.view batch need) (sym (only.disk keeps)) (before keeps);
   before = λ batch need after keeps. subst (λ (d : Disk). NeedsPages slot d.view batch need) (only.disk keeps) (after (subst IsTrue (sym only.same.honest) keeps));
+}
+
+-- writing all pairs anew needs as much after a read as before it
+pub fills_again : (old new : State) (slot : Slot) → OnlyReads old new → CompactsTheSame (MayNeedFilled slot old) (MayNeedFilled slot new)
+fills_again old new slot only = record {
+  after = λ need before now. let keeps = subst IsTrue only.same.honest now in subst (λ (d : Disk). NeedsFilled slot d.view need) (sym (only.disk keeps)) (before keeps);
+  before = λ need after keeps. subst (λ (d : Disk). NeedsFilled slot d.view need) (only.disk keeps) (after (subst IsTrue (sym only.same.honest) keeps));
 }
 
 pub counts_rise : (T : Type 0) (e : PageFault) (before now : ℕ) → CountsPages {T = T} (Err e) before now → before ≤ now

@@ -3,6 +3,10 @@ pub mod ReadsInTurn
 pub mod Reaching
 pub mod Walking
 pub mod Finding
+pub mod NamedPages
+pub mod NamedWalks
+pub mod DamageNamed
+pub mod FirstWrong
 pub mod PinnedTrees
 pub mod FreePages
 pub mod Openings
@@ -33,6 +37,7 @@ pub mod Planned
 pub mod CommitsWritten
 pub mod TreeCommits
 pub mod PinsCommitted
+pub mod TreePlans
 pub mod PinsMade
 pub mod AllRetired
 pub mod PairsRead

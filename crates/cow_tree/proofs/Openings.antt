@@ -1,18 +1,19 @@
 -- What an opening finds, and why it is refused.
-use Rattle.std.proofs.Common.{◌≡◌, ℕ, ◌≤◌, Option, Some, None, sym, ap, subst, ◌∙◌, IsTrue, inl}
+use Rattle.std.proofs.Common.{◌≡◌, ◌≤◌, Option, Some, None, sym, ap, subst, ◌∙◌, IsTrue, inl}
 use Rattle.common_types.specs.Counts.{counted}
 use Rattle.sector_device.specs.Device.{State, NothingCounted}
 use Rattle.page_alloc.specs.LedgerState.{LedgerState}
 use Rattle.page_store.specs.Reading.{◌>>=◌}
 use Rattle.page_store.specs.Sectors.{Image, page_of}
 use Rattle.page_store.specs.Roots.{current}
-use Rattle.page_store.specs.Content.{tree_as, is_tree_version, Found, content, content_under, found_as, tree_found, pairs_and_banner, HasContent}
+use Rattle.page_store.specs.Content.{tree_as, is_tree_version, Found, content, content_under, tree_found, pairs_and_banner, HasContent}
 use Rattle.page_store.specs.Counting.{CountsRefusal}
 use Rattle.page_store.specs.declared.slot.Slot.{Slot}
 use Rattle.page_store.specs.declared.fault.KeeperFault.TheVariants.{Small}
 use Rattle.page_store.proofs.Fields.{bind_some, bind_again}
 use Rattle.cow_tree.specs.Walks.{CountsPages}
-use Rattle.cow_tree.specs.Opening.{fault_of, IsReached, Finds, AreWhole, IsReadAs, MayName, IsOpenFault}
+use Rattle.cow_tree.specs.Opening.{fault_of, IsReached, Finds, AreWhole, IsReadAs, MayName, IsNamed, IsOpenFault}
+use Rattle.cow_tree.specs.NamedWalks.{tree_or_name}
 use Rattle.cow_tree.specs.PinnedTrees.{or_nothing}
 use Rattle.cow_tree.specs.TreeState.{found_under}
 use Rattle.cow_tree.specs.declared.page_fault.PageFault.{PageFault}
@@ -89,10 +90,15 @@ walk_not_small (Damaged page) is = absurd (cc is)
 
 pub walk_fault : (T : Type 0) (old mid new : State) (slot : Slot) (ledger : LedgerState) (e : PageFault) → 128 ≤ old.size → (IsTrue old.honest → IsTrue mid.honest) → (IsTrue old.honest → mid.disk.view ≡ old.disk.view) → (IsTrue old.honest → current old.disk.view ≡ Some slot)
     → IsTrue (is_tree_version slot.root.banner.version) → NothingCounted old mid → CountsPages {T = T} (Err e) mid.failed_reads new.failed_reads → new.failed_writes ≡ mid.failed_writes → MayName slot e
-    → (IsTrue mid.honest → Finds {T = T} (tree_found slot (page_of mid.disk.view)) slot ledger (Err e)) → IsOpenFault old new (fault_of e)
-walk_fault T old mid new slot ledger Device large keeps view now version a reads writes named answered = (large, inl (reads ∙ ap counted a.reads, writes ∙ a.writes))
-walk_fault T old mid new slot ledger (Damaged page) large keeps view now version a reads writes named answered = (
+    → (IsTrue mid.honest → Finds {T = T} (tree_found slot (page_of mid.disk.view)) slot ledger (Err e)) → (IsTrue mid.honest → IsNamed (tree_or_name slot (page_of mid.disk.view)) e) → IsOpenFault old new (fault_of e)
+walk_fault T old mid new slot ledger Device large keeps view now version a reads writes named answered is = (large, inl (reads ∙ ap counted a.reads, writes ∙ a.writes))
+walk_fault T old mid new slot ledger (Damaged page) large keeps view now version a reads writes named answered is = (
   large,
-  λ honest.
-      (slot, (now honest, version), content_is old.disk.view slot None (now honest) version (subst (λ (i : Image). tree_found slot (page_of i) ≡ None) (view honest) (answered (keeps honest))), named),
+  λ honest. (
+    slot,
+    (now honest, version),
+    content_is old.disk.view slot None (now honest) version (subst (λ (i : Image). tree_found slot (page_of i) ≡ None) (view honest) (answered (keeps honest))),
+    named,
+    subst (λ (i : Image). tree_or_name slot (page_of i) ≡ Err page) (view honest) (is (keeps honest)),
+  ),
 )

@@ -18,7 +18,7 @@ pins_done pages now seal ledger mid trees marks size pins = record {
 }
 
 module _ (view mid now : Image) (pages : ℕ) (ledger between : LedgerState) (trees : List (Option TreeRoot)) (pins : ArePinned pages ledger trees) (marks : OnlyMarks ledger between) (same : mid ≡ view) (stay : HeldPagesStay between (page_of mid) (page_of now)) (kept : AreKept view ledger trees) where
-  stay_now : HeldPagesStay ledger (page_of view) (page_of now)
+  pub stay_now : HeldPagesStay ledger (page_of view) (page_of now)
   stay_now n low held = ap (λ (v : Image). page_of v n) (sym same) ∙ stay n low (held_again ledger between marks n ∙ held)
 
   -- each pin keeps the same pairs

@@ -65,7 +65,7 @@ held_generation s (n ∷ ns) = held_generation (holding n s) ns
 
 -- ---- a page that is held
 
-within_lives : (s : LedgerState) (n : ℕ) → is_free s n ≡ true → n < length s.lives
+pub within_lives : (s : LedgerState) (n : ℕ) → is_free s n ≡ true → n < length s.lives
 within_lives s n h =
     let a = both_true (nat_le 2 n) (nat_lt n (length s.lives) && (not (is_taken (mark_of s n)) && not (is_held s n))) h in
     let b = both_true (nat_lt n (length s.lives)) (not (is_taken (mark_of s n)) && not (is_held s n)) a.1 in
@@ -80,10 +80,10 @@ life_there s n m ne = get_or-set_other s.lives n m (Since s.generation) Never ne
 has_here : (s : LedgerState) (n : ℕ) → n < length s.lives → has_page (holding n s) s.generation n ≡ true
 has_here s n lt = ap (lives_at s.generation) (life_here s n lt) ∙ le-leb s.generation s.generation (omega arith)
 
-free_here : (s : LedgerState) (n : ℕ) → n < length s.lives → is_free (holding n s) n ≡ false
+pub free_here : (s : LedgerState) (n : ℕ) → n < length s.lives → is_free (holding n s) n ≡ false
 free_here s n lt = not_free (nat_le 2 n) (nat_lt n (length (holding n s).lives)) (not (is_taken (mark_of (holding n s) n))) (is_held (holding n s) n) (or_first (has_page (holding n s) s.generation n) _ (has_here s n lt))
 
-free_there : (s : LedgerState) (n m : ℕ) → m ≢ n → is_free (holding n s) m ≡ is_free s m
+pub free_there : (s : LedgerState) (n m : ℕ) → m ≢ n → is_free (holding n s) m ≡ is_free s m
 free_there s n m ne =
     let life = life_there s n m ne in
     let size = length-set s.lives n (Since s.generation) in
@@ -191,7 +191,7 @@ no_life pages generation m = elim (cases_lt m pages) [ inl lt ↦ get_or-replica
 no_mark : (pages generation m : ℕ) → mark_of (fresh pages generation) m ≡ Untouched
 no_mark pages generation m = elim (cases_lt m pages) [ inl lt ↦ get_or-replicate pages m Untouched Untouched lt | inr le ↦ get_or_past (replicate pages Untouched) m Untouched (omega (arith, length-replicate pages Untouched, le)) ]
 
-free_at_first : (pages generation m : ℕ) → 2 ≤ m → m < pages → is_free (fresh pages generation) m ≡ true
+pub free_at_first : (pages generation m : ℕ) → 2 ≤ m → m < pages → is_free (fresh pages generation) m ≡ true
 free_at_first pages generation m low high =
     let life = no_life pages generation m in
     let mark = no_mark pages generation m in

@@ -27,7 +27,7 @@ use Rattle.cow_tree.specs.TreeState.{IsFitted, IsThere, IsDurable, found_under}
 use Rattle.cow_tree.specs.Drafts.{Tells, OnlyMarks}
 use Rattle.cow_tree.specs.Plans.{IsHeld, Starts, IsMade, IsPlan, HasNext, IsPlanned, IsPlanFault}
 use Rattle.cow_tree.specs.Compacting.{IsFillFault}
-use Rattle.cow_tree.specs.Committed.{is_tree_version, MayBeWritten, IsTreeBetween}
+use Rattle.cow_tree.specs.Committed.{is_tree_version, MayBeWritten}
 use Rattle.cow_tree.specs.declared.plans.Plan.{Plan}
 use Rattle.cow_tree.proofs.Openings.{content_is}
 use Rattle.cow_tree.proofs.KeeperReads.{keys_told}
@@ -78,10 +78,6 @@ may_be_written view mid states slot ledger now top plan pairs held marks planned
   sure = sure;
 }
 
-pub between_again : (view mid : Image) (slot : Slot) (top : ℕ) (pairs : List Pair) (was banner : Banner) (c : Image) → mid ≡ view → was ≡ banner → IsTreeBetween mid slot top pairs was c → IsTreeBetween view slot top pairs banner c
-between_again view mid slot top pairs was banner c same is between =
-    subst (λ (v : Image). IsTreeBetween v slot top pairs banner c) same (subst (λ (b : Banner). IsTreeBetween mid slot top pairs b c) is between)
-
 -- ---- a commit that is refused
 
 pub lies : (b : Bool) → (IsTrue b → ⊥) → b ≡ false
@@ -96,7 +92,7 @@ commit_fault old new edits may slot deep P N faults.Version stayed reads answere
 commit_fault old new edits may slot deep P N (faults.Damaged page) stayed reads answered levels fault need = (stayed, lies old.honest answered)
 commit_fault old new edits may slot deep P N faults.Small stayed reads answered levels fault need = absurd fault
 commit_fault old new edits may slot deep P N faults.Spent stayed reads answered levels fault need = absurd fault
-commit_fault old new edits may slot deep P N (faults.Full n left) stayed reads answered levels fault need = (stayed, (let a = fault.0 in let b = fault.1 in omega (arith, a, b)), λ keeps. (fault.0, need n fault.2 keeps))
+commit_fault old new edits may slot deep P N (faults.Full n left) stayed reads answered levels fault need = (stayed, fault.0, (let a = fault.0 in let b = fault.1 in omega (arith, a, b)), λ keeps. need n fault.2 keeps)
 commit_fault old new edits may slot deep P N faults.Failed stayed reads answered levels fault need = absurd fault
 commit_fault old new edits may slot deep P N faults.Memory stayed reads answered levels fault need = stayed
 commit_fault old new edits may slot deep P N faults.Deep stayed reads answered levels fault need = (stayed, λ keeps. levels (answered keeps))
@@ -110,7 +106,7 @@ compact_fault old new may P N faults.Version stayed reads answered fault need = 
 compact_fault old new may P N (faults.Damaged page) stayed reads answered fault need = (stayed, lies old.honest answered)
 compact_fault old new may P N faults.Small stayed reads answered fault need = absurd fault
 compact_fault old new may P N faults.Spent stayed reads answered fault need = absurd fault
-compact_fault old new may P N (faults.Full n left) stayed reads answered fault need = (stayed, (let a = fault.0 in let b = fault.1 in omega (arith, a, b)), λ keeps. (fault.0, need n fault.2 keeps))
+compact_fault old new may P N (faults.Full n left) stayed reads answered fault need = (stayed, fault.0, (let a = fault.0 in let b = fault.1 in omega (arith, a, b)), λ keeps. need n fault.2 keeps)
 compact_fault old new may P N faults.Failed stayed reads answered fault need = absurd fault
 compact_fault old new may P N faults.Memory stayed reads answered fault need = stayed
 compact_fault old new may P N faults.Deep stayed reads answered fault need = absurd fault

@@ -27,12 +27,6 @@ pub record NeedsFilled (slot : Slot) (image : Image) (need : ℕ) : Type 0 where
 abbrev pub MayNeedFilled : Slot → State → ℕ → Type 0
 MayNeedFilled slot state need = IsTrue state.honest → NeedsFilled slot state.disk.view need
 
--- As many pages are free as that takes.
-pub record HasRoomToFill (slot : Slot) (image : Image) (free : ℕ) : Type 0 where
-  pub need : ℕ
-  pub needs : NeedsFilled slot image need
-  pub fits : need ≤ free
-
 -- The tree under a slot of an image is in filled pages: it has as many levels, and as many pages as nodes, as the filled tree of its pairs.
 pub record IsFilled (slot : Slot) (image : Image) : Type 0 where
   pub levels : slot.root.height ≡ (filled (found_under slot image).pairs).height

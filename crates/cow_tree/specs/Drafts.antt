@@ -1,5 +1,5 @@
 -- A tree that a commit changes, before anything is written.
-use Rattle.std.specs.Prelude.{◌≡◌, ◌≤◌, ◌<◌, ◌+◌, ◌-◌, ◌*◌, ◌/◌, ◌^◌, ◌==◌, min, ℕ, Bool, true, false, List, length, take, Result, Ok, Err, IsTrue, IfSome, IfErr, if◌then◌else◌}
+use Rattle.std.specs.Prelude.{◌≡◌, ◌≤◌, ◌<◌, ◌+◌, ◌-◌, ◌*◌, ◌^◌, ◌==◌, min, ℕ, Bool, true, false, List, length, take, Result, Ok, Err, IsTrue, IfSome, IfErr, if◌then◌else◌}
 use Rattle.common_types.specs.CrashStates.{CrashStates}
 use Rattle.sector_device.specs.Device.{State}
 use Rattle.page_alloc.specs.LedgerState.{LedgerState, mark_of, is_taken, is_alive, free_count}
@@ -8,7 +8,7 @@ use Rattle.page_store.specs.Pages.{Pair, head_at, page_word}
 use Rattle.page_store.specs.Batch.{is_map}
 use Rattle.page_store.specs.Counting.{CountsReads}
 use Rattle.page_store.specs.DeviceEffects.{IsReadCall}
-use Rattle.page_store.specs.StoreState.{most_levels}
+use Rattle.page_store.specs.StoreState.{most_levels, edits_to_be_deep}
 use Rattle.page_store.specs.declared.slot.Slot.{Slot}
 use Rattle.page_store.specs.declared.fault.KeeperFault.{KeeperFault}
 use Rattle.page_store.specs.declared.fault.KeeperFault.TheVariants as faults
@@ -114,7 +114,7 @@ keys_without false keys = keys
 
 -- a tree of so many levels may be too deep after so many edits
 abbrev pub MayBeTooDeep : Slot → ℕ → Type 0
-MayBeTooDeep slot edits = most_levels < slot.root.height + 2 + edits / 8
+MayBeTooDeep slot edits = edits_to_be_deep slot.root.height ≤ edits
 
 -- No more pages were read for a key than the tree under the slot has levels, nor will be.
 pub record IsOnPath (slot : Slot) (key : List ℕ) (read : ℕ) (tree : RootState) : Type 0 where

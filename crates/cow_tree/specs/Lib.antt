@@ -1,4 +1,7 @@
 pub mod Reached
+pub mod NamedWalks
+pub mod FirstWrong
+pub mod NamedExamples
 pub mod Walks
 pub mod Opening
 pub mod Needs

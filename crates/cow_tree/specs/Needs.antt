@@ -37,9 +37,3 @@ pub record NeedsPages (slot : Slot) (image : Image) (batch : List Edit) (need : 
 -- the same on a device in this state, which has to be honest
 abbrev pub MayNeed : Slot → State → List Edit → ℕ → Type 0
 MayNeed slot state batch need = IsTrue state.honest → NeedsPages slot state.disk.view batch need
-
--- As many pages are free as a commit of a batch needs.
-pub record HasRoom (slot : Slot) (image : Image) (batch : List Edit) (free : ℕ) : Type 0 where
-  pub need : ℕ
-  pub needs : NeedsPages slot image batch need
-  pub fits : need ≤ free

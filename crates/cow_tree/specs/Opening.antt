@@ -1,5 +1,6 @@
 -- What an opening finds, and when it is refused.
 use Rattle.std.specs.Prelude.{false, ◌≡◌, ◌⊎◌, ◌≤◌, ◌<◌, ℕ, length, Option, Some, None, Result, Ok, Err, IsTrue}
+use Rattle.common_types.specs.Counts.{counted}
 use Rattle.common_types.specs.CrashStates.{CrashStates}
 use Rattle.sector_device.specs.Device.{State, OneCounted}
 use Rattle.page_alloc.specs.LedgerState.{LedgerState, is_alive}
@@ -13,6 +14,7 @@ use Rattle.page_store.specs.declared.slot.Slot.{Slot}
 use Rattle.page_store.specs.declared.fault.KeeperFault.{KeeperFault}
 use Rattle.page_store.specs.declared.fault.KeeperFault.TheVariants as faults
 use Rattle.cow_tree.specs.Reached.{holding_all}
+use Rattle.cow_tree.specs.NamedWalks.{tree_or_name}
 use Rattle.cow_tree.specs.declared.page_fault.PageFault.{PageFault}
 use Rattle.cow_tree.specs.declared.page_fault.PageFault.TheVariants.{Device, Damaged}
 
@@ -36,6 +38,11 @@ MayBeNamed slot page = (page ≡ slot.number) ⊎ ((2 ≤ page) × (page < slot.
 abbrev pub MayName : Slot → PageFault → Type 0
 MayName slot Device = Unit {0}
 MayName slot (Damaged page) = MayBeNamed slot page
+
+-- a page that is damaged is the one that is named
+abbrev pub IsNamed : Result Found ℕ → PageFault → Type 0
+IsNamed what Device = Unit {0}
+IsNamed what (Damaged page) = what ≡ Err page
 
 -- The tree under a slot is there, and the ledger has exactly its pages.
 pub record IsReached (what : Option Found) (slot : Slot) (ledger : LedgerState) : Type 0 where
@@ -99,6 +106,11 @@ IsOpenFault old new faults.Small = old.size < 128
 IsOpenFault old new faults.Device = (128 ≤ old.size) × OneCounted old new
 IsOpenFault old new faults.NoImage = (128 ≤ old.size) × (IsTrue old.honest → current old.disk.view ≡ None)
 IsOpenFault old new faults.Version = (128 ≤ old.size) × (IsTrue old.honest → IsOther old.disk.view)
-IsOpenFault old new (faults.Damaged page) = (128 ≤ old.size) × (IsTrue old.honest → (slot : Slot) × IsTree old.disk.view slot × (content old.disk.view ≡ None) × MayBeNamed slot page)
+IsOpenFault old new (faults.Damaged page) = (128 ≤ old.size) × (IsTrue old.honest → (slot : Slot) × IsTree old.disk.view slot × (content old.disk.view ≡ None) × MayBeNamed slot page × (tree_or_name slot (page_of old.disk.view) ≡ Err page))
 IsOpenFault old new faults.Memory = (128 ≤ old.size) × (IsTrue old.honest → (slot : Slot) × IsTree old.disk.view slot)
 IsOpenFault old new other = ⊥
+
+-- What a refusal leaves: all that was there is made sure of, but where the device is too small, or where the sync failed and was counted. So the sync comes before each read.
+abbrev pub LeavesSynced : State → State → CrashStates Image → KeeperFault → Type 0
+LeavesSynced old new crash_states faults.Small = Unit {0}
+LeavesSynced old new crash_states fault = (new.failed_writes ≡ counted old.failed_writes) ⊎ (IsTrue old.honest → AllAre crash_states new.disk.view)

@@ -68,6 +68,10 @@ pub record IsKeptTree (image : Image) (ledger : LedgerState) (tree : TreeRoot) :
 abbrev pub AreKept : Image → LedgerState → List (Option TreeRoot) → Type 0
 AreKept image ledger trees = (number : ℕ) (tree : TreeRoot) → slice_index_or trees number None ≡ Some tree → IsKeptTree image ledger tree
 
+-- Each page that one of these trees has in an image has the same bytes in another.
+abbrev pub PinnedPagesStay : List (Option TreeRoot) → Image → Image → Type 0
+PinnedPagesStay trees old new = (n : ℕ) → IsTrue (keep_page old trees n) → page_of new n ≡ page_of old n
+
 -- The pages that generations in use have are the same.
 abbrev pub HeldPagesStay : LedgerState → (ℕ → List ℕ) → (ℕ → List ℕ) → Type 0
 HeldPagesStay ledger old new = (n : ℕ) → 2 ≤ n → IsTrue (is_held ledger n) → old n ≡ new n

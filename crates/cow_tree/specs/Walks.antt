@@ -1,14 +1,14 @@
 -- What a walk over a tree tells.
-use Rattle.std.specs.Prelude.{◌≡◌, ◌⊎◌, ◌≤◌, ◌<◌, ◌-◌, ◌*◌, ◌^◌, min, ℕ, true, false, List, length, Option, Some, Result, Ok, Err, IsTrue, OnOk, IfErr}
+use Rattle.std.specs.Prelude.{◌≡◌, ◌⊎◌, ◌≤◌, ◌<◌, ◌-◌, ◌*◌, ◌^◌, min, not, ℕ, true, false, List, length, Option, Some, Result, Ok, Err, IsTrue, OnOk, IfErr}
 use Rattle.common_types.specs.Counts.{counted}
 use Rattle.common_types.specs.CrashStates.{CrashStates}
 use Rattle.sector_device.specs.Device.{State}
-use Rattle.page_alloc.specs.LedgerState.{LedgerState, is_alive}
+use Rattle.page_alloc.specs.LedgerState.{LedgerState, is_alive, is_free}
 use Rattle.page_store.specs.Sectors.{Image, page_of}
 use Rattle.page_store.specs.DeviceEffects.{IsReadCall}
 use Rattle.page_store.specs.Reading.{◌>>=◌}
 use Rattle.page_store.specs.Pages.{Child}
-use Rattle.page_store.specs.Content.{Found, joined}
+use Rattle.page_store.specs.Content.{Found, joined, is_among}
 use Rattle.cow_tree.specs.Reached.{are_fresh, holding_all}
 use Rattle.cow_tree.specs.declared.page_fault.PageFault.{PageFault}
 use Rattle.cow_tree.specs.declared.page_fault.PageFault.TheVariants.{Device, Damaged}
@@ -31,6 +31,19 @@ abbrev pub Tells : Option Found → LedgerState → LedgerState → Result ℕ P
 Tells what old new (Ok count) = IsWalked what old new count
 Tells what old new (Err Device) = Unit {0}
 Tells what old new (Err (Damaged page)) = IsBroken what old
+
+-- The pages of a list are those that are held.
+pub record AreHeld (held : LedgerState) (reached : List ℕ) : Type 0 where
+  pub each : (n : ℕ) → 2 ≤ n → n < length held.lives → is_free held n ≡ not (is_among n reached)
+
+-- a walk names this page, once the pages that are held were reached
+abbrev pub NamesFrom : (List ℕ → Result Found ℕ) → LedgerState → ℕ → Type 0
+NamesFrom what held page = (reached : List ℕ) → AreHeld held reached → what reached ≡ Err page
+
+-- A page that is damaged is the one that a walk names, by the bytes of the pages.
+abbrev pub Names : State → ((ℕ → List ℕ) → List ℕ → Result Found ℕ) → LedgerState → PageFault → Type 0
+Names state what held Device = Unit {0}
+Names state what held (Damaged page) = IsTrue state.honest → NamesFrom (what (page_of state.disk.view)) held page
 
 -- a page of an image of so many
 abbrev pub NamesInside : ℕ → PageFault → Type 0
@@ -78,3 +91,7 @@ pub record IsWalkedTo (fan_of : List Child → Option Found) (children others : 
   pub held : now ≡ holding_all old front.pages
   pub pairs : count ≡ min (length front.pairs) (2 ^ 64 - 1)
   pub most : length front.pairs ≤ 65535 * length front.pages
+
+-- What is named of the others once the pages before them are held, is named of all children.
+abbrev pub NamesAfter : (List Child → List ℕ → Result Found ℕ) → List Child → List Child → LedgerState → LedgerState → Type 0
+NamesAfter fan_of children others old now = (wrong : ℕ) → NamesFrom (fan_of others) now wrong → NamesFrom (fan_of children) old wrong

@@ -9,7 +9,9 @@ ghost use Rattle.page_store.specs.Steps.{crash_states_of};
 ghost use Rattle.page_store.specs.Switch.{IsSlotPage};
 ghost use Rattle.cow_tree.specs.PinnedTrees.{HeldPagesStay, PinnedStay};
 ghost use Rattle.cow_tree.specs.TreeState.{found_under};
-ghost use Rattle.cow_tree.specs.Committed.{MayBeWritten, IsCommitted, IsTreeBetween};
+ghost use Rattle.page_store.specs.Commit.{IsBetween};
+ghost use Rattle.cow_tree.specs.Plans.{tree_commit};
+ghost use Rattle.cow_tree.specs.Committed.{MayBeWritten, IsCommitted};
 
 use crate::plans::Plan;
 use page_alloc::Ledger;
@@ -35,7 +37,7 @@ pub(crate) fn write_plan<D: Device>(
     ensures held { IsTrue (D.state device.old).honest → MayBeWritten (D.state device.old).disk.view (crash_states_of D.moment D.possible_since device.old) slot.now ledger.old plan.now →
         HeldPagesStay ledger.old (page_of (D.state device.old).disk.view) (page_of (D.state device.new).disk.view) }
     ensures at_crash { IsTrue (D.state device.old).honest → (w : MayBeWritten (D.state device.old).disk.view (crash_states_of D.moment D.possible_since device.old) slot.now ledger.old plan.now) →
-        AddsOnly (crash_states_of D.moment D.possible_since device.old) (crash_states_of D.moment D.possible_since device.new) (IsTreeBetween (D.state device.old).disk.view slot.now w.top w.pairs plan.now.slot.root.banner) }
+        AddsOnly (crash_states_of D.moment D.possible_since device.old) (crash_states_of D.moment D.possible_since device.new) (IsBetween (tree_commit slot.now (D.state device.old).disk.view plan.now.slot w.planned.found) plan.now.pages.items (D.state device.old).disk.view) }
     ensures advanced { OnOk result (ledger.new ≡ advanced plan.now.slot.seal ledger.old) }
     ensures pinned { OnOk result (PinnedStay ledger.old ledger.new) }
     ensures abandoned { OnErr result (ledger.new ≡ abandoned ledger.old) }

@@ -1,14 +1,15 @@
 // A keeper of a tree is written anew.
-ghost use Rattle.std.specs.Prelude.{◌≡◌, ◌≤◌, ◌+◌, ◌⊎◌, ℕ, true, false, IsTrue, OnOk, IfErr, IsErrOf};
-ghost use Rattle.common_types.specs.CrashStates.{AddsOnly, AddsNone, may_crash_to};
-ghost use Rattle.page_store.specs.Compaction.{IsCompacted, IsCompactFault};
+ghost use Rattle.std.specs.Prelude.{◌≡◌, ◌≤◌, ◌+◌, ℕ, true, false, IsTrue, OnOk, IfErr, IsErrOf};
+ghost use Rattle.common_types.specs.CrashStates.{AddsOnly, AddsNone};
+ghost use Rattle.page_store.specs.Compaction.{IsCompacted, IsCompactFault, CompactsTheSame};
 ghost use Rattle.page_store.specs.Counting.{CountsReads, CountsWrites};
-ghost use Rattle.page_store.specs.StoreState.{HasTried, last_generation};
+ghost use Rattle.page_store.specs.StoreState.{HasTried, NeedsTheSame, last_generation};
 ghost use Rattle.page_store.specs.Steps.{crash_states_of};
 ghost use Rattle.page_store.specs.declared.fault.KeeperFault.TheVariants.{Failed, Spent};
+ghost use Rattle.cow_tree.specs.Needs.{MayNeed};
 ghost use Rattle.cow_tree.specs.Compacting.{MayNeedFilled, IsFilled};
-ghost use Rattle.cow_tree.specs.Committed.{TreeHas, IsTreeBetween};
-ghost use Rattle.cow_tree.specs.TreeSeen.{held, device_of, slot_of, top_of};
+ghost use Rattle.cow_tree.specs.Committed.{TreeHas, WritesOnePlan, WritesNoPinnedPage};
+ghost use Rattle.cow_tree.specs.TreeSeen.{held, device_of, slot_of, top_of, pinned_by};
 
 use crate::TreeKeeper;
 use crate::commits::write_plan;
@@ -28,6 +29,8 @@ impl<D: Device> CompactKeeper for TreeKeeper<D> {
         ensures filled { IsTrue (held D.state self.old).honest → OnOk result (IsFilled (slot_of self.new) (D.state (device_of self.new)).disk.view) }
         ensures fits { IsTrue (held D.state self.old).honest → OnOk result ((n : ℕ) × MayNeedFilled (slot_of self.old) (D.state (device_of self.old)) n × (n ≤ (held D.state self.old).free)) }
         ensures fault { IfErr result (IsCompactFault (held D.state self.old) (held D.state self.new) (MayNeedFilled (slot_of self.old) (D.state (device_of self.old)))) }
+        ensures need { IfErr result (λ e. (held D.state self.new).usable ≡ (held D.state self.old).usable → NeedsTheSame (MayNeed (slot_of self.old) (D.state (device_of self.old))) (MayNeed (slot_of self.new) (D.state (device_of self.new)))
+            × CompactsTheSame (MayNeedFilled (slot_of self.old) (D.state (device_of self.old))) (MayNeedFilled (slot_of self.new) (D.state (device_of self.new)))) }
         ensures closed { (held D.state self.old).usable ≡ false → IsErrOf result Failed }
         ensures spent { (held D.state self.old).usable ≡ true → (held D.state self.old).top ≡ last_generation → IsErrOf result Spent }
         ensures unchanged { (held D.state self.old).usable ≡ false → held D.state self.new ≡ held D.state self.old }
@@ -43,10 +46,12 @@ impl<D: Device> CompactKeeper for TreeKeeper<D> {
         // On every device, honest or not, the new root tells as many pairs as the old one: where others were read, nothing is written.
         ensures keys { OnOk result ((slot_of self.new).root.keys ≡ (slot_of self.old).root.keys) }
 
-        // How it writes: a crash leaves what one before the call might have left, or an image on the way to the other slot.
+        // How it writes: by one plan, on whose way each crash leaves the image, and by no page that a pinned tree has.
         ensures between { IsTrue (held D.state self.old).honest → (held D.state self.old).usable ≡ true →
-            AddsOnly (crash_states_of D.moment D.possible_since (device_of self.old)) (crash_states_of D.moment D.possible_since (device_of self.new))
-            (λ c. may_crash_to (crash_states_of D.moment D.possible_since (device_of self.old)) c ⊎ IsTreeBetween (D.state (device_of self.old)).disk.view (slot_of self.old) (top_of self.old) (held D.state self.old).pairs (held D.state self.old).banner c) }
+            WritesOnePlan (crash_states_of D.moment D.possible_since (device_of self.old)) (crash_states_of D.moment D.possible_since (device_of self.new))
+            (D.state (device_of self.old)).disk.view (slot_of self.old) (top_of self.old) (pinned_by self.old) (MayNeedFilled (slot_of self.old) (D.state (device_of self.old))) (held D.state self.old).pairs (held D.state self.old).banner }
+        ensures unheld { IsTrue (held D.state self.old).honest → (held D.state self.old).usable ≡ true → WritesNoPinnedPage (pinned_by self.old) (D.state (device_of self.old)).disk.view (D.state (device_of self.new)).disk.view
+            (crash_states_of D.moment D.possible_since (device_of self.old)) (crash_states_of D.moment D.possible_since (device_of self.new)) }
     {
         if !self.usable {
             return Err(KeeperFault::Failed);

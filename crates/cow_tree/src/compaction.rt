@@ -9,7 +9,7 @@ ghost use Rattle.tree_loading.specs.Filled.{filled};
 ghost use Rattle.cow_tree.specs.TreeState.{IsFitted, IsFittedSlot, IsThere};
 ghost use Rattle.cow_tree.specs.Drafts.{IsCountedRead, OnlyMarks, OnlyRetires, Tells};
 ghost use Rattle.cow_tree.specs.Plans.{IsHeld, IsPlanned, IsMade, IsRoomFault};
-ghost use Rattle.cow_tree.specs.Compacting.{most_pairs, NeedsFilled, HasRoomToFill, IsFillPlan, IsFillFault};
+ghost use Rattle.cow_tree.specs.Compacting.{most_pairs, NeedsFilled, IsFillPlan, IsFillFault};
 
 use crate::all_pairs::all_pairs;
 use crate::drafts::Draft;
@@ -83,7 +83,7 @@ pub(crate) fn plan_compaction<D: Device>(
     ensures keys { IfOk result (λ plan. plan.slot.root.keys ≡ slot.now.root.keys) }
     ensures room { IfOk result (λ plan. length plan.pages.items ≤ free_count ledger.old) }
     ensures planned { IsTrue (D.state device.old).honest → (top : ℕ) → IsHeld (D.state device.old).disk.view slot.now top ledger.old → IsThere (D.state device.old).disk.view slot.now ledger.old → seal ≡ top + 1 →
-        Tells ⊥ result (λ plan. IsFillPlan (D.state device.old).disk.view slot.now top ledger.new plan × HasRoomToFill slot.now (D.state device.old).disk.view (free_count ledger.old)) }
+        Tells ⊥ result (λ plan. IsFillPlan (D.state device.old).disk.view slot.now top ledger.new plan × NeedsFilled slot.now (D.state device.old).disk.view (length plan.pages.items)) }
     ensures marks { OnlyMarks ledger.old ledger.new }
     ensures refused { OnErr result (ledger.new ≡ ledger.old) }
     ensures fault { IfErr result (IsFillFault (free_count ledger.old) (λ need. IsTrue (D.state device.old).honest → IsThere (D.state device.old).disk.view slot.now ledger.old → NeedsFilled slot.now (D.state device.old).disk.view need)) }

@@ -5,6 +5,9 @@ ghost use Rattle.page_store.specs.Pages.{Pair};
 ghost use Rattle.page_store.specs.Batch.{is_map, pair_after};
 ghost use Rattle.page_store.specs.Content.{Found, Bounds, tree_found};
 ghost use Rattle.page_store.specs.declared.slot.Slot.{Slot};
+ghost use Rattle.cow_tree.specs.NamedWalks.{tree_or_name, found_or_none};
+ghost use Rattle.cow_tree.specs.FirstWrong.{NamesTheFirst};
+ghost use Rattle.cow_tree.specs.NamedExamples.{NamedExamples};
 ghost use Rattle.cow_tree.specs.TreeState.{unreached, found_under};
 ghost use Rattle.cow_tree.specs.TreeSeen.{held, device_of, slot_of, pinned_by};
 ghost use Rattle.cow_tree.specs.KeptLeaves.{IsRun, IsLeaf, has_next};
@@ -38,4 +41,19 @@ pub fn a_run_tells_the_next_pair()
 pub fn a_walk_goes_on_in_its_leaf()
     ensures { (bytes : ℕ → List ℕ) (bounds : Bounds) (tree : Found) (leaf : List Pair) (key : List ℕ) (found : Pair) → IsLeaf bytes bounds tree leaf → pair_after leaf key ≡ Some found →
         IsTrue (is_some (pair_after leaf found.0)) → IsTrue (has_next leaf found.0) }
+{}
+
+/// A page of a tree is named exactly where no tree is found.
+pub fn a_page_is_named_where_no_tree_is_found()
+    ensures { (slot : Slot) (bytes : ℕ → List ℕ) → found_or_none (tree_or_name slot bytes) ≡ tree_found slot bytes }
+{}
+
+/// Of the pages in the order of their keys, each before those under it, the first is named that has not its form or was looked at before.
+pub fn the_first_wrong_page_is_named()
+    ensures { NamesTheFirst }
+{}
+
+/// Worked examples of pages that are named.
+pub fn worked_examples_of_damage()
+    ensures { NamedExamples }
 {}

@@ -27,7 +27,8 @@ mod tree_root;
 
 pub use formatting::{a_first_leaf, format};
 pub use laws::{
-    a_run_tells_the_next_pair, a_walk_goes_on_in_its_leaf, each_page_is_free_or_reached,
-    every_other_page_is_free, pairs_of_a_tree_are_a_map,
+    a_page_is_named_where_no_tree_is_found, a_run_tells_the_next_pair, a_walk_goes_on_in_its_leaf,
+    each_page_is_free_or_reached, every_other_page_is_free, pairs_of_a_tree_are_a_map,
+    the_first_wrong_page_is_named, worked_examples_of_damage,
 };
 pub use tree_keeper::TreeKeeper;

@@ -11,8 +11,9 @@ ghost use Rattle.page_store.specs.DeviceEffects.{IsReadCall};
 ghost use Rattle.page_store.specs.Opening.{ReadsToOpen};
 ghost use Rattle.page_store.specs.Content.{is_tree_version, tree_of, tree_found, HasContent};
 ghost use Rattle.page_store.specs.declared.fault.KeeperFault.TheVariants.{Small, Memory};
-ghost use Rattle.cow_tree.specs.Walks.{Tells, WalksPages};
-ghost use Rattle.cow_tree.specs.Opening.{bounds_under, IsRooted, MayName, Finds, AreWhole, IsReadAs, IsSlotOpened, IsOpened, IsSlotFault, IsOpenFault};
+ghost use Rattle.cow_tree.specs.NamedWalks.{root_or_name, tree_or_name};
+ghost use Rattle.cow_tree.specs.Walks.{Tells, Names, WalksPages};
+ghost use Rattle.cow_tree.specs.Opening.{bounds_under, IsRooted, MayName, IsNamed, Finds, AreWhole, IsReadAs, IsSlotOpened, IsOpened, IsSlotFault, IsOpenFault, LeavesSynced};
 ghost use Rattle.cow_tree.specs.TreeState.{IsAtRest, IsFitted};
 ghost use Rattle.cow_tree.specs.TreeSeen.{device_of, slot_of, ledger_of, top_of, is_open, held};
 
@@ -71,6 +72,7 @@ fn open_slot<D: Device>(device: &mut D) -> Result<(Slot, u64), KeeperFault>
     ensures sealed { IfOk result (λ found. found.0.seal ≤ found.1) }
     ensures large { IfOk result (λ found. 128 ≤ (D.state device.old).size) }
     ensures opens { ReadsToOpen D.state (crash_states_of D.moment D.possible_since) device.old device.new IsOpenFault result }
+    ensures synced { IfErr result (LeavesSynced (D.state device.old) (D.state device.new) (crash_states_of D.moment D.possible_since device.new)) }
 {
     if device.sectors() < 128 {
         return Err(KeeperFault::Small);
@@ -87,6 +89,7 @@ fn count_tree<D: Device>(device: &mut D, ledger: &mut Ledger, slot: &Slot) -> Re
     requires pages { length ledger.old.lives ≡ slot.now.root.pages }
     requires fits { 8 * slot.now.root.pages ≤ (D.state device.old).size }
     ensures answered { IsTrue (D.state device.old).honest → Tells (tree_of (page_of (D.state device.old).disk.view) (bounds_under slot.now) slot.now.root.height slot.now.root.tree) ledger.old ledger.new result }
+    ensures named { IfErr result (Names (D.state device.old) (λ bytes. root_or_name slot.now.number bytes (bounds_under slot.now) slot.now.root.height slot.now.root.tree) ledger.old) }
     ensures rooted { OnOk result (IsRooted slot.now.root) }
     ensures walks { WalksPages D.state (crash_states_of D.moment D.possible_since) device.old device.new ledger.old ledger.new (MayName slot.now) result }
 {
@@ -121,6 +124,7 @@ fn walk_slot<D: Device>(device: &mut D, ledger: &mut Ledger, slot: &Slot) -> Res
     requires small { slot.now.root.pages ≤ 65536 }
     requires fits { 8 * slot.now.root.pages ≤ (D.state device.old).size }
     ensures found { IsTrue (D.state device.old).honest → Finds (tree_found slot.now (page_of (D.state device.old).disk.view)) slot.now ledger.new result }
+    ensures named { IsTrue (D.state device.old).honest → IfErr result (IsNamed (tree_or_name slot.now (page_of (D.state device.old).disk.view))) }
     ensures rooted { OnOk result (IsRooted slot.now.root) }
     ensures whole { IsTrue (D.state device.old).honest → OnOk result (AreWhole (D.state device.old).disk.view ledger.new) }
     ensures rest { IsAtRest slot.now ledger.new }
@@ -154,6 +158,7 @@ fn open_parts<D: Device>(alloc: Global, device: &mut D) -> Result<(Slot, Ledger,
     ensures sealed { IfOk result (λ parts. parts.0.seal ≤ parts.2) }
     ensures large { IfOk result (λ parts. 128 ≤ (D.state device.old).size) }
     ensures opens { ReadsToOpen D.state (crash_states_of D.moment D.possible_since) device.old device.new IsOpenFault result }
+    ensures synced { IfErr result (LeavesSynced (D.state device.old) (D.state device.new) (crash_states_of D.moment D.possible_since device.new)) }
 {
     let (slot, top) = open_slot(device)?;
     let mut ledger = new_ledger(alloc, &slot)?;
@@ -184,6 +189,8 @@ impl<D: Device> TreeKeeper<D> {
         // Nothing is written: a crash within the call leaves what one before it might have left.
         ensures at_crash { IsTrue (D.state device).honest → IfOk result (λ k. AddsNone (crash_states_of D.moment D.possible_since device) (crash_states_of D.moment D.possible_since (device_of k))) }
         ensures at_crash_on_fault { IsTrue (D.state device).honest → IfErr result (λ e. AddsNone (crash_states_of D.moment D.possible_since device) (crash_states_of D.moment D.possible_since e.1)) }
+        // But for `Small`, what was there is made sure of before anything is read.
+        ensures synced { IfErr result (λ e. LeavesSynced (D.state device) (D.state e.1) (crash_states_of D.moment D.possible_since e.1) e.0) }
         ensures handed_back { IfErr result (λ e. ((D.state e.1).size ≡ (D.state device).size) × ((D.state e.1).honest ≡ (D.state device).honest)) }
     {
         let mut device = device;

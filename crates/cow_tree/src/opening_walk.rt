@@ -9,7 +9,8 @@ ghost use Rattle.page_store.specs.Pages.{leaf_of, branch_of, is_inside};
 ghost use Rattle.page_store.specs.Batch.{is_pair};
 ghost use Rattle.page_store.specs.Content.{place_in, walk, fan, low_of, high_of};
 ghost use Rattle.tree_nodes.specs.PageViews.{bounds_of, pairs_in, children_in};
-ghost use Rattle.cow_tree.specs.Walks.{Tells, NamesInside, OnlyHolds, ReadsPages, WalksPages};
+ghost use Rattle.cow_tree.specs.NamedWalks.{walk_or_name, fan_or_name};
+ghost use Rattle.cow_tree.specs.Walks.{Tells, Names, NamesInside, OnlyHolds, ReadsPages, WalksPages};
 ghost use Rattle.cow_tree.specs.declared.page_fault.PageFault.TheVariants.{Device as NoRead, Damaged};
 
 use crate::page_fault::PageFault;
@@ -130,6 +131,7 @@ fn walk_children<D: Device>(
     requires fits { 8 * bounds.pages ≤ (D.state device.old).size }
     requires inside { list_all (is_inside bounds.pages) (children_in branch.now.count branch.now.entries.now) ≡ true }
     ensures answered { IsTrue (D.state device.old).honest → Tells (fan (walk (page_of (D.state device.old).disk.view) (bounds_of bounds) level) low.now (option_copied high.entry) (children_in branch.now.count branch.now.entries.now)) ledger.old ledger.new result }
+    ensures named { IfErr result (Names (D.state device.old) (λ bytes. fan_or_name (walk_or_name bytes (bounds_of bounds) level) low.now (option_copied high.entry) (children_in branch.now.count branch.now.entries.now)) ledger.old) }
     ensures walks { WalksPages D.state (crash_states_of D.moment D.possible_since) device.old device.new ledger.old ledger.new (NamesInside bounds.pages) result }
 {
     let mut count: u64 = 0;
@@ -160,6 +162,7 @@ pub(crate) fn walk_tree<D: Device>(
     requires least { 2 ≤ page }
     requires most { page < bounds.pages }
     ensures answered { IsTrue (D.state device.old).honest → Tells (walk (page_of (D.state device.old).disk.view) (bounds_of bounds) level page low.now (option_copied high.entry)) ledger.old ledger.new result }
+    ensures named { IfErr result (Names (D.state device.old) (λ bytes. walk_or_name bytes (bounds_of bounds) level page low.now (option_copied high.entry)) ledger.old) }
     ensures walks { WalksPages D.state (crash_states_of D.moment D.possible_since) device.old device.new ledger.old ledger.new (NamesInside bounds.pages) result }
 {
     if !reach(ledger, page) {

@@ -1,6 +1,6 @@
 // The calls of a keeper of a tree.
 ghost use Rattle.std.specs.Prelude.{◌≡◌, ◌≤◌, ◌<◌, ◌+◌, ◌⊎◌, ℕ, true, false, IsTrue, OnOk, IfOk, IfErr, IfSome, IsErrOf, length, option_map, take};
-ghost use Rattle.common_types.specs.CrashStates.{AddsOnly, AddsNone, may_crash_to};
+ghost use Rattle.common_types.specs.CrashStates.{AddsOnly, AddsNone};
 ghost use Rattle.page_store.specs.Sectors.{Image};
 ghost use Rattle.page_store.specs.Batch.{is_batch, updated, pair_after};
 ghost use Rattle.page_store.specs.Counting.{CountsReads, CountsWrites};
@@ -8,8 +8,8 @@ ghost use Rattle.page_store.specs.StoreState.{HasRead, HasTried, NeedsTheSame, I
 ghost use Rattle.page_store.specs.declared.fault.KeeperFault.TheVariants.{Failed, Spent};
 ghost use Rattle.page_store.specs.Steps.{crash_states_of};
 ghost use Rattle.cow_tree.specs.Needs.{MayNeed};
-ghost use Rattle.cow_tree.specs.Committed.{is_tree_version, TreeHas, IsTreeBetween};
-ghost use Rattle.cow_tree.specs.TreeSeen.{held, device_of, slot_of, top_of, kept_by};
+ghost use Rattle.cow_tree.specs.Committed.{is_tree_version, TreeHas, WritesOnePlan, WritesNoPinnedPage};
+ghost use Rattle.cow_tree.specs.TreeSeen.{held, device_of, slot_of, top_of, kept_by, pinned_by};
 ghost use Rattle.cow_tree.specs.KeptLeaves.{has_next};
 ghost use Rattle.cow_tree.specs.KeeperLaws.{opens_trees, few_levels, crash_states_have_the_tree};
 
@@ -119,6 +119,7 @@ impl<D: Device> Keeper for TreeKeeper<D> {
         ensures generation { OnOk result ((held D.state self.new).generation ≡ (held D.state self.old).top + 1) }
         ensures fits { IsTrue (held D.state self.old).honest → OnOk result ((n : ℕ) × MayNeed (slot_of self.old) (D.state (device_of self.old)) batch.now n × (n ≤ (held D.state self.old).free)) }
         ensures fault { IfErr result (IsCommitFault (held D.state self.old) (held D.state self.new) (length batch.now) (MayNeed (slot_of self.old) (D.state (device_of self.old)) batch.now)) }
+        ensures need { IfErr result (λ e. (held D.state self.new).usable ≡ (held D.state self.old).usable → NeedsTheSame (MayNeed (slot_of self.old) (D.state (device_of self.old))) (MayNeed (slot_of self.new) (D.state (device_of self.new)))) }
         ensures closed { (held D.state self.old).usable ≡ false → IsErrOf result Failed }
         ensures spent { (held D.state self.old).usable ≡ true → (held D.state self.old).top ≡ last_generation → IsErrOf result Spent }
         ensures unchanged { (held D.state self.old).usable ≡ false → held D.state self.new ≡ held D.state self.old }
@@ -132,10 +133,12 @@ impl<D: Device> Keeper for TreeKeeper<D> {
         ensures no_new_crash_state { IsTrue (held D.state self.old).honest → IfErr result (λ e. (held D.state self.new).usable ≡ true → AddsNone (crash_states_of D.moment D.possible_since (device_of self.old)) (crash_states_of D.moment D.possible_since (device_of self.new))) }
         ensures no_new_crash_state_when_closed { IsTrue (held D.state self.old).honest → (held D.state self.old).usable ≡ false → AddsNone (crash_states_of D.moment D.possible_since (device_of self.old)) (crash_states_of D.moment D.possible_since (device_of self.new)) }
 
-        // How it writes: a crash leaves what one before the call might have left, or an image on the way to the other slot.
+        // How it writes: by one plan, on whose way each crash leaves the image, and by no page that a pinned tree has.
         ensures between { IsTrue (held D.state self.old).honest → (held D.state self.old).usable ≡ true →
-            AddsOnly (crash_states_of D.moment D.possible_since (device_of self.old)) (crash_states_of D.moment D.possible_since (device_of self.new))
-            (λ c. may_crash_to (crash_states_of D.moment D.possible_since (device_of self.old)) c ⊎ IsTreeBetween (D.state (device_of self.old)).disk.view (slot_of self.old) (top_of self.old) (updated (held D.state self.old).pairs batch.now) banner c) }
+            WritesOnePlan (crash_states_of D.moment D.possible_since (device_of self.old)) (crash_states_of D.moment D.possible_since (device_of self.new))
+            (D.state (device_of self.old)).disk.view (slot_of self.old) (top_of self.old) (pinned_by self.old) (MayNeed (slot_of self.old) (D.state (device_of self.old)) batch.now) (updated (held D.state self.old).pairs batch.now) banner }
+        ensures unheld { IsTrue (held D.state self.old).honest → (held D.state self.old).usable ≡ true → WritesNoPinnedPage (pinned_by self.old) (D.state (device_of self.old)).disk.view (D.state (device_of self.new)).disk.view
+            (crash_states_of D.moment D.possible_since (device_of self.old)) (crash_states_of D.moment D.possible_since (device_of self.new)) }
     {
         if !self.usable {
             return Err(KeeperFault::Failed);

@@ -14,6 +14,11 @@ pub record IsCompacted (old new : StoreState) : Type 0 where
   pub out : numbers_out new ≡ numbers_out old
   pub pins : IsTrue old.honest → new.pins ≡ old.pins
 
+-- A compaction may need as much after a call as before it.
+pub record CompactsTheSame (old new : ℕ → Type 0) : Type 0 where
+  pub after : (need : ℕ) → old need → new need
+  pub before : (need : ℕ) → new need → old need
+
 -- When a fault may come of a compaction, and what stands then: as of a commit, but there are never too many levels.
 abbrev pub IsCompactFault : StoreState → StoreState → (ℕ → Type 0) → KeeperFault → Type 0
 IsCompactFault old new may_need faults.Deep = ⊥

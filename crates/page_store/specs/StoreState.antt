@@ -1,5 +1,5 @@
 -- What a key-value store holds, and what its calls have in common.
-use Rattle.std.specs.Prelude.{◌≡◌, ◌⊎◌, ◌<◌, ◌≤◌, ◌+◌, ◌-◌, ◌^◌, ◌/◌, ℕ, Bool, false, List, length, drop, map, Option, Some, None, Result, Ok, Err, IsTrue}
+use Rattle.std.specs.Prelude.{◌≡◌, ◌⊎◌, ◌<◌, ◌≤◌, ◌+◌, ◌-◌, ◌^◌, ℕ, max, Bool, false, List, length, drop, map, Option, Some, None, Result, Ok, Err, IsTrue}
 use Rattle.common_types.specs.Counts.{counted}
 use Rattle.page_store.specs.Pages.{Pair}
 use Rattle.page_store.specs.declared.banner.Banner.{Banner}
@@ -34,14 +34,18 @@ last_generation = 2 ^ 64 - 1
 abbrev pub most_levels : ℕ
 most_levels = 16
 
+-- How many edits a tree of so many levels takes at least until it has too many: seven times as many for each level that is still to come.
+abbrev pub edits_to_be_deep : ℕ → ℕ
+edits_to_be_deep height = 7 ^ (most_levels - max 1 height)
+
 -- A commit of so many edits may give a tree too many levels. Flat pages, of version 0, have none.
 abbrev pub MayBeDeep : StoreState → ℕ → Type 0
-MayBeDeep h edits = (0 < h.banner.version) × (most_levels < h.height + 2 + edits / 8)
+MayBeDeep h edits = (0 < h.banner.version) × (edits_to_be_deep h.height ≤ edits)
 
 -- What a store says of its size.
 pub record IsFigures (h : StoreState) (figures : Figures) : Type 0 where
   pub keys : IsTrue h.honest → figures.keys ≡ length h.pairs
-  pub free : IsTrue h.honest → figures.free ≡ h.free
+  pub free : figures.free ≡ h.free
   pub generation : figures.generation ≡ h.generation
 
 -- What a call leaves that changes nothing of what is held.
@@ -51,7 +55,7 @@ pub record HasStayed (old new : StoreState) : Type 0 where
   pub usable : new.usable ≡ old.usable
   pub generation : new.generation ≡ old.generation
   pub top : new.top ≡ old.top
-  pub free : IsTrue old.honest → new.free ≡ old.free
+  pub free : new.free ≡ old.free
   pub height : new.height ≡ old.height
   pub out : numbers_out new ≡ numbers_out old
   pub pins : IsTrue old.honest → new.pins ≡ old.pins
@@ -93,6 +97,7 @@ pub record HasFailed (old new : StoreState) : Type 0 where
   pub banner : new.banner ≡ old.banner
   pub shut : new.usable ≡ false
   pub generation : new.generation ≡ old.generation
+  pub free : new.free ≡ old.free
   pub height : new.height ≡ old.height
   pub out : numbers_out new ≡ numbers_out old
   pub pins : IsTrue old.honest → new.pins ≡ old.pins
@@ -108,7 +113,7 @@ IsCommitFault old new edits may_need (faults.Damaged page) = HasStayed old new �
 IsCommitFault old new edits may_need faults.Small = ⊥
 IsCommitFault old new edits may_need faults.Spent = HasStayed old new × (old.top ≡ last_generation)
 IsCommitFault old new edits may_need faults.Deep = HasStayed old new × (IsTrue old.honest → MayBeDeep old edits)
-IsCommitFault old new edits may_need (faults.Full need free) = HasStayed old new × (free < need) × (IsTrue old.honest → (free ≡ old.free) × may_need need)
+IsCommitFault old new edits may_need (faults.Full need free) = HasStayed old new × (free ≡ old.free) × (free < need) × (IsTrue old.honest → may_need need)
 IsCommitFault old new edits may_need faults.Failed = HasFailed old new
 IsCommitFault old new edits may_need faults.Memory = HasStayed old new
 

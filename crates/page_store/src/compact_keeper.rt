@@ -1,9 +1,9 @@
 // A key-value store that can be written anew.
 ghost use Rattle.std.specs.Prelude.{◌≡◌, ◌≤◌, ◌*◌, ℕ, true, false, OnOk, IfErr, IsErrOf, IsTrue, length};
 ghost use Rattle.common_types.specs.CrashStates.{AddsOnly, AddsNone};
-ghost use Rattle.page_store.specs.Compaction.{IsCompacted, IsCompactFault};
+ghost use Rattle.page_store.specs.Compaction.{IsCompacted, IsCompactFault, CompactsTheSame};
 ghost use Rattle.page_store.specs.Counting.{CountsReads, CountsWrites};
-ghost use Rattle.page_store.specs.StoreState.{HasTried, last_generation};
+ghost use Rattle.page_store.specs.StoreState.{HasTried, NeedsTheSame, last_generation};
 ghost use Rattle.page_store.specs.declared.fault.KeeperFault.TheVariants.{Failed, Spent};
 
 use crate::{Keeper, KeeperFault};
@@ -24,6 +24,7 @@ pub trait CompactKeeper: Keeper {
         ensures filled { IsTrue (Self.store_state self.old).honest → OnOk result (is_filled self.new) }
         ensures fits { IsTrue (Self.store_state self.old).honest → OnOk result ((n : ℕ) × compact_need self.old n × (n ≤ (Self.store_state self.old).free)) }
         ensures fault { IfErr result (IsCompactFault (Self.store_state self.old) (Self.store_state self.new) (compact_need self.old)) }
+        ensures need { IfErr result (λ e. (Self.store_state self.new).usable ≡ (Self.store_state self.old).usable → NeedsTheSame (Self.may_need self.old) (Self.may_need self.new) × CompactsTheSame (compact_need self.old) (compact_need self.new)) }
         ensures closed { (Self.store_state self.old).usable ≡ false → IsErrOf result Failed }
         ensures spent { (Self.store_state self.old).usable ≡ true → (Self.store_state self.old).top ≡ last_generation → IsErrOf result Spent }
         ensures unchanged { (Self.store_state self.old).usable ≡ false → Self.store_state self.new ≡ Self.store_state self.old }

@@ -6,7 +6,7 @@ ghost use Rattle.common_types.specs.Counts.{Counts};
 ghost use Rattle.page_store.specs.Commit.{IsBetween};
 ghost use Rattle.page_store.specs.FlatPlan.{IsPlan};
 ghost use Rattle.page_store.specs.Counting.{CountsReads, CountsWrites};
-ghost use Rattle.page_store.specs.StoreState.{HasTried, IsCommitFault, numbers_out, last_generation};
+ghost use Rattle.page_store.specs.StoreState.{HasTried, NeedsTheSame, IsCommitFault, numbers_out, last_generation};
 ghost use Rattle.page_store.specs.FlatSeen.{held, device_of, slot_of, pairs_of, top_of, is_open};
 ghost use Rattle.page_store.specs.declared.fault.KeeperFault.TheVariants.{Failed, Spent};
 ghost use Rattle.page_store.specs.Content.{is_opened, ImageHas};
@@ -136,6 +136,7 @@ impl<D: Device> Keeper for FlatKeeper<D> {
         ensures generation { OnOk result ((held D.state self.new).generation ≡ (held D.state self.old).top + 1) }
         ensures fits { IsTrue (held D.state self.old).honest → OnOk result ((n : ℕ) × NeedsPages (pairs_of self.old) batch.now n × (n ≤ (held D.state self.old).free)) }
         ensures fault { IfErr result (IsCommitFault (held D.state self.old) (held D.state self.new) (length batch.now) (NeedsPages (pairs_of self.old) batch.now)) }
+        ensures need { IfErr result (λ e. (held D.state self.new).usable ≡ (held D.state self.old).usable → NeedsTheSame (NeedsPages (pairs_of self.old)) (NeedsPages (pairs_of self.new))) }
         ensures closed { (held D.state self.old).usable ≡ false → IsErrOf result Failed }
         ensures spent { (held D.state self.old).usable ≡ true → (held D.state self.old).top ≡ last_generation → IsErrOf result Spent }
         ensures unchanged { (held D.state self.old).usable ≡ false → held D.state self.new ≡ held D.state self.old }

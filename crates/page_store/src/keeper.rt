@@ -93,6 +93,7 @@ pub trait Keeper {
         ensures generation { OnOk result ((store_state self.new).generation ≡ (store_state self.old).top + 1) }
         ensures fits { IsTrue (store_state self.old).honest → OnOk result ((n : ℕ) × may_need self.old batch.now n × (n ≤ (store_state self.old).free)) }
         ensures fault { IfErr result (IsCommitFault (store_state self.old) (store_state self.new) (length batch.now) (may_need self.old batch.now)) }
+        ensures need { IfErr result (λ e. (store_state self.new).usable ≡ (store_state self.old).usable → NeedsTheSame (may_need self.old) (may_need self.new)) }
         ensures closed { (store_state self.old).usable ≡ false → IsErrOf result Failed }
         ensures spent { (store_state self.old).usable ≡ true → (store_state self.old).top ≡ last_generation → IsErrOf result Spent }
         ensures unchanged { (store_state self.old).usable ≡ false → store_state self.new ≡ store_state self.old }

@@ -4,7 +4,8 @@ use Rattle.std.specs.Prelude.{nat_le, if◌then◌else◌}
 use Rattle.std.proofs.lemmas.Bool.{leb-true, leb-false}
 use Rattle.page_store.specs.Keys.{is_below}
 use Rattle.page_store.specs.Pages.{Pair}
-use Rattle.tree_nodes.specs.Tree.{Tree, Others, branch, none, other, OldPages, pairs_of, row_pairs, pages_of, row_pages, row_owned_at, other_bytes, entry_room}
+use Rattle.tree_nodes.specs.Tree.{Tree, Others, branch, none, other, OldPages, pairs_of, row_pairs, pages_of, row_pages, row_owned_at, other_bytes, other_count, entry_room}
+use Rattle.tree_nodes.specs.Growth.{AreRowBranches, row_edits_in}
 use Rattle.tree_nodes.specs.Put.{front_of_branch, one, front_others, back_others, branches, split_branch}
 use Rattle.tree_nodes.specs.Valid.{IsValid, IsValidRow, IsGrown, grown_pairs, others_high}
 use Rattle.tree_nodes.proofs.KeyOrder.{not_back, is_below_less}
@@ -19,6 +20,11 @@ over_more : (room : ℕ) (key : List ℕ) (tree : Tree) (front back : Others) �
 over_more room key tree front none le h = tt
 over_more room key tree front (other next sibling others) le h = omega (arith, le, h)
 
+-- each key has at most 300 bytes
+abbrev pub KeysFit : Others → Type 0
+KeysFit none = Unit {0}
+KeysFit (other key tree others) = (6 + length key ≤ 306) × KeysFit others
+
 -- what a row and its two parts share
 pub record IsSplit (room : ℕ) (others front back : Others) : Type 0 where
   pub bytes : other_bytes front + other_bytes back ≡ other_bytes others
@@ -28,6 +34,12 @@ pub record IsSplit (room : ℕ) (others front back : Others) : Type 0 where
   pub pairs : (old : OldPages) → row_pairs old front ++ row_pairs old back ≡ row_pairs old others
   pub pages : row_pages front ++ row_pages back ≡ row_pages others
   pub owned : (depth : ℕ) → row_owned_at depth front + row_owned_at depth back ≡ row_owned_at depth others
+  pub count : other_count front + other_count back ≡ other_count others
+  pub edits : (n : ℕ) → row_edits_in n front + row_edits_in n back ≡ row_edits_in n others
+  pub fit_front : KeysFit others → KeysFit front
+  pub fit_back : KeysFit others → KeysFit back
+  pub branches_front : (n : ℕ) → AreRowBranches n others → AreRowBranches n front
+  pub branches_back : (n : ℕ) → AreRowBranches n others → AreRowBranches n back
   pub below : (old : OldPages) (level : ℕ) (low : List ℕ) (high : Option (List ℕ)) → is_below high low ≡ true → IsValidRow old level others low high → is_below (others_high back high) low ≡ true
   pub valid_front : (old : OldPages) (level : ℕ) (low : List ℕ) (high : Option (List ℕ)) → IsValidRow old level others low high → IsValidRow old level front low (others_high back high)
   pub valid_back : (old : OldPages) (level : ℕ) (low : List ℕ) (high : Option (List ℕ)) → IsValidRow old level others low high → IsValidRow old level back low high
@@ -41,6 +53,12 @@ split_none room = record {
   pairs = λ old. refl;
   pages = refl;
   owned = λ depth. omega arith;
+  count = omega arith;
+  edits = λ n. omega arith;
+  fit_front = λ h. tt;
+  fit_back = λ h. tt;
+  branches_front = λ n h. tt;
+  branches_back = λ n h. tt;
   below = λ old level low high b h. b;
   valid_front = λ old level low high h. tt;
   valid_back = λ old level low high h. tt;
@@ -55,6 +73,12 @@ split_here room key tree others lt = record {
   pairs = λ old. refl;
   pages = refl;
   owned = λ depth. omega arith;
+  count = omega arith;
+  edits = λ n. omega arith;
+  fit_front = λ h. tt;
+  fit_back = λ h. h;
+  branches_front = λ n h. tt;
+  branches_back = λ n h. h;
   below = λ old level low high b h. h.0;
   valid_front = λ old level low high h. tt;
   valid_back = λ old level low high h. h;
@@ -69,6 +93,12 @@ split_later room key tree others front back le c = record {
   pairs = λ old. append_assoc (pairs_of old tree) (row_pairs old front) (row_pairs old back) ∙ ap (λ (l : List Pair). pairs_of old tree ++ l) (c.pairs old);
   pages = append_assoc (pages_of tree) (row_pages front) (row_pages back) ∙ ap (λ (l : List ℕ). pages_of tree ++ l) c.pages;
   owned = λ depth. omega (arith, c.owned depth);
+  count = omega (arith, c.count);
+  edits = λ n. omega (arith, c.edits n);
+  fit_front = λ h. (h.0, c.fit_front h.1);
+  fit_back = λ h. c.fit_back h.1;
+  branches_front = λ n h. (h.0, c.branches_front n h.1);
+  branches_back = λ n h. c.branches_back n h.1;
   below = λ old level low high b h. is_below_less (others_high back high) low key (not_back low key h.0) (c.below old level key high h.1 h.4);
   valid_front = λ old level low high h.
       (h.0, c.below old level key high h.1 h.4, h.2, subst (λ (x : Option (List ℕ)). IsValid old level tree key x) (sym (c.high high)) h.3, c.valid_front old level key high h.4);

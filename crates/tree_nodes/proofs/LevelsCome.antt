@@ -1,17 +1,15 @@
--- Levels come slowly: a tree that has grown had many edits for each level.
-use Rattle.std.proofs.Common.{◌≡◌, ℕ, zero, suc, ◌+◌, ◌*◌, ◌/◌, ◌≤◌, ◌<◌, Bool, true, false, List, [], Option, Some, None, inl, inr, refl, ap, arith}
-use Rattle.std.specs.Prelude.{◌⊎◌, min, nat_le, if◌then◌else◌}
+-- Levels come slowly: the new levels of a tree took edits, seven times as many for each as for the one below.
+use Rattle.std.proofs.Common.{◌≡◌, ◌⊎◌, inl, inr, ℕ, zero, suc, ◌+◌, ◌-◌, ◌^◌, ◌≤◌, ◌<◌, true, List, [], Option, Some, None, ap, arith}
+use Rattle.std.specs.Prelude.{max}
 use Rattle.std.proofs.lemmas.Bool.{cases_lt}
 use Rattle.page_store.specs.Batch.{is_pair}
-use Rattle.tree_nodes.specs.Tree.{Tree, Others, page, leaf, branch, none, other, OldPages, goes_first, other_bytes, other_count, entry_room}
-use Rattle.tree_nodes.specs.Put.{front_of_branch, Grown, one, two, put, put_row, front_others, back_others, branches, split_branch, grown_first, rooted}
+use Rattle.tree_nodes.specs.Tree.{Tree, OldPages}
+use Rattle.tree_nodes.specs.Put.{Grown, one, two, put, rooted}
 use Rattle.tree_nodes.specs.Delete.{delete}
-use Rattle.tree_nodes.specs.Supply.{supplied, row_supplied}
-use Rattle.tree_nodes.specs.Valid.{IsValid, GainsOneEntry, GainsNoEntry}
 use Rattle.tree_nodes.specs.Steps.{RootState, IsValidRoot, needed_under, grown_height, put_under, left_under, delete_under, read_under, where_needed, supply_step, stepped}
-use Rattle.tree_nodes.specs.Growth.{HasGrown, MayHaveGrown}
-use Rattle.tree_nodes.proofs.NodesAndLevels.{small_branch, delete_count}
+use Rattle.tree_nodes.specs.Growth.{edits_in, edits_for_levels, HasGrown, MayHaveGrown}
 use Rattle.tree_nodes.proofs.ListsOfSteps.{everywhere}
+use Rattle.tree_nodes.proofs.EditsStand.{PutPays, put_pays, LeftStands, delete_stands, supply_stays}
 
 abbrev state_with : Option Tree → ℕ → RootState
 state_with root height = record { root = root; height = height }
@@ -21,126 +19,54 @@ levels_start state = inl (omega arith)
 
 -- ---- a put
 
--- of a branch a branch is made, or two trees
-abbrev IsBranched : Grown → Type 0
-IsBranched (one (page n)) = ⊥
-IsBranched (one (leaf pairs)) = ⊥
-IsBranched (one (branch tree others)) = Unit {0}
-IsBranched (two tree key next) = Unit {0}
-
-branches_branched : (first : Tree) (front back : Others) → IsBranched (branches first front back)
-branches_branched first front none = tt
-branches_branched first front (other key tree others) = tt
-
-split_branched : (first : Tree) (others : Others) → IsBranched (split_branch first others)
-split_branched first others = go (nat_le (6 + other_bytes others) entry_room)
-  where
-    go : (b : Bool) → IsBranched (if b then one (branch first others) else branches first (front_others front_of_branch others) (back_others front_of_branch others))
-    go true = tt
-    go false = branches_branched first (front_others front_of_branch others) (back_others front_of_branch others)
-
-first_branched : (g : Grown) (others : Others) → IsBranched (grown_first g others)
-first_branched (one tree) others = split_branched tree others
-first_branched (two tree key next) others = split_branched tree (other key next others)
-
-put_branched : (tree : Tree) (others : Others) (key value : List ℕ) → IsBranched (put key value (branch tree others))
-put_branched tree others key value = go (goes_first key others)
-  where
-    go : (b : Bool) → IsBranched (if b then grown_first (put key value tree) others else split_branch tree (put_row key value others))
-    go true = first_branched (put key value tree) others
-    go false = split_branched tree (put_row key value others)
-
--- over a tree of few levels at most one comes
-few_levels : (from edits height : ℕ) (g : Grown) → height ≤ from + 1 → MayHaveGrown from (edits + 1) (state_with (Some (rooted g)) (grown_height height g))
+-- over a tree without new levels at most one comes
+few_levels : (from edits height : ℕ) (g : Grown) → height ≤ max 1 from → MayHaveGrown from (edits + 1) (state_with (Some (rooted g)) (grown_height height g))
 few_levels from edits height (one tree) few = inl few
-few_levels from edits height (two tree key next) few = go (cases_lt (from + 1) (suc height))
+few_levels from edits height (two tree key next) few = go (cases_lt (max 1 from) (suc height))
   where
-    go : (from + 1 < suc height) ⊎ (suc height ≤ from + 1) → MayHaveGrown from (edits + 1) (state_with (Some (rooted (two tree key next))) (suc height))
-    go (inl lt) = inr (omega (arith, few, lt))
+    go : (max 1 from < suc height) ⊎ (suc height ≤ max 1 from) → MayHaveGrown from (edits + 1) (state_with (Some (rooted (two tree key next))) (suc height))
+    go (inl lt) = inr (1, omega (arith, few, lt), (tt, (tt, tt)), omega arith)
     go (inr le) = inl le
 
--- a root branch of few entries gains at most one
-small_root : (from edits height : ℕ) (others : Others) (g : Grown) → 13 * height + min (other_count others) 13 ≤ edits + 13 * (from + 2) → GainsOneEntry others g → MayHaveGrown from (edits + 1) (state_with (Some (rooted g)) (grown_height height g))
-small_root from edits height others (one (page n)) grown gains = absurd gains
-small_root from edits height others (one (leaf pairs)) grown gains = absurd gains
-small_root from edits height others (one (branch tree after)) grown gains = inr (omega (arith, grown, gains))
-small_root from edits height others (two tree key next) grown gains = absurd gains
-
--- over one of many entries a level may come
-large_root : (from edits height : ℕ) (others : Others) (g : Grown) → 13 * height + min (other_count others) 13 ≤ edits + 13 * (from + 2) → 12 < other_count others → IsBranched g → MayHaveGrown from (edits + 1) (state_with (Some (rooted g)) (grown_height height g))
-large_root from edits height others (one (page n)) grown many b = absurd b
-large_root from edits height others (one (leaf pairs)) grown many b = absurd b
-large_root from edits height others (one (branch tree after)) grown many b = inr (omega (arith, grown, many))
-large_root from edits height others (two tree key next) grown many b = inr (omega (arith, grown, many))
-
-branch_put : (old : OldPages) (from edits height : ℕ) (tree : Tree) (others : Others) (key value : List ℕ) → IsValidRoot old (Some (branch tree others)) height → is_pair (key, value) ≡ true → 13 * height + min (other_count others) 13 ≤ edits + 13 * (from + 2)
-    → MayHaveGrown from (edits + 1) (put_under key value (Some (branch tree others)) height)
-branch_put old from edits height tree others key value v p grown = go (cases_lt 12 (other_count others))
-  where
-    gains : (level : ℕ) → IsValid old level (branch tree others) [] None → other_count others ≤ 12 → GainsOneEntry others (put key value (branch tree others))
-    gains zero h count = absurd h
-    gains (suc level) h count = small_branch old level tree others [] None key value h (everywhere key) p count
-
-    go : (12 < other_count others) ⊎ (other_count others ≤ 12) → MayHaveGrown from (edits + 1) (put_under key value (Some (branch tree others)) height)
-    go (inl many) = large_root from edits height others (put key value (branch tree others)) grown many (put_branched tree others key value)
-    go (inr count) = small_root from edits height others (put key value (branch tree others)) grown (gains v.0 v.2 count)
+-- a new root's edits are there
+root_grown : (from edits height n before : ℕ) (g : Grown) → height ≡ n + max 1 from → edits_for_levels n + before ≤ edits → PutPays n before g → HasGrown from (edits + 1) (Some (rooted g)) (grown_height height g)
+root_grown from edits height n before (one tree) is paid pays = (n, is, pays.0, (let more = pays.1 in omega (arith, paid, more)))
+root_grown from edits height n before (two tree key next) is paid pays = (suc n, omega (arith, is), (pays.0.0, (pays.0.1, tt)), (let more = pays.1 in omega (arith, paid, more)))
 
 put_levels : (old : OldPages) (from edits : ℕ) (root : Option Tree) (height : ℕ) (key value : List ℕ) → IsValidRoot old root height → is_pair (key, value) ≡ true → MayHaveGrown from edits (state_with root height) → MayHaveGrown from (edits + 1) (put_under key value root height)
 put_levels old from edits None height key value v p m = inl (omega arith)
 put_levels old from edits (Some tree) height key value v p (inl few) = few_levels from edits height (put key value tree) few
-put_levels old from edits (Some (page n)) height key value v p (inr grown) = absurd grown
-put_levels old from edits (Some (leaf pairs)) height key value v p (inr grown) = absurd grown
-put_levels old from edits (Some (branch tree others)) height key value v p (inr grown) = branch_put old from edits height tree others key value v p grown
+put_levels old from edits (Some tree) height key value v p (inr (n, is, are, paid)) =
+    inr (root_grown from edits height n (edits_in n tree) (put key value tree) is paid (put_pays tree old v.0 n [] None key value v.2 (everywhere key) p are))
 
 pub levels_put : (old : OldPages) (from edits : ℕ) (state : RootState) (key value : List ℕ) → IsValidRoot old state.root state.height → is_pair (key, value) ≡ true → MayHaveGrown from edits state → MayHaveGrown from (edits + 1) (put_under key value state.root state.height)
 levels_put old from edits state key value v p m = put_levels old from edits state.root state.height key value v p m
 
 -- ---- a delete
 
-left_few : (from edits height : ℕ) (left : Option Tree) → height ≤ from + 1 → MayHaveGrown from edits (left_under left height)
+left_few : (from edits height : ℕ) (left : Option Tree) → height ≤ max 1 from → MayHaveGrown from edits (left_under left height)
 left_few from edits height None few = inl (omega arith)
 left_few from edits height (Some tree) few = inl few
 
-left_grown : (from edits height : ℕ) (others : Others) (left : Option Tree) → 13 * height + min (other_count others) 13 ≤ edits + 13 * (from + 2) → GainsNoEntry others left → MayHaveGrown from (edits + 1) (left_under left height)
-left_grown from edits height others None grown gains = inl (omega arith)
-left_grown from edits height others (Some (page n)) grown gains = absurd gains
-left_grown from edits height others (Some (leaf pairs)) grown gains = absurd gains
-left_grown from edits height others (Some (branch tree after)) grown gains = inr (omega (arith, grown, gains))
+left_grown : (from edits height n before : ℕ) (left : Option Tree) → height ≡ n + max 1 from → edits_for_levels n + before ≤ edits → LeftStands n before left → MayHaveGrown from (edits + 1) (left_under left height)
+left_grown from edits height n before None is paid stands = inl (omega arith)
+left_grown from edits height n before (Some tree) is paid stands = inr (n, is, stands.0, (let less = stands.1 in omega (arith, paid, less)))
 
 delete_levels : (from edits : ℕ) (root : Option Tree) (height : ℕ) (key : List ℕ) → MayHaveGrown from edits (state_with root height) → MayHaveGrown from (edits + 1) (delete_under key root height)
 delete_levels from edits None height key m = inl (omega arith)
 delete_levels from edits (Some tree) height key (inl few) = left_few from (edits + 1) height (delete key tree) few
-delete_levels from edits (Some (page n)) height key (inr grown) = absurd grown
-delete_levels from edits (Some (leaf pairs)) height key (inr grown) = absurd grown
-delete_levels from edits (Some (branch tree others)) height key (inr grown) = left_grown from edits height others (delete key (branch tree others)) grown (delete_count tree others key)
+delete_levels from edits (Some tree) height key (inr (n, is, are, paid)) = left_grown from edits height n (edits_in n tree) (delete key tree) is paid (delete_stands tree n key are)
 
 pub levels_delete : (from edits : ℕ) (state : RootState) (key : List ℕ) → MayHaveGrown from edits state → MayHaveGrown from (edits + 1) (delete_under key state.root state.height)
 levels_delete from edits state key m = delete_levels from edits state.root state.height key m
 
 -- ---- a supply
 
-row_count_stays : (others : Others) (key : List ℕ) (t : Tree) → other_count (row_supplied key t others) ≡ other_count others
-row_count_stays none key t = refl
-row_count_stays (other first tree others) key t = go (goes_first key others) (row_count_stays others key t)
-  where
-    go : (b : Bool) → other_count (row_supplied key t others) ≡ other_count others → other_count (if b then other first (supplied key t tree) others else other first tree (row_supplied key t others)) ≡ 1 + other_count others
-    go true more = refl
-    go false more = ap (λ (n : ℕ). 1 + n) more
-
-grown_stays : (from edits height : ℕ) (tree : Tree) (others : Others) (key : List ℕ) (t : Tree) → 13 * height + min (other_count others) 13 ≤ edits + 13 * (from + 2) → HasGrown from edits (Some (supplied key t (branch tree others))) height
-grown_stays from edits height tree others key t grown = go (goes_first key others)
-  where
-    go : (b : Bool) → HasGrown from edits (Some (if b then branch (supplied key t tree) others else branch tree (row_supplied key t others))) height
-    go true = grown
-    go false = omega (arith, grown, row_count_stays others key t)
-
 read_levels : (from edits : ℕ) (read root : Option Tree) (height : ℕ) (key : List ℕ) → MayHaveGrown from edits (state_with root height) → MayHaveGrown from edits (read_under key read root height)
 read_levels from edits None root height key m = m
 read_levels from edits (Some t) None height key m = m
 read_levels from edits (Some t) (Some tree) height key (inl few) = inl few
-read_levels from edits (Some t) (Some (page n)) height key (inr grown) = absurd grown
-read_levels from edits (Some t) (Some (leaf pairs)) height key (inr grown) = absurd grown
-read_levels from edits (Some t) (Some (branch tree others)) height key (inr grown) = inr (grown_stays from edits height tree others key t grown)
+read_levels from edits (Some t) (Some tree) height key (inr (n, is, are, paid)) = let stays = supply_stays tree n key t are in inr (n, is, stays.0, (let same = stays.1 in omega (arith, paid, same)))
 
 needed_levels : (old : OldPages) (from edits : ℕ) (need : Option ℕ) (state : RootState) (key : List ℕ) → MayHaveGrown from edits state → MayHaveGrown from edits (where_needed old key need state)
 needed_levels old from edits None state key m = m
@@ -151,12 +77,28 @@ levels_supply old from edits state key m = needed_levels old from edits (needed_
 
 -- ---- how many edits a deep tree had
 
-deep_root : (from edits all : ℕ) (root : Option Tree) (height : ℕ) → edits ≤ all → MayHaveGrown from edits (state_with root height) → 16 < height → 16 < from + 2 + all / 8
-deep_root from edits all root height le (inl few) deep = omega (arith, few, deep)
-deep_root from edits all None height le (inr grown) deep = absurd grown
-deep_root from edits all (Some (page n)) height le (inr grown) deep = absurd grown
-deep_root from edits all (Some (leaf pairs)) height le (inr grown) deep = absurd grown
-deep_root from edits all (Some (branch tree others)) height le (inr grown) deep = omega (arith, le, grown, deep)
+last_or_before : (d n : ℕ) → (d < n → 7 ^ d ≤ edits_for_levels n) → (d < n) ⊎ (n ≤ d) → d < suc n → 7 ^ d ≤ edits_for_levels (suc n)
+last_or_before d n before (inl less) lt = let some = before less in omega (arith, some)
+last_or_before d n before (inr le) lt = let same = same_power d n (omega (arith, le, lt)) in omega (arith, same)
+  where
+    same_power : (a b : ℕ) → a ≡ b → 7 ^ a ≡ 7 ^ b
+    same_power a b is = ap (λ (k : ℕ). 7 ^ k) is
 
-pub levels_deep : (from edits all : ℕ) (state : RootState) → edits ≤ all → MayHaveGrown from edits state → 16 < state.height → 16 < from + 2 + all / 8
-levels_deep from edits all state le m deep = deep_root from edits all state.root state.height le m deep
+last_level : (d n : ℕ) → d < n → 7 ^ d ≤ edits_for_levels n
+last_level d zero lt = absurd (omega (arith, lt))
+last_level d (suc n) lt = last_or_before d n (λ less. last_level d n less) (cases_lt d n) lt
+
+no_power : (d all : ℕ) → d ≡ 0 → 0 < all → 7 ^ d ≤ all
+no_power d all none some = let one_is = ap (λ (k : ℕ). 7 ^ k) none in omega (arith, one_is, some)
+
+deep_root : (from edits all : ℕ) (root : Option Tree) (height : ℕ) → edits ≤ all → 0 < all → MayHaveGrown from edits (state_with root height) → 16 < height → 7 ^ (16 - max 1 from) ≤ all
+deep_root from edits all root height le some (inl few) deep = no_power (16 - max 1 from) all (omega (arith, few, deep)) some
+deep_root from edits all None height le some (inr grown) deep = absurd grown
+deep_root from edits all (Some tree) height le some (inr (n, is, are, paid)) deep = go (cases_lt (16 - max 1 from) n)
+  where
+    go : (16 - max 1 from < n) ⊎ (n ≤ 16 - max 1 from) → 7 ^ (16 - max 1 from) ≤ all
+    go (inl less) = let last = last_level (16 - max 1 from) n less in omega (arith, last, paid, le)
+    go (inr few) = no_power (16 - max 1 from) all (omega (arith, is, deep, few)) some
+
+pub levels_deep : (from edits all : ℕ) (state : RootState) → edits ≤ all → 0 < all → MayHaveGrown from edits state → 16 < state.height → 7 ^ (16 - max 1 from) ≤ all
+levels_deep from edits all state le some m deep = deep_root from edits all state.root state.height le some m deep

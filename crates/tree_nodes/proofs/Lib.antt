@@ -22,6 +22,7 @@ pub mod NodesRead
 pub mod BoundedPages
 pub mod OwnedCounts
 pub mod PathsDown
+pub mod EditsStand
 pub mod LevelsCome
 pub mod KeysKnown
 pub mod PageHeads

@@ -1,5 +1,5 @@
 // Laws of the steps of a batch: the nodes and levels that come, the pages that are read, and the keys that are there.
-ghost use Rattle.std.specs.Prelude.{◌≡◌, ◌≤◌, ◌<◌, ◌+◌, ◌/◌, ℕ, List, Some, None, true, is_some, IsSome};
+ghost use Rattle.std.specs.Prelude.{◌≡◌, ◌≤◌, ◌<◌, ◌+◌, ◌-◌, ◌^◌, ℕ, List, Some, None, true, is_some, IsSome, max};
 ghost use Rattle.page_store.specs.Batch.{is_pair, value_at};
 ghost use Rattle.page_store.specs.Content.{Bounds};
 ghost use Rattle.tree_nodes.specs.Tree.{OldPages};
@@ -27,14 +27,14 @@ pub fn a_supply_leads_down()
     ensures height { (old : OldPages) (state : RootState) (key : List ℕ) → (stepped old state (supply_step key)).height ≡ state.height }
 {}
 
-/// Levels come slowly: where a tree has grown above so many levels, there were eight edits for each level but two.
+/// Levels come slowly: where a tree has grown above 16 levels, there were seven edits for the first of its new levels but one, and for each other one seven times as many.
 pub fn levels_come_slowly()
     ensures start { (state : RootState) → MayHaveGrown state.height 0 state }
     ensures put { (old : OldPages) (from edits : ℕ) (state : RootState) (key value : List ℕ) → IsValidRoot old state.root state.height → is_pair (key, value) ≡ true → MayHaveGrown from edits state →
         MayHaveGrown from (edits + 1) (put_under key value state.root state.height) }
     ensures delete { (from edits : ℕ) (state : RootState) (key : List ℕ) → MayHaveGrown from edits state → MayHaveGrown from (edits + 1) (delete_under key state.root state.height) }
     ensures supply { (old : OldPages) (from edits : ℕ) (state : RootState) (key : List ℕ) → MayHaveGrown from edits state → MayHaveGrown from edits (stepped old state (supply_step key)) }
-    ensures deep { (from edits all : ℕ) (state : RootState) → edits ≤ all → MayHaveGrown from edits state → 16 < state.height → 16 < from + 2 + all / 8 }
+    ensures deep { (from edits all : ℕ) (state : RootState) → edits ≤ all → 0 < all → MayHaveGrown from edits state → 16 < state.height → 7 ^ (16 - max 1 from) ≤ all }
 {}
 
 /// Where the nodes on a key's path are owned, the leaf at its end says whether the key has a value.

@@ -4,8 +4,8 @@ use Rattle.page_store.specs.Steps.{crash_states_of}
 use Rattle.page_store.specs.Commit.{IsReady, IsBetween, IsDone}
 use Rattle.common_types.specs.CrashStates.{AddsOnly}
 use Rattle.page_store.specs.declared.commit.NewPage.{NewPage}
-use Rattle.cow_tree.specs.Committed.{IsCommitted, IsTreeBetween}
-use Rattle.cow_tree.proofs.CommitsWritten.{the_commit, ready, tree_between, old_pages_stay, held_pages_stay, is_committed, adds_weaker}
+use Rattle.cow_tree.specs.Committed.{IsCommitted}
+use Rattle.cow_tree.proofs.CommitsWritten.{the_commit, ready, old_pages_stay, held_pages_stay, is_committed}
 use Rattle.cow_tree.proofs.commits.write_plan.Goals as goal
 
 pub commit_pages-requires-clause-fits : goal.commit_pages-requires-clause-fits
@@ -42,8 +42,7 @@ returns-in-Ok-clause-at_crash g c = λ keeps w.
     let after = crash_states_of g.D.Device.moment g.D.Device.possible_since c.commit_pages.new.device in
     let commit = the_commit view states c.args.slot.now c.args.ledger.now c.args.plan.now w in
     let rd = subst (λ (l : List NewPage). IsReady commit l view) (sym c.deref.ensures.value) (ready view states c.args.slot.now c.args.ledger.now c.args.plan.now w) in
-    adds_weaker states after (IsBetween commit c.args.plan.now.pages.items view) (IsTreeBetween view c.args.slot.now w.top w.pairs c.args.plan.now.slot.root.banner) (tree_between view states c.args.slot.now c.args.ledger.now c.args.plan.now w)
-    (subst (λ (l : List NewPage). AddsOnly states after (IsBetween commit l view)) c.deref.ensures.value (c.commit_pages.ensures.at_crash keeps commit refl rd))
+    subst (λ (l : List NewPage). AddsOnly states after (IsBetween commit l view)) c.deref.ensures.value (c.commit_pages.ensures.at_crash keeps commit refl rd)
 
 pub returns-in-Err-clause-kept : goal.returns-in-Err-clause-kept
 returns-in-Err-clause-kept g c = λ keeps w.
@@ -66,8 +65,7 @@ returns-in-Err-clause-at_crash g c = λ keeps w.
     let after = crash_states_of g.D.Device.moment g.D.Device.possible_since c.commit_pages.new.device in
     let commit = the_commit view states c.args.slot.now c.args.ledger.now c.args.plan.now w in
     let rd = subst (λ (l : List NewPage). IsReady commit l view) (sym c.deref.ensures.value) (ready view states c.args.slot.now c.args.ledger.now c.args.plan.now w) in
-    adds_weaker states after (IsBetween commit c.args.plan.now.pages.items view) (IsTreeBetween view c.args.slot.now w.top w.pairs c.args.plan.now.slot.root.banner) (tree_between view states c.args.slot.now c.args.ledger.now c.args.plan.now w)
-    (subst (λ (l : List NewPage). AddsOnly states after (IsBetween commit l view)) c.deref.ensures.value (c.commit_pages.ensures.at_crash keeps commit refl rd))
+    subst (λ (l : List NewPage). AddsOnly states after (IsBetween commit l view)) c.deref.ensures.value (c.commit_pages.ensures.at_crash keeps commit refl rd)
 
 pub returns-in-Ok-clause-held : goal.returns-in-Ok-clause-held
 returns-in-Ok-clause-held g c = λ keeps w.

@@ -1,8 +1,6 @@
-use Rattle.std.proofs.Common.{◌≡◌, refl, ap, ◌∙◌}
+use Rattle.std.proofs.Common.{◌≡◌, ap, ◌∙◌}
 use Rattle.std.proofs.lemmas.Result.{err_from_is_err_and}
 use Rattle.page_alloc.specs.LedgerState.{is_taken}
-use Rattle.tree_nodes.specs.Growth.{owned_under}
-use Rattle.tree_loading.specs.Filled.{filled}
 use Rattle.cow_tree.specs.TreeState.{found_under}
 use Rattle.cow_tree.proofs.PathReads.{tells_fault}
 use Rattle.cow_tree.proofs.Taken.{untaken_at_rest, abandoned_again}
@@ -29,11 +27,7 @@ returns-in-Ok-clause-planned g c = λ keeps top held there seal.
     let is : pairs ≡ found.pairs = c.in_ok-pairs.ensures.pairs keeps found there.found_is (keys_bounded state.size slot view ledger c.requires.fitted there) in
     let planned = c.in-Ok.ensures.planned view top held (λ n. ap is_taken (untaken_at_rest ledger c.requires.fitted.rest.unmarked n)) seal in (
       fill_plan view slot top c.plan_pairs.new.ledger c.in-Ok.plan pairs is planned (λ n. c.in-Ok.ensures.none n) c.in-Ok.ensures.count c.in-Ok.ensures.levels,
-      record {
-        need = owned_under (filled pairs).root;
-        needs = needs_filled slot view pairs (owned_under (filled pairs).root) there.map is refl;
-        fits = c.in-Ok.ensures.fits;
-      },
+      needs_filled slot view pairs _ there.map is c.in-Ok.ensures.count,
     )
 
 pub returns-in-Err-clause-planned : goal.returns-in-Err-clause-planned

@@ -28,7 +28,7 @@ pub returns-clause-planned : goal.returns-clause-planned
 returns-clause-planned c = λ view top held untaken seal.
     let slot = c.args.slot.now in
     let pairs = c.args.pairs.items in
-    let edits = edits_for pairs in
+    let edits = edits_for slot.root.height pairs in
     let ledger = c.retire_all.new.ledger in
     let only = c.retire_all.ensures.only in
     let counted = filled_counted slot view pairs ledger _ c.requires.map c.requires.few (only.marks.size ∙ c.requires.marked) c.retire_all.ensures.none (c.retire_all.ensures.untaken untaken) c.in_ok-tree.ensures (let size = c.len-keys.ensures in omega (arith, size, c.args.pairs.ok)) in

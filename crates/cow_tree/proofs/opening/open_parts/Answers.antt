@@ -42,5 +42,5 @@ returns-in-Err-clause-opens g c =
       small = λ is. absurd (walk_not_small c.in-Err.fault (sym c.from.ensures ∙ is));
       fault =
           subst (λ (e : KeeperFault). IsOpenFault old new e) (sym c.from.ensures)
-          (walk_fault (Unit {0}) old mid new c.in_ok-slot.slot c.walk_slot.new.ledger c.in-Err.fault c.in_ok-slot.ensures.large (still_honest old mid opens.device.same) opened.view opened.slot_is c.in_ok-slot.ensures.version opens.counts walks.reads.reads reads.only.writes walks.named c.in-Err.ensures.found);
+          (walk_fault (Unit {0}) old mid new c.in_ok-slot.slot c.walk_slot.new.ledger c.in-Err.fault c.in_ok-slot.ensures.large (still_honest old mid opens.device.same) opened.view opened.slot_is c.in_ok-slot.ensures.version opens.counts walks.reads.reads reads.only.writes walks.named c.in-Err.ensures.found c.in-Err.ensures.named);
     }

@@ -1,4 +1,4 @@
-use Rattle.std.proofs.Common.{length, ◌≡◌, ◌∙◌, ◌-◌, ap, sym, subst, List, ℕ, Bool, true, false, None, refl, rules}
+use Rattle.std.proofs.Common.{length, ◌≡◌, ◌∙◌, ◌-◌, ap, sym, subst, List, ℕ, Bool, true, false, None, IsTrue, refl, rules}
 use Rattle.std.specs.Prelude.{not, option_copied, if◌then◌else◌, Result, Ok, Err, OnOk}
 use Rattle.std.specs.List.{list_all}
 use Rattle.std.proofs.lemmas.Result.{err_from_is_err_and}
@@ -12,10 +12,12 @@ use Rattle.page_store.specs.Content.{walk, fan, low_of, high_of, place_in}
 use Rattle.page_store.proofs.DeviceSequences.{still_honest}
 use Rattle.tree_nodes.specs.PageViews.{bounds_of, children_in}
 use Rattle.tree_nodes.proofs.KeyOrder.{both_true}
-use Rattle.cow_tree.specs.Walks.{Tells, IsWalked, IsWalkedTo, HoldsWhole, CountsPages}
+use Rattle.cow_tree.specs.NamedWalks.{walk_or_name, fan_or_name}
+use Rattle.cow_tree.specs.Walks.{Tells, IsWalked, IsWalkedTo, NamesAfter, HoldsWhole, CountsPages}
 use Rattle.cow_tree.specs.declared.page_fault.PageFault.{PageFault}
 use Rattle.cow_tree.proofs.Reaching.{holds_again, holds_none, holds_read, wholes_again}
 use Rattle.cow_tree.proofs.ReadsInTurn.{reads_again}
+use Rattle.cow_tree.proofs.DamageNamed.{no_branch_named, child_names, others_name, names_again, under_names, at_named_child}
 use Rattle.cow_tree.proofs.Walking.{start, go_on, breaks_off, tells_branch, no_branch, at_child}
 use Rattle.cow_tree.proofs.opening_walk.+walks.Goals as goal
 
@@ -39,6 +41,7 @@ walk_children-loop-key-init g t c =
       reads = refl;
       whole = λ keeps. holds_none (d.state c.args.device.now).disk.view c.args.ledger.now;
       so_far = λ keeps. start (walk (page_of (d.state c.args.device.now).disk.view) (bounds_of c.args.bounds) c.args.level) c.args.low.now (option_copied c.args.high) children c.args.ledger.now;
+      names = λ keeps wrong h. h;
     }
 
 pub walk_children-returns-in_err-more-clause-answered : goal.walk_children-returns-in_err-more-clause-answered
@@ -87,7 +90,33 @@ walk_children-loop-key-preserved g t c =
           (option_copied c.upper-to.result) (high_of others (option_copied c.args.high)) (ap (λ (x : Disk). page_of x.view) (i.device.only.disk keeps)) c.lower-from.ensures c.upper-to.ensures (c.in_ok-more.ensures.answered keeps1) in
           subst (λ (n : ℕ). IsWalkedTo (fan under c.args.low.now (option_copied c.args.high)) children others c.args.ledger.now c.walk_tree.new.ledger n) (sym c.saturating_add-count.ensures)
           (go_on under c.args.low.now (option_copied c.args.high) children c.args.ledger.now c.loop-key.count c.in_ok-more.more c.loop-key.ledger c.walk_tree.new.ledger child others so_far one);
+      names = λ keeps.
+          let keeps1 = still_honest (d.state c.args.device.now) (d.state c.loop-key.device) i.device.only.same keeps in
+          let names = subst (λ (cs : List Child). NamesAfter (fan_or_name (walk_or_name v (bounds_of c.args.bounds) c.args.level) c.args.low.now (option_copied c.args.high)) children cs c.args.ledger.now c.loop-key.ledger) c.in-Some.ensures.children (i.names keeps) in
+          let one = at_child (λ x. IsWalked x c.loop-key.ledger c.walk_tree.new.ledger c.in_ok-more.more) (page_of (d.state c.loop-key.device).disk.view) v (bounds_of c.args.bounds) c.args.level c.in-Some.page c.lower-from.result.now (low_of c.args.low.now c.in-Some.key.now)
+          (option_copied c.upper-to.result) (high_of others (option_copied c.args.high)) (ap (λ (x : Disk). page_of x.view) (i.device.only.disk keeps)) c.lower-from.ensures c.upper-to.ensures (c.in_ok-more.ensures.answered keeps1) in
+          others_name v (bounds_of c.args.bounds) c.args.level c.args.low.now (option_copied c.args.high) children child others c.args.ledger.now c.loop-key.ledger names c.walk_tree.new.ledger c.in_ok-more.more one;
     }
+
+pub walk_children-returns-in_err-more-clause-named : goal.walk_children-returns-in_err-more-clause-named
+walk_children-returns-in_err-more-clause-named g t c =
+    let d = g.D.Device in
+    let old = d.state c.args.device.now in
+    let v = page_of old.disk.view in
+    let i = c.loop-key.invariant in
+    let p = err_from_is_err_and c.from_residual.result c.from_residual.ensures.1 in
+    let others = children_in c.in-Some.others.count c.in-Some.others.entries.now in
+    let child : Child = seen_child c.in-Some.key.now c.in-Some.page in
+    let children = children_in c.args.branch.now.count c.args.branch.now.entries.now in
+    let bounds = bounds_of c.args.bounds in
+    let low = c.args.low.now in
+    let high = option_copied c.args.high in
+    let names = λ (keeps : IsTrue old.honest). subst (λ (cs : List Child). NamesAfter (fan_or_name (walk_or_name v bounds c.args.level) low high) children cs c.args.ledger.now c.loop-key.ledger) c.in-Some.ensures.children (i.names keeps) in
+    rw (p.1, p.2)
+    (names_again old (d.state c.loop-key.device) (λ bytes. fan_or_name (walk_or_name bytes bounds c.args.level) low high children) (λ bytes. walk_or_name bytes bounds c.args.level c.in-Some.page c.lower-from.result.now (option_copied c.upper-to.result)) c.args.ledger.now c.loop-key.ledger c.in_err-more.field-0.0
+    (still_honest old (d.state c.loop-key.device) i.device.only.same) i.device.only.disk
+    (λ wrong keeps h. child_names v bounds c.args.level low high children child others c.args.ledger.now c.loop-key.ledger (names keeps) wrong
+    (at_named_child v bounds c.args.level c.in-Some.page c.lower-from.result.now (low_of low c.in-Some.key.now) (option_copied c.upper-to.result) (high_of others high) c.loop-key.ledger wrong c.lower-from.ensures c.upper-to.ensures h)) c.in_err-more.ensures.named)
 
 pub walk_tree-returns-in_err-branch-clause-answered : goal.walk_tree-returns-in_err-branch-clause-answered
 walk_tree-returns-in_err-branch-clause-answered g t c = λ keeps.
@@ -138,3 +167,25 @@ walk_tree-returns-clause-walks g t c =
         reads = subst (λ (n : ℕ). CountsPages c.walk_children.result n (d.state c.walk_children.new.device).failed_reads) loaded.reads under.reads.reads;
       };
     }
+
+pub walk_tree-returns-in_err-branch-clause-named : goal.walk_tree-returns-in_err-branch-clause-named
+walk_tree-returns-in_err-branch-clause-named g t c =
+    let v = page_of (g.D.Device.state c.args.device.now).disk.view in
+    let place = place_in (bounds_of c.args.bounds) c.args.level c.args.page in
+    let high = option_copied c.args.high in
+    let p = err_from_is_err_and c.from_residual-in_err-branch.result c.from_residual-in_err-branch.ensures.1 in
+    rw (p.1, p.2, c.in_err-branch.ensures.fault.0)
+    (λ keeps. no_branch_named v (bounds_of c.args.bounds) c.args.level c.args.page c.args.low.now high c.args.ledger.now c.if-level-eq0.false (ap (branch_of place c.args.low.now high) (c.in_ok-load_page.ensures.page keeps) ∙ c.in_err-branch.ensures.fault.1))
+
+pub walk_tree-returns-clause-named : goal.walk_tree-returns-clause-named
+walk_tree-returns-clause-named g t c =
+    let d = g.D.Device in
+    let old = d.state c.args.device.now in
+    let bounds = bounds_of c.args.bounds in
+    let low = c.args.low.now in
+    let high = option_copied c.args.high in
+    let loaded = c.in_ok-load_page.ensures.reads.device.only in
+    let r = reached c.reach.result (is_free c.args.ledger.now c.args.page) c.reach.new.ledger c.args.ledger.now c.args.page c.reach.ensures.is c.reach.ensures.held c.if-not-reach.false in
+    let children = children_in c.in_ok-branch.branch.count c.in_ok-branch.branch.entries.now in
+    under_names old (d.state c.load_page.new.device) bounds c.args.level c.args.page low high c.args.ledger.now c.reach.new.ledger children c.walk_children.result (still_honest old (d.state c.load_page.new.device) loaded.same) loaded.disk c.if-level-eq0.false r.0 r.1
+    (λ keeps. ap (branch_of (place_in bounds c.args.level c.args.page) low high) (c.in_ok-load_page.ensures.page keeps) ∙ c.in_ok-branch.ensures.children) c.walk_children.ensures.named

@@ -1,10 +1,10 @@
-use Rattle.std.proofs.Common.{length, ◌∙◌, arith}
+use Rattle.std.proofs.Common.{ap, length, ◌∙◌, arith}
 use Rattle.page_store.specs.Batch.{updated}
 use Rattle.tree_nodes.specs.OwnedTrees.{state_of}
 use Rattle.cow_tree.specs.Drafts.{MayBeTooDeep}
 use Rattle.cow_tree.proofs.PathReads.{marks_again}
 use Rattle.cow_tree.proofs.Taken.{abandoned_again}
-use Rattle.cow_tree.proofs.PlansMade.{needs_pages, held_still, few_nodes, room_fault, room_reads, room_told}
+use Rattle.cow_tree.proofs.PlansMade.{needs_pages, held_still, few_nodes, free_few, room_fault, room_reads, room_told}
 use Rattle.cow_tree.proofs.plans.plan_commit.Goals as goal
 
 pub returns-in-Err-clause-refused : goal.returns-in-Err-clause-refused
@@ -47,3 +47,22 @@ returns-clause-reads g c = record {
   device = c.draft_batch.ensures.reads.counted.device;
   reads = room_reads c.in-Err-plan_draft.fault _ _ _ _ c.in-Err-plan_draft.ensures.fault c.in-Ok.ensures.reads.counted.reads;
 }
+
+pub returns-in-Ok-plan_draft-clause-planned : goal.returns-in-Ok-plan_draft-clause-planned
+returns-in-Ok-plan_draft-clause-planned g c = λ keeps top pairs held first seal version.
+    let view = (g.D.Device.state c.args.device.now).disk.view in
+    let slot = c.args.slot.now in
+    let batch = c.args.batch.now in
+    let few = first.few in
+    let counted = c.in-Ok.ensures.draft keeps pairs first.draft first.keys first.map (omega (arith, few)) in
+    let made = c.in-Ok.ensures.made keeps pairs first.draft first.keys first.map (omega (arith, few)) in
+    let tree = state_of c.in-Ok.draft.tree in
+    let used = c.in-Ok-plan_draft.ensures.used in
+    let room = c.in-Ok-plan_draft.ensures.room in
+    let most = few_nodes slot view (length batch) (updated pairs batch) c.draft_batch.new.ledger tree counted.draft_is in
+    let bound = free_few c.draft_batch.new.ledger in
+    let lives = ap length c.draft_batch.ensures.reads.ledger.marks.lives ∙ c.requires.fitted.rest.pages in
+    let small = c.requires.fitted.most in (
+      c.in-Ok-plan_draft.ensures.planned view top (length batch) (updated pairs batch) (held_still view slot top c.args.ledger.now c.draft_batch.new.ledger c.draft_batch.ensures.reads.ledger.marks held) counted seal version,
+      needs_pages slot view batch tree _ made (omega (arith, used, room, bound, lives, small)) most,
+    )

@@ -1,26 +1,29 @@
-use Rattle.std.proofs.Common.{◌≡◌, ◌⊎◌, inl, inr, ℕ, List, length, refl, sym, ap, subst, ◌∙◌, arith, IsTrue}
+use Rattle.std.proofs.Common.{◌≡◌, inl, inr, ℕ, List, length, refl, sym, ap, subst, ◌∙◌, arith, IsTrue}
 use Rattle.common_types.specs.Counts.{counted, counted_rises}
 use Rattle.common_types.specs.CrashStates.{may_crash_to, no_new_crash_state, adds_both}
 use Rattle.sector_device.specs.Disk.{Disk}
-use Rattle.page_alloc.specs.LedgerState.{LedgerState}
-use Rattle.page_store.specs.Sectors.{Image}
+use Rattle.page_alloc.specs.LedgerState.{LedgerState, free_count}
+use Rattle.page_store.specs.Sectors.{Image, page_of}
+use Rattle.page_store.specs.Commit.{IsBetween}
 use Rattle.page_store.specs.Pages.{Pair}
 use Rattle.page_store.specs.Content.{Found}
 use Rattle.tree_nodes.specs.Growth.{owned_under}
 use Rattle.tree_loading.specs.Filled.{filled}
 use Rattle.page_store.specs.Steps.{crash_states_of}
 use Rattle.page_store.specs.StoreState.{HasStayed}
-use Rattle.cow_tree.specs.PinnedTrees.{ArePinned, AreKept, PinnedStay}
+use Rattle.cow_tree.specs.PinnedTrees.{ArePinned, AreKept, HeldPagesStay, PinnedPagesStay, PinnedStay}
+use Rattle.cow_tree.specs.Plans.{tree_commit}
 use Rattle.cow_tree.specs.TreeState.{IsFitted, IsThere, found_under, tree_holding}
 use Rattle.cow_tree.specs.Compacting.{MayNeedFilled}
-use Rattle.cow_tree.specs.Committed.{TreeHas, IsTreeBetween}
+use Rattle.cow_tree.specs.Committed.{TreeHas}
 use Rattle.cow_tree.specs.KeeperLaws.{crash_states_have_the_tree}
-use Rattle.cow_tree.proofs.KeeperReads.{has_read}
+use Rattle.cow_tree.proofs.KeeperReads.{has_read, needs_again, fills_again}
 use Rattle.cow_tree.proofs.PinnedTrees.{same_numbers}
-use Rattle.cow_tree.proofs.PinsCommitted.{pins_done, pins_stay, kept_still, kept_done}
+use Rattle.cow_tree.proofs.PinsCommitted.{pins_done, pins_stay, kept_still, kept_done, stay_now}
+use Rattle.cow_tree.proofs.TreePlans.{pinned_stay, tree_plan, way_again, one_plan}
 use Rattle.cow_tree.proofs.Taken.{abandoned_again}
-use Rattle.cow_tree.proofs.CommitsWritten.{adds_weaker, old_or_new}
-use Rattle.cow_tree.proofs.TreeCommits.{is_held, may_be_written, between_again, compact_fault, either, reads_rise, fitted_now, still_under, still_there}
+use Rattle.cow_tree.proofs.CommitsWritten.{adds_weaker, old_or_new, held_pages_stay}
+use Rattle.cow_tree.proofs.TreeCommits.{is_held, may_be_written, compact_fault, either, reads_rise, fitted_now, still_under, still_there}
 use Rattle.cow_tree.proofs.compact_calls.TreeKeeperCompactKeeper.compact.Goals as goal
 
 pub returns-then-self-clause-at_crash : goal.returns-then-self-clause-at_crash
@@ -221,10 +224,10 @@ returns-in-Ok-write_plan-clause-at_crash g c = λ keeps usable.
     may_be_written old.disk.view mid.disk.view (states c.plan_compaction.new.device) k.slot k.ledger c.plan_compaction.new.ledger k.top c.in-Ok.plan pairs (held_by keeps) c.plan_compaction.ensures.marks
     (c.in-Ok.ensures.planned keeps k.top (held_by keeps) (k.there keeps) refl).0.planned k.fitted.version (same keeps) (sure keeps) in
     let keeps1 = λ (keeps : IsTrue old.honest). let h : IsTrue mid.honest = subst IsTrue (sym only.same.honest) keeps in h in
-    adds_both (states k.device) (states c.plan_compaction.new.device) (states c.write_plan.new.device) (may_crash_to (states k.device)) (IsTreeBetween mid.disk.view k.slot k.top pairs c.in-Ok.plan.slot.root.banner) (λ (i : Image). TreeHas i pairs k.slot.root.banner)
+    adds_both (states k.device) (states c.plan_compaction.new.device) (states c.write_plan.new.device) (may_crash_to (states k.device)) (IsBetween (tree_commit k.slot mid.disk.view c.in-Ok.plan.slot (ready keeps).planned.found) c.in-Ok.plan.pages.items mid.disk.view) (λ (i : Image). TreeHas i pairs k.slot.root.banner)
     (c.plan_compaction.ensures.reads.device.no_new_crash_state keeps) (c.write_plan.ensures.at_crash (keeps1 keeps) (ready keeps))
-    (λ i left. crash_states_have_the_tree old.disk k.slot k.ledger k.top k.fitted.version (k.there keeps) (k.durable keeps up) i (d.crash_states_are_images k.device i keeps left))
-    (λ i h. either (old_or_new old.disk.view k.slot k.top pairs k.slot.root.banner i k.fitted.version (between_again old.disk.view mid.disk.view k.slot k.top pairs c.in-Ok.plan.slot.root.banner k.slot.root.banner i (same keeps) c.in-Ok.ensures.made.banner_is h)))
+    (λ i left. (crash_states_have_the_tree old.disk k.slot k.ledger k.top k.fitted.version (k.there keeps) (k.durable keeps up) i (d.crash_states_are_images k.device i keeps left)))
+    (λ i h. either (old_or_new old.disk.view k.slot c.in-Ok.plan.slot (ready keeps).planned.found c.in-Ok.plan.pages.items pairs k.slot.root.banner i k.fitted.version (ready keeps).planned.plan_is.version c.in-Ok.ensures.made.banner_is (ready keeps).planned.pairs_are (way_again old.disk.view mid.disk.view k.slot c.in-Ok.plan.slot (ready keeps).planned.found c.in-Ok.plan.pages.items i (same keeps) h)))
 
 pub invariant_of-self-in-Err-write_plan : goal.invariant_of-self-in-Err-write_plan
 invariant_of-self-in-Err-write_plan g c =
@@ -295,6 +298,7 @@ returns-clause-fault g c =
       banner = refl;
       shut = refl;
       generation = refl;
+      free = ap free_count (c.in-Err-write_plan.ensures.abandoned ∙ abandoned_again k.ledger c.plan_compaction.new.ledger c.plan_compaction.ensures.marks k.fitted.rest.unmarked);
       height = refl;
       out = same_numbers (state c.write_plan.new.device).disk.view old.disk.view 0 k.pinned;
       pins = λ keeps. pins_stay old.disk.view mid.disk.view (state c.write_plan.new.device).disk.view k.slot.root.pages k.ledger c.plan_compaction.new.ledger k.pinned k.pins c.plan_compaction.ensures.marks (same keeps) (c.write_plan.ensures.held (keeps1 keeps) (ready keeps)) (k.pins_there keeps);
@@ -335,31 +339,36 @@ returns-clause-at_crash g c = λ keeps usable.
     may_be_written old.disk.view mid.disk.view (states c.plan_compaction.new.device) k.slot k.ledger c.plan_compaction.new.ledger k.top c.in-Ok.plan pairs (held_by keeps) c.plan_compaction.ensures.marks
     (c.in-Ok.ensures.planned keeps k.top (held_by keeps) (k.there keeps) refl).0.planned k.fitted.version (same keeps) (sure keeps) in
     let keeps1 = λ (keeps : IsTrue old.honest). let h : IsTrue mid.honest = subst IsTrue (sym only.same.honest) keeps in h in
-    adds_both (states k.device) (states c.plan_compaction.new.device) (states c.write_plan.new.device) (may_crash_to (states k.device)) (IsTreeBetween mid.disk.view k.slot k.top pairs c.in-Ok.plan.slot.root.banner) (λ (i : Image). TreeHas i pairs k.slot.root.banner)
+    adds_both (states k.device) (states c.plan_compaction.new.device) (states c.write_plan.new.device) (may_crash_to (states k.device)) (IsBetween (tree_commit k.slot mid.disk.view c.in-Ok.plan.slot (ready keeps).planned.found) c.in-Ok.plan.pages.items mid.disk.view) (λ (i : Image). TreeHas i pairs k.slot.root.banner)
     (c.plan_compaction.ensures.reads.device.no_new_crash_state keeps) (c.write_plan.ensures.at_crash (keeps1 keeps) (ready keeps))
-    (λ i left. crash_states_have_the_tree old.disk k.slot k.ledger k.top k.fitted.version (k.there keeps) (k.durable keeps up) i (d.crash_states_are_images k.device i keeps left))
-    (λ i h. either (old_or_new old.disk.view k.slot k.top pairs k.slot.root.banner i k.fitted.version (between_again old.disk.view mid.disk.view k.slot k.top pairs c.in-Ok.plan.slot.root.banner k.slot.root.banner i (same keeps) c.in-Ok.ensures.made.banner_is h)))
+    (λ i left. (crash_states_have_the_tree old.disk k.slot k.ledger k.top k.fitted.version (k.there keeps) (k.durable keeps up) i (d.crash_states_are_images k.device i keeps left)))
+    (λ i h. either (old_or_new old.disk.view k.slot c.in-Ok.plan.slot (ready keeps).planned.found c.in-Ok.plan.pages.items pairs k.slot.root.banner i k.fitted.version (ready keeps).planned.plan_is.version c.in-Ok.ensures.made.banner_is (ready keeps).planned.pairs_are (way_again old.disk.view mid.disk.view k.slot c.in-Ok.plan.slot (ready keeps).planned.found c.in-Ok.plan.pages.items i (same keeps) h)))
 
 pub returns-then-self-clause-between : goal.returns-then-self-clause-between
-returns-then-self-clause-between g c = λ keeps up.
+returns-then-self-clause-between g c = λ keeps up. inl (no_new_crash_state (crash_states_of g.D.Device.moment g.D.Device.possible_since c.args.self.now.device))
+
+pub returns-then-self-clause-unheld : goal.returns-then-self-clause-unheld
+returns-then-self-clause-unheld g c = λ keeps up.
+    let d = g.met.D.Device in
     let k = c.args.self.now in
     let view = (g.D.Device.state k.device).disk.view in
     let states = crash_states_of g.D.Device.moment g.D.Device.possible_since k.device in
-    adds_weaker states states (may_crash_to states) (λ (i : Image). may_crash_to states i ⊎ IsTreeBetween view k.slot k.top (found_under k.slot view).pairs k.slot.root.banner i) (λ i left. inl left) (no_new_crash_state states)
+    (λ n keep. refl, adds_weaker states states (may_crash_to states) (PinnedPagesStay k.pinned view) (λ i left n keep. ap (λ (v : Image). page_of v n) ((k.durable keeps up).images i (d.crash_states_are_images k.device i keeps left))) (no_new_crash_state states))
 
 pub returns-in-Err-clause-between : goal.returns-in-Err-clause-between
-returns-in-Err-clause-between g c = λ keeps usable.
+returns-in-Err-clause-between g c = λ keeps usable. inl (c.plan_compaction.ensures.reads.device.no_new_crash_state keeps)
+
+pub returns-in-Err-clause-unheld : goal.returns-in-Err-clause-unheld
+returns-in-Err-clause-unheld g c = λ keeps usable.
     let d = g.met.D.Device in
     let k = c.args.self.now in
-    let state = g.D.Device.state in
-    let old = state k.device in
-    let mid = state c.plan_compaction.new.device in
-    let only = c.plan_compaction.ensures.reads.device.only in
+    let old = g.D.Device.state k.device in
     let states = crash_states_of g.D.Device.moment g.D.Device.possible_since in
-    let up = c.if-not-self.false in
-    let version = k.fitted.version in
-    let pairs = (found_under k.slot old.disk.view).pairs in
-    adds_weaker (states k.device) (states c.plan_compaction.new.device) (may_crash_to (states k.device)) (λ (i : Image). may_crash_to (states k.device) i ⊎ IsTreeBetween old.disk.view k.slot k.top pairs k.slot.root.banner i) (λ i left. inl left) (c.plan_compaction.ensures.reads.device.no_new_crash_state keeps)
+    let up = c.if-not-self.false in (
+      λ n keep. ap (λ (x : Disk). page_of x.view n) (c.plan_compaction.ensures.reads.device.only.disk keeps),
+      adds_weaker (states k.device) (states c.plan_compaction.new.device) (may_crash_to (states k.device)) (PinnedPagesStay k.pinned old.disk.view) (λ i left n keep. ap (λ (v : Image). page_of v n) ((k.durable keeps up).images i (d.crash_states_are_images k.device i keeps left)))
+          (c.plan_compaction.ensures.reads.device.no_new_crash_state keeps),
+    )
 
 pub returns-in-Ok-write_plan-clause-between : goal.returns-in-Ok-write_plan-clause-between
 returns-in-Ok-write_plan-clause-between g c = λ keeps usable.
@@ -381,9 +390,40 @@ returns-in-Ok-write_plan-clause-between g c = λ keeps usable.
     may_be_written old.disk.view mid.disk.view (states c.plan_compaction.new.device) k.slot k.ledger c.plan_compaction.new.ledger k.top c.in-Ok.plan pairs (held_by keeps) c.plan_compaction.ensures.marks
     (c.in-Ok.ensures.planned keeps k.top (held_by keeps) (k.there keeps) refl).0.planned k.fitted.version (same keeps) (sure keeps) in
     let keeps1 = λ (keeps : IsTrue old.honest). let h : IsTrue mid.honest = subst IsTrue (sym only.same.honest) keeps in h in
-    adds_both (states k.device) (states c.plan_compaction.new.device) (states c.write_plan.new.device) (may_crash_to (states k.device)) (IsTreeBetween mid.disk.view k.slot k.top pairs c.in-Ok.plan.slot.root.banner) (λ (i : Image). may_crash_to (states k.device) i ⊎ IsTreeBetween old.disk.view k.slot k.top pairs k.slot.root.banner i)
-    (c.plan_compaction.ensures.reads.device.no_new_crash_state keeps) (c.write_plan.ensures.at_crash (keeps1 keeps) (ready keeps)) (λ i left. inl left)
-    (λ i h. inr (between_again old.disk.view mid.disk.view k.slot k.top pairs c.in-Ok.plan.slot.root.banner k.slot.root.banner i (same keeps) c.in-Ok.ensures.made.banner_is h))
+    let held = held_by keeps in
+    let planned = (c.in-Ok.ensures.planned keeps k.top (held_by keeps) (k.there keeps) refl) in
+    let plan = tree_plan old.disk.view k.slot k.ledger k.pinned k.fitted.rest k.pins.seals (k.pins_there keeps) (k.there keeps) c.plan_compaction.new.ledger k.top (MayNeedFilled k.slot old) pairs k.slot.root.banner c.in-Ok.plan c.plan_compaction.ensures.marks held planned.0.planned c.in-Ok.ensures.made.banner_is (λ again. planned.1) in
+    one_plan old.disk.view mid.disk.view (states k.device) (states c.plan_compaction.new.device) (states c.write_plan.new.device) k.slot k.top k.pinned (MayNeedFilled k.slot old) pairs k.slot.root.banner plan (same keeps)
+    (c.plan_compaction.ensures.reads.device.no_new_crash_state keeps) (c.write_plan.ensures.at_crash (keeps1 keeps) (ready keeps))
+
+pub returns-in-Ok-write_plan-clause-unheld : goal.returns-in-Ok-write_plan-clause-unheld
+returns-in-Ok-write_plan-clause-unheld g c = λ keeps usable.
+    let d = g.met.D.Device in
+    let k = c.args.self.now in
+    let state = g.D.Device.state in
+    let old = state k.device in
+    let mid = state c.plan_compaction.new.device in
+    let only = c.plan_compaction.ensures.reads.device.only in
+    let states = crash_states_of g.D.Device.moment g.D.Device.possible_since in
+    let up = c.if-not-self.false in
+    let version = k.fitted.version in
+    let pairs = (found_under k.slot old.disk.view).pairs in
+    let held_by = λ (keeps : IsTrue old.honest). is_held old.size k.slot old.disk k.ledger k.top k.fitted (k.there keeps) (k.durable keeps up) k.sealed in
+    let same = λ (keeps : IsTrue old.honest). let e : mid.disk.view ≡ old.disk.view = ap (λ (x : Disk). x.view) (only.disk keeps) in e in
+    let sure = λ (keeps : IsTrue old.honest) (i : Image) (left : may_crash_to (states c.plan_compaction.new.device) i).
+    let e : i ≡ mid.disk.view = (k.durable keeps up).images i (d.crash_states_are_images k.device i keeps ((c.plan_compaction.ensures.reads.device.no_new_crash_state keeps).now i left)) ∙ sym (same keeps) in e in
+    let ready = λ (keeps : IsTrue old.honest).
+    may_be_written old.disk.view mid.disk.view (states c.plan_compaction.new.device) k.slot k.ledger c.plan_compaction.new.ledger k.top c.in-Ok.plan pairs (held_by keeps) c.plan_compaction.ensures.marks
+    (c.in-Ok.ensures.planned keeps k.top (held_by keeps) (k.there keeps) refl).0.planned k.fitted.version (same keeps) (sure keeps) in
+    let keeps1 = λ (keeps : IsTrue old.honest). let h : IsTrue mid.honest = subst IsTrue (sym only.same.honest) keeps in h in
+    let stay = λ (now : Image) (h : HeldPagesStay c.plan_compaction.new.ledger (page_of mid.disk.view) (page_of now)).
+    pinned_stay old.disk.view k.slot k.ledger k.pinned k.fitted.rest k.pins.seals (k.pins_there keeps) (k.there keeps) now (stay_now old.disk.view mid.disk.view now k.slot.root.pages k.ledger c.plan_compaction.new.ledger k.pinned k.pins c.plan_compaction.ensures.marks (same keeps) h (k.pins_there keeps)) in (
+      stay (state c.write_plan.new.device).disk.view (c.write_plan.ensures.held (keeps1 keeps) (ready keeps)),
+      adds_both (states k.device) (states c.plan_compaction.new.device) (states c.write_plan.new.device) (may_crash_to (states k.device)) (IsBetween (tree_commit k.slot mid.disk.view c.in-Ok.plan.slot (ready keeps).planned.found) c.in-Ok.plan.pages.items mid.disk.view) (PinnedPagesStay k.pinned old.disk.view)
+          (c.plan_compaction.ensures.reads.device.no_new_crash_state keeps) (c.write_plan.ensures.at_crash (keeps1 keeps) (ready keeps))
+          (λ i left n keep. ap (λ (v : Image). page_of v n) ((k.durable keeps up).images i (d.crash_states_are_images k.device i keeps left)))
+          (λ i h. stay i (held_pages_stay mid.disk.view (states c.plan_compaction.new.device) k.slot c.plan_compaction.new.ledger c.in-Ok.plan (ready keeps) i h)),
+    )
 
 pub returns-clause-between : goal.returns-clause-between
 returns-clause-between g c = λ keeps usable.
@@ -405,9 +445,40 @@ returns-clause-between g c = λ keeps usable.
     may_be_written old.disk.view mid.disk.view (states c.plan_compaction.new.device) k.slot k.ledger c.plan_compaction.new.ledger k.top c.in-Ok.plan pairs (held_by keeps) c.plan_compaction.ensures.marks
     (c.in-Ok.ensures.planned keeps k.top (held_by keeps) (k.there keeps) refl).0.planned k.fitted.version (same keeps) (sure keeps) in
     let keeps1 = λ (keeps : IsTrue old.honest). let h : IsTrue mid.honest = subst IsTrue (sym only.same.honest) keeps in h in
-    adds_both (states k.device) (states c.plan_compaction.new.device) (states c.write_plan.new.device) (may_crash_to (states k.device)) (IsTreeBetween mid.disk.view k.slot k.top pairs c.in-Ok.plan.slot.root.banner) (λ (i : Image). may_crash_to (states k.device) i ⊎ IsTreeBetween old.disk.view k.slot k.top pairs k.slot.root.banner i)
-    (c.plan_compaction.ensures.reads.device.no_new_crash_state keeps) (c.write_plan.ensures.at_crash (keeps1 keeps) (ready keeps)) (λ i left. inl left)
-    (λ i h. inr (between_again old.disk.view mid.disk.view k.slot k.top pairs c.in-Ok.plan.slot.root.banner k.slot.root.banner i (same keeps) c.in-Ok.ensures.made.banner_is h))
+    let held = held_by keeps in
+    let planned = (c.in-Ok.ensures.planned keeps k.top (held_by keeps) (k.there keeps) refl) in
+    let plan = tree_plan old.disk.view k.slot k.ledger k.pinned k.fitted.rest k.pins.seals (k.pins_there keeps) (k.there keeps) c.plan_compaction.new.ledger k.top (MayNeedFilled k.slot old) pairs k.slot.root.banner c.in-Ok.plan c.plan_compaction.ensures.marks held planned.0.planned c.in-Ok.ensures.made.banner_is (λ again. planned.1) in
+    one_plan old.disk.view mid.disk.view (states k.device) (states c.plan_compaction.new.device) (states c.write_plan.new.device) k.slot k.top k.pinned (MayNeedFilled k.slot old) pairs k.slot.root.banner plan (same keeps)
+    (c.plan_compaction.ensures.reads.device.no_new_crash_state keeps) (c.write_plan.ensures.at_crash (keeps1 keeps) (ready keeps))
+
+pub returns-clause-unheld : goal.returns-clause-unheld
+returns-clause-unheld g c = λ keeps usable.
+    let d = g.met.D.Device in
+    let k = c.args.self.now in
+    let state = g.D.Device.state in
+    let old = state k.device in
+    let mid = state c.plan_compaction.new.device in
+    let only = c.plan_compaction.ensures.reads.device.only in
+    let states = crash_states_of g.D.Device.moment g.D.Device.possible_since in
+    let up = c.if-not-self.false in
+    let version = k.fitted.version in
+    let pairs = (found_under k.slot old.disk.view).pairs in
+    let held_by = λ (keeps : IsTrue old.honest). is_held old.size k.slot old.disk k.ledger k.top k.fitted (k.there keeps) (k.durable keeps up) k.sealed in
+    let same = λ (keeps : IsTrue old.honest). let e : mid.disk.view ≡ old.disk.view = ap (λ (x : Disk). x.view) (only.disk keeps) in e in
+    let sure = λ (keeps : IsTrue old.honest) (i : Image) (left : may_crash_to (states c.plan_compaction.new.device) i).
+    let e : i ≡ mid.disk.view = (k.durable keeps up).images i (d.crash_states_are_images k.device i keeps ((c.plan_compaction.ensures.reads.device.no_new_crash_state keeps).now i left)) ∙ sym (same keeps) in e in
+    let ready = λ (keeps : IsTrue old.honest).
+    may_be_written old.disk.view mid.disk.view (states c.plan_compaction.new.device) k.slot k.ledger c.plan_compaction.new.ledger k.top c.in-Ok.plan pairs (held_by keeps) c.plan_compaction.ensures.marks
+    (c.in-Ok.ensures.planned keeps k.top (held_by keeps) (k.there keeps) refl).0.planned k.fitted.version (same keeps) (sure keeps) in
+    let keeps1 = λ (keeps : IsTrue old.honest). let h : IsTrue mid.honest = subst IsTrue (sym only.same.honest) keeps in h in
+    let stay = λ (now : Image) (h : HeldPagesStay c.plan_compaction.new.ledger (page_of mid.disk.view) (page_of now)).
+    pinned_stay old.disk.view k.slot k.ledger k.pinned k.fitted.rest k.pins.seals (k.pins_there keeps) (k.there keeps) now (stay_now old.disk.view mid.disk.view now k.slot.root.pages k.ledger c.plan_compaction.new.ledger k.pinned k.pins c.plan_compaction.ensures.marks (same keeps) h (k.pins_there keeps)) in (
+      stay (state c.write_plan.new.device).disk.view (c.write_plan.ensures.held (keeps1 keeps) (ready keeps)),
+      adds_both (states k.device) (states c.plan_compaction.new.device) (states c.write_plan.new.device) (may_crash_to (states k.device)) (IsBetween (tree_commit k.slot mid.disk.view c.in-Ok.plan.slot (ready keeps).planned.found) c.in-Ok.plan.pages.items mid.disk.view) (PinnedPagesStay k.pinned old.disk.view)
+          (c.plan_compaction.ensures.reads.device.no_new_crash_state keeps) (c.write_plan.ensures.at_crash (keeps1 keeps) (ready keeps))
+          (λ i left n keep. ap (λ (v : Image). page_of v n) ((k.durable keeps up).images i (d.crash_states_are_images k.device i keeps left)))
+          (λ i h. stay i (held_pages_stay mid.disk.view (states c.plan_compaction.new.device) k.slot c.plan_compaction.new.ledger c.in-Ok.plan (ready keeps) i h)),
+    )
 
 pub returns-in-Ok-write_plan-clause-fits : goal.returns-in-Ok-write_plan-clause-fits
 returns-in-Ok-write_plan-clause-fits g c = λ keeps.
@@ -416,7 +487,7 @@ returns-in-Ok-write_plan-clause-fits g c = λ keeps.
     let up = c.if-not-self.false in
     let held_by = is_held old.size k.slot old.disk k.ledger k.top k.fitted (k.there keeps) (k.durable keeps up) k.sealed in
     let room = (c.in-Ok.ensures.planned keeps k.top held_by (k.there keeps) refl).1 in
-    (room.need, λ again. room.needs, room.fits)
+    (length c.in-Ok.plan.pages.items, λ again. room, c.in-Ok.ensures.room)
 
 pub returns-clause-tight : goal.returns-clause-tight
 returns-clause-tight g c = λ keeps usable shut.
@@ -425,4 +496,11 @@ returns-clause-tight g c = λ keeps usable shut.
     let up = c.if-not-self.false in
     let held_by = is_held old.size k.slot old.disk k.ledger k.top k.fitted (k.there keeps) (k.durable keeps up) k.sealed in
     let room = (c.in-Ok.ensures.planned keeps k.top held_by (k.there keeps) refl).1 in
-    (room.need, λ again. room.needs, room.fits)
+    (length c.in-Ok.plan.pages.items, λ again. room, c.in-Ok.ensures.room)
+
+pub returns-in-Err-clause-need : goal.returns-in-Err-clause-need
+returns-in-Err-clause-need g c = λ usable.
+    let old = g.D.Device.state c.args.self.now.device in
+    let mid = g.D.Device.state c.plan_compaction.new.device in
+    let only = c.plan_compaction.ensures.reads.device.only in
+    (needs_again old mid c.args.self.now.slot only, fills_again old mid c.args.self.now.slot only)

@@ -2,24 +2,27 @@ use Rattle.std.proofs.Common.{◌≡◌, ◌⊎◌, inl, inr, ℕ, length, refl,
 use Rattle.common_types.specs.Counts.{counted, counted_rises}
 use Rattle.common_types.specs.CrashStates.{may_crash_to, no_new_crash_state, adds_both}
 use Rattle.sector_device.specs.Disk.{Disk}
-use Rattle.page_alloc.specs.LedgerState.{LedgerState}
-use Rattle.page_store.specs.Sectors.{Image}
+use Rattle.page_alloc.specs.LedgerState.{LedgerState, free_count}
+use Rattle.page_store.specs.Sectors.{Image, page_of}
+use Rattle.page_store.specs.Commit.{IsBetween}
 use Rattle.page_store.specs.Content.{not_flat, Found}
 use Rattle.page_store.specs.Batch.{updated}
 use Rattle.page_store.specs.Steps.{crash_states_of}
 use Rattle.page_store.specs.StoreState.{HasStayed}
-use Rattle.cow_tree.specs.PinnedTrees.{ArePinned, AreKept, PinnedStay}
+use Rattle.cow_tree.specs.PinnedTrees.{ArePinned, AreKept, HeldPagesStay, PinnedPagesStay, PinnedStay}
+use Rattle.cow_tree.specs.Plans.{tree_commit}
 use Rattle.cow_tree.specs.TreeState.{IsFitted, IsThere, found_under, tree_holding}
 use Rattle.cow_tree.specs.Drafts.{MayBeTooDeep}
 use Rattle.cow_tree.specs.Needs.{MayNeed}
-use Rattle.cow_tree.specs.Committed.{TreeHas, IsTreeBetween}
+use Rattle.cow_tree.specs.Committed.{TreeHas}
 use Rattle.cow_tree.specs.KeeperLaws.{crash_states_have_the_tree}
-use Rattle.cow_tree.proofs.KeeperReads.{has_read}
+use Rattle.cow_tree.proofs.KeeperReads.{has_read, needs_again}
 use Rattle.cow_tree.proofs.PinnedTrees.{same_numbers}
-use Rattle.cow_tree.proofs.PinsCommitted.{pins_done, pins_stay, kept_still, kept_done}
+use Rattle.cow_tree.proofs.PinsCommitted.{pins_done, pins_stay, kept_still, kept_done, stay_now}
+use Rattle.cow_tree.proofs.TreePlans.{pinned_stay, tree_plan, way_again, one_plan}
 use Rattle.cow_tree.proofs.Taken.{abandoned_again}
-use Rattle.cow_tree.proofs.CommitsWritten.{adds_weaker, old_or_new}
-use Rattle.cow_tree.proofs.TreeCommits.{version_is, starts, is_held, may_be_written, between_again, commit_fault, reads_rise, fitted_now, still_under, still_there}
+use Rattle.cow_tree.proofs.CommitsWritten.{adds_weaker, old_or_new, held_pages_stay}
+use Rattle.cow_tree.proofs.TreeCommits.{version_is, starts, is_held, may_be_written, commit_fault, reads_rise, fitted_now, still_under, still_there}
 use Rattle.cow_tree.proofs.tree_calls.TreeKeeperKeeper.commit.Goals as goal
 
 pub returns-then-self-clause-at_crash : goal.returns-then-self-clause-at_crash
@@ -224,10 +227,10 @@ returns-in-Ok-write_plan-clause-at_crash g c = λ keeps usable.
     may_be_written old.disk.view mid.disk.view (states c.plan_commit.new.device) k.slot k.ledger c.plan_commit.new.ledger k.top c.in-Ok.plan (updated pairs batch) (held_by keeps) c.plan_commit.ensures.marks
     (c.in-Ok.ensures.planned keeps k.top pairs (held_by keeps) (first keeps) refl version).0 k.fitted.version (same keeps) (sure keeps) in
     let keeps1 = λ (keeps : IsTrue old.honest). let h : IsTrue mid.honest = subst IsTrue (sym only.same.honest) keeps in h in
-    adds_both (states k.device) (states c.plan_commit.new.device) (states c.write_plan.new.device) (may_crash_to (states k.device)) (IsTreeBetween mid.disk.view k.slot k.top (updated pairs batch) c.in-Ok.plan.slot.root.banner) (λ (i : Image). TreeHas i pairs k.slot.root.banner ⊎ TreeHas i (updated pairs batch) c.args.banner)
+    adds_both (states k.device) (states c.plan_commit.new.device) (states c.write_plan.new.device) (may_crash_to (states k.device)) (IsBetween (tree_commit k.slot mid.disk.view c.in-Ok.plan.slot (ready keeps).planned.found) c.in-Ok.plan.pages.items mid.disk.view) (λ (i : Image). TreeHas i pairs k.slot.root.banner ⊎ TreeHas i (updated pairs batch) c.args.banner)
     (c.plan_commit.ensures.reads.device.no_new_crash_state keeps) (c.write_plan.ensures.at_crash (keeps1 keeps) (ready keeps))
     (λ i left. inl (crash_states_have_the_tree old.disk k.slot k.ledger k.top k.fitted.version (k.there keeps) (k.durable keeps up) i (d.crash_states_are_images k.device i keeps left)))
-    (λ i h. old_or_new old.disk.view k.slot k.top (updated pairs batch) c.args.banner i k.fitted.version (between_again old.disk.view mid.disk.view k.slot k.top (updated pairs batch) c.in-Ok.plan.slot.root.banner c.args.banner i (same keeps) c.in-Ok.ensures.made.banner_is h))
+    (λ i h. old_or_new old.disk.view k.slot c.in-Ok.plan.slot (ready keeps).planned.found c.in-Ok.plan.pages.items (updated pairs batch) c.args.banner i k.fitted.version (ready keeps).planned.plan_is.version c.in-Ok.ensures.made.banner_is (ready keeps).planned.pairs_are (way_again old.disk.view mid.disk.view k.slot c.in-Ok.plan.slot (ready keeps).planned.found c.in-Ok.plan.pages.items i (same keeps) h))
 
 pub invariant_of-self-in-Err-write_plan : goal.invariant_of-self-in-Err-write_plan
 invariant_of-self-in-Err-write_plan g c =
@@ -302,6 +305,7 @@ returns-clause-fault g c =
       banner = refl;
       shut = refl;
       generation = refl;
+      free = ap free_count (c.in-Err-write_plan.ensures.abandoned ∙ abandoned_again k.ledger c.plan_commit.new.ledger c.plan_commit.ensures.marks k.fitted.rest.unmarked);
       height = refl;
       out = same_numbers (state c.write_plan.new.device).disk.view old.disk.view 0 k.pinned;
       pins = λ keeps. pins_stay old.disk.view mid.disk.view (state c.write_plan.new.device).disk.view k.slot.root.pages k.ledger c.plan_commit.new.ledger k.pinned k.pins c.plan_commit.ensures.marks (same keeps) (c.write_plan.ensures.held (keeps1 keeps) (ready keeps)) (k.pins_there keeps);
@@ -344,32 +348,36 @@ returns-clause-at_crash g c = λ keeps usable.
     may_be_written old.disk.view mid.disk.view (states c.plan_commit.new.device) k.slot k.ledger c.plan_commit.new.ledger k.top c.in-Ok.plan (updated pairs batch) (held_by keeps) c.plan_commit.ensures.marks
     (c.in-Ok.ensures.planned keeps k.top pairs (held_by keeps) (first keeps) refl version).0 k.fitted.version (same keeps) (sure keeps) in
     let keeps1 = λ (keeps : IsTrue old.honest). let h : IsTrue mid.honest = subst IsTrue (sym only.same.honest) keeps in h in
-    adds_both (states k.device) (states c.plan_commit.new.device) (states c.write_plan.new.device) (may_crash_to (states k.device)) (IsTreeBetween mid.disk.view k.slot k.top (updated pairs batch) c.in-Ok.plan.slot.root.banner) (λ (i : Image). TreeHas i pairs k.slot.root.banner ⊎ TreeHas i (updated pairs batch) c.args.banner)
+    adds_both (states k.device) (states c.plan_commit.new.device) (states c.write_plan.new.device) (may_crash_to (states k.device)) (IsBetween (tree_commit k.slot mid.disk.view c.in-Ok.plan.slot (ready keeps).planned.found) c.in-Ok.plan.pages.items mid.disk.view) (λ (i : Image). TreeHas i pairs k.slot.root.banner ⊎ TreeHas i (updated pairs batch) c.args.banner)
     (c.plan_commit.ensures.reads.device.no_new_crash_state keeps) (c.write_plan.ensures.at_crash (keeps1 keeps) (ready keeps))
     (λ i left. inl (crash_states_have_the_tree old.disk k.slot k.ledger k.top k.fitted.version (k.there keeps) (k.durable keeps up) i (d.crash_states_are_images k.device i keeps left)))
-    (λ i h. old_or_new old.disk.view k.slot k.top (updated pairs batch) c.args.banner i k.fitted.version (between_again old.disk.view mid.disk.view k.slot k.top (updated pairs batch) c.in-Ok.plan.slot.root.banner c.args.banner i (same keeps) c.in-Ok.ensures.made.banner_is h))
+    (λ i h. old_or_new old.disk.view k.slot c.in-Ok.plan.slot (ready keeps).planned.found c.in-Ok.plan.pages.items (updated pairs batch) c.args.banner i k.fitted.version (ready keeps).planned.plan_is.version c.in-Ok.ensures.made.banner_is (ready keeps).planned.pairs_are (way_again old.disk.view mid.disk.view k.slot c.in-Ok.plan.slot (ready keeps).planned.found c.in-Ok.plan.pages.items i (same keeps) h))
 
 pub returns-then-self-clause-between : goal.returns-then-self-clause-between
-returns-then-self-clause-between g c = λ keeps up.
+returns-then-self-clause-between g c = λ keeps up. inl (no_new_crash_state (crash_states_of g.D.Device.moment g.D.Device.possible_since c.args.self.now.device))
+
+pub returns-then-self-clause-unheld : goal.returns-then-self-clause-unheld
+returns-then-self-clause-unheld g c = λ keeps up.
+    let d = g.met.D.Device in
     let k = c.args.self.now in
     let view = (g.D.Device.state k.device).disk.view in
     let states = crash_states_of g.D.Device.moment g.D.Device.possible_since k.device in
-    adds_weaker states states (may_crash_to states) (λ (i : Image). may_crash_to states i ⊎ IsTreeBetween view k.slot k.top (updated (found_under k.slot view).pairs c.args.batch.now) c.args.banner i) (λ i left. inl left) (no_new_crash_state states)
+    (λ n keep. refl, adds_weaker states states (may_crash_to states) (PinnedPagesStay k.pinned view) (λ i left n keep. ap (λ (v : Image). page_of v n) ((k.durable keeps up).images i (d.crash_states_are_images k.device i keeps left))) (no_new_crash_state states))
 
 pub returns-in-Err-clause-between : goal.returns-in-Err-clause-between
-returns-in-Err-clause-between g c = λ keeps usable.
+returns-in-Err-clause-between g c = λ keeps usable. inl (c.plan_commit.ensures.reads.device.no_new_crash_state keeps)
+
+pub returns-in-Err-clause-unheld : goal.returns-in-Err-clause-unheld
+returns-in-Err-clause-unheld g c = λ keeps usable.
     let d = g.met.D.Device in
     let k = c.args.self.now in
-    let state = g.D.Device.state in
-    let old = state k.device in
-    let mid = state c.plan_commit.new.device in
-    let only = c.plan_commit.ensures.reads.device.only in
+    let old = g.D.Device.state k.device in
     let states = crash_states_of g.D.Device.moment g.D.Device.possible_since in
-    let up = c.if-not-self.false in
-    let version = version_is c.args.banner.version c.requires.version in
-    let pairs = (found_under k.slot old.disk.view).pairs in
-    let batch = c.args.batch.now in
-    adds_weaker (states k.device) (states c.plan_commit.new.device) (may_crash_to (states k.device)) (λ (i : Image). may_crash_to (states k.device) i ⊎ IsTreeBetween old.disk.view k.slot k.top (updated pairs batch) c.args.banner i) (λ i left. inl left) (c.plan_commit.ensures.reads.device.no_new_crash_state keeps)
+    let up = c.if-not-self.false in (
+      λ n keep. ap (λ (x : Disk). page_of x.view n) (c.plan_commit.ensures.reads.device.only.disk keeps),
+      adds_weaker (states k.device) (states c.plan_commit.new.device) (may_crash_to (states k.device)) (PinnedPagesStay k.pinned old.disk.view) (λ i left n keep. ap (λ (v : Image). page_of v n) ((k.durable keeps up).images i (d.crash_states_are_images k.device i keeps left)))
+          (c.plan_commit.ensures.reads.device.no_new_crash_state keeps),
+    )
 
 pub returns-in-Ok-write_plan-clause-between : goal.returns-in-Ok-write_plan-clause-between
 returns-in-Ok-write_plan-clause-between g c = λ keeps usable.
@@ -393,9 +401,42 @@ returns-in-Ok-write_plan-clause-between g c = λ keeps usable.
     may_be_written old.disk.view mid.disk.view (states c.plan_commit.new.device) k.slot k.ledger c.plan_commit.new.ledger k.top c.in-Ok.plan (updated pairs batch) (held_by keeps) c.plan_commit.ensures.marks
     (c.in-Ok.ensures.planned keeps k.top pairs (held_by keeps) (first keeps) refl version).0 k.fitted.version (same keeps) (sure keeps) in
     let keeps1 = λ (keeps : IsTrue old.honest). let h : IsTrue mid.honest = subst IsTrue (sym only.same.honest) keeps in h in
-    adds_both (states k.device) (states c.plan_commit.new.device) (states c.write_plan.new.device) (may_crash_to (states k.device)) (IsTreeBetween mid.disk.view k.slot k.top (updated pairs batch) c.in-Ok.plan.slot.root.banner) (λ (i : Image). may_crash_to (states k.device) i ⊎ IsTreeBetween old.disk.view k.slot k.top (updated pairs batch) c.args.banner i)
-    (c.plan_commit.ensures.reads.device.no_new_crash_state keeps) (c.write_plan.ensures.at_crash (keeps1 keeps) (ready keeps)) (λ i left. inl left)
-    (λ i h. inr (between_again old.disk.view mid.disk.view k.slot k.top (updated pairs batch) c.in-Ok.plan.slot.root.banner c.args.banner i (same keeps) c.in-Ok.ensures.made.banner_is h))
+    let held = held_by keeps in
+    let planned = (c.in-Ok.ensures.planned keeps k.top pairs (held_by keeps) (first keeps) refl version) in
+    let plan = tree_plan old.disk.view k.slot k.ledger k.pinned k.fitted.rest k.pins.seals (k.pins_there keeps) (k.there keeps) c.plan_commit.new.ledger k.top (MayNeed k.slot old batch) (updated pairs batch) c.args.banner c.in-Ok.plan c.plan_commit.ensures.marks held planned.0 c.in-Ok.ensures.made.banner_is (λ again. planned.1) in
+    one_plan old.disk.view mid.disk.view (states k.device) (states c.plan_commit.new.device) (states c.write_plan.new.device) k.slot k.top k.pinned (MayNeed k.slot old batch) (updated pairs batch) c.args.banner plan (same keeps)
+    (c.plan_commit.ensures.reads.device.no_new_crash_state keeps) (c.write_plan.ensures.at_crash (keeps1 keeps) (ready keeps))
+
+pub returns-in-Ok-write_plan-clause-unheld : goal.returns-in-Ok-write_plan-clause-unheld
+returns-in-Ok-write_plan-clause-unheld g c = λ keeps usable.
+    let d = g.met.D.Device in
+    let k = c.args.self.now in
+    let state = g.D.Device.state in
+    let old = state k.device in
+    let mid = state c.plan_commit.new.device in
+    let only = c.plan_commit.ensures.reads.device.only in
+    let states = crash_states_of g.D.Device.moment g.D.Device.possible_since in
+    let up = c.if-not-self.false in
+    let version = version_is c.args.banner.version c.requires.version in
+    let pairs = (found_under k.slot old.disk.view).pairs in
+    let batch = c.args.batch.now in
+    let held_by = λ (keeps : IsTrue old.honest). is_held old.size k.slot old.disk k.ledger k.top k.fitted (k.there keeps) (k.durable keeps up) k.sealed in
+    let first = λ (keeps : IsTrue old.honest). starts old.size k.slot old.disk.view k.ledger k.fitted (k.there keeps) in
+    let same = λ (keeps : IsTrue old.honest). let e : mid.disk.view ≡ old.disk.view = ap (λ (x : Disk). x.view) (only.disk keeps) in e in
+    let sure = λ (keeps : IsTrue old.honest) (i : Image) (left : may_crash_to (states c.plan_commit.new.device) i).
+    let e : i ≡ mid.disk.view = (k.durable keeps up).images i (d.crash_states_are_images k.device i keeps ((c.plan_commit.ensures.reads.device.no_new_crash_state keeps).now i left)) ∙ sym (same keeps) in e in
+    let ready = λ (keeps : IsTrue old.honest).
+    may_be_written old.disk.view mid.disk.view (states c.plan_commit.new.device) k.slot k.ledger c.plan_commit.new.ledger k.top c.in-Ok.plan (updated pairs batch) (held_by keeps) c.plan_commit.ensures.marks
+    (c.in-Ok.ensures.planned keeps k.top pairs (held_by keeps) (first keeps) refl version).0 k.fitted.version (same keeps) (sure keeps) in
+    let keeps1 = λ (keeps : IsTrue old.honest). let h : IsTrue mid.honest = subst IsTrue (sym only.same.honest) keeps in h in
+    let stay = λ (now : Image) (h : HeldPagesStay c.plan_commit.new.ledger (page_of mid.disk.view) (page_of now)).
+    pinned_stay old.disk.view k.slot k.ledger k.pinned k.fitted.rest k.pins.seals (k.pins_there keeps) (k.there keeps) now (stay_now old.disk.view mid.disk.view now k.slot.root.pages k.ledger c.plan_commit.new.ledger k.pinned k.pins c.plan_commit.ensures.marks (same keeps) h (k.pins_there keeps)) in (
+      stay (state c.write_plan.new.device).disk.view (c.write_plan.ensures.held (keeps1 keeps) (ready keeps)),
+      adds_both (states k.device) (states c.plan_commit.new.device) (states c.write_plan.new.device) (may_crash_to (states k.device)) (IsBetween (tree_commit k.slot mid.disk.view c.in-Ok.plan.slot (ready keeps).planned.found) c.in-Ok.plan.pages.items mid.disk.view) (PinnedPagesStay k.pinned old.disk.view)
+          (c.plan_commit.ensures.reads.device.no_new_crash_state keeps) (c.write_plan.ensures.at_crash (keeps1 keeps) (ready keeps))
+          (λ i left n keep. ap (λ (v : Image). page_of v n) ((k.durable keeps up).images i (d.crash_states_are_images k.device i keeps left)))
+          (λ i h. stay i (held_pages_stay mid.disk.view (states c.plan_commit.new.device) k.slot c.plan_commit.new.ledger c.in-Ok.plan (ready keeps) i h)),
+    )
 
 pub returns-clause-between : goal.returns-clause-between
 returns-clause-between g c = λ keeps usable.
@@ -419,9 +460,42 @@ returns-clause-between g c = λ keeps usable.
     may_be_written old.disk.view mid.disk.view (states c.plan_commit.new.device) k.slot k.ledger c.plan_commit.new.ledger k.top c.in-Ok.plan (updated pairs batch) (held_by keeps) c.plan_commit.ensures.marks
     (c.in-Ok.ensures.planned keeps k.top pairs (held_by keeps) (first keeps) refl version).0 k.fitted.version (same keeps) (sure keeps) in
     let keeps1 = λ (keeps : IsTrue old.honest). let h : IsTrue mid.honest = subst IsTrue (sym only.same.honest) keeps in h in
-    adds_both (states k.device) (states c.plan_commit.new.device) (states c.write_plan.new.device) (may_crash_to (states k.device)) (IsTreeBetween mid.disk.view k.slot k.top (updated pairs batch) c.in-Ok.plan.slot.root.banner) (λ (i : Image). may_crash_to (states k.device) i ⊎ IsTreeBetween old.disk.view k.slot k.top (updated pairs batch) c.args.banner i)
-    (c.plan_commit.ensures.reads.device.no_new_crash_state keeps) (c.write_plan.ensures.at_crash (keeps1 keeps) (ready keeps)) (λ i left. inl left)
-    (λ i h. inr (between_again old.disk.view mid.disk.view k.slot k.top (updated pairs batch) c.in-Ok.plan.slot.root.banner c.args.banner i (same keeps) c.in-Ok.ensures.made.banner_is h))
+    let held = held_by keeps in
+    let planned = (c.in-Ok.ensures.planned keeps k.top pairs (held_by keeps) (first keeps) refl version) in
+    let plan = tree_plan old.disk.view k.slot k.ledger k.pinned k.fitted.rest k.pins.seals (k.pins_there keeps) (k.there keeps) c.plan_commit.new.ledger k.top (MayNeed k.slot old batch) (updated pairs batch) c.args.banner c.in-Ok.plan c.plan_commit.ensures.marks held planned.0 c.in-Ok.ensures.made.banner_is (λ again. planned.1) in
+    one_plan old.disk.view mid.disk.view (states k.device) (states c.plan_commit.new.device) (states c.write_plan.new.device) k.slot k.top k.pinned (MayNeed k.slot old batch) (updated pairs batch) c.args.banner plan (same keeps)
+    (c.plan_commit.ensures.reads.device.no_new_crash_state keeps) (c.write_plan.ensures.at_crash (keeps1 keeps) (ready keeps))
+
+pub returns-clause-unheld : goal.returns-clause-unheld
+returns-clause-unheld g c = λ keeps usable.
+    let d = g.met.D.Device in
+    let k = c.args.self.now in
+    let state = g.D.Device.state in
+    let old = state k.device in
+    let mid = state c.plan_commit.new.device in
+    let only = c.plan_commit.ensures.reads.device.only in
+    let states = crash_states_of g.D.Device.moment g.D.Device.possible_since in
+    let up = c.if-not-self.false in
+    let version = version_is c.args.banner.version c.requires.version in
+    let pairs = (found_under k.slot old.disk.view).pairs in
+    let batch = c.args.batch.now in
+    let held_by = λ (keeps : IsTrue old.honest). is_held old.size k.slot old.disk k.ledger k.top k.fitted (k.there keeps) (k.durable keeps up) k.sealed in
+    let first = λ (keeps : IsTrue old.honest). starts old.size k.slot old.disk.view k.ledger k.fitted (k.there keeps) in
+    let same = λ (keeps : IsTrue old.honest). let e : mid.disk.view ≡ old.disk.view = ap (λ (x : Disk). x.view) (only.disk keeps) in e in
+    let sure = λ (keeps : IsTrue old.honest) (i : Image) (left : may_crash_to (states c.plan_commit.new.device) i).
+    let e : i ≡ mid.disk.view = (k.durable keeps up).images i (d.crash_states_are_images k.device i keeps ((c.plan_commit.ensures.reads.device.no_new_crash_state keeps).now i left)) ∙ sym (same keeps) in e in
+    let ready = λ (keeps : IsTrue old.honest).
+    may_be_written old.disk.view mid.disk.view (states c.plan_commit.new.device) k.slot k.ledger c.plan_commit.new.ledger k.top c.in-Ok.plan (updated pairs batch) (held_by keeps) c.plan_commit.ensures.marks
+    (c.in-Ok.ensures.planned keeps k.top pairs (held_by keeps) (first keeps) refl version).0 k.fitted.version (same keeps) (sure keeps) in
+    let keeps1 = λ (keeps : IsTrue old.honest). let h : IsTrue mid.honest = subst IsTrue (sym only.same.honest) keeps in h in
+    let stay = λ (now : Image) (h : HeldPagesStay c.plan_commit.new.ledger (page_of mid.disk.view) (page_of now)).
+    pinned_stay old.disk.view k.slot k.ledger k.pinned k.fitted.rest k.pins.seals (k.pins_there keeps) (k.there keeps) now (stay_now old.disk.view mid.disk.view now k.slot.root.pages k.ledger c.plan_commit.new.ledger k.pinned k.pins c.plan_commit.ensures.marks (same keeps) h (k.pins_there keeps)) in (
+      stay (state c.write_plan.new.device).disk.view (c.write_plan.ensures.held (keeps1 keeps) (ready keeps)),
+      adds_both (states k.device) (states c.plan_commit.new.device) (states c.write_plan.new.device) (may_crash_to (states k.device)) (IsBetween (tree_commit k.slot mid.disk.view c.in-Ok.plan.slot (ready keeps).planned.found) c.in-Ok.plan.pages.items mid.disk.view) (PinnedPagesStay k.pinned old.disk.view)
+          (c.plan_commit.ensures.reads.device.no_new_crash_state keeps) (c.write_plan.ensures.at_crash (keeps1 keeps) (ready keeps))
+          (λ i left n keep. ap (λ (v : Image). page_of v n) ((k.durable keeps up).images i (d.crash_states_are_images k.device i keeps left)))
+          (λ i h. stay i (held_pages_stay mid.disk.view (states c.plan_commit.new.device) k.slot c.plan_commit.new.ledger c.in-Ok.plan (ready keeps) i h)),
+    )
 
 pub returns-in-Ok-write_plan-clause-fits : goal.returns-in-Ok-write_plan-clause-fits
 returns-in-Ok-write_plan-clause-fits g c = λ keeps.
@@ -433,7 +507,7 @@ returns-in-Ok-write_plan-clause-fits g c = λ keeps.
     let held_by = is_held old.size k.slot old.disk k.ledger k.top k.fitted (k.there keeps) (k.durable keeps up) k.sealed in
     let first = starts old.size k.slot old.disk.view k.ledger k.fitted (k.there keeps) in
     let room = (c.in-Ok.ensures.planned keeps k.top pairs held_by first refl (version_is c.args.banner.version c.requires.version)).1 in
-    (room.need, λ again. room.needs, room.fits)
+    (length c.in-Ok.plan.pages.items, λ again. room, c.in-Ok.ensures.room)
 
 pub returns-clause-tight : goal.returns-clause-tight
 returns-clause-tight g c = λ keeps usable shut.
@@ -445,4 +519,7 @@ returns-clause-tight g c = λ keeps usable shut.
     let held_by = is_held old.size k.slot old.disk k.ledger k.top k.fitted (k.there keeps) (k.durable keeps up) k.sealed in
     let first = starts old.size k.slot old.disk.view k.ledger k.fitted (k.there keeps) in
     let room = (c.in-Ok.ensures.planned keeps k.top pairs held_by first refl (version_is c.args.banner.version c.requires.version)).1 in
-    (room.need, λ again. room.needs, room.fits)
+    (length c.in-Ok.plan.pages.items, λ again. room, c.in-Ok.ensures.room)
+
+pub returns-in-Err-clause-need : goal.returns-in-Err-clause-need
+returns-in-Err-clause-need g c = λ usable. needs_again (g.D.Device.state c.args.self.now.device) (g.D.Device.state c.plan_commit.new.device) c.args.self.now.slot c.plan_commit.ensures.reads.device.only

@@ -10,6 +10,6 @@ returns g c =
     let view = (g.D.Device.state k.device).disk.view in
     record {
       keys = λ keeps. keys_told k.slot (page_of view) (found_under k.slot view) (k.there keeps).found_is;
-      free = λ keeps. c.free.ensures;
+      free = c.free.ensures;
       generation = refl;
     }
