@@ -1,5 +1,5 @@
 -- The body of an item, as a file of changes writes it: by exactly one key.
-use Rattle.std.specs.Prelude.{ℕ, List, [], ◌∷◌, Option, Some, None, Result, Ok, codes, if◌then◌else◌}
+use Rattle.std.specs.Prelude.{ℕ, ◌||◌, Bool, List, [], ◌∷◌, Option, Some, None, Result, Ok, codes, if◌then◌else◌}
 use Rattle.common_types.specs.declared.refused.Refused.{Refused}
 use Rattle.host_types.specs.Site.{text_item}
 use Rattle.host_types.specs.declared.item.Body.{Body}
@@ -67,6 +67,12 @@ form_body table = do
   form ← table_at (codes "form") table
   if has_only (codes "board" ∷ codes "questions" ∷ []) form then form_in form else None
 
+-- the table of a form, by its keys
+abbrev pub form_table : Members → Option Members
+form_table table = do
+  form ← table_at (codes "form") table
+  if has_only (codes "board" ∷ codes "questions" ∷ []) form then Some form else None
+
 abbrev pub search_body : Members → Option (Result Body Refused)
 search_body table = do
   scope ← name_at selector_named (codes "search") table
@@ -82,3 +88,9 @@ body_in table =
     else if has_only (with_body (codes "form" ∷ [])) table then form_body table
     else if has_only (with_body (codes "search" ∷ [])) table then search_body table
     else None
+
+-- whether a table has the keys of one of the four forms for which memory is asked
+abbrev pub has_body : Members → Bool
+has_body table =
+    has_only (with_body (codes "text" ∷ [])) table || has_only (with_body (codes "kind" ∷ codes "views" ∷ [])) table
+    || has_only (with_body (codes "menu" ∷ [])) table || has_only (with_body (codes "form" ∷ [])) table

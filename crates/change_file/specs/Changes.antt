@@ -1,5 +1,5 @@
 -- The changes of a file: what each table says, and the first table that says none.
-use Rattle.std.specs.Prelude.{ℕ, ◌+◌, ◌&&◌, Bool, List, [], ◌∷◌, Option, Some, None, is_none, is_some, Result, Ok, Err, codes, bytes_eq, option_map, if◌then◌else◌}
+use Rattle.std.specs.Prelude.{ℕ, ◌+◌, ◌&&◌, Bool, false, List, [], ◌∷◌, Option, Some, None, is_none, is_some, Result, Ok, Err, codes, bytes_eq, option_map, if◌then◌else◌}
 use Rattle.std.specs.List.{list_all, position_or_len}
 use Rattle.common_types.specs.declared.refused.Refused.{Refused as Refusal}
 use Rattle.host_types.specs.declared.item.Item.{Item}
@@ -36,6 +36,12 @@ abbrev pub set_admin : Result (List ℕ) Refusal → Result SiteChange Refusal
 set_admin admin = Ok (λ a. changes.SetAdmin a) ◂ admin
 
 -- ---- changes of their tables
+
+-- a table that puts an item, but for its body: it has the keys that it must have, and of their types
+abbrev pub begins_put : Members → Bool
+begins_put table =
+    is_some (text_at (codes "selector") table) && is_some (text_at (codes "title") table)
+    && is_some (optional_text_at (codes "abstract") table) && is_some (optional_moment_at (codes "until") table)
 
 abbrev pub put_in : Members → Option (Result SiteChange Refusal)
 put_in table = do
@@ -80,6 +86,11 @@ small_change word table =
     else if is word (codes "admin") && has_only (codes "do" ∷ codes "admin" ∷ []) table then admin_in table
     else None
 
+-- whether it is this text
+abbrev pub some_is : Option (List ℕ) → List ℕ → Bool
+some_is None name = false
+some_is (Some word) name = is word name
+
 -- the change of a table by its word
 abbrev pub change_by : List ℕ → Members → Option (Result SiteChange Refusal)
 change_by word table = if is word (codes "put") then put_in table else small_change word table
@@ -95,6 +106,10 @@ change_of value = do
   word ← text_at (codes "do") table
   change ← change_by word table
   Some (file_change change)
+
+-- a table whose word is to put an item, and which begins as such a table does
+abbrev pub puts : Members → Bool
+puts table = some_is (text_at (codes "do") table) (codes "put") && begins_put table
 
 -- ---- a whole document
 

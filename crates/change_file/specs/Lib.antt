@@ -1,4 +1,5 @@
 pub mod Tables
+pub mod Fails
 pub mod Named
 pub mod Views
 pub mod Entries

@@ -1,9 +1,12 @@
 // The body of an item, as a file of changes writes it.
-ghost use Rattle.std.specs.Prelude.{◌≡◌, Some, None, [], IfOk};
+ghost use Rattle.std.specs.Prelude.{◌≡◌, Some, None, [], IfOk, IfErr, IsTrue, IsSome, codes};
 ghost use Rattle.std.specs.Result.{result_map_both};
 ghost use Rattle.host_types.specs.Site.{text_item};
 ghost use Rattle.toml.specs.View.{table_view};
 ghost use Rattle.change_file.specs.Bodies as spec;
+ghost use Rattle.change_file.specs.Fails.{HasNoForm, Fails};
+ghost use Rattle.change_file.specs.Tables.{text_at, values_at};
+ghost use Rattle.change_file.specs.Views.{kind_at};
 
 use crate::entries::entries_of;
 use crate::fault::FormFault;
@@ -57,7 +60,7 @@ fn text(alloc: Global, text: &str) -> Result<Body, AllocError>
 
 fn text_body(alloc: Global, table: &Table) -> Result<Result<Body, Refused>, FormFault>
     ensures ok { IfOk result (λ b. spec.text_body (table_view table.now) ≡ Some b) }
-    ensures form { result ≡ Err FormFault.Form → spec.text_body (table_view table.now) ≡ None }
+    ensures fault { IfErr result (Fails (spec.text_body (table_view table.now))) }
 {
     match text_at(table, "text") {
         Some(bytes) => Ok(Ok(text(alloc, bytes)?)),
@@ -68,6 +71,7 @@ fn text_body(alloc: Global, table: &Table) -> Result<Result<Body, Refused>, Form
 fn views_body(alloc: Global, table: &Table) -> Result<Result<Body, Refused>, FormFault>
     ensures ok { IfOk result (λ b. spec.views_body (table_view table.now) ≡ Some b) }
     ensures form { result ≡ Err FormFault.Form → spec.views_body (table_view table.now) ≡ None }
+    ensures memory { result ≡ Err FormFault.Memory → IsSome (kind_at (codes "kind") (table_view table.now)) × IsSome (values_at (codes "views") (table_view table.now)) }
 {
     let Some(kind) = kind_at(table, "kind") else {
         return Err(FormFault::Form);
@@ -82,6 +86,7 @@ fn views_body(alloc: Global, table: &Table) -> Result<Result<Body, Refused>, For
 fn menu_body(alloc: Global, table: &Table) -> Result<Result<Body, Refused>, FormFault>
     ensures ok { IfOk result (λ b. spec.menu_body (table_view table.now) ≡ Some b) }
     ensures form { result ≡ Err FormFault.Form → spec.menu_body (table_view table.now) ≡ None }
+    ensures memory { result ≡ Err FormFault.Memory → IsSome (values_at (codes "menu") (table_view table.now)) }
 {
     let Some(values) = values_at(table, "menu") else {
         return Err(FormFault::Form);
@@ -92,7 +97,7 @@ fn menu_body(alloc: Global, table: &Table) -> Result<Result<Body, Refused>, Form
 
 fn board_body(table: &Table) -> Result<Result<Body, Refused>, FormFault>
     ensures ok { IfOk result (λ b. spec.board_body (table_view table.now) ≡ Some b) }
-    ensures form { result ≡ Err FormFault.Form → spec.board_body (table_view table.now) ≡ None }
+    ensures fault { IfErr result (HasNoForm (spec.board_body (table_view table.now))) }
 {
     match number_at(table, "board") {
         Some(cap) => Ok(Ok(Body::Board { cap, next: 1 })),
@@ -103,6 +108,7 @@ fn board_body(table: &Table) -> Result<Result<Body, Refused>, FormFault>
 fn form_in(alloc: Global, table: &Table) -> Result<Result<Body, Refused>, FormFault>
     ensures ok { IfOk result (λ b. spec.form_in (table_view table.now) ≡ Some b) }
     ensures form { result ≡ Err FormFault.Form → spec.form_in (table_view table.now) ≡ None }
+    ensures memory { result ≡ Err FormFault.Memory → IsSome (text_at (codes "board") (table_view table.now)) × IsSome (values_at (codes "questions") (table_view table.now)) }
 {
     let Some(board) = selector_at(table, "board") else {
         return Err(FormFault::Form);
@@ -117,6 +123,7 @@ fn form_in(alloc: Global, table: &Table) -> Result<Result<Body, Refused>, FormFa
 fn form_body(alloc: Global, table: &Table) -> Result<Result<Body, Refused>, FormFault>
     ensures ok { IfOk result (λ b. spec.form_body (table_view table.now) ≡ Some b) }
     ensures form { result ≡ Err FormFault.Form → spec.form_body (table_view table.now) ≡ None }
+    ensures memory { result ≡ Err FormFault.Memory → IsSome (spec.form_table (table_view table.now)) }
 {
     match table_at(table, "form") {
         Some(inner) if has_only(inner, &["board", "questions"]) => form_in(alloc, inner),
@@ -126,7 +133,7 @@ fn form_body(alloc: Global, table: &Table) -> Result<Result<Body, Refused>, Form
 
 fn search_body(table: &Table) -> Result<Result<Body, Refused>, FormFault>
     ensures ok { IfOk result (λ b. spec.search_body (table_view table.now) ≡ Some b) }
-    ensures form { result ≡ Err FormFault.Form → spec.search_body (table_view table.now) ≡ None }
+    ensures fault { IfErr result (HasNoForm (spec.search_body (table_view table.now))) }
 {
     match selector_at(table, "search") {
         Some(scope) => Ok(search(scope)),
@@ -138,6 +145,7 @@ fn search_body(table: &Table) -> Result<Result<Body, Refused>, FormFault>
 pub fn body_in(alloc: Global, table: &Table) -> Result<Result<Body, Refused>, FormFault>
     ensures ok { IfOk result (λ b. spec.body_in (table_view table.now) ≡ Some b) }
     ensures form { result ≡ Err FormFault.Form → spec.body_in (table_view table.now) ≡ None }
+    ensures memory { result ≡ Err FormFault.Memory → IsTrue (spec.has_body (table_view table.now)) }
 {
     if has_only(
         table,

@@ -1,9 +1,10 @@
 // The changes that a file asks for.
-ghost use Rattle.std.specs.Prelude.{◌≡◌, ◌≢◌, ◌<◌, ◌^◌, ℕ, Some, None, Ok, Err, IfOk, IsUtf8, length, map, option_map};
+ghost use Rattle.std.specs.Prelude.{◌≡◌, ◌≢◌, ◌<◌, ◌^◌, ℕ, Some, None, Ok, Err, IfOk, IsTrue, IsSomeAnd, IsUtf8, ◌&&◌, codes, length, map, option_map};
 ghost use Rattle.std.specs.List.{list_all};
+ghost use Rattle.toml.specs.Data.{as_table};
 ghost use Rattle.toml.specs.View.{table_view, view};
 ghost use Rattle.change_file.specs.Changes as spec;
-ghost use Rattle.change_file.specs.declared.fault.ChangeFileFault.TheVariants.{NotToml, Table};
+ghost use Rattle.change_file.specs.declared.fault.ChangeFileFault.TheVariants.{NotToml, Table, Memory};
 
 use crate::bodies::body_in;
 use crate::fault::{ChangeFileFault, FileChange, FormFault};
@@ -69,6 +70,7 @@ fn set_admin(admin: Result<Admin, Refused>) -> Result<Change, Refused>
 fn put_in(alloc: Global, table: &Table) -> Result<Result<Change, Refused>, FormFault>
     ensures ok { IfOk result (λ c. spec.put_in (table_view table.now) ≡ Some c) }
     ensures form { result ≡ Err FormFault.Form → spec.put_in (table_view table.now) ≡ None }
+    ensures memory { result ≡ Err FormFault.Memory → IsTrue (spec.begins_put (table_view table.now)) }
 {
     let Some(selector) = selector_at(table, "selector") else {
         return Err(FormFault::Form);
@@ -131,6 +133,7 @@ fn small_change(word: &str, table: &Table) -> Option<Result<Change, Refused>>
 fn change_by(alloc: Global, word: &str, table: &Table) -> Result<Result<Change, Refused>, FormFault>
     ensures ok { IfOk result (λ c. spec.change_by word.now (table_view table.now) ≡ Some c) }
     ensures form { result ≡ Err FormFault.Form → spec.change_by word.now (table_view table.now) ≡ None }
+    ensures memory { result ≡ Err FormFault.Memory → IsTrue (spec.is word.now (codes "put") && spec.begins_put (table_view table.now)) }
 {
     if word == "put" {
         return put_in(alloc, table);
@@ -154,6 +157,7 @@ fn file_change(change: Result<Change, Refused>) -> FileChange
 fn change_of(alloc: Global, value: &Value) -> Result<FileChange, FormFault>
     ensures ok { IfOk result (λ c. spec.change_of (view value.now) ≡ Some c) }
     ensures form { result ≡ Err FormFault.Form → spec.change_of (view value.now) ≡ None }
+    ensures memory { result ≡ Err FormFault.Memory → IsSomeAnd (as_table (view value.now)) (λ table. IsTrue (spec.puts table)) }
 {
     let Some(table) = value.as_table() else {
         return Err(FormFault::Form);
@@ -194,6 +198,7 @@ fn changes_of_tables(alloc: Global, tables: &[Value]) -> Result<Vec<FileChange>,
     requires { length tables.now < 2 ^ 63 }
     ensures ok { IfOk result (λ cs. spec.changes_of_tables (map view tables.now) ≡ Ok cs.items) }
     ensures table { (k : ℕ) → result ≡ Err (Table k) → spec.changes_of_tables (map view tables.now) ≡ Err k }
+    ensures memory { result ≡ Err Memory → 0 < length tables.now }
     ensures toml { result ≢ Err NotToml }
 {
     let mut changes = Vec::new(alloc);
@@ -211,6 +216,7 @@ fn changes_of_tables(alloc: Global, tables: &[Value]) -> Result<Vec<FileChange>,
 fn changes_of(alloc: Global, document: &Table) -> Result<Vec<FileChange>, ChangeFileFault>
     ensures ok { IfOk result (λ cs. spec.changes_of (table_view document.now) ≡ Ok cs.items) }
     ensures table { (k : ℕ) → result ≡ Err (Table k) → spec.changes_of (table_view document.now) ≡ Err k }
+    ensures memory { result ≡ Err Memory → IsSomeAnd (spec.tables_in (table_view document.now)) (λ tables. 0 < length tables) }
     ensures toml { result ≢ Err NotToml }
 {
     match tables_in(document) {
@@ -224,8 +230,13 @@ pub fn read_changes(alloc: Global, bytes: &[u8]) -> Result<Vec<FileChange>, Chan
     ensures ok { IfOk result (λ cs. IsUtf8 bytes.now × (spec.read bytes.now ≡ Some (Ok cs.items))) }
     ensures table { (k : ℕ) → result ≡ Err (Table k) → IsUtf8 bytes.now × (spec.read bytes.now ≡ Some (Err k)) }
     ensures toml { result ≡ Err NotToml → IsUtf8 bytes.now → spec.read bytes.now ≡ None }
+    // Bytes that are no UTF-8 are told as such.
+    ensures memory { result ≡ Err Memory → IsUtf8 bytes.now }
 {
-    match toml::table_from_slice(alloc, bytes) {
+    let Ok(text) = std::str::from_utf8(bytes) else {
+        return Err(ChangeFileFault::NotToml);
+    };
+    match toml::table_from_str(alloc, text) {
         Ok(document) => changes_of(alloc, &document),
         Err(error) if error.is_memory() => Err(ChangeFileFault::Memory),
         Err(_) => Err(ChangeFileFault::NotToml),

@@ -1,7 +1,8 @@
 // The questions of a form, as a file of changes writes them.
-ghost use Rattle.std.specs.Prelude.{◌≡◌, Some, None, IfOk, map};
+ghost use Rattle.std.specs.Prelude.{◌≡◌, Some, None, IfOk, IfErr, map};
 ghost use Rattle.toml.specs.Data.{as_str};
 ghost use Rattle.toml.specs.View.{table_view, view};
+ghost use Rattle.change_file.specs.Fails.{HasNoForm, Fails};
 ghost use Rattle.change_file.specs.Tables.{each};
 ghost use Rattle.change_file.specs.Questions as spec;
 
@@ -59,7 +60,7 @@ fn choose(prompt: Result<Title, Refused>, choices: ChoiceList) -> Result<Questio
 
 fn ask_in(table: &Table) -> Result<Result<Question, Refused>, FormFault>
     ensures ok { IfOk result (λ q. spec.ask_in (table_view table.now) ≡ Some q) }
-    ensures form { result ≡ Err FormFault.Form → spec.ask_in (table_view table.now) ≡ None }
+    ensures fault { IfErr result (HasNoForm (spec.ask_in (table_view table.now))) }
 {
     match prompt_at(table, "ask") {
         Some(prompt) => Ok(ask(prompt)),
@@ -69,7 +70,7 @@ fn ask_in(table: &Table) -> Result<Result<Question, Refused>, FormFault>
 
 fn askl_in(table: &Table) -> Result<Result<Question, Refused>, FormFault>
     ensures ok { IfOk result (λ q. spec.askl_in (table_view table.now) ≡ Some q) }
-    ensures form { result ≡ Err FormFault.Form → spec.askl_in (table_view table.now) ≡ None }
+    ensures fault { IfErr result (HasNoForm (spec.askl_in (table_view table.now))) }
 {
     match prompt_at(table, "askl") {
         Some(prompt) => Ok(ask_lines(prompt)),
@@ -79,7 +80,7 @@ fn askl_in(table: &Table) -> Result<Result<Question, Refused>, FormFault>
 
 fn askp_in(alloc: Global, table: &Table) -> Result<Result<Question, Refused>, FormFault>
     ensures ok { IfOk result (λ q. spec.askp_in (table_view table.now) ≡ Some q) }
-    ensures form { result ≡ Err FormFault.Form → spec.askp_in (table_view table.now) ≡ None }
+    ensures fault { IfErr result (Fails (spec.askp_in (table_view table.now))) }
 {
     let Some(prompt) = prompt_at(table, "askp") else {
         return Err(FormFault::Form);

@@ -1,7 +1,8 @@
 // The views of a document, as a file of changes writes them.
-ghost use Rattle.std.specs.Prelude.{◌≡◌, Some, None, IfOk, map};
+ghost use Rattle.std.specs.Prelude.{◌≡◌, ◌%◌, Some, None, IfOk, IfErr, IsSomeAnd, length, map};
 ghost use Rattle.toml.specs.View.{table_view, view};
-ghost use Rattle.change_file.specs.Tables.{each};
+ghost use Rattle.change_file.specs.Fails.{Fails};
+ghost use Rattle.change_file.specs.Tables.{each, text_at};
 ghost use Rattle.change_file.specs.Views as spec;
 
 use crate::fault::FormFault;
@@ -41,6 +42,7 @@ pub fn kind_at(table: &Table, key: &str) -> Option<Kind>
 fn hex_at(alloc: Global, table: &Table, key: &str) -> Result<Bytes, FormFault>
     ensures ok { IfOk result (λ b. spec.hex_at key.now (table_view table.now) ≡ Some b) }
     ensures form { result ≡ Err FormFault.Form → spec.hex_at key.now (table_view table.now) ≡ None }
+    ensures memory { result ≡ Err FormFault.Memory → IsSomeAnd (text_at key.now (table_view table.now)) (λ digits. length digits % 2 ≡ 0) }
 {
     let Some(digits) = text_at(table, key) else {
         return Err(FormFault::Form);
@@ -54,7 +56,7 @@ fn hex_at(alloc: Global, table: &Table, key: &str) -> Result<Bytes, FormFault>
 
 fn view_with(alloc: Global, table: &Table, bytes: Bytes) -> Result<View, FormFault>
     ensures ok { IfOk result (λ v. spec.view_with (table_view table.now) bytes ≡ Some v) }
-    ensures form { result ≡ Err FormFault.Form → spec.view_with (table_view table.now) bytes ≡ None }
+    ensures fault { IfErr result (Fails (spec.view_with (table_view table.now) bytes)) }
 {
     let Some(name) = text_at(table, "name") else {
         return Err(FormFault::Form);

@@ -1,6 +1,10 @@
 -- Reading fields of one sort in a loop.
-use Rattle.std.proofs.Common.{◌≡◌, ℕ, zero, suc, Bool, true, false, cond, eqb, List, [], ◌∷◌, ◌++◌, length, Option, Some, None, refl, sym, ap, ◌∙◌, append_assoc}
+use Rattle.std.proofs.Common.{◌≡◌, ℕ, zero, suc, Bool, true, false, cond, eqb, List, [], ◌∷◌, ◌++◌, length, Option, Some, None, is_some, Result, Ok, Err, refl, sym, ap, ◌∙◌, append_assoc}
 use Rattle.std.proofs.lemmas.List.{append-nil}
+use Rattle.std.specs.Prelude.{IsTrue, IfErr}
+use Rattle.site_records.specs.declared.record.RecordFault.{RecordFault}
+use Rattle.site_records.specs.declared.record.RecordFault.TheVariants.{BadRecord, Memory}
+use Rattle.site_records.specs.Reading.{Gives, MemoryOnlyFor}
 use Rattle.site_records.specs.Field.{Read, ◌>>=◌, times, until_end, with_front, with_all}
 
 pub with_front-nil : {A R : Type 0} (r : Option (List A × R)) → with_front [] r ≡ r
@@ -60,3 +64,20 @@ module _ {A : Type 0} (read : Read A) where
   pub until_over : (front : List A) (m : ℕ) (rest : List ℕ) (all : Option (List A)) → m ≡ 0 → eqb (length rest) 0 ≡ false → with_all front (until_end read m rest) ≡ all → all ≡ None
   until_over front m rest all is more whole =
       sym whole ∙ ap (λ (k : ℕ). with_all front (until_end read k rest)) is ∙ ap (λ (b : Bool). with_all front (cond b last_step None)) more
+
+  -- reading goes on, and whether it ends well is what it was
+  pub goes_on : (m n : ℕ) (x : A) (rest after : List ℕ) (all : Bool) → m ≡ suc n → eqb (length rest) 0 ≡ false → read rest ≡ Some (x, after) → is_some (until_end read m rest) ≡ all → is_some (until_end read n after) ≡ all
+  goes_on m n x rest after all is more found whole =
+      let step = ap (λ (r : Option (List A)). is_some r) (until_more [] m n x rest after (until_end read m rest) is more found (with_all-nil (until_end read m rest))) in
+      is_some_all (x ∷ []) (until_end read n after) ∙ step ∙ whole
+    where
+      is_some_all : (front : List A) (r : Option (List A)) → is_some r ≡ is_some (with_all front r)
+      is_some_all front None = refl
+      is_some_all front (Some xs) = refl
+
+-- Memory is lacking only for what is read, so for what is written so, where all that is read is.
+pub lacks_for : {X : Type 0} (test : X → Bool) (write : X → List ℕ) (bytes : List ℕ) (read : Option X) → ((x : X) → read ≡ Some x → IsTrue (test x) × (bytes ≡ write x)) → (r : Result X RecordFault) → Gives (λ x. x) r read → IfErr r (MemoryOnlyFor test write bytes)
+lacks_for test write bytes read found (Ok x) given = tt
+lacks_for test write bytes read found (Err BadRecord) given = tt
+lacks_for test write bytes None found (Err Memory) given = absurd cc
+lacks_for test write bytes (Some x) found (Err Memory) given = let it = found x refl in (x, it.0, it.1)

@@ -3,6 +3,7 @@ pub mod Records
 pub mod Field
 pub mod Limits
 pub mod Reading
+pub mod Lent
 pub mod Layout
 pub mod LayoutLaws
 pub mod Laws

@@ -1,5 +1,5 @@
 -- Reading records, entries and questions from left to right, or nothing.
-use Rattle.std.specs.Prelude.{◌≡◌, ℕ, ◌-◌, ◌^◌, ◌||◌, ◌&&◌, nat_le, is_none, Bool, List, [], ◌∷◌, length, Option, Some, None, Result, Ok, Err, nat_lt, find, ◌==◌, if◌then◌else◌}
+use Rattle.std.specs.Prelude.{◌≡◌, ℕ, ◌-◌, ◌^◌, ◌||◌, nat_le, Bool, List, [], ◌∷◌, length, Option, Some, None, Result, Ok, Err, nat_lt, find, ◌==◌, if◌then◌else◌, IsTrue, IsSome}
 use Rattle.std.specs.Int.{w16, w32, w64}
 use Rattle.host_types.specs.Items.{kind_letter, link_letter, is_selector, is_title, is_host, is_link}
 use Rattle.host_types.specs.declared.view.Kind.{Kind}
@@ -241,11 +241,22 @@ record_at_v1 bytes = do
   r ← record_by moments_at_v1 bytes
   if is_small r.body then Some r else None
 
--- What a function returned, seen by view, is what reading gives, unless memory ran out.
+-- What reading a field returned, seen by view, is what stands at the front: no memory is asked for.
+abbrev pub Reads : {X Y : Type 0} → (X → Y) → Result X RecordFault → Option Y → Type 0
+Reads view (Ok x) read = read ≡ Some (view x)
+Reads view (Err e) read = (e ≡ faults.BadRecord) × (read ≡ None)
+
+-- Memory is lacking only for what is read: bad bytes are told as such.
 abbrev pub Fails : {Y : Type 0} → RecordFault → Option Y → Type 0
-Fails faults.Memory read = Unit {0}
+Fails faults.Memory read = IsSome read
 Fails faults.BadRecord read = read ≡ None
 
+-- What a function returned, seen by view, is what reading gives, unless memory ran out.
 abbrev pub Gives : {X Y : Type 0} → (X → Y) → Result X RecordFault → Option Y → Type 0
 Gives view (Ok x) read = read ≡ Some (view x)
 Gives view (Err e) read = Fails e read
+
+-- Memory is lacking only where the bytes are what is written of a value that passes a test.
+abbrev pub MemoryOnlyFor : {X : Type 0} → (X → Bool) → (X → List ℕ) → List ℕ → RecordFault → Type 0
+MemoryOnlyFor {X = X} test write bytes faults.Memory = (x : X) × IsTrue (test x) × (bytes ≡ write x)
+MemoryOnlyFor test write bytes faults.BadRecord = Unit {0}

@@ -1,10 +1,10 @@
 // Reading the entries of a menu.
-ghost use Rattle.std.specs.Prelude.{◌≡◌, ◌++◌, IfOk, IsTrue, List, Some};
+ghost use Rattle.std.specs.Prelude.{◌≡◌, ◌++◌, IfOk, IfErr, IsTrue, List, Some};
 ghost use Rattle.host_types.specs.declared.menu.Entry.{Entry};
 ghost use Rattle.site_records.specs.Records.{entries_bytes};
 ghost use Rattle.site_records.specs.Limits.{are_entries};
 ghost use Rattle.site_records.specs.Field.{until_end};
-ghost use Rattle.site_records.specs.Reading.{Gives, entry_behind, entry_at, entries_at, remote_entry};
+ghost use Rattle.site_records.specs.Reading.{Reads, Gives, Fails, MemoryOnlyFor, entry_behind, entry_at, entries_at, remote_entry};
 
 use crate::RecordFault;
 use crate::fields::{byte_of, host_of, link_of, port_of, selector_of, title_of};
@@ -17,7 +17,7 @@ const MOST_ENTRIES: usize = 100;
 
 #[tactic(auto, unfolding(crate::specs::Field::both, crate::specs::Field::mapped))]
 fn remote_of(bytes: &[u8]) -> Result<(Entry, &[u8]), RecordFault>
-    ensures { Gives (λ x. (x.0, x.1.now)) result (remote_entry bytes.now) }
+    ensures { Reads (λ x. (x.0, x.1.now)) result (remote_entry bytes.now) }
 {
     let (kind, rest) = link_kind(bytes)?;
     let (title, rest) = title_of(rest)?;
@@ -37,7 +37,7 @@ fn remote_of(bytes: &[u8]) -> Result<(Entry, &[u8]), RecordFault>
 /// What stands behind a tag.
 #[tactic(auto, unfolding(crate::specs::Reading::entry_behind, crate::specs::Field::both, crate::specs::Field::mapped))]
 fn entry_behind(tag: u8, bytes: &[u8]) -> Result<(Entry, &[u8]), RecordFault>
-    ensures { Gives (λ x. (x.0, x.1.now)) result (entry_behind tag bytes.now) }
+    ensures { Reads (λ x. (x.0, x.1.now)) result (entry_behind tag bytes.now) }
 {
     match tag {
         b'L' => {
@@ -60,10 +60,31 @@ fn entry_behind(tag: u8, bytes: &[u8]) -> Result<(Entry, &[u8]), RecordFault>
 
 #[tactic(auto, unfolding(crate::specs::Reading::entry_at))]
 fn entry_of(bytes: &[u8]) -> Result<(Entry, &[u8]), RecordFault>
-    ensures { Gives (λ x. (x.0, x.1.now)) result (entry_at bytes.now) }
+    ensures { Reads (λ x. (x.0, x.1.now)) result (entry_at bytes.now) }
 {
     let (tag, rest) = byte_of(bytes)?;
     entry_behind(tag, rest)
+}
+
+/// The fault where memory is lacking and so many entries may come yet: one that can't be read goes before.
+fn lacking(most: usize, bytes: &[u8]) -> RecordFault
+    ensures { Fails result (until_end entry_at most bytes.now) }
+{
+    let mut rest = bytes;
+    for _ in 0..most {
+        if rest.is_empty() {
+            return RecordFault::Memory;
+        }
+        match entry_of(rest) {
+            Ok((_, behind)) => rest = behind,
+            Err(fault) => return fault,
+        }
+    }
+    if rest.is_empty() {
+        RecordFault::Memory
+    } else {
+        RecordFault::BadRecord
+    }
 }
 
 /// Entries to the end of the bytes, at most so many.
@@ -72,13 +93,15 @@ fn entries_within(alloc: Global, most: usize, bytes: &[u8]) -> Result<EntryList,
 {
     let mut entries = EntryList::new(alloc);
     let mut rest = bytes;
-    for _ in 0..most {
+    for count in 0..most {
         if rest.is_empty() {
             return Ok(entries);
         }
         let (entry, behind) = entry_of(rest)?;
-        entries.push(entry)?;
-        rest = behind;
+        match entries.push(entry) {
+            Ok(()) => rest = behind,
+            Err(_) => return Err(lacking(most - 1 - count, behind)),
+        }
     }
     if rest.is_empty() {
         Ok(entries)
@@ -100,6 +123,8 @@ pub fn read_entries(alloc: Global, bytes: &[u8]) -> Result<EntryList, RecordFaul
     ensures found { IfOk result (λ entries. IsTrue (are_entries entries) × (bytes.now ≡ entries_bytes entries)) }
     // What is written so is read, unless memory runs out.
     ensures only { (entries : List Entry) → IsTrue (are_entries entries) → bytes.now ≡ entries_bytes entries → Gives (λ x. x) result (Some entries) }
+    // Memory is lacking for no other bytes.
+    ensures memory { IfErr result (MemoryOnlyFor are_entries entries_bytes bytes.now) }
 {
     all_entries(alloc, bytes)
 }

@@ -5,15 +5,14 @@ ghost use Rattle.std.specs.List.{list_all};
 ghost use Rattle.host_types.specs.Names as names;
 ghost use Rattle.host_types.specs.Names.{is_visible};
 ghost use Rattle.site_records.specs.Field.{number, byte, counted};
-ghost use Rattle.site_records.specs.Reading.{Gives, stamp_at, until_at, title_at, summary_at, selector_at, host_at, link_at, port_at};
+ghost use Rattle.site_records.specs.Reading.{Reads, stamp_at, until_at, title_at, summary_at, selector_at, host_at, link_at, port_at};
 
 use crate::RecordFault;
-use host_types::{Bytes, GREATEST_STAMP, Host, Selector, Stamp, Title, Url};
-use std::alloc::Global;
+use host_types::{GREATEST_STAMP, Host, Selector, Stamp, Title, Url};
 
 #[tactic(auto, unfolding(crate::specs::Field::byte))]
 pub fn byte_of(bytes: &[u8]) -> Result<(u8, &[u8]), RecordFault>
-    ensures { Gives (λ x. (x.0, x.1.now)) result (byte bytes.now) }
+    ensures { Reads (λ x. (x.0, x.1.now)) result (byte bytes.now) }
 {
     match bytes {
         [first, rest @ ..] => Ok((*first, rest)),
@@ -23,7 +22,7 @@ pub fn byte_of(bytes: &[u8]) -> Result<(u8, &[u8]), RecordFault>
 
 #[tactic(auto, unfolding(crate::specs::Field::number))]
 pub fn u16_of(bytes: &[u8]) -> Result<(u16, &[u8]), RecordFault>
-    ensures { Gives (λ x. (x.0, x.1.now)) result (number w16 bytes.now) }
+    ensures { Reads (λ x. (x.0, x.1.now)) result (number w16 bytes.now) }
 {
     if bytes.len() < 2 {
         return Err(RecordFault::BadRecord);
@@ -34,7 +33,7 @@ pub fn u16_of(bytes: &[u8]) -> Result<(u16, &[u8]), RecordFault>
 
 #[tactic(auto, unfolding(crate::specs::Field::number))]
 pub fn u32_of(bytes: &[u8]) -> Result<(u32, &[u8]), RecordFault>
-    ensures { Gives (λ x. (x.0, x.1.now)) result (number w32 bytes.now) }
+    ensures { Reads (λ x. (x.0, x.1.now)) result (number w32 bytes.now) }
 {
     if bytes.len() < 4 {
         return Err(RecordFault::BadRecord);
@@ -46,7 +45,7 @@ pub fn u32_of(bytes: &[u8]) -> Result<(u32, &[u8]), RecordFault>
 
 #[tactic(auto, unfolding(crate::specs::Field::number))]
 pub fn u64_of(bytes: &[u8]) -> Result<(u64, &[u8]), RecordFault>
-    ensures { Gives (λ x. (x.0, x.1.now)) result (number w64 bytes.now) }
+    ensures { Reads (λ x. (x.0, x.1.now)) result (number w64 bytes.now) }
 {
     if bytes.len() < 8 {
         return Err(RecordFault::BadRecord);
@@ -61,7 +60,7 @@ pub fn u64_of(bytes: &[u8]) -> Result<(u64, &[u8]), RecordFault>
 /// A length in one byte, and that many bytes.
 #[tactic(auto, unfolding(crate::specs::Field::counted))]
 pub fn short_of(bytes: &[u8]) -> Result<(&[u8], &[u8]), RecordFault>
-    ensures { Gives (λ x. (x.0.now, x.1.now)) result (counted byte bytes.now) }
+    ensures { Reads (λ x. (x.0.now, x.1.now)) result (counted byte bytes.now) }
 {
     let (count, rest) = byte_of(bytes)?;
     let count = usize::from(count);
@@ -73,7 +72,7 @@ pub fn short_of(bytes: &[u8]) -> Result<(&[u8], &[u8]), RecordFault>
 
 #[tactic(auto, unfolding(crate::specs::Field::passing))]
 pub fn selector_of(bytes: &[u8]) -> Result<(Selector, &[u8]), RecordFault>
-    ensures { Gives (λ x. (x.0, x.1.now)) result (selector_at bytes.now) }
+    ensures { Reads (λ x. (x.0, x.1.now)) result (selector_at bytes.now) }
 {
     let (text, rest) = short_of(bytes)?;
     match Selector::new(text) {
@@ -84,7 +83,7 @@ pub fn selector_of(bytes: &[u8]) -> Result<(Selector, &[u8]), RecordFault>
 
 #[tactic(auto, unfolding(crate::specs::Field::passing))]
 pub fn title_of(bytes: &[u8]) -> Result<(Title, &[u8]), RecordFault>
-    ensures { Gives (λ x. (x.0, x.1.now)) result (title_at bytes.now) }
+    ensures { Reads (λ x. (x.0, x.1.now)) result (title_at bytes.now) }
 {
     let (text, rest) = short_of(bytes)?;
     match Title::new(text) {
@@ -95,7 +94,7 @@ pub fn title_of(bytes: &[u8]) -> Result<(Title, &[u8]), RecordFault>
 
 #[tactic(auto, unfolding(crate::specs::Field::passing))]
 pub fn host_of(bytes: &[u8]) -> Result<(Host, &[u8]), RecordFault>
-    ensures { Gives (λ x. (x.0, x.1.now)) result (host_at bytes.now) }
+    ensures { Reads (λ x. (x.0, x.1.now)) result (host_at bytes.now) }
 {
     let (text, rest) = short_of(bytes)?;
     match Host::new(text) {
@@ -106,7 +105,7 @@ pub fn host_of(bytes: &[u8]) -> Result<(Host, &[u8]), RecordFault>
 
 #[tactic(auto, unfolding(crate::specs::Field::passing))]
 pub fn link_of(bytes: &[u8]) -> Result<(Url, &[u8]), RecordFault>
-    ensures { Gives (λ x. (x.0, x.1.now)) result (link_at bytes.now) }
+    ensures { Reads (λ x. (x.0, x.1.now)) result (link_at bytes.now) }
 {
     let (text, rest) = short_of(bytes)?;
     match Url::new(text) {
@@ -117,7 +116,7 @@ pub fn link_of(bytes: &[u8]) -> Result<(Url, &[u8]), RecordFault>
 
 #[tactic(auto, unfolding(crate::specs::Field::passing))]
 pub fn port_of(bytes: &[u8]) -> Result<(u16, &[u8]), RecordFault>
-    ensures { Gives (λ x. (x.0, x.1.now)) result (port_at bytes.now) }
+    ensures { Reads (λ x. (x.0, x.1.now)) result (port_at bytes.now) }
 {
     let (port, rest) = u16_of(bytes)?;
     if port < 1 {
@@ -128,7 +127,7 @@ pub fn port_of(bytes: &[u8]) -> Result<(u16, &[u8]), RecordFault>
 
 #[tactic(auto, unfolding(crate::specs::Field::passing))]
 pub fn seconds_of(bytes: &[u8]) -> Result<(u64, &[u8]), RecordFault>
-    ensures exact { Gives (λ x. (x.0, x.1.now)) result (stamp_at bytes.now) }
+    ensures exact { Reads (λ x. (x.0, x.1.now)) result (stamp_at bytes.now) }
     ensures range { IfOk result (λ x. x.0 ≤ 253402300799) }
 {
     let (seconds, rest) = u64_of(bytes)?;
@@ -144,7 +143,7 @@ pub const NEVER: u64 = u64::MAX;
 /// From when on an item isn't found.
 #[tactic(auto, unfolding(crate::specs::Field::passing, crate::specs::Field::mapped))]
 pub fn until_of(bytes: &[u8]) -> Result<(Option<Stamp>, &[u8]), RecordFault>
-    ensures { Gives (λ x. (x.0, x.1.now)) result (until_at bytes.now) }
+    ensures { Reads (λ x. (x.0, x.1.now)) result (until_at bytes.now) }
 {
     let (seconds, rest) = u64_of(bytes)?;
     if seconds == NEVER {
@@ -159,7 +158,7 @@ pub fn until_of(bytes: &[u8]) -> Result<(Option<Stamp>, &[u8]), RecordFault>
 /// A length in two bytes, and that many bytes.
 #[tactic(auto, unfolding(crate::specs::Field::counted))]
 fn long_of(bytes: &[u8]) -> Result<(&[u8], &[u8]), RecordFault>
-    ensures { Gives (λ x. (x.0.now, x.1.now)) result (counted (number w16) bytes.now) }
+    ensures { Reads (λ x. (x.0.now, x.1.now)) result (counted (number w16) bytes.now) }
 {
     let (count, rest) = u16_of(bytes)?;
     let count = usize::from(count);
@@ -170,15 +169,14 @@ fn long_of(bytes: &[u8]) -> Result<(&[u8], &[u8]), RecordFault>
 }
 
 #[tactic(auto, unfolding(crate::specs::Field::passing))]
-pub fn summary_of(alloc: Global, bytes: &[u8]) -> Result<(Bytes, &[u8]), RecordFault>
-    ensures { Gives (λ x. (x.0, x.1.now)) result (summary_at bytes.now) }
+pub fn summary_of(bytes: &[u8]) -> Result<(&[u8], &[u8]), RecordFault>
+    ensures { Reads (λ x. (x.0.now, x.1.now)) result (summary_at bytes.now) }
 {
     let (text, rest) = long_of(bytes)?;
     if text.len() > 400 {
         return Err(RecordFault::BadRecord);
     }
-    let summary = Bytes::from_slice(alloc, text)?;
-    Ok((summary, rest))
+    Ok((text, rest))
 }
 
 /// Whether a menu line can hold the bytes in one field: they have no TAB, CR, LF and NUL.

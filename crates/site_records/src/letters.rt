@@ -2,7 +2,7 @@
 ghost use Rattle.std.specs.Prelude.{◌≡◌};
 ghost use Rattle.site_records.specs.Field.{known};
 ghost use Rattle.site_records.specs.Reading as spec;
-ghost use Rattle.site_records.specs.Reading.{Gives};
+ghost use Rattle.site_records.specs.Reading.{Reads};
 
 use crate::RecordFault;
 use crate::fields::byte_of;
@@ -49,7 +49,7 @@ fn link_of(letter: u8) -> Option<LinkKind>
 /// What sort of document a letter says.
 #[tactic(auto, unfolding(crate::specs::Field::known))]
 pub fn document_kind(bytes: &[u8]) -> Result<(Kind, &[u8]), RecordFault>
-    ensures { Gives (λ x. (x.0, x.1.now)) result (known spec.kind_of bytes.now) }
+    ensures { Reads (λ x. (x.0, x.1.now)) result (known spec.kind_of bytes.now) }
 {
     let (letter, rest) = byte_of(bytes)?;
     match kind_of(letter) {
@@ -61,7 +61,7 @@ pub fn document_kind(bytes: &[u8]) -> Result<(Kind, &[u8]), RecordFault>
 /// What sort of item a letter says that a link leads to.
 #[tactic(auto, unfolding(crate::specs::Field::known))]
 pub fn link_kind(bytes: &[u8]) -> Result<(LinkKind, &[u8]), RecordFault>
-    ensures { Gives (λ x. (x.0, x.1.now)) result (known spec.link_of bytes.now) }
+    ensures { Reads (λ x. (x.0, x.1.now)) result (known spec.link_of bytes.now) }
 {
     let (letter, rest) = byte_of(bytes)?;
     match link_of(letter) {

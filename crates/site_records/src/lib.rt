@@ -5,6 +5,8 @@ mod entry_reading;
 mod fields;
 mod keys;
 mod laws;
+mod lent_question;
+mod lent_record;
 mod letters;
 mod part_chunks;
 mod part_writing;

@@ -17,7 +17,7 @@ still_honest a b kept honest = subst IsTrue (sym kept.honest) honest
 
 -- nothing was read
 nothing_read : (h : SiteState) → HasRead h h
-nothing_read h = record { site = λ honest. refl; honest = refl; usable = refl; free = λ honest. refl; reads = omega arith; writes = refl; pins = refl }
+nothing_read h = record { site = λ honest. refl; honest = refl; usable = refl; free = refl; reads = omega arith; writes = refl; pins = refl }
 
 pub only_none : {K L : Type 0} (site_state : K → SiteState) (lacks : K → Changes → SiteFault → Type 0) (crash_states : K → CrashStates L) (a : K) → ReadsOnly site_state lacks crash_states a a
 only_none site_state lacks crash_states a = record {
@@ -31,7 +31,7 @@ read_on a b c first second = record {
   site = λ honest. second.site (still_honest a b first honest) ∙ first.site honest;
   honest = second.honest ∙ first.honest;
   usable = second.usable ∙ first.usable;
-  free = λ honest. second.free (still_honest a b first honest) ∙ first.free honest;
+  free = second.free ∙ first.free;
   reads = omega (arith, first.reads, second.reads);
   writes = second.writes ∙ first.writes;
   pins = second.pins ∙ first.pins;

@@ -1,8 +1,8 @@
 // A site in memory is searched by looking at each item.
-ghost use Rattle.std.specs.Prelude.{◌≡◌, OnOk, IfOk, map, filter, take};
+ghost use Rattle.std.specs.Prelude.{◌≡◌, OnOk, OnErr, IfOk, IsTrue, map, filter, take, nat_eq};
 ghost use Rattle.std.specs.List.{list_all, starts_with};
 ghost use Rattle.host_types.specs.CrashStates.{no_new_crash_state, nothing};
-ghost use Rattle.word_index.specs.Gathered.{searched_at};
+ghost use Rattle.word_index.specs.Gathered.{searched_at, is_looked_into};
 ghost use Rattle.word_index.specs.Search as spec;
 ghost use Rattle.host_types.specs.Visible.{is_fresh, visible};
 ghost use Rattle.host_types.specs.Words as words;
@@ -36,7 +36,8 @@ fn is_found(
     selector: &Selector,
     item: &Item,
 ) -> Result<bool, AllocError>
-    ensures { IfOk result (λ found. found ≡ spec.is_found scope.now asked.now (selector.now, item.now)) }
+    ensures found { IfOk result (λ found. found ≡ spec.is_found scope.now asked.now (selector.now, item.now)) }
+    ensures memory { OnErr result (IsTrue (starts_with nat_eq selector.now scope.now)) }
 {
     if !selector.as_bytes().starts_with(scope.as_bytes()) {
         return Ok(false);
@@ -62,7 +63,9 @@ pub fn look_at(
     now: Stamp,
     entry: (&Selector, &Item),
 ) -> Result<(), AllocError>
-    ensures { OnOk result (found.new ≡ searched_at now scope.now asked.now found.old (entry.entry.0.now, entry.entry.1.now)) }
+    ensures found { OnOk result (found.new ≡ searched_at now scope.now asked.now found.old (entry.entry.0.now, entry.entry.1.now)) }
+    // Memory is asked for of no other item, and of none where there is no room.
+    ensures memory { OnErr result (IsTrue (is_looked_into now scope.now found.old (entry.entry.0.now, entry.entry.1.now))) }
 {
     if found.as_slice().len() < MOST_FOUND
         && !entry.1.is_expired(now)

@@ -1,5 +1,5 @@
 // Words in their order.
-ghost use Rattle.std.specs.Prelude.{◌≡◌, ◌∷◌, ◌++◌, [], ℕ, List, false, map, filter, take, OnOk, IfOk};
+ghost use Rattle.std.specs.Prelude.{◌≡◌, ◌<◌, ◌∷◌, ◌++◌, [], ℕ, List, false, length, map, filter, take, OnOk, OnErr, IfOk};
 ghost use Rattle.std.specs.List.{list_any};
 ghost use Rattle.host_types.specs.Words as spec;
 
@@ -36,7 +36,8 @@ fn word_of(alloc: Global, run: &[u8]) -> Result<Bytes, AllocError>
 
 /// Adds a run that has ended as a word, if it has bytes.
 fn end_run(alloc: Global, words: &mut LineList, run: &[u8]) -> Result<(), AllocError>
-    ensures { OnOk result (words.new ≡ words.old ++ map spec.word_of (filter spec.is_some_run (run.now ∷ []))) }
+    ensures words { OnOk result (words.new ≡ words.old ++ map spec.word_of (filter spec.is_some_run (run.now ∷ []))) }
+    ensures memory { OnErr result (0 < length run.now) }
 {
     if !run.is_empty() {
         words.push(word_of(alloc, run)?)?;

@@ -1,7 +1,9 @@
 // The words of an item.
-ghost use Rattle.std.specs.Prelude.{◌≡◌, ◌++◌, ◌==◌, OnOk, IfOk, []};
+ghost use Rattle.std.specs.Prelude.{◌≡◌, ◌<◌, ◌++◌, ◌==◌, ℕ, List, OnOk, OnErr, IfOk, IsOk, [], length, false};
 ghost use Rattle.word_index.specs.Gathered.{added, gathered};
 ghost use Rattle.host_types.specs.Words as spec;
+ghost use Rattle.host_types.specs.declared.card.CardBody.TheVariants as cards;
+ghost use Rattle.host_types.specs.declared.item.Body.TheVariants as bodies;
 
 use crate::word::words_in;
 use host_types::{Body, Bytes, Card, CardBody, Item, Kind, LineList};
@@ -25,7 +27,8 @@ pub fn is_among(words: &LineList, word: &Bytes) -> bool
 /// Adds a word that is new, while there is room.
 #[tactic(auto, unfolding(crate::specs::Gathered::added))]
 fn add(words: &mut LineList, word: &Bytes) -> Result<(), AllocError>
-    ensures { OnOk result (words.new ≡ added words.old word.now) }
+    ensures added { OnOk result (words.new ≡ added words.old word.now) }
+    ensures memory { OnErr result ((length words.old < 200) × (spec.is_among words.old word.now ≡ false)) }
 {
     if words.as_slice().len() < MOST_WORDS && !is_among(words, word) {
         words.push(word.clone()?)?;
@@ -71,7 +74,9 @@ fn no_words(alloc: Global) -> LineList
 /// The words of an item: the first 200 different ones of its title, its summary and, of a text, its first view. One that has moved has none.
 
 pub fn words(alloc: Global, item: &Item) -> Result<LineList, AllocError>
-    ensures { IfOk result (λ words. words ≡ spec.words_of item.now) }
+    ensures words { IfOk result (λ words. words ≡ spec.words_of item.now) }
+    // One that has moved asks for no memory.
+    ensures moved { (target : List ℕ) → item.now.body ≡ bodies.Moved target → IsOk result }
 {
     let text = match &item.body {
         Body::Views(Kind::Text, _) => item.body.viewed(0),
@@ -84,7 +89,9 @@ pub fn words(alloc: Global, item: &Item) -> Result<LineList, AllocError>
 /// The words of an item by its card and the bytes of its first view, which are examined where it is a text.
 
 pub fn card_words(alloc: Global, card: &Card, bytes: &[u8]) -> Result<LineList, AllocError>
-    ensures { IfOk result (λ words. words ≡ spec.card_words card.now bytes.now) }
+    ensures words { IfOk result (λ words. words ≡ spec.card_words card.now bytes.now) }
+    // One that has moved asks for no memory.
+    ensures moved { (target : List ℕ) → card.now.body ≡ cards.Moved target → IsOk result }
 {
     let text = match &card.body {
         CardBody::Views(Kind::Text, _) => bytes,

@@ -5,11 +5,11 @@ use Rattle.site_records.specs.Reading.{entry_at}
 use Rattle.site_records.proofs.Loops.{until_more}
 use Rattle.site_records.proofs.entry_reading.entries_within.Goals as goal
 
-pub loop-preserved : goal.loop-preserved
-loop-preserved c =
-    let t = c.loop-test.true in
+pub loop-count-preserved : goal.loop-count-preserved
+loop-count-preserved c =
+    let t = c.loop-count-test.true in
     let all = until_end entry_at c.args.most c.args.bytes.now in
-    let is : c.args.most - c.loop.counter ≡ suc (c.args.most - (c.loop.counter + 1)) = omega (arith, t) in
-    let more : eqb (length c.loop.rest.now) 0 ≡ false = sym c.is_empty.ensures ∙ c.if-is_empty.false in
-    subst (λ (l : List Entry). with_all l (until_end entry_at (c.args.most - (c.loop.counter + 1)) c.in_ok-entry.behind.now) ≡ all) (sym c.in_ok-push.ensures.ok)
-    (until_more entry_at c.loop.entries (c.args.most - c.loop.counter) (c.args.most - (c.loop.counter + 1)) c.in_ok-entry.entry c.loop.rest.now c.in_ok-entry.behind.now all is more c.in_ok-entry.ensures c.loop.invariant)
+    let is : c.args.most - c.loop-count.count ≡ suc (c.args.most - (c.loop-count.count + 1)) = omega (arith, t) in
+    let more : eqb (length c.loop-count.rest.now) 0 ≡ false = sym c.is_empty.ensures ∙ c.if-is_empty.false in
+    subst (λ (l : List Entry). with_all l (until_end entry_at (c.args.most - (c.loop-count.count + 1)) c.in_ok-entry.behind.now) ≡ all) (sym c.in-Ok.ensures.ok)
+    (until_more entry_at c.loop-count.entries (c.args.most - c.loop-count.count) (c.args.most - (c.loop-count.count + 1)) c.in_ok-entry.entry c.loop-count.rest.now c.in_ok-entry.behind.now all is more c.in_ok-entry.ensures c.loop-count.invariant)

@@ -3,5 +3,5 @@ use Rattle.site_records.specs.Field.{until_end, with_all}
 use Rattle.site_records.specs.Reading.{question_at}
 use Rattle.site_records.proofs.question_reading.questions_within.Given as goal
 
-abbrev pub invariant-loop : goal.invariant-loop
-invariant-loop l = with_all l.questions (until_end question_at (l.most - l.counter) l.rest) ≡ until_end question_at l.most l.bytes
+abbrev pub invariant-loop-count : goal.invariant-loop-count
+invariant-loop-count l = with_all l.questions (until_end question_at (l.most - l.count) l.rest) ≡ until_end question_at l.most l.bytes
