@@ -6,7 +6,7 @@ use Rattle.common_types.specs.declared.refused.Refused.{Refused}
 use Rattle.host_types.specs.AllChanges.{Changes}
 use Rattle.host_types.specs.Site.{Site, IsSite}
 use Rattle.host_types.specs.Change.{apply}
-use Rattle.host_types.specs.SiteState.{SiteState, HasNotChanged, IsChangeFault}
+use Rattle.host_types.specs.SiteState.{SiteState, HasNotChanged, SpentFirst, IsChangeFault}
 use Rattle.host_types.specs.CrashStates.{CrashStates, AddsOnly, AddsNone}
 use Rattle.host_types.specs.ValidChanges.{ChangesKeepSites, is_typed_change}
 use Rattle.host_types.specs.declared.change.Change.{Change}
@@ -15,7 +15,7 @@ use Rattle.host_types.specs.declared.site_fault.SiteFault.TheVariants as faults
 use Rattle.group_world.specs.World.{World, Phase}
 use Rattle.group_world.specs.Step.{changed, made_or}
 use Rattle.group_world.specs.Run.{valid_one, IsFaulty}
-use Rattle.group_world.specs.Calls.{IsLacking}
+use Rattle.group_world.specs.Calls.{IsLacking, IsUnspent}
 use Rattle.group_world.specs.CrashStates.{with_changes}
 use Rattle.group_world.specs.Outcomes.{fault_of}
 use Rattle.group_world.specs.declared.event.Event.TheVariants.{Admin}
@@ -45,6 +45,11 @@ is_ok (Err refused) t e = absurd (cc e)
 
 lacking : (lacks : Changes → SiteFault → Type 0) (change : Change) (now : ℕ) (applied : Result Site Refused) (fault : SiteFault) → IsOk applied → lacks ((change, now) ∷ []) fault → IsLacking lacks (valid_one change now applied) fault
 lacking lacks change now applied fault is h = subst (λ (l : Changes). IsLacking lacks l fault) (sym (is_valid change now applied is)) h
+
+-- what the keeper does not lack for the change it does not lack where that is not valid either
+unspent : (lacks : Changes → SiteFault → Type 0) (change : Change) (now : ℕ) (applied : Result Site Refused) → (lacks ((change, now) ∷ []) faults.Spent → ⊥) → IsUnspent lacks (valid_one change now applied)
+unspent lacks change now (Ok site) none = none
+unspent lacks change now (Err refused) none = λ never. never
 
 made_site : (change : Change) (now : ℕ) (site t : Site) → apply site change now ≡ Ok t → with_changes site (valid_one change now (apply site change now)) ≡ t
 made_site change now site t is = ap (with_changes site) (is_valid change now (apply site change now) (is_ok (apply site change now) t is)) ∙ ap (made_or site) is
@@ -217,19 +222,21 @@ module _ {S L : Type 0} (site_state : S → SiteState) (lacks : S → Changes �
       }
 
   pub not_made_call : (fault : SiteFault) → CountsCall {T = Outcome} (Err (fault_of fault)) (site_state k) (site_state l) → (site_state k).usable ≡ true → (site_state l).honest ≡ (site_state k).honest → Represents site_state crash_states stands k → Crashes → WritesNothing
-      → IsChangeFault (lacks k ((change, now) ∷ [])) (site_state k) (site_state l) applied fault → It (Fault (fault_of fault))
-  not_made_call (faults.Refused refused) counts usable same represent crashes none h = refused_call refused counts usable same represent none h.0 h.1
-  not_made_call faults.Read counts usable same represent crashes none h = failed_call hub.Broken (λ x. cc x) counts usable same represent crashes none (usable, h.1) (h.0, h.1)
-  not_made_call (faults.Full need free) counts usable same represent crashes none h =
-      let lack : IsTrue (site_state k).honest → (free ≡ (site_state k).free) × IsLacking (lacks k) own (faults.Full need free) = λ honest. ((h.2 honest).0, lacking (lacks k) change now applied (faults.Full need free) (h.2 honest).1 (h.2 honest).2) in
+      → IsChangeFault (lacks k ((change, now) ∷ [])) (site_state k) (site_state l) applied fault → SpentFirst {T = Unit {0}} (lacks k ((change, now) ∷ [])) (Err fault) → It (Fault (fault_of fault))
+  not_made_call (faults.Refused refused) counts usable same represent crashes none h order = refused_call refused counts usable same represent none h.0 h.1
+  not_made_call faults.Read counts usable same represent crashes none h order = failed_call hub.Broken (λ x. cc x) counts usable same represent crashes none (usable, h.1) (h.0, h.1)
+  not_made_call (faults.Full need free) counts usable same represent crashes none h order =
+      let lack : IsTrue (site_state k).honest → IsLacking (lacks k) own (faults.Full need free) × IsUnspent (lacks k) own =
+      λ honest. (lacking (lacks k) change now applied (faults.Full need free) (h.2 honest).0 (h.2 honest).1, unspent (lacks k) change now applied order) in
       failed_call (hub.Full need free) (λ x. cc x) counts usable same represent crashes none (usable, h.1, lack) (h.0, h.1, lack)
-  not_made_call faults.Spent counts usable same represent crashes none h =
+  not_made_call faults.Spent counts usable same represent crashes none h order =
       let lack : IsTrue (site_state k).honest → IsLacking (lacks k) own faults.Spent = λ honest. lacking (lacks k) change now applied faults.Spent (h.1 honest).0 (h.1 honest).1 in
       failed_call hub.Spent (λ x. cc x) counts usable same represent crashes none (usable, lack) (h.0, lack)
-  not_made_call faults.Deep counts usable same represent crashes none h =
-      let lack : IsTrue (site_state k).honest → IsLacking (lacks k) own faults.Deep = λ honest. lacking (lacks k) change now applied faults.Deep (h.1 honest).0 (h.1 honest).1 in
+  not_made_call faults.Deep counts usable same represent crashes none h order =
+      let lack : IsTrue (site_state k).honest → IsLacking (lacks k) own faults.Deep × IsUnspent (lacks k) own =
+      λ honest. (lacking (lacks k) change now applied faults.Deep (h.1 honest).0 (h.1 honest).1, unspent (lacks k) change now applied order) in
       failed_call hub.Deep (λ x. cc x) counts usable same represent crashes none (usable, lack) (h.0, lack)
-  not_made_call faults.Failed counts usable same represent crashes none h =
+  not_made_call faults.Failed counts usable same represent crashes none h order =
       failed_call hub.Failed (λ x. cc x) counts usable same represent crashes none (λ honest. inr (h.cause honest usable))
       (record { site = h.site; shut = h.shut; cause = λ honest. h.cause honest usable; change = λ honest. ap (λ (m : Changes). nat_lt 0 (length m)) (is_valid change now applied (h.right honest usable)) })
-  not_made_call faults.Memory counts usable same represent crashes none h = failed_call hub.Memory (λ x. cc x) counts usable same represent crashes none usable h
+  not_made_call faults.Memory counts usable same represent crashes none h order = failed_call hub.Memory (λ x. cc x) counts usable same represent crashes none usable h

@@ -7,7 +7,7 @@ use Rattle.host_types.specs.SiteState.{SiteState, Rose, HasRead, HasNotChanged, 
 use Rattle.host_types.specs.CrashStates.{CrashStates, AddsOnly, may_crash_to, adds_both}
 use Rattle.host_types.specs.declared.site_fault.SiteFault.{SiteFault}
 use Rattle.host_types.specs.declared.site_fault.SiteFault.TheVariants as faults
-use Rattle.group_world.specs.Calls.{IsLacking}
+use Rattle.group_world.specs.Calls.{IsLacking, IsUnspent}
 use Rattle.group_world.specs.CrashStates.{with_changes}
 use Rattle.group_world.specs.declared.fault.HubFault.{HubFault}
 use Rattle.group_world.specs.declared.fault.HubFault.TheVariants as hub
@@ -37,10 +37,19 @@ lacking_still before now changes made fault same is lack = subst (λ (c : Change
     still [] never = never
     still (x ∷ c) so = same.before (x ∷ c) fault so
 
+-- and what a keeper does not lack behind them, it did not lack before
+pub unspent_still : (before now : Changes → SiteFault → Type 0) (changes made : Changes) → LacksTheSame before now → changes ≡ made → IsUnspent now made → IsUnspent before changes
+unspent_still before now changes made same is none = λ spent. none (on made (subst (λ (c : Changes). IsLacking before c faults.Spent) is spent))
+  where
+    on : (c : Changes) → IsLacking before c faults.Spent → IsLacking now c faults.Spent
+    on [] never = never
+    on (x ∷ c) so = same.after (x ∷ c) faults.Spent so
+
 not_changed_since : (a m b : SiteState) → HasRead a m → HasNotChanged m b → HasNotChanged a b
 not_changed_since a m b kept stays = record {
   site = λ honest. stays.site (subst IsTrue (sym kept.honest) honest) ∙ kept.site honest;
   usable = stays.usable ∙ kept.usable;
+  free = stays.free ∙ kept.free;
 }
 
 failed_since : (a m b : SiteState) (changes made : Changes) → HasRead a m → (IsTrue a.honest → changes ≡ made) → HasFailedNow m b made → HasFailedNow a b changes
@@ -60,9 +69,10 @@ post_fault_since before now changes made a m b hub.Memory kept none lack same is
 post_fault_since before now changes made a m b hub.Crowded kept none lack same is = not_changed_since a m b kept is
 post_fault_since before now changes made a m b hub.Broken kept none lack same is = (not_changed_since a m b kept is.0, λ honest. subst (λ (n : ℕ). Rose n b.failed_reads) none (is.1 (subst IsTrue (sym kept.honest) honest)))
 post_fault_since before now changes made a m b (hub.Full need free) kept none lack same is =
-    (not_changed_since a m b kept is.0, is.1, λ honest. (let why = is.2 (subst IsTrue (sym kept.honest) honest) in (why.0 ∙ kept.free honest, lacking_still before now changes made (faults.Full need free) lack (same honest) why.1)))
+    (not_changed_since a m b kept is.0, (is.1.0 ∙ kept.free, is.1.1), λ honest. (let why = is.2 (subst IsTrue (sym kept.honest) honest) in (lacking_still before now changes made (faults.Full need free) lack (same honest) why.0, unspent_still before now changes made lack (same honest) why.1)))
 post_fault_since before now changes made a m b hub.Spent kept none lack same is = (not_changed_since a m b kept is.0, λ honest. lacking_still before now changes made faults.Spent lack (same honest) (is.1 (subst IsTrue (sym kept.honest) honest)))
-post_fault_since before now changes made a m b hub.Deep kept none lack same is = (not_changed_since a m b kept is.0, λ honest. lacking_still before now changes made faults.Deep lack (same honest) (is.1 (subst IsTrue (sym kept.honest) honest)))
+post_fault_since before now changes made a m b hub.Deep kept none lack same is =
+    (not_changed_since a m b kept is.0, λ honest. (let why = is.1 (subst IsTrue (sym kept.honest) honest) in (lacking_still before now changes made faults.Deep lack (same honest) why.0, unspent_still before now changes made lack (same honest) why.1)))
 post_fault_since before now changes made a m b hub.Failed kept none lack same is = failed_since a m b changes made kept same is
 post_fault_since before now changes made a m b hub.Unknown kept none lack same is = is
 post_fault_since before now changes made a m b (hub.Refused refused) kept none lack same is = is
@@ -156,4 +166,4 @@ module _ {K L : Type 0} (site_state : K → SiteState) (lacks : K → Changes �
   waits_made posting changes old new (Ok c) lets read none is = reads_made changes old new c read none is
   waits_made {P = P} posting changes old new (Err e) (ok, err) read none is =
       subst (λ (fault : HubFault). MakesThem {T = Concluded P} changes old new (Err fault)) (sym err.0)
-      (none_made changes old new hub.Crowded read (record { reads = none; writes = read.only.kept.writes }) (record { site = read.only.kept.site; usable = read.only.kept.usable }))
+      (none_made changes old new hub.Crowded read (record { reads = none; writes = read.only.kept.writes }) (record { site = read.only.kept.site; usable = read.only.kept.usable; free = read.only.kept.free }))

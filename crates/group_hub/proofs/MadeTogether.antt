@@ -1,5 +1,5 @@
 -- A group that is prepared, and then made in one step.
-use Rattle.std.proofs.Common.{◌≡◌, inl, inr, ⊎_elim, ℕ, ◌<◌, Bool, true, List, [], ◌∷◌, length, refl, sym, ap, subst, ◌∙◌, arith, lt-ltb}
+use Rattle.std.proofs.Common.{◌≡◌, ◌⊎◌, inl, inr, ⊎_elim, ℕ, ◌<◌, Bool, true, List, [], ◌∷◌, length, refl, sym, ap, subst, ◌∙◌, arith, lt-ltb}
 use Rattle.std.specs.Prelude.{Some, Result, Ok, Err, OnOk, IfOk, IfErr, IsTrue, nat_lt}
 use Rattle.host_types.specs.AllChanges.{Changes}
 use Rattle.host_types.specs.Site.{Site}
@@ -25,7 +25,7 @@ use Rattle.group_hub.specs.declared.group_commit.GroupCommit.{GroupCommit}
 use Rattle.group_hub.specs.declared.group_commit.GroupCommit.TheVariants as commits
 use Rattle.group_hub.specs.declared.next.Next.{Next}
 use Rattle.group_hub.specs.declared.session.Session.{Session}
-use Rattle.group_hub.proofs.MadeBehindReads.{weaker, lacking_still}
+use Rattle.group_hub.proofs.MadeBehindReads.{weaker, lacking_still, unspent_still}
 use Rattle.group_hub.proofs.NextPins.{OneMore, none_beside}
 use Rattle.group_hub.proofs.PreparesThen.{counts_behind}
 
@@ -140,12 +140,22 @@ module _ {S L P : Type 0} (site_state : S → SiteState) (lacks : S → Changes 
       lack_since fault honest lack = lacking_still (lacks k) (lacks m) whole_group.changes changes fault p.lacking (sym (prepared honest).changes) lack
 
       split_since : IsTrue (site_state k).honest → MaySplit (lacks m) (site_state m) changes → MaySplit (lacks k) (site_state k) whole_group.changes
-      split_since honest (inl (need, less, lack)) = inl (need, subst (λ (n : ℕ). n < need) (p.free honest) less, lack_since (faults.Full need (site_state k).free) honest (subst (λ (n : ℕ). IsLacking (lacks m) changes (faults.Full need n)) (p.free honest) lack))
-      split_since honest (inr lack) = inr (lack_since faults.Deep honest lack)
+      split_since honest split = record {
+        cause = cause_since split.cause;
+        unspent = unspent_still (lacks k) (lacks m) whole_group.changes changes p.lacking (sym (prepared honest).changes) split.unspent;
+      }
+        where
+          cause_since : ((need : ℕ) × ((site_state m).free < need) × IsLacking (lacks m) changes (faults.Full need (site_state m).free)) ⊎ IsLacking (lacks m) changes faults.Deep
+              → ((need : ℕ) × ((site_state k).free < need) × IsLacking (lacks k) whole_group.changes (faults.Full need (site_state k).free)) ⊎ IsLacking (lacks k) whole_group.changes faults.Deep
+          cause_since (inl (need, less, lack)) = inl (need, subst (λ (n : ℕ). n < need) p.free less, lack_since (faults.Full need (site_state k).free) honest (subst (λ (n : ℕ). IsLacking (lacks m) changes (faults.Full need n)) p.free lack))
+          cause_since (inr lack) = inr (lack_since faults.Deep honest lack)
 
       some_split : IsTrue (site_state k).honest → MaySplit (lacks k) (site_state k) whole_group.changes → nat_lt 0 (length whole_group.changes) ≡ true
-      some_split honest (inl (need, less, lack)) = some_of (lacks k) whole_group.changes (faults.Full need (site_state k).free) lack
-      some_split honest (inr lack) = some_of (lacks k) whole_group.changes faults.Deep lack
+      some_split honest split = by split.cause
+        where
+          by : ((need : ℕ) × ((site_state k).free < need) × IsLacking (lacks k) whole_group.changes (faults.Full need (site_state k).free)) ⊎ IsLacking (lacks k) whole_group.changes faults.Deep → nat_lt 0 (length whole_group.changes) ≡ true
+          by (inl (need, less, lack)) = some_of (lacks k) whole_group.changes (faults.Full need (site_state k).free) lack
+          by (inr lack) = some_of (lacks k) whole_group.changes faults.Deep lack
 
       abbrev Apart : GroupCommit → Type 0
       Apart x = x ≡ commits.TooLarge → IsApart site_state lacks crash_states whole_group.changes k l

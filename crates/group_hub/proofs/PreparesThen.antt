@@ -46,7 +46,7 @@ module _ {K L : Type 0} (site_state : K → SiteState) (lacks : K → Changes �
     site = λ honest. second.site (on honest) ∙ first.site honest;
     honest = second.honest ∙ first.honest;
     usable = second.usable ∙ first.usable;
-    free = λ honest. second.free (on honest) ∙ first.free honest;
+    free = second.free ∙ first.free;
     reads = counts_behind r (site_state a) (site_state b) (site_state c) first.honest first.reads second.reads;
     more = omega (arith, first.more, second.more);
     writes = second.writes ∙ first.writes;

@@ -116,11 +116,11 @@ pub post_fault : (a b : SiteState) (lacks : Changes → SiteFault → Type 0) (n
 post_fault a b lacks next g old new e changes hub.Memory other room honest usable works reads are seats cause = (works, same_parts b.site a.site b.usable a.usable next g new old (cause.site honest) cause.usable seats)
 post_fault a b lacks next g old new e changes hub.Broken other room honest usable works reads are seats cause = (reads, same_parts b.site a.site b.usable a.usable next g new old (cause.0.site honest) cause.0.usable seats)
 post_fault a b lacks next g old new e changes (hub.Full need free) other room honest usable works reads are seats cause =
-    (comes_full (world_at a next g old) e need free other (ap (λ (l : Changes). nat_lt 0 (length l)) are ∙ only_changes lacks changes (faults.Full need free) (cause.2 honest).1), same_parts b.site a.site b.usable a.usable next g new old (cause.0.site honest) cause.0.usable seats)
+    (comes_full (world_at a next g old) e need free other (ap (λ (l : Changes). nat_lt 0 (length l)) are ∙ only_changes lacks changes (faults.Full need free) (cause.2 honest).0), same_parts b.site a.site b.usable a.usable next g new old (cause.0.site honest) cause.0.usable seats)
 post_fault a b lacks next g old new e changes hub.Spent other room honest usable works reads are seats cause =
     (ap (λ (l : Changes). nat_lt 0 (length l)) are ∙ only_changes lacks changes faults.Spent (cause.1 honest), same_parts b.site a.site b.usable a.usable next g new old (cause.0.site honest) cause.0.usable seats)
 post_fault a b lacks next g old new e changes hub.Deep other room honest usable works reads are seats cause =
-    (comes_deep (world_at a next g old) e other (ap (λ (l : Changes). nat_lt 0 (length l)) are ∙ only_changes lacks changes faults.Deep (cause.1 honest)), same_parts b.site a.site b.usable a.usable next g new old (cause.0.site honest) cause.0.usable seats)
+    (comes_deep (world_at a next g old) e other (ap (λ (l : Changes). nat_lt 0 (length l)) are ∙ only_changes lacks changes faults.Deep (cause.1 honest).0), same_parts b.site a.site b.usable a.usable next g new old (cause.0.site honest) cause.0.usable seats)
 post_fault a b lacks next g old new e changes hub.Failed other room honest usable works reads are seats cause =
     (ap (λ (l : Changes). nat_lt 0 (length l)) are ∙ cause.change honest, same_parts b.site a.site b.usable false next g new old (cause.site honest) cause.shut seats)
 post_fault a b lacks next g old new e changes hub.Crowded other room honest usable works reads are seats cause = absurd (room refl)

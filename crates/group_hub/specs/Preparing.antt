@@ -25,7 +25,7 @@ pub record Prepares {T K L : Type 0} (site_state : K → SiteState) (lacks : K �
   pub site : IsTrue (site_state old).honest → (site_state new).site ≡ (site_state old).site
   pub honest : (site_state new).honest ≡ (site_state old).honest
   pub usable : (site_state new).usable ≡ (site_state old).usable
-  pub free : IsTrue (site_state old).honest → (site_state new).free ≡ (site_state old).free
+  pub free : (site_state new).free ≡ (site_state old).free
   pub reads : CountsReads result (site_state old) (site_state new)
   pub more : (site_state old).failed_reads ≤ (site_state new).failed_reads
   pub writes : (site_state new).failed_writes ≡ (site_state old).failed_writes

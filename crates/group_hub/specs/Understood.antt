@@ -12,7 +12,7 @@ use Rattle.group_world.specs.World.{Phase, Heard, Waits, Reply, Early}
 use Rattle.group_world.specs.Outcomes.{drawn_length}
 use Rattle.group_world.specs.declared.answer.Drawn.{Drawn}
 use Rattle.group_world.specs.Step.{StepResult, says, replies, settles}
-use Rattle.group_world.specs.Calls.{IsLacking}
+use Rattle.group_world.specs.Calls.{IsLacking, IsUnspent}
 use Rattle.group_world.specs.Run.{is_hearing, has_bytes_left}
 use Rattle.host_types.specs.Pins.{most_pins}
 use Rattle.group_world.specs.declared.event.Outcome.TheVariants.{Ready, Finished}
@@ -60,9 +60,9 @@ abbrev pub IsPostFault : (Changes → SiteFault → Type 0) → Changes → Site
 IsPostFault lacks changes old new hub.Memory = HasNotChanged old new
 IsPostFault lacks changes old new hub.Crowded = HasNotChanged old new
 IsPostFault lacks changes old new hub.Broken = HasNotChanged old new × (IsTrue old.honest → Rose old.failed_reads new.failed_reads)
-IsPostFault lacks changes old new (hub.Full need free) = HasNotChanged old new × (free < need) × (IsTrue old.honest → (free ≡ old.free) × IsLacking lacks changes (faults.Full need free))
+IsPostFault lacks changes old new (hub.Full need free) = HasNotChanged old new × ((free ≡ old.free) × (free < need)) × (IsTrue old.honest → IsLacking lacks changes (faults.Full need free) × IsUnspent lacks changes)
 IsPostFault lacks changes old new hub.Spent = HasNotChanged old new × (IsTrue old.honest → IsLacking lacks changes faults.Spent)
-IsPostFault lacks changes old new hub.Deep = HasNotChanged old new × (IsTrue old.honest → IsLacking lacks changes faults.Deep)
+IsPostFault lacks changes old new hub.Deep = HasNotChanged old new × (IsTrue old.honest → IsLacking lacks changes faults.Deep × IsUnspent lacks changes)
 IsPostFault lacks changes old new hub.Failed = HasFailedNow old new changes
 IsPostFault lacks changes old new hub.Unknown = ⊥
 IsPostFault lacks changes old new (hub.Refused refused) = ⊥
@@ -94,7 +94,7 @@ pub record KeepsSite (old new : SiteState) : Type 0 where
   pub usable : new.usable ≡ old.usable
   pub reads : old.failed_reads ≤ new.failed_reads
   pub writes : new.failed_writes ≡ old.failed_writes
-  pub free : IsTrue old.honest → old.free ≤ new.free
+  pub free : old.free ≤ new.free
 
 -- What stands where a draw gives nothing, and why: no reply is there yet, or a read failed while bytes were left.
 abbrev pub IsDrawFault : SiteState → SiteState → Phase → HubFault → Type 0

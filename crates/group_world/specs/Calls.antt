@@ -15,9 +15,14 @@ abbrev pub IsLacking : (Changes → SiteFault → Type 0) → Changes → SiteFa
 IsLacking lacks [] fault = ⊥
 IsLacking lacks (c ∷ changes) fault = lacks (c ∷ changes) fault
 
--- Why several changes may not go in one step: they need more than is free, or might grow too many levels.
-abbrev pub MaySplit : (Changes → SiteFault → Type 0) → SiteState → Changes → Type 0
-MaySplit lacks h changes = ((need : ℕ) × (h.free < need) × IsLacking lacks changes (faults.Full need h.free)) ⊎ IsLacking lacks changes faults.Deep
+-- The keeper takes a further change, so that `Spent` comes neither of no room nor of too many levels.
+abbrev pub IsUnspent : (Changes → SiteFault → Type 0) → Changes → Type 0
+IsUnspent lacks changes = IsLacking lacks changes faults.Spent → ⊥
+
+-- Why several changes may not go in one step: they need more than is free, or might grow too many levels. A further change could be taken.
+pub record MaySplit (lacks : Changes → SiteFault → Type 0) (h : SiteState) (changes : Changes) : Type 0 where
+  pub cause : ((need : ℕ) × (h.free < need) × IsLacking lacks changes (faults.Full need h.free)) ⊎ IsLacking lacks changes faults.Deep
+  pub unspent : IsUnspent lacks changes
 
 -- `Crowded` as the world says: 16 posts wait already.
 abbrev pub IsHeardCause : (Changes → SiteFault → Type 0) → Changes → SiteState → SiteState → HubFault → Type 0
@@ -25,9 +30,9 @@ IsHeardCause lacks changes old new hub.Unknown = old.usable ≡ true
 IsHeardCause lacks changes old new hub.Memory = old.usable ≡ true
 IsHeardCause lacks changes old new hub.Crowded = old.usable ≡ true
 IsHeardCause lacks changes old new hub.Broken = (old.usable ≡ true) × (IsTrue old.honest → Rose old.failed_reads new.failed_reads)
-IsHeardCause lacks changes old new (hub.Full need free) = (old.usable ≡ true) × (free < need) × (IsTrue old.honest → (free ≡ old.free) × IsLacking lacks changes (faults.Full need free))
+IsHeardCause lacks changes old new (hub.Full need free) = (old.usable ≡ true) × ((free ≡ old.free) × (free < need)) × (IsTrue old.honest → IsLacking lacks changes (faults.Full need free) × IsUnspent lacks changes)
 IsHeardCause lacks changes old new hub.Spent = (old.usable ≡ true) × (IsTrue old.honest → IsLacking lacks changes faults.Spent)
-IsHeardCause lacks changes old new hub.Deep = (old.usable ≡ true) × (IsTrue old.honest → IsLacking lacks changes faults.Deep)
+IsHeardCause lacks changes old new hub.Deep = (old.usable ≡ true) × (IsTrue old.honest → IsLacking lacks changes faults.Deep × IsUnspent lacks changes)
 IsHeardCause lacks changes old new hub.Failed = IsTrue old.honest → (old.usable ≡ false) ⊎ Rose old.failed_writes new.failed_writes
 IsHeardCause lacks changes old new (hub.Refused refused) = ⊥
 IsHeardCause lacks changes old new hub.NotReady = ⊥

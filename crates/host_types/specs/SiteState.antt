@@ -1,5 +1,5 @@
 -- What a keeper of a site is, but for what a crash may leave of it, and what its calls have in common.
-use Rattle.std.specs.Prelude.{◌≡◌, ◌<◌, ◌≤◌, ℕ, Bool, true, false, List, drop, map, Result, Err, IsOk, IsTrue}
+use Rattle.std.specs.Prelude.{◌≡◌, ◌<◌, ◌≤◌, ℕ, Bool, true, false, List, drop, map, Result, Ok, Err, IsOk, IsTrue}
 pub use Rattle.common_types.specs.Counts.{Rose}
 use Rattle.host_types.specs.Site.{Site, Items}
 use Rattle.host_types.specs.AllChanges.{Changes}
@@ -26,7 +26,7 @@ pub record HasRead (old new : SiteState) : Type 0 where
   pub site : IsTrue old.honest → new.site ≡ old.site
   pub honest : new.honest ≡ old.honest
   pub usable : new.usable ≡ old.usable
-  pub free : IsTrue old.honest → new.free ≡ old.free
+  pub free : new.free ≡ old.free
   pub reads : old.failed_reads ≤ new.failed_reads
   pub writes : new.failed_writes ≡ old.failed_writes
   pub pins : new.pins ≡ old.pins
@@ -50,15 +50,17 @@ pub record LacksTheSame (old new : Changes → SiteFault → Type 0) : Type 0 wh
 abbrev pub IsUnchangedBehind : ℕ → List ℕ → List ℕ → Type 0
 IsUnchangedBehind n old new = drop n new ≡ drop n old
 
--- What a change that was not made leaves: nothing of the site changed, and its flags stay unless a write failed.
+-- What a change that was not made leaves: nothing of the site has changed, its flags stay unless a write failed, and a change may take as much as before.
 pub record HasNotChanged (old new : SiteState) : Type 0 where
   pub site : IsTrue old.honest → new.site ≡ old.site
   pub usable : new.usable ≡ old.usable
+  pub free : new.free ≡ old.free
 
 -- A write or a sync failed in this call, which has a change to make.
 pub record HasFailed (old new : SiteState) (applied : Result Site Refused) : Type 0 where
   pub site : IsTrue old.honest → new.site ≡ old.site
   pub shut : new.usable ≡ false
+  pub free : new.free ≡ old.free
   pub cause : IsTrue old.honest → old.usable ≡ true → Rose old.failed_writes new.failed_writes
   pub right : IsTrue old.honest → old.usable ≡ true → IsOk applied
 
@@ -66,11 +68,19 @@ pub record HasFailed (old new : SiteState) (applied : Result Site Refused) : Typ
 abbrev pub IsChangeFault : (SiteFault → Type 0) → SiteState → SiteState → Result Site Refused → SiteFault → Type 0
 IsChangeFault lacks old new applied (faults.Refused r) = HasNotChanged old new × (IsTrue old.honest → applied ≡ Err r)
 IsChangeFault lacks old new applied faults.Read = HasNotChanged old new × (IsTrue old.honest → Rose old.failed_reads new.failed_reads)
-IsChangeFault lacks old new applied (faults.Full need free) = HasNotChanged old new × (free < need) × (IsTrue old.honest → (free ≡ old.free) × IsOk applied × lacks (faults.Full need free))
+IsChangeFault lacks old new applied (faults.Full need free) = HasNotChanged old new × ((free ≡ old.free) × (free < need)) × (IsTrue old.honest → IsOk applied × lacks (faults.Full need free))
 IsChangeFault lacks old new applied faults.Spent = HasNotChanged old new × (IsTrue old.honest → IsOk applied × lacks faults.Spent)
 IsChangeFault lacks old new applied faults.Deep = HasNotChanged old new × (IsTrue old.honest → IsOk applied × lacks faults.Deep)
 IsChangeFault lacks old new applied faults.Failed = HasFailed old new applied
 IsChangeFault lacks old new applied faults.Memory = HasNotChanged old new
+
+-- Where no further change is taken, that is what a valid change is told, and not that it has no room or too many levels; nor is it made, nor tried.
+abbrev pub SpentFirst : {T : Type 0} → (SiteFault → Type 0) → Result T SiteFault → Type 0
+SpentFirst lacks (Ok _) = lacks faults.Spent → ⊥
+SpentFirst lacks (Err (faults.Full need free)) = lacks faults.Spent → ⊥
+SpentFirst lacks (Err faults.Deep) = lacks faults.Spent → ⊥
+SpentFirst lacks (Err faults.Failed) = lacks faults.Spent → ⊥
+SpentFirst lacks (Err other) = Unit {0}
 
 -- What every change leaves, whatever it answers.
 pub record HasTried (old new : SiteState) : Type 0 where

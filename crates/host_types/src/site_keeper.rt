@@ -7,7 +7,7 @@ ghost use Rattle.host_types.specs.ChangesFaults.{as_one, IsChangesFault};
 ghost use Rattle.host_types.specs.Card.{card_at, chunk_of};
 ghost use Rattle.common_types.specs.CrashStates.{CrashStates, AddsOnly, AddsNone, may_crash_to};
 ghost use Rattle.host_types.specs.Counting.{CountsReads, CountsWrites};
-ghost use Rattle.host_types.specs.SiteState.{SiteState, HasRead, LacksTheSame, IsUnchangedBehind, HasTried, HasNotChanged, IsReadFault, IsChangeFault};
+ghost use Rattle.host_types.specs.SiteState.{SiteState, HasRead, LacksTheSame, IsUnchangedBehind, HasTried, HasNotChanged, SpentFirst, IsReadFault, IsChangeFault};
 ghost use Rattle.host_types.specs.Pins.{Pinned, is_out, pinned_items, viewed_among, IsPinned, IsPinFault, IsUnpinned};
 ghost use Rattle.host_types.specs.Address.{address};
 ghost use Rattle.host_types.specs.declared.site_fault.SiteFault.{SiteFault as SiteFaultValue};
@@ -122,6 +122,8 @@ pub trait SiteKeeper {
         ensures done { IsTrue (site_state self.old).honest → OnOk result (apply (site_state self.old).site change now ≡ Ok (site_state self.new).site) }
         ensures still_usable { OnOk result ((site_state self.new).usable ≡ true) }
         ensures fault { IfErr result (IsChangeFault (lacks self.old ((change, now) ∷ [])) (site_state self.old) (site_state self.new) (apply (site_state self.old).site change now)) }
+        ensures spent { (site_state self.old).usable ≡ true → SpentFirst (lacks self.old ((change, now) ∷ [])) result }
+        ensures lacking { IfErr result (λ e. (site_state self.new).usable ≡ (site_state self.old).usable → LacksTheSame (lacks self.old) (lacks self.new)) }
         ensures closed { (site_state self.old).usable ≡ false → IsErrOf result Failed }
         ensures tried { HasTried (site_state self.old) (site_state self.new) }
         ensures reads { CountsReads result (site_state self.old) (site_state self.new) }
@@ -140,6 +142,8 @@ pub trait SiteKeeper {
         ensures done { IsTrue (site_state self.old).honest → OnOk result (all_applied (site_state self.old).site changes.items ≡ Ok (site_state self.new).site) }
         ensures still_usable { OnOk result ((site_state self.new).usable ≡ true) }
         ensures fault { IfErr result (IsChangesFault (lacks self.old changes.items) (site_state self.old) (site_state self.new) (all_applied (site_state self.old).site changes.items)) }
+        ensures spent { (site_state self.old).usable ≡ true → SpentFirst (lacks self.old changes.items) (as_one result) }
+        ensures lacking { IfErr result (λ e. (site_state self.new).usable ≡ (site_state self.old).usable → LacksTheSame (lacks self.old) (lacks self.new)) }
         ensures closed { (site_state self.old).usable ≡ false → IsErrOf result AllFailed }
         ensures tried { HasTried (site_state self.old) (site_state self.new) }
         ensures reads { CountsReads (as_one result) (site_state self.old) (site_state self.new) }

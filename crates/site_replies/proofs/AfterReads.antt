@@ -22,7 +22,7 @@ same_address a b f kept honest is = is (still_honest a b kept honest) ∙ ap add
 
 -- nothing was read
 pub nothing_read : (k : SiteState) → HasRead k k
-nothing_read k = record { site = λ honest. refl; honest = refl; usable = refl; free = λ honest. refl; reads = omega arith; writes = refl; pins = refl }
+nothing_read k = record { site = λ honest. refl; honest = refl; usable = refl; free = refl; reads = omega arith; writes = refl; pins = refl }
 
 pub nothing_left : {L : Type 0} (s : CrashStates L) → AddsNone s s
 nothing_left s = no_new_crash_state s
@@ -42,7 +42,7 @@ reads_on a b c first second = record {
   site = λ honest. second.site (still_honest a b first honest) ∙ first.site honest;
   honest = second.honest ∙ first.honest;
   usable = second.usable ∙ first.usable;
-  free = λ honest. second.free (still_honest a b first honest) ∙ first.free honest;
+  free = second.free ∙ first.free;
   reads = omega (arith, first.reads, second.reads);
   writes = second.writes ∙ first.writes;
   pins = second.pins ∙ first.pins;

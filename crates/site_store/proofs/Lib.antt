@@ -31,3 +31,4 @@ pub mod SiteCounts
 pub mod RaisedPairs
 pub mod Upgrades
 pub mod UpgradesCommitted
+pub mod AfterRefusals

@@ -127,8 +127,8 @@ either true h = refl
 either false h = absurd (h refl)
 
 -- a keeper that isn't usable tells nothing else
-pub told_apart : {T : Type 0} → (r : Result T SiteOpenFault) (old new : StoreState) (fault : SiteOpenFault) → r ≡ Err fault → (old.usable ≡ false → IsErrOf r (Keeper kinds.Failed)) → IsSiteReadFault old new fault → IsOpenFault old new fault
-told_apart {T} r old new fault is closed h = by fault (λ shut. same r fault is (closed shut)) h
+pub told_apart : {T : Type 0} → (r : Result T SiteOpenFault) (old new : StoreState) (fault : SiteOpenFault) → r ≡ Err fault → old.banner.version ≡ 2 → (old.usable ≡ false → IsErrOf r (Keeper kinds.Failed)) → IsSiteReadFault old new fault → IsOpenFault old new fault
+told_apart {T} r old new fault is version closed h = by fault (λ shut. same r fault is (closed shut)) h
   where
     same : (r : Result T SiteOpenFault) (fault : SiteOpenFault) → r ≡ Err fault → IsErrOf r (Keeper kinds.Failed) → fault ≡ Keeper kinds.Failed
     same r fault is h = cc (is, h)
@@ -144,5 +144,5 @@ told_apart {T} r old new fault is closed h = by fault (λ shut. same r fault is 
     by (Keeper kinds.Deep) shut h = absurd h.0
     by (Keeper (kinds.Full need free)) shut h = absurd h.0
     by (Keeper kinds.Memory) shut h = absurd h.0
-    by BadRecord shut h = (either old.usable (λ s. let e = shut s in absurd (cc e)), h.0, λ honest s kept. h.1 honest (s, kept))
-    by Memory shut h = (either old.usable (λ s. let e = shut s in absurd (cc e)), h)
+    by BadRecord shut h = (either old.usable (λ s. let e = shut s in absurd (cc e)), h.0, version, λ honest s kept. h.1 honest (s, kept))
+    by Memory shut h = (either old.usable (λ s. let e = shut s in absurd (cc e)), h, version)

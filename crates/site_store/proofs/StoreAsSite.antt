@@ -1,5 +1,5 @@
 -- A key-value store as a keeper of its site: what calls leave.
-use Rattle.std.proofs.Common.{◌≡◌, ◌⊎◌, ℕ, ◌<◌, ◌+◌, Bool, true, false, List, [], ◌∷◌, length, map, Option, Some, None, Result, Ok, Err, refl, inl, inr, ⊎_elim, sym, ap, subst, ◌∙◌, arith}
+use Rattle.std.proofs.Common.{◌≤◌, ◌≡◌, ◌⊎◌, ℕ, ◌<◌, ◌+◌, Bool, true, false, List, [], ◌∷◌, length, map, Option, Some, None, Result, Ok, Err, refl, inl, inr, ⊎_elim, sym, ap, subst, ◌∙◌, arith}
 use Rattle.std.proofs.lemmas.List.{length-map}
 use Rattle.std.specs.Prelude.{◌/◌, IsTrue, IfErr, IfSome, OnOk, IsOk}
 use Rattle.host_types.specs.Site.{Site, IsSite}
@@ -16,7 +16,7 @@ use Rattle.host_types.specs.declared.site_fault.SiteFault.{SiteFault}
 use Rattle.host_types.specs.declared.site_fault.SiteFault.TheVariants as faults
 use Rattle.page_store.specs.Pages.{Pair}
 use Rattle.page_store.specs.Batch.{updated, edit_key}
-use Rattle.page_store.specs.StoreState.{StoreState, HasRead, NeedsTheSame, HasStayed, HasFailed, HasTried, MayBeDeep, most_levels, IsReadFault, IsCommitFault}
+use Rattle.page_store.specs.StoreState.{StoreState, HasRead, NeedsTheSame, HasStayed, HasFailed, HasTried, MayBeDeep, IsReadFault, IsCommitFault, edits_to_be_deep}
 use Rattle.page_store.specs.declared.banner.Banner.{Banner}
 use Rattle.page_store.specs.declared.edit.Edit.{Edit}
 use Rattle.page_store.specs.declared.fault.KeeperFault.{KeeperFault}
@@ -113,7 +113,7 @@ site_still a b ka kb same still = by a.honest refl
 
 -- a call that leaves banner and height
 deep_later : (a b : StoreState) (edits : ℕ) → b.banner ≡ a.banner → b.height ≡ a.height → MayBeDeep a edits → MayBeDeep b edits
-deep_later a b edits banner height deep = (subst (λ (x : Banner). 0 < x.version) (sym banner) deep.0, subst (λ (n : ℕ). most_levels < n + 2 + edits / 8) (sym height) deep.1)
+deep_later a b edits banner height deep = (subst (λ (x : Banner). 0 < x.version) (sym banner) deep.0, subst (λ (n : ℕ). edits_to_be_deep n ≤ edits) (sym height) deep.1)
 
 lacks_later : {K : Type 0} → (store_state : K → StoreState) (may_need : K → List Edit → ℕ → Type 0) (k0 k1 : K) (s : Site) (changes : Changes) (fault : SiteFault) → ((batch : List Edit) (need : ℕ) → may_need k0 batch need → may_need k1 batch need) → (store_state k1).top ≡ (store_state k0).top → (store_state k1).banner ≡ (store_state k0).banner → (store_state k1).height ≡ (store_state k0).height
     → IsLacking store_state may_need k0 s changes fault → IsLacking store_state may_need k1 s changes fault
@@ -178,12 +178,13 @@ failed a b s same honest kept = record {
 }
 
 pub not_changed : (a b : StoreState) (ka : HasSite a) (kb : HasSite b) → HasRead a b → sites.HasNotChanged (site_state_of a ka) (site_state_of b kb)
-not_changed a b ka kb read = let h = has_read a b ka kb read in record { site = h.site; usable = h.usable }
+not_changed a b ka kb read = let h = has_read a b ka kb read in record { site = h.site; usable = h.usable; free = h.free }
 
-same_after : (a b c : StoreState) (ka : HasSite a) (kc : HasSite c) → HasRead a b → HasStayed b c → c.honest ≡ b.honest → sites.HasNotChanged (site_state_of a ka) (site_state_of c kc)
+pub same_after : (a b c : StoreState) (ka : HasSite a) (kc : HasSite c) → HasRead a b → HasStayed b c → c.honest ≡ b.honest → sites.HasNotChanged (site_state_of a ka) (site_state_of c kc)
 same_after a b c ka kc read same honest_is = record {
   site = λ honest. site_is c kc (honest_is ∙ read.honest ∙ honest) (site_of a ka) (stayed b c (site_of a ka) same (read.honest ∙ honest) (kept_after a b (site_of a ka) read honest (site_kept a ka honest)));
   usable = same.usable ∙ read.same.usable;
+  free = same.free ∙ read.same.free;
 }
 
 -- a change that was not planned
@@ -306,11 +307,10 @@ commit_fault_comes store_state may_need k0 k1 k2 ka kc changes replacements bann
 )
 commit_fault_comes store_state may_need k0 k1 k2 ka kc changes replacements banner (kinds.Full may_be_out_of_memory free) read need tried up m h = (
   same_after (store_state k0) (store_state k1) (store_state k2) ka kc read h.0 tried.honest,
-  h.1,
+  (h.1 ∙ read.same.free, h.2),
   λ honest.
       let made = m honest in
-      let room = h.2 (read.honest ∙ honest) in (
-        room.0 ∙ read.same.free honest,
+      let room = h.3 (read.honest ∙ honest) in (
         is_ok (all_applied (site_of (store_state k0) ka) changes) made.site made.applied,
         (
           batch_of (edits_of replacements),
@@ -318,7 +318,7 @@ commit_fault_comes store_state may_need k0 k1 k2 ka kc changes replacements bann
           made.applied,
           made.keys,
           ap (λ (ps : List Pair). updated ps (batch_of (edits_of replacements))) (sym made.before.all) ∙ made.shows.all,
-          (room.1.0, need.before (batch_of (edits_of replacements)) may_be_out_of_memory room.1.1),
+          (room.0, need.before (batch_of (edits_of replacements)) may_be_out_of_memory room.1),
         ),
       ),
 )
@@ -326,6 +326,7 @@ commit_fault_comes store_state may_need k0 k1 k2 ka kc changes replacements bann
     record {
       site = λ honest. site_is (store_state k2) kc (tried.honest ∙ read.honest ∙ honest) (site_of (store_state k0) ka) (failed (store_state k1) (store_state k2) (site_of (store_state k0) ka) h (read.honest ∙ honest) (kept_after (store_state k0) (store_state k1) (site_of (store_state k0) ka) read honest (site_kept (store_state k0) ka honest)));
       shut = h.shut;
+      free = h.free ∙ read.same.free;
       cause = λ honest usable. subst (λ (n : ℕ). Rose n (store_state k2).failed_writes) read.writes (rose_counted (store_state k1).failed_writes (store_state k2).failed_writes (h.cause up));
       right = λ honest usable. is_ok (all_applied (site_of (store_state k0) ka) changes) (m honest).site (m honest).applied;
     }

@@ -1,5 +1,5 @@
 -- What an upgrade answers, and what it leaves.
-use Rattle.std.proofs.Common.{◌≡◌, ◌⊎◌, ◌<◌, ◌+◌, ◌/◌, ℕ, Bool, true, false, List, length, inl, inr, ⊎_elim, refl, sym, ap, subst, ◌∙◌}
+use Rattle.std.proofs.Common.{◌≤◌, ◌≡◌, ◌⊎◌, ◌<◌, ◌+◌, ◌/◌, ℕ, Bool, true, false, List, length, inl, inr, ⊎_elim, refl, sym, ap, subst, ◌∙◌}
 use Rattle.std.specs.Prelude.{IsTrue}
 use mathlib.Core.Logic.{∥∥₁_elim}
 use Rattle.common_types.specs.Counts.{counted}
@@ -8,7 +8,7 @@ use Rattle.host_types.specs.Site.{Site}
 use Rattle.page_store.specs.Batch.{updated}
 use Rattle.page_store.specs.Counting.{reads_after, writes_after}
 use Rattle.page_store.specs.Pages.{Pair}
-use Rattle.page_store.specs.StoreState.{StoreState, HasRead, HasStayed, HasFailed, HasTried, NeedsTheSame, IsCommitFault, IsReadFault, MayBeDeep, most_levels}
+use Rattle.page_store.specs.StoreState.{StoreState, HasRead, HasStayed, HasFailed, HasTried, NeedsTheSame, IsCommitFault, MayBeDeep, edits_to_be_deep}
 use Rattle.page_store.specs.declared.banner.Banner.{Banner}
 use Rattle.page_store.specs.declared.edit.Edit.{Edit}
 use Rattle.page_store.specs.declared.fault.KeeperFault.{KeeperFault}
@@ -75,7 +75,7 @@ stay_on a b c x y = record {
   usable = y.usable ∙ x.same.usable;
   generation = y.generation ∙ x.same.generation;
   top = y.top ∙ x.same.top;
-  free = λ honest. y.free (x.honest ∙ honest) ∙ x.same.free honest;
+  free = y.free ∙ x.same.free;
   height = y.height ∙ x.same.height;
   out = y.out ∙ x.same.out;
   pins = λ honest. y.pins (x.honest ∙ honest) ∙ x.same.pins honest;
@@ -87,6 +87,7 @@ fail_on a b c x y = record {
   banner = y.banner ∙ x.same.banner;
   shut = y.shut;
   generation = y.generation ∙ x.same.generation;
+  free = y.free ∙ x.same.free;
   height = y.height ∙ x.same.height;
   out = y.out ∙ x.same.out;
   pins = λ honest. y.pins (x.honest ∙ honest) ∙ x.same.pins honest;
@@ -103,7 +104,7 @@ module _ (a b c : StoreState) (need_a need_b : List Edit → ℕ → Type 0) (ba
         u.1,
         (
           subst (λ (x : Banner). 0 < x.version) read.same.banner h.0,
-          subst (λ (n : ℕ). most_levels < a.height + 2 + n / 8) count (subst (λ (n : ℕ). most_levels < n + 2 + length batch / 8) read.same.height h.1),
+          subst (λ (n : ℕ). edits_to_be_deep a.height ≤ n) count (subst (λ (n : ℕ). edits_to_be_deep n ≤ length batch) read.same.height h.1),
         ),
       )
 
@@ -120,7 +121,7 @@ module _ (a b c : StoreState) (need_a need_b : List Edit → ℕ → Type 0) (ba
   commit_cause kinds.Small h = absurd h
   commit_cause kinds.Spent h = (stay_on a b c read h.0, sym read.same.top ∙ h.1)
   commit_cause kinds.Deep h = (stay_on a b c read h.0, λ honest. deep honest (h.1 (read.honest ∙ honest)))
-  commit_cause (kinds.Full need free) h = (stay_on a b c read h.0, h.1, λ honest. let lack = h.2 (read.honest ∙ honest) in (lack.0 ∙ read.same.free honest, full need honest lack.1))
+  commit_cause (kinds.Full need free) h = (stay_on a b c read h.0, (h.1 ∙ read.same.free, h.2), λ honest. full need honest (h.3 (read.honest ∙ honest)))
   commit_cause kinds.Failed h = (fail_on a b c read h, λ honest up. let u = upgrade honest in (u.0, u.1))
   commit_cause kinds.Memory h = stay_on a b c read h
 

@@ -1,5 +1,5 @@
 -- For lack of what valid changes of the site that is kept may be refused.
-use Rattle.std.specs.Prelude.{◌≡◌, ℕ, List, length, map, Ok, IsTrue}
+use Rattle.std.specs.Prelude.{◌≡◌, ℕ, List, length, map, Result, Ok, Err, IsTrue}
 use Rattle.host_types.specs.Site.{Site}
 use Rattle.host_types.specs.AllChanges.{Changes, all_applied}
 use Rattle.host_types.specs.declared.site_fault.SiteFault.{SiteFault}
@@ -7,6 +7,8 @@ use Rattle.host_types.specs.declared.site_fault.SiteFault.TheVariants as faults
 use Rattle.page_store.specs.Batch.{updated, edit_key, is_batch}
 use Rattle.page_store.specs.StoreState.{StoreState, MayBeDeep, last_generation}
 use Rattle.page_store.specs.declared.edit.Edit.{Edit}
+use Rattle.page_store.specs.declared.fault.KeeperFault.{KeeperFault}
+use Rattle.page_store.specs.declared.fault.KeeperFault.TheVariants as kinds
 use Rattle.site_records.specs.Layout.{layout}
 use Rattle.site_pairs.specs.ChangeKeys.{keys_of_all}
 
@@ -23,3 +25,10 @@ IsLacking store_state may_need k s changes (faults.Refused r) = ⊥
 IsLacking store_state may_need k s changes faults.Read = ⊥
 IsLacking store_state may_need k s changes faults.Failed = ⊥
 IsLacking store_state may_need k s changes faults.Memory = ⊥
+
+-- No generation is left: that is told, or that memory is wanting.
+abbrev pub IsToldSpent : {T : Type 0} → Result T KeeperFault → Type 0
+IsToldSpent (Ok done) = ⊥
+IsToldSpent (Err kinds.Spent) = Unit {0}
+IsToldSpent (Err kinds.Memory) = Unit {0}
+IsToldSpent (Err other) = ⊥

@@ -19,3 +19,4 @@ pub mod Searching
 pub mod Counting
 pub mod Compacting
 pub mod Upgrading
+pub mod LikelyPlaces

@@ -41,7 +41,7 @@ pub record HasAddress (s : Site) (b : Banner) : Type 0 where
   pub port : s.port ≡ b.port
   pub admin : s.admin ≡ b.admin
 
--- Why a keeper was not opened as a site, and what the reading of it counted: each fault has its own cause. `BadRecord` of an honest keeper says that what it holds represents no valid site.
+-- Why a keeper was not opened as a site, and what the reading of it counted: each fault has its own cause. `BadRecord` says that what is held is of version 2, and of an honest keeper that it represents no valid site.
 abbrev pub IsOpenFault : StoreState → StoreState → SiteOpenFault → Type 0
 IsOpenFault old new (Keeper kinds.Failed) = (old.usable ≡ false) × NoneFailed old new
 IsOpenFault old new (Keeper kinds.Device) = (old.usable ≡ true) × (new.failed_reads ≡ counted old.failed_reads)
@@ -53,8 +53,8 @@ IsOpenFault old new (Keeper kinds.Spent) = ⊥
 IsOpenFault old new (Keeper kinds.Deep) = ⊥
 IsOpenFault old new (Keeper (kinds.Full need free)) = ⊥
 IsOpenFault old new (Keeper kinds.Memory) = ⊥
-IsOpenFault old new BadRecord = (old.usable ≡ true) × NoneFailed old new × (IsTrue old.honest → (s : Site) → RepresentedBy old s → ⊥)
-IsOpenFault old new Memory = (old.usable ≡ true) × NoneFailed old new
+IsOpenFault old new BadRecord = (old.usable ≡ true) × NoneFailed old new × (old.banner.version ≡ 2) × (IsTrue old.honest → (s : Site) → RepresentedBy old s → ⊥)
+IsOpenFault old new Memory = (old.usable ≡ true) × NoneFailed old new × (old.banner.version ≡ 2)
 
 -- Why some pairs under a banner are no site: `BadRecord` says that they represent no valid one.
 abbrev pub IsPairsFault : List Pair → Banner → SiteOpenFault → Type 0

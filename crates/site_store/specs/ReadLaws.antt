@@ -24,7 +24,7 @@ read_later a b c x y =
         out = y.same.out ∙ x.same.out;
         pins = λ honest. y.same.pins (x.honest ∙ honest) ∙ x.same.pins honest;
         top = y.same.top ∙ x.same.top;
-        free = λ honest. y.same.free (now honest) ∙ x.same.free honest;
+        free = y.same.free ∙ x.same.free;
       };
       honest = y.honest ∙ x.honest;
       reads = omega (arith, x.reads, y.reads);
@@ -50,7 +50,7 @@ reads_later store_state may_need crash_states a b c x y = record {
 pub not_yet : {K L : Type 0} → (store_state : K → StoreState) (may_need : K → List Edit → ℕ → Type 0) (crash_states : K → CrashStates L) (a : K) → ReadsOnly store_state may_need crash_states a a
 not_yet store_state may_need crash_states a = record {
   read = record {
-    same = record { pairs = λ honest. refl; banner = refl; usable = refl; generation = refl; height = refl; out = refl; pins = λ honest. refl; top = refl; free = λ honest. refl };
+    same = record { pairs = λ honest. refl; banner = refl; usable = refl; generation = refl; height = refl; out = refl; pins = λ honest. refl; top = refl; free = refl };
     honest = refl;
     reads = omega arith;
     writes = refl;

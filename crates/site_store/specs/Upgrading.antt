@@ -119,7 +119,7 @@ IsUpgradeFault old new may_need (Keeper (kinds.Damaged page)) = HasStayed old ne
 IsUpgradeFault old new may_need (Keeper kinds.Spent) = HasStayed old new × (old.top ≡ last_generation)
 IsUpgradeFault old new may_need (Keeper kinds.Deep) = HasStayed old new × (IsTrue old.honest → (s : Site) × FirstBy old s × MayBeDeep old (length s.items))
 IsUpgradeFault old new may_need (Keeper (kinds.Full need free)) =
-    HasStayed old new × (free < need) × (IsTrue old.honest → (free ≡ old.free) × ((s : Site) × FirstBy old s × may_need (upgrade_batch s) need))
+    HasStayed old new × ((free ≡ old.free) × (free < need)) × (IsTrue old.honest → (s : Site) × FirstBy old s × may_need (upgrade_batch s) need)
 IsUpgradeFault old new may_need (Keeper kinds.Failed) = HasFailed old new × (IsTrue old.honest → IsTrue old.usable → (s : Site) × FirstBy old s)
 IsUpgradeFault old new may_need (Keeper kinds.NoImage) = ⊥
 IsUpgradeFault old new may_need (Keeper kinds.Version) = ⊥

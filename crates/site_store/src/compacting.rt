@@ -1,9 +1,9 @@
 // A site over a key-value store is written anew.
 ghost use Rattle.std.specs.Prelude.{◌≡◌, ◌≤◌, ℕ, true, false, OnOk, IfErr, IsErrOf, IsTrue};
 ghost use Rattle.host_types.specs.CrashStates.{AddsOnly, AddsNone};
-ghost use Rattle.host_types.specs.declared.site_fault.SiteFault.TheVariants.{Failed};
-ghost use Rattle.page_store.specs.Compaction.{IsCompacted};
-ghost use Rattle.page_store.specs.StoreState.{HasTried};
+ghost use Rattle.host_types.specs.declared.site_fault.SiteFault.TheVariants.{Failed, Spent};
+ghost use Rattle.page_store.specs.Compaction.{IsCompacted, CompactsTheSame};
+ghost use Rattle.page_store.specs.StoreState.{HasTried, last_generation};
 ghost use Rattle.site_store.specs.Compacting.{IsSiteCompactFault, CountsNothing};
 ghost use Rattle.site_store.specs.Represented.{site_of, site_state_of, Represents};
 
@@ -24,8 +24,10 @@ impl<K: CompactKeeper> DiskSite<K> {
         ensures filled { IsTrue (K.store_state self.old.keeper).honest → OnOk result (K.is_filled self.new.keeper) }
         ensures fits { IsTrue (K.store_state self.old.keeper).honest → OnOk result ((n : ℕ) × K.compact_need self.old.keeper n × (n ≤ (K.store_state self.old.keeper).free)) }
         ensures fault { IfErr result (IsSiteCompactFault (K.store_state self.old.keeper) (K.store_state self.new.keeper) (K.compact_need self.old.keeper)) }
+        ensures need { IfErr result (λ e. (K.store_state self.new.keeper).usable ≡ (K.store_state self.old.keeper).usable → CompactsTheSame (K.compact_need self.old.keeper) (K.compact_need self.new.keeper)) }
         ensures counts { OnOk result (CountsNothing (K.store_state self.old.keeper) (K.store_state self.new.keeper)) }
         ensures closed { (K.store_state self.old.keeper).usable ≡ false → IsErrOf result Failed }
+        ensures spent { (K.store_state self.old.keeper).usable ≡ true → (K.store_state self.old.keeper).top ≡ last_generation → IsErrOf result Spent }
         ensures tried { HasTried (K.store_state self.old.keeper) (K.store_state self.new.keeper) }
 
         // A crash within the call leaves what represents the site.

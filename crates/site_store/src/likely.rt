@@ -1,7 +1,8 @@
 // Where a key is likely to stand among pairs in the order of their keys: behind the one with the same beginning that was looked for last.
-ghost use Rattle.std.specs.Prelude.{◌≡◌, ◌<◌, map, length, IsTrue};
+ghost use Rattle.std.specs.Prelude.{◌≡◌, ◌<◌, ◌+◌, ◌/◌, map, length, replicate, IfOk, IsTrue};
 ghost use Rattle.page_store.specs.Keys.{rises};
 ghost use Rattle.page_store.specs.Pages.{key_of};
+ghost use Rattle.site_store.specs.LikelyPlaces.{fnv_1a, beginning_of};
 ghost use Rattle.site_store.specs.Opening.{IsPlaceOf};
 
 use page_store::Pair;
@@ -18,7 +19,9 @@ pub struct LikelyPlaces {
 }
 
 /// What the keys of one word have in common, and of other keys those of the same kind.
-fn beginning(key: &[u8]) -> &[u8] {
+fn beginning(key: &[u8]) -> &[u8]
+    ensures { result.now ≡ beginning_of key.now }
+{
     match key {
         [b'W', size, word @ ..] => &word[..word.len().min(*size as usize)],
         _ => &key[..key.len().min(2)],
@@ -26,7 +29,9 @@ fn beginning(key: &[u8]) -> &[u8] {
 }
 
 /// A number made of all bytes, such that those of similar words lie far apart: by the algorithm FNV-1a, of 64 bits.
-fn hash(bytes: &[u8]) -> usize {
+fn hash(bytes: &[u8]) -> usize
+    ensures { result ≡ fnv_1a bytes.now }
+{
     let mut made: usize = 0xcbf2_9ce4_8422_2325;
     for byte in bytes {
         made = (made ^ usize::from(*byte)).wrapping_mul(0x100_0000_01b3);
@@ -50,7 +55,9 @@ fn place_at(pairs: &[Pair], key: &[u8], likely: usize) -> Option<usize>
 
 impl LikelyPlaces {
     /// Places for so many pairs. They are likely only once keys were looked for.
-    pub fn new(alloc: Global, count: usize) -> Result<Self, AllocError> {
+    pub fn new(alloc: Global, count: usize) -> Result<Self, AllocError>
+        ensures { IfOk result (λ p. p.places.items ≡ replicate (count / 8 + 1) 0) }
+    {
         let places = vec![in alloc; 0; count / PAIRS_OF_A_BEGINNING + 1]?;
         Ok(LikelyPlaces { places })
     }

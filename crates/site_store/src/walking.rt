@@ -1,5 +1,5 @@
 // The items of a site, one after another.
-ghost use Rattle.std.specs.Prelude.{◌≡◌, Ok, Some, Option, IfOk, IfErr, option_map};
+ghost use Rattle.std.specs.Prelude.{◌≡◌, Ok, Some, Option, IfOk, IfErr, IsSome, option_map};
 ghost use Rattle.host_types.specs.Card.{card_of};
 ghost use Rattle.host_types.specs.Site.{Site};
 ghost use Rattle.site_store.specs.Represented.{RepresentedBy};
@@ -53,6 +53,7 @@ fn carded<K: Keeper>(
     selector: Selector,
 ) -> Result<Option<(Selector, Card)>, SiteOpenFault>
     ensures card { AlwaysReadsKnown K.store_state K.may_need K.crash_states keeper.old keeper.new result (StandsAt selector) (λ item found. found ≡ Some (selector, card_of item)) }
+    ensures some { IfOk result (λ found. IsSome found) }
 {
     match card_in(alloc, keeper, &selector) {
         Ok(Some(card)) => Ok(Some((selector, card))),

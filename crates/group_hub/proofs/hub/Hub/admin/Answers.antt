@@ -66,4 +66,4 @@ returns-in-Err g c =
     (subst (λ (fault : HubFault). Call s.site_state s.lacks s.crash_states s.represents (world_of s.site_state hub) hub.site (Admin c.args.change c.args.now) (Fault fault) (world_at (s.site_state made) hub.next hub.grouped seats) made) (sym c.of_site.ensures)
     (not_made_call s.site_state s.lacks s.crash_states s.represents hub.site made hub.next hub.grouped seats c.args.change c.args.now c.in-Err.fault
     (change_fault_counts {T = Outcome} c.in-Err.fault (fault_of c.in-Err.fault) (s.site_state hub.site) (s.site_state made) refl c.in-Err.ensures.reads c.in-Err.ensures.writes) usable c.change.ensures.tried.honest
-    (g.met.S.SiteKeeper.crash_states_represent hub.site) (λ honest. c.change.ensures.at_crash honest usable) (λ honest. c.in-Err.ensures.no_new_crash_state honest) c.in-Err.ensures.fault))
+    (g.met.S.SiteKeeper.crash_states_represent hub.site) (λ honest. c.change.ensures.at_crash honest usable) (λ honest. c.in-Err.ensures.no_new_crash_state honest) c.in-Err.ensures.fault (c.in-Err.ensures.spent usable)))

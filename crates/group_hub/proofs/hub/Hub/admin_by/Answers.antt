@@ -29,7 +29,7 @@ returns-in_default g c =
     let stays = no_new_crash_state (s.crash_states hub.site) in
     not_made_call s.site_state s.lacks s.crash_states s.represents hub.site hub.site hub.next hub.grouped (seats_of hub) c.args.change.now c.args.now faults.Memory (record { reads = refl; writes = refl }) usable refl
     (g.met.S.SiteKeeper.crash_states_represent hub.site) (λ honest. weaker _ _ _ _ stays (λ x may. inl (g.met.S.SiteKeeper.crash_states_represent hub.site x honest usable may))) (λ honest up. stays)
-    (record { site = λ honest. refl; usable = refl })
+    (record { site = λ honest. refl; usable = refl; free = refl }) tt
 
 pub returns-in-Err : goal.returns-in-Err
 returns-in-Err g c =

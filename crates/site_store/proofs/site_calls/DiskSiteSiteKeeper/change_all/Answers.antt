@@ -7,9 +7,10 @@ use Rattle.site_pairs.specs.Edits.{batch_of, edits_of}
 use Rattle.site_store.specs.Lacking.{MayNeed, IsLacking}
 use Rattle.site_store.specs.Planned.{banner_after}
 use Rattle.site_store.specs.Represented.{site_of, site_state_of, site_kept}
-use Rattle.site_store.proofs.StoreAsSite.{not_changed, none_at_crash, plan_reads_only, plan_fault_comes, plan_makes, done_made, crash_states_made, commit_fault_comes, commit_fault_of_all, one_commit_fault, keeps_written, port_written, after_port, has_tried, has_tried_reading}
+use Rattle.site_store.proofs.StoreAsSite.{not_changed, lacks_same, none_at_crash, plan_reads_only, plan_fault_comes, plan_makes, done_made, crash_states_made, commit_fault_comes, commit_fault_of_all, one_commit_fault, keeps_written, port_written, after_port, has_tried, has_tried_reading}
 use Rattle.host_types.specs.Counting.{IsReadCounted, writes_after}
 use Rattle.host_types.specs.declared.site_fault.SiteFault.{SiteFault}
+use Rattle.site_store.proofs.AfterRefusals.{lacks_behind}
 use Rattle.site_store.proofs.PinsKept.{pins_stay_written}
 use Rattle.site_store.proofs.SiteCounts.{plan_counted, plan_writes, commit_reads, commit_writes}
 use Rattle.site_store.proofs.site_calls.DiskSiteSiteKeeper.change_all.Goals as goal
@@ -237,3 +238,31 @@ returns-clause-writes g c =
     let h2 = store_state c.write_replacements.new.keeper in
     subst (λ (f : SiteFault). h2.failed_writes ≡ writes_after h0.usable f h0.failed_writes) (sym (ap one_fault c.changes_fault_comes.ensures ∙ one_commit_fault 0 c.in-Err-write_replacements.fault))
     (commit_writes h0 h1 h2 c.in-Err-write_replacements.fault c.in-Ok.ensures.reads_only.reads_only.read (sym c.is_usable.ensures ∙ c.if-not-is_usable.false) c.in-Err-write_replacements.ensures.writes)
+
+pub returns-in-Err-clause-lacking : goal.returns-in-Err-clause-lacking
+returns-in-Err-clause-lacking g c = λ same.
+    let store_state = g.K.Keeper.store_state in
+    let crash_states = g.K.Keeper.crash_states in
+    let d = c.args.self.now in
+    let d1 = c.plan_all.new.lookup in
+    lacks_same store_state g.K.Keeper.may_need crash_states d.keeper d1.keeper d.kept d1.kept
+    (plan_reads_only (λ d. d.keeper) store_state g.K.Keeper.may_need crash_states d d1 (λ s. one_refusal (all_applied s c.args.changes.items)) (one_fault c.in-Err.fault) c.in-Err.ensures.fault.cause c.in-Err.ensures.reads_only)
+
+pub returns-in_err-banner-clause-lacking : goal.returns-in_err-banner-clause-lacking
+returns-in_err-banner-clause-lacking g c =
+    let d = c.args.self.now in
+    let d1 = c.plan_all.new.lookup in
+    let p = err_from_is_err_and c.from_residual.result c.from_residual.ensures.1 in
+    rw p.1 (λ same. lacks_same g.K.Keeper.store_state g.K.Keeper.may_need g.K.Keeper.crash_states d.keeper d1.keeper d.kept d1.kept c.in-Ok.ensures.reads_only.reads_only)
+
+pub returns-clause-lacking : goal.returns-clause-lacking
+returns-clause-lacking g c = λ same.
+    let store_state = g.K.Keeper.store_state in
+    let d = c.args.self.now in
+    let k1 = c.plan_all.new.lookup.keeper in
+    let k2 = c.write_replacements.new.keeper in
+    let reads_only = c.in-Ok.ensures.reads_only.reads_only in
+    let batch = batch_of (edits_of c.deref.result.now) in
+    let up : (store_state k1).usable ≡ true = reads_only.read.same.usable ∙ sym c.is_usable.ensures ∙ c.if-not-is_usable.false in
+    lacks_behind store_state g.K.Keeper.may_need d.keeper k1 k2 d.kept c.self-1.given.0 reads_only.read (length batch) (MayNeed g.K.Keeper.may_need k1 batch) c.in-Err-write_replacements.fault reads_only.need c.write_replacements.ensures.tried up c.in-Err-write_replacements.ensures.fault
+    c.in-Err-write_replacements.ensures.need same
