@@ -89,8 +89,8 @@ site_refused old new before after opened reads writes fault is = by fault is
     by reading.BadRecord is = (
       opened.large,
       nothing is.1,
-      λ honest. (before.pairs, before.banner, (opened.content honest, opens_trees before.banner.version opened.version)),
-      λ honest s stands. is.2 (opened.honest honest) s (shown old.disk.view before.pairs before.banner s (opened.content honest) stands),
+      λ honest. (before.pairs, before.banner, (opened.content honest, opens_trees before.banner.version opened.version), is.2),
+      λ honest s stands. is.3 (opened.honest honest) s (shown old.disk.view before.pairs before.banner s (opened.content honest) stands),
     )
     by (reading.Keeper kinds.Device) is = (opened.large, inl (reads ∙ is.1 ∙ ap counted opened.reads, writes ∙ opened.writes))
     by (reading.Keeper (kinds.Damaged page)) is = (

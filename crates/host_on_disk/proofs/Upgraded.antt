@@ -10,7 +10,7 @@ use Rattle.page_store.specs.Content.{is_tree_version, Found, HasContent, content
 use Rattle.page_store.specs.Roots.{greatest_seal}
 use Rattle.page_store.specs.Pages.{Pair}
 use Rattle.page_store.specs.Sectors.{Image}
-use Rattle.page_store.specs.StoreState.{StoreState, most_levels}
+use Rattle.page_store.specs.StoreState.{StoreState, edits_to_be_deep}
 use Rattle.page_store.specs.declared.banner.Banner.{Banner}
 use Rattle.page_store.specs.declared.edit.Edit.{Edit}
 use Rattle.page_store.specs.declared.slot.Slot.{Slot}
@@ -74,7 +74,7 @@ refused old new before after need opened under other reads writes fault is = inr
     grows deep honest =
         let s = deep.1 (opened.honest honest) in
         let slot = under.height honest in
-        (s.0, stands honest s.0 s.1, slot.0, slot.1, slot.2, subst (λ h. most_levels < h + 2 + length s.0.items / 8) (sym slot.3) s.2.1)
+        (s.0, stands honest s.0 s.1, slot.0, slot.1, slot.2, subst (λ h. edits_to_be_deep h ≤ length s.0.items) (sym slot.3) s.2.1)
 
     nothing : after.failed_reads ≡ before.failed_reads → after.failed_writes ≡ before.failed_writes → NothingCounted old new
     nothing r w = record { reads = reads ∙ r ∙ opened.reads; writes = writes ∙ w ∙ opened.writes }
@@ -93,7 +93,7 @@ refused old new before after need opened under other reads writes fault is = inr
     by (reading.Keeper (kinds.Damaged page)) is = (nothing is.reads (up (reading.Keeper (kinds.Damaged page)) is), lies old.honest opened.honest is.cause.1)
     by (reading.Keeper kinds.Spent) is = (nothing is.reads (up (reading.Keeper kinds.Spent) is), λ honest. under.top honest ∙ is.cause.1)
     by (reading.Keeper kinds.Deep) is = (nothing is.reads (up (reading.Keeper kinds.Deep) is), grows is.cause)
-    by (reading.Keeper (kinds.Full need free)) is = (nothing is.reads (up (reading.Keeper (kinds.Full need free)) is), is.cause.1, λ honest. let s = (is.cause.2 (opened.honest honest)).1 in (s.0, stands honest s.0 s.1))
+    by (reading.Keeper (kinds.Full need free)) is = (nothing is.reads (up (reading.Keeper (kinds.Full need free)) is), is.cause.1.1, λ honest. let s = is.cause.2 (opened.honest honest) in (s.0, stands honest s.0 s.1))
     by (reading.Keeper kinds.Failed) is = (writes ∙ up (reading.Keeper kinds.Failed) is ∙ ap counted opened.writes, reads ∙ is.reads ∙ opened.reads, λ honest. let s = is.cause.1 (opened.honest honest) opened.usable in (s.0, stands honest s.0 s.1))
     by (reading.Keeper kinds.NoImage) is = absurd is.cause
     by (reading.Keeper kinds.Version) is = absurd is.cause

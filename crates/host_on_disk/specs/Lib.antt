@@ -2,3 +2,4 @@ pub mod ImageSites
 pub mod OpenFaults
 pub mod Headline
 pub mod Upgrades
+pub mod Tightness

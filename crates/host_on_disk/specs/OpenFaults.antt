@@ -38,9 +38,9 @@ of_site reading.Memory = Memory
 abbrev pub ShowsNone : State → Type 0
 ShowsNone old = IsTrue old.honest → RepresentsNone old.disk.view
 
--- A device that is honest shows some content, in the version that is opened.
+-- A device that is honest shows some content, in the version that a site is opened from.
 abbrev pub ShowsContent : State → Type 0
-ShowsContent old = IsTrue old.honest → (pairs : List Pair) × (banner : Banner) × TreeHas old.disk.view pairs banner
+ShowsContent old = IsTrue old.honest → (pairs : List Pair) × (banner : Banner) × TreeHas old.disk.view pairs banner × (banner.version ≡ 2)
 
 -- A device that is honest shows whole content, in a version that a keeper opens and a site isn't opened from.
 abbrev pub ShowsOther : State → Type 0

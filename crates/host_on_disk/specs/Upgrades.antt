@@ -8,7 +8,7 @@ use Rattle.page_store.specs.Pages.{Pair}
 use Rattle.page_store.specs.Sectors.{Image}
 use Rattle.page_store.specs.Content.{Found, content}
 use Rattle.page_store.specs.Roots.{greatest_seal}
-use Rattle.page_store.specs.StoreState.{last_generation, most_levels}
+use Rattle.page_store.specs.StoreState.{last_generation, edits_to_be_deep}
 use Rattle.page_store.specs.declared.banner.Banner.{Banner}
 use Rattle.page_store.specs.declared.slot.Slot.{Slot}
 use Rattle.page_store.specs.declared.fault.KeeperFault.{KeeperFault}
@@ -68,7 +68,7 @@ IsLast old = IsTrue old.honest → greatest_seal old.disk.view 16 ≡ last_gener
 
 -- With a record for each item of its site the tree may have more levels than there may be.
 abbrev pub MayGrowDeep : State → Type 0
-MayGrowDeep old = IsTrue old.honest → (s : Site) × ImageRepresentsFirst old.disk.view s × (slot : Slot) × (found : Found) × (content old.disk.view ≡ Some (slot, found)) × (most_levels < slot.root.height + 2 + length s.items / 8)
+MayGrowDeep old = IsTrue old.honest → (s : Site) × ImageRepresentsFirst old.disk.view s × (slot : Slot) × (found : Found) × (content old.disk.view ≡ Some (slot, found)) × (edits_to_be_deep slot.root.height ≤ length s.items)
 
 -- Why an image that was opened was not upgraded, and what was counted. `BadRecord` says that it represents no site in version 1; all that a commit may answer comes of an image that does.
 abbrev pub IsNotUpgraded : State → State → OpenFault → Type 0

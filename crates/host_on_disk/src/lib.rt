@@ -8,7 +8,8 @@ mod opening;
 mod upgrading;
 
 pub use laws::{
-    an_image_represents_one_site, any_number_of_crashes, what_a_crash_left_is_found_again,
+    an_image_represents_one_site, any_number_of_crashes, full_is_tight,
+    what_a_crash_left_is_found_again,
 };
 pub use on_disk::{run_on, run_over};
 pub use open_fault::OpenFault;

@@ -3,9 +3,10 @@ ghost use Rattle.std.specs.Prelude.{◌≡◌, ◌<◌, ◌≤◌, true, [], IfO
 ghost use Rattle.host_types.specs.Site.{Site};
 ghost use Rattle.host_types.specs.CrashStates.{AddsNone};
 ghost use Rattle.sector_device.specs.Device.{NothingCounted};
+ghost use Rattle.page_store.specs.Roots.{greatest_seal};
 ghost use Rattle.page_store.specs.Steps.{crash_states_of};
 ghost use Rattle.page_store.specs.declared.fault.KeeperFault.TheVariants.{Small};
-ghost use Rattle.cow_tree.specs.TreeSeen.{device_of, held, is_open};
+ghost use Rattle.cow_tree.specs.TreeSeen.{device_of, top_of, held, is_open};
 ghost use Rattle.site_store.specs.Seen.{keeper_of, seen_site};
 ghost use Rattle.host_on_disk.specs.ImageSites.{ImageRepresents};
 ghost use Rattle.host_on_disk.specs.OpenFaults.{IsOpeningFault, HandsBack};
@@ -27,6 +28,7 @@ pub fn open_site<D: Device>(
 ) -> Result<DiskSite<TreeKeeper<D>>, (OpenFault, D)>
     ensures site { IsTrue (D.state device).honest → IfOk result (λ d. ImageRepresents (D.state device).disk.view (seen_site d)) }
     ensures alone { IsTrue (D.state device).honest → (s : Site) → ImageRepresents (D.state device).disk.view s → IfOk result (λ d. s ≡ seen_site d) }
+    ensures top { IsTrue (D.state device).honest → IfOk result (λ d. top_of (keeper_of d) ≡ greatest_seal (D.state device).disk.view 16) }
     ensures usable { IfOk result (λ d. is_open (keeper_of d) ≡ true) }
     ensures unpinned { IfOk result (λ d. (held D.state (keeper_of d)).pins ≡ []) }
     ensures none_pinned { IfOk result (λ d. (⟦<DiskSite<TreeKeeper<D>> as SiteKeeper>⟧.site_state d).pins ≡ []) }

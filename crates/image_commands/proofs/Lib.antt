@@ -2,3 +2,4 @@ pub mod ListedItems
 pub mod DiskSites
 pub mod FirstLeaves
 pub mod FormattedImages
+pub mod NotWritten

@@ -10,8 +10,9 @@ use Rattle.page_store.specs.declared.slot.Slot.{Slot}
 use Rattle.page_store.specs.declared.fault.KeeperFault.{KeeperFault}
 use Rattle.page_store.specs.declared.fault.KeeperFault.TheVariants as store
 use Rattle.cow_tree.specs.TreeState.{unreached}
-use Rattle.cow_tree.specs.Compacting.{IsFilled}
+use Rattle.cow_tree.specs.Compacting.{NeedsFilled, IsFilled}
 use Rattle.host_on_disk.specs.ImageSites.{ImageRepresents}
+use Rattle.host_on_disk.specs.Upgrades.{IsLast}
 use Rattle.image_commands.specs.Faults.{IsNotOpened}
 use Rattle.image_commands.specs.declared.fault.ImageFault.{ImageFault}
 use Rattle.image_commands.specs.declared.fault.ImageFault.TheVariants.{Refused, NoFile, BadRecord, Store, Memory}
@@ -41,14 +42,21 @@ pub record IsWrittenAnew (image : Image) (line : List ℕ) : Type 0 where
   pub filled : IsFilled slot image
   pub line_is : line ≡ free_line (unreached slot [] image)
 
+-- Writing an image anew takes so many pages, and so many are free: both by the tree of its current root slot.
+pub record LacksRoom (image : Image) (need free : ℕ) : Type 0 where
+  pub slot : Slot
+  pub current_is : current image ≡ Some slot
+  pub needs : NeedsFilled slot image need
+  pub free_is : free ≡ unreached slot [] image
+
 -- The image was opened, but not written anew: a read failed, no further generation is there, the pages don't suffice, or a write or a sync failed; or memory was lacking, which may be for what is printed.
 abbrev pub IsNotWritten : State → State → ImageFault → Type 0
 IsNotWritten old new (Refused refused) = ⊥
 IsNotWritten old new NoFile = ⊥
 IsNotWritten old new BadRecord = ⊥
 IsNotWritten old new (Store store.Device) = (new.failed_writes ≡ old.failed_writes) × (IsTrue old.honest → new.failed_reads ≡ counted old.failed_reads)
-IsNotWritten old new (Store store.Spent) = NothingCounted old new
-IsNotWritten old new (Store (store.Full need free)) = NothingCounted old new × (free < need)
+IsNotWritten old new (Store store.Spent) = NothingCounted old new × IsLast old
+IsNotWritten old new (Store (store.Full need free)) = NothingCounted old new × (free < need) × (IsTrue old.honest → LacksRoom new.disk.view need free)
 IsNotWritten old new (Store store.Failed) = (new.failed_writes ≡ counted old.failed_writes) × (new.failed_reads ≡ old.failed_reads)
 IsNotWritten old new (Store other) = ⊥
 IsNotWritten old new Memory = NothingCounted old new

@@ -57,3 +57,6 @@ returns-in-Ok-open-clause-alone g c =
     let k = c.in-Ok.keeper in
     let view = (g.D.Device.state c.args.device).disk.view in
     λ honest s stands. one_site view s _ stands (kept_stands view (held g.D.Device.state k).pairs k.slot.root.banner _ (c.in-Ok.ensures.content honest) k.fitted.version (c.in-Ok-open.ensures.site (subst IsTrue (sym c.in-Ok.ensures.honest) honest)))
+
+pub returns-in-Ok-open-clause-top : goal.returns-in-Ok-open-clause-top
+returns-in-Ok-open-clause-top g c = λ honest. c.in-Ok-open.ensures.reads_only.read.same.top ∙ c.in-Ok.ensures.top honest

@@ -1,9 +1,11 @@
-use Rattle.std.proofs.Common.{◌≡◌, inr, true, sym, ap, subst, ◌∙◌, IsTrue}
+use Rattle.std.proofs.Common.{◌≡◌, ℕ, Bool, inr, true, refl, sym, ap, subst, ◌∙◌, IsTrue}
 use Rattle.std.specs.String.{string_bytes}
 use Rattle.host_types.specs.CrashStates.{AddsOnly}
 use Rattle.page_store.specs.Steps.{crash_states_of}
 use Rattle.cow_tree.specs.TreeSeen.{held, device_of, slot_of, is_open}
-use Rattle.cow_tree.specs.Compacting.{IsFilled}
+use Rattle.cow_tree.specs.Compacting.{IsFilled, MayNeedFilled}
+use Rattle.page_store.specs.Counting.{writes_after}
+use Rattle.page_store.specs.StoreState.{HasStayed}
 use Rattle.cow_tree.specs.KeeperLaws.{crash_states_have_the_tree}
 use Rattle.cow_tree.proofs.FreePages.{free_is, unreached_alone}
 use Rattle.site_store.specs.Represented.{RepresentedBy, site_kept}
@@ -11,7 +13,9 @@ use Rattle.site_store.specs.Seen.{seen_site}
 use Rattle.host_on_disk.specs.ImageSites.{ImageRepresents}
 use Rattle.host_on_disk.proofs.Images.{kept_stands}
 use Rattle.host_on_disk.proofs.Openings.{none_out}
-use Rattle.image_commands.specs.Compacted.{free_line, KeepsSite, IsWrittenAnew}
+use Rattle.image_commands.specs.Compacted.{free_line, KeepsSite, IsWrittenAnew, LacksRoom, IsNotWritten}
+use Rattle.image_commands.specs.Faults.{of_site}
+use Rattle.image_commands.proofs.NotWritten.{not_written}
 use Rattle.image_commands.proofs.compacting.compact_image.Goals as goal
 
 pub returns-in-Ok-free_line-clause-kept : goal.returns-in-Ok-free_line-clause-kept
@@ -69,7 +73,7 @@ returns-in-Ok-free_line-clause-anew g c = λ honest.
       slot = k.slot;
       current_is = durable.current_is;
       filled = subst (λ x. IsFilled (slot_of x) (state (device_of x)).disk.view) (sym same) (c.in-Ok-compacted.ensures.filled still);
-      line_is = c.in-Ok-free_line.ensures ∙ ap free_line (c.figures-free.ensures.free now ∙ free_is disk.view k.slot k.ledger k.pinned k.fitted.rest k.pins.seals (k.pins_there now) (k.there now) ∙ unreached_alone disk.view k.slot k.pinned none);
+      line_is = c.in-Ok-free_line.ensures ∙ ap free_line (c.figures-free.ensures.free ∙ free_is disk.view k.slot k.ledger k.pinned k.fitted.rest k.pins.seals (k.pins_there now) (k.there now) ∙ unreached_alone disk.view k.slot k.pinned none);
     })
 
 pub returns-in-Err-free_line-clause-kept_on_fault : goal.returns-in-Err-free_line-clause-kept_on_fault
@@ -103,3 +107,33 @@ returns-in-Err-compacted-clause-kept_on_fault g c = λ honest.
       no_new_crash_state = opened.at_crash honest;
       at_crash = subst (λ d. AddsOnly (states site.keeper.device) (states d) (λ i. ImageRepresents i (seen_site site))) (sym back) (c.compact-compacted.ensures.at_crash still opened.usable);
     })
+
+pub returns-in-Err-compacted-clause-refused : goal.returns-in-Err-compacted-clause-refused
+returns-in-Err-compacted-clause-refused g c =
+    let state = g.D.Device.state in
+    let opened = c.in-Ok.ensures in
+    let site = c.in-Ok.site in
+    let written = c.compact-compacted.new.self in
+    let fault = c.in-Err-compacted.ensures.fault in
+    let h0 = held state site.keeper in
+    let h1 = held state written.keeper in
+    let same = c.into_keeper-keeper.ensures in
+    let k = c.into_keeper-keeper.result in
+    let needs = MayNeedFilled (slot_of site.keeper) (state (device_of site.keeper)) in
+    let room : (need free : ℕ) → HasStayed h0 h1 → free ≡ h0.free → (IsTrue h0.honest → needs need) → IsTrue (state c.args.device).honest → LacksRoom (state written.keeper.device).disk.view need free =
+    λ need free stayed is may honest.
+    let still = subst IsTrue (sym opened.honest) honest in
+    let now : IsTrue (state k.device).honest = subst (λ x. IsTrue (state (device_of x)).honest) (sym same) (subst IsTrue (sym c.compact-compacted.ensures.tried.honest) still) in
+    let up : k.usable ≡ true = ap (λ x. is_open x) same ∙ stayed.usable ∙ opened.usable in
+    let none = ap (λ x. (held state x).pins) same ∙ none_out h0 h1 stayed.out opened.unpinned in
+    subst (λ x. LacksRoom (state (device_of x)).disk.view need free) same
+    (record {
+      slot = k.slot;
+      current_is = (k.durable now up).current_is;
+      needs = subst (λ x. MayNeedFilled (slot_of x) (state (device_of x)) need) (sym same) ((c.in-Err-compacted.ensures.need stayed.usable).after need (may still)) now;
+      free_is = is ∙ sym stayed.free ∙ sym (ap (λ x. (held state x).free) same) ∙ free_is (state k.device).disk.view k.slot k.ledger k.pinned k.fitted.rest k.pins.seals (k.pins_there now) (k.there now) ∙ unreached_alone (state k.device).disk.view k.slot k.pinned none;
+    }) in
+    let back = c.into_device-device.ensures ∙ ap (λ x. device_of x) same in
+    let cause = not_written (state c.args.device) (state written.keeper.device) h0 h1 needs opened.honest opened.counts.reads opened.counts.writes refl refl (λ top honest. sym (opened.top honest) ∙ top) room fault.given fault.comes fault.reads
+    (fault.writes ∙ ap (λ (u : Bool). writes_after u fault.given h0.failed_writes) opened.usable) in
+    inr (opened.large, subst (λ d. IsNotWritten (state c.args.device) (state d) c.from-in-Err-compacted.result) (sym back) (subst (IsNotWritten (state c.args.device) (state written.keeper.device)) (sym (c.from-in-Err-compacted.ensures ∙ ap of_site fault.is)) cause))
