@@ -15,11 +15,11 @@ abbrev pub IsLacking : (Changes → SiteFault → Type 0) → Changes → SiteFa
 IsLacking lacks [] fault = ⊥
 IsLacking lacks (c ∷ changes) fault = lacks (c ∷ changes) fault
 
--- The keeper takes a further change, so that `Spent` comes neither of no room nor of too many levels.
+-- The changes can't be refused as `Spent`, which is told before lack of room and too many levels.
 abbrev pub IsUnspent : (Changes → SiteFault → Type 0) → Changes → Type 0
 IsUnspent lacks changes = IsLacking lacks changes faults.Spent → ⊥
 
--- Why several changes may not go in one step: they need more than is free, or might grow too many levels. A further change could be taken.
+-- Why several changes may not go in one step: they need more than is free, or might grow too many levels, and they can't be refused as `Spent`.
 pub record MaySplit (lacks : Changes → SiteFault → Type 0) (h : SiteState) (changes : Changes) : Type 0 where
   pub cause : ((need : ℕ) × (h.free < need) × IsLacking lacks changes (faults.Full need h.free)) ⊎ IsLacking lacks changes faults.Deep
   pub unspent : IsUnspent lacks changes
