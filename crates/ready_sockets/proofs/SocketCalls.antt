@@ -1,10 +1,12 @@
 -- What one call more says of a connection.
-use Rattle.std.proofs.Common.{◌≡◌, ◌+◌, ◌-◌, ◌^◌, List, [], ◌∷◌, ◌++◌, take, min, sym, ap, ◌∙◌, arith}
+use Rattle.std.proofs.Common.{◌≡◌, ◌+◌, ◌-◌, ◌^◌, ◌==◌, ◌||◌, List, [], ◌∷◌, ◌++◌, take, min, sym, ap, ◌∙◌, arith}
 use Rattle.std.specs.Prelude.{flat_map}
+use Rattle.std.specs.List.{list_any}
 use Rattle.std.proofs.lemmas.List.{flat_map_more, append-nil}
+use Rattle.std.proofs.lemmas.List.Folds.{list_any-append}
 use Rattle.std.proofs.lemmas.List.Sums.{sum_by_push}
 use Rattle.turns.specs.WireCalls.{WireCall}
-use Rattle.ready_sockets.specs.Sent.{read_by, written_by, head_of, taken_by}
+use Rattle.ready_sockets.specs.Sent.{read_by, written_by, head_of, has_line, taken_by}
 use Rattle.ready_sockets.proofs.HeadsKept.{take_pieces}
 
 pub head_more : (calls : List WireCall) (call : WireCall) → take 256 (head_of calls ++ read_by call) ≡ head_of (calls ++ call ∷ [])
@@ -12,6 +14,12 @@ head_more calls call = take_pieces 256 (flat_map read_by calls) (read_by call) �
 
 pub head_same : (calls : List WireCall) (call : WireCall) → read_by call ≡ [] → head_of calls ≡ head_of (calls ++ call ∷ [])
 head_same calls call none = ap (take 256) (sym (append-nil (flat_map read_by calls)) ∙ ap (λ l. flat_map read_by calls ++ l) (sym none) ∙ flat_map_more read_by [] calls call)
+
+pub line_more : (calls : List WireCall) (call : WireCall) → (has_line calls || list_any (λ b. b == 10) (read_by call)) ≡ has_line (calls ++ call ∷ [])
+line_more calls call = sym (list_any-append (λ b. b == 10) (flat_map read_by calls) (read_by call)) ∙ ap (list_any (λ b. b == 10)) (flat_map_more read_by [] calls call)
+
+pub line_same : (calls : List WireCall) (call : WireCall) → read_by call ≡ [] → has_line calls ≡ has_line (calls ++ call ∷ [])
+line_same calls call none = ap (list_any (λ b. b == 10)) (sym (append-nil (flat_map read_by calls)) ∙ ap (λ l. flat_map read_by calls ++ l) (sym none) ∙ flat_map_more read_by [] calls call)
 
 pub taken_more : (calls : List WireCall) (call : WireCall) → min (taken_by calls + written_by call) (2 ^ 64 - 1) ≡ taken_by (calls ++ call ∷ [])
 taken_more calls call = let more = sum_by_push written_by calls call in omega (arith, more)

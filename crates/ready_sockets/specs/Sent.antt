@@ -1,5 +1,6 @@
 -- What a client sent and took, by the calls that were made of its connection.
-use Rattle.std.specs.Prelude.{ℕ, ◌^◌, ◌-◌, min, List, [], flat_map, sum_by, take}
+use Rattle.std.specs.Prelude.{ℕ, ◌^◌, ◌-◌, ◌==◌, Bool, min, List, [], flat_map, sum_by, take}
+use Rattle.std.specs.List.{list_any}
 use Rattle.turns.specs.WireCalls.{WireCall, Read, ReadFailed, ReadWaited, Wrote, WriteFailed, WriteWaited, Closed}
 use Rattle.ready_sockets.specs.Heads.{selector_in}
 
@@ -30,6 +31,10 @@ head_of calls = take 256 (flat_map read_by calls)
 -- what was asked for, as far as the log looks at it
 abbrev pub asked_by : List WireCall → List ℕ
 asked_by calls = selector_in (head_of calls)
+
+-- whether a line has come whole: an LF was read
+abbrev pub has_line : List WireCall → Bool
+has_line calls = list_any (λ b. b == 10) (flat_map read_by calls)
 
 -- how many bytes were written, as far as a u64 counts
 abbrev pub taken_by : List WireCall → ℕ

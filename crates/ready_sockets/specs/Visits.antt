@@ -13,7 +13,8 @@ use Rattle.ready_turns.specs.Seats.{For, Turn, Learns, Dismissed, IsSeated, acts
 use Rattle.ready_turns.specs.declared.seat.Seat.{Seat}
 use Rattle.ready_sockets.specs.DoorCalls.{DoorCall, Waited, WaitFailed, Came, NotHad, both_ways, is_nobody}
 use Rattle.ready_sockets.specs.Doors.{listener_token, HasSameListener}
-use Rattle.ready_sockets.specs.Limits.{is_over}
+use Rattle.ready_sockets.specs.Limits.{is_over, longest_stay}
+use Rattle.ready_sockets.specs.Sent.{has_line}
 use Rattle.ready_sockets.specs.declared.door_log.Missed.{Missed}
 use Rattle.ready_sockets.specs.declared.ready_socket.ReadySocket.{ReadySocket}
 use Rattle.ready_sockets.specs.declared.visit.Visit.{Visit}
@@ -47,8 +48,12 @@ abbrev pub GoesIf : Bool → Visit → List Event → List Outcome → Visit →
 GoesIf true old es os new = For (λ (socket : ReadySocket). socket.made.calls) Dismissed old.seat es os new.seat
 GoesIf false old es os new = (es ≡ []) × (os ≡ []) × (new ≡ old)
 
+-- its time is over at this moment
+abbrev pub is_late : ℕ → Visit → Bool
+is_late now visit = is_over (longest_stay visit.seat.stage (has_line visit.seat.wire.made.calls)) visit.came visit.moved now
+
 abbrev pub WasDismissed : ℕ → Visit → List Event → List Outcome → Visit → Type 0
-WasDismissed now old es os new = GoesIf (is_over old.came old.moved now) old es os new
+WasDismissed now old es os new = GoesIf (is_late now old) old es os new
 
 -- ---- who has a turn again
 

@@ -20,7 +20,9 @@ pub use head::Head;
 pub use laws::{
     gives_what_is_due, head_of_pieces, takes_a_front, wait_keeps_clients, worked_examples,
 };
-pub use limits::{LONGEST_SILENCE, LONGEST_VISIT, is_over};
+pub use limits::{
+    LONGEST_LINE, LONGEST_REQUEST, LONGEST_SILENCE, LONGEST_VISIT, is_over, longest_stay,
+};
 pub use lines::{Record, log_line};
 pub use ready_socket::ReadySocket;
 pub use room::{MOST_VISITS, Room, VisitFault};

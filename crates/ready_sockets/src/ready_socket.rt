@@ -1,7 +1,8 @@
 // The calls of the system on a connection. Each function here makes one of them and notes it. That it makes the call which it notes, no clause can say: so
 // each is short, and tests on real connections hold it.
-ghost use Rattle.std.specs.Prelude.{◌≡◌, ◌⊎◌, true, [], IfOk};
-ghost use Rattle.ready_sockets.specs.Sent.{head_of, asked_by, taken_by};
+ghost use Rattle.std.specs.Prelude.{◌≡◌, ◌==◌, ◌⊎◌, true, [], IfOk};
+ghost use Rattle.std.specs.List.{list_any};
+ghost use Rattle.ready_sockets.specs.Sent.{head_of, asked_by, has_line, taken_by};
 
 use crate::Head;
 use mio::net::TcpStream;
@@ -16,8 +17,10 @@ pub struct ReadySocket {
     stream: TcpStream,
     made: CallLog,
     head: Head,
+    line: bool,
     taken: u64,
     ghost head_is: { head.bytes.items ≡ head_of made.calls },
+    ghost line_is: { line ≡ has_line made.calls },
     ghost taken_is: { taken ≡ taken_by made.calls },
 }
 
@@ -30,6 +33,13 @@ fn is_for_later(kind: ErrorKind) -> bool
     matches!(kind, ErrorKind::WouldBlock | ErrorKind::Interrupted)
 }
 
+/// Whether an LF is among these bytes.
+fn has_lf(bytes: &[u8]) -> bool
+    ensures { result ≡ list_any (λ b. b == 10) bytes.now }
+{
+    bytes.iter().any(|byte| *byte == b'\n')
+}
+
 impl ReadySocket {
     /// A connection of which no call was made.
     pub fn new(stream: TcpStream) -> ReadySocket
@@ -39,6 +49,7 @@ impl ReadySocket {
             stream,
             made: CallLog::new(),
             head: Head::new(),
+            line: false,
             taken: 0,
         }
     }
@@ -48,6 +59,13 @@ impl ReadySocket {
         ensures { result.now ≡ asked_by self.now.made.calls }
     {
         self.head.selector()
+    }
+
+    /// Whether a line of what the client sent has come whole.
+    pub fn has_line(&self) -> bool
+        ensures { result ≡ has_line self.now.made.calls }
+    {
+        self.line
     }
 
     /// How many bytes the client took, at most the greatest u64.
@@ -67,6 +85,7 @@ impl ReadyWire for ReadySocket {
                 self.made
                     .note(CallKind::Read(buffer.len()), &buffer[..count]);
                 self.head.hear(&buffer[..count]);
+                self.line |= has_lf(&buffer[..count]);
                 Ok(Some(count))
             }
             Err(error) if is_for_later(error.kind()) => {

@@ -2,12 +2,11 @@
 ghost use Rattle.std.specs.Prelude.{◌≡◌, IfOk, if◌then◌else◌};
 ghost use Rattle.std.specs.String.{string_bytes};
 ghost use Rattle.ready_sockets.specs.Logged.{line_of};
-ghost use Rattle.ready_sockets.specs.Limits as spec;
 ghost use Rattle.ready_sockets.specs.Rounds.{who};
-ghost use Rattle.ready_sockets.specs.Visits.{has_gone, has_turn, woken};
+ghost use Rattle.ready_sockets.specs.Visits.{has_gone, has_turn, is_late, woken};
 
 use crate::ReadySocket;
-use crate::limits::is_over;
+use crate::limits::{is_over, longest_stay};
 use crate::lines::{Record, log_line};
 use host_types::Stamp;
 use mio::Token;
@@ -30,9 +29,10 @@ pub struct Visit {
 impl Visit {
     /// Whether its time is over.
     pub(crate) fn is_over(&self, now: u64) -> bool
-        ensures { result ≡ spec.is_over self.now.came self.now.moved now }
+        ensures { result ≡ is_late now self.now }
     {
-        is_over(self.came, self.moved, now)
+        let longest = longest_stay(self.seat.stage(), self.seat.wire().has_line());
+        is_over(longest, self.came, self.moved, now)
     }
 
     /// It sent or took something, where it doesn't rest.

@@ -4,8 +4,7 @@ use Rattle.group_world.specs.declared.event.Outcome.{Outcome}
 use Rattle.turns.specs.Turns.{trace}
 use Rattle.ready_turns.specs.Seats.{state_of}
 use Rattle.ready_sockets.specs.Due.{WasGiven, IsGiven, all_due}
-use Rattle.ready_sockets.specs.Limits.{is_over}
-use Rattle.ready_sockets.specs.Visits.{IsNew, HadTurn, Learned, GoesIf}
+use Rattle.ready_sockets.specs.Visits.{IsNew, HadTurn, Learned, GoesIf, is_late}
 use Rattle.ready_sockets.specs.declared.visit.Visit.{Visit}
 use Rattle.ready_sockets.proofs.Dues.{joined_due, turn_due, learning_due, dismissal_due}
 use Rattle.ready_sockets.proofs.laws.gives_what_is_due.Goals as goal
@@ -28,6 +27,6 @@ returns c = record {
   at_first = comes;
   by_turn = turns;
   by_learning = learns;
-  by_dismissal = λ due now old new es os given had. goes (is_over old.came old.moved now) due old new es os given had;
+  by_dismissal = λ due now old new es os given had. goes (is_late now old) due old new es os given had;
   by_wait = λ due visit given. record { dropped = given.dropped; is = given.is; all = given.all; hears = given.hears };
 }
