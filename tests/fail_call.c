@@ -1,9 +1,11 @@
-/* Lists the calls that a program makes on files by their descriptors, in the file that CALLS_LIST names, and fails one of them: the one whose number, counted
-   from 1, stands in FAIL_AT. Loaded before the C library (LD_PRELOAD). A call that fails is not made. */
+/* Lists the calls that a program makes on files by their descriptors, and its renames, in the file that CALLS_LIST names, and fails one of them: the one whose
+   number, counted from 1, stands in FAIL_AT. Before the one whose number stands in KILL_AT it is killed. Loaded before the C library (LD_PRELOAD). A call that fails is
+   not made. */
 #define _GNU_SOURCE
 #include <dlfcn.h>
 #include <errno.h>
 #include <fcntl.h>
+#include <signal.h>
 #include <stdio.h>
 #include <stdlib.h>
 #include <sys/file.h>
@@ -24,11 +26,16 @@ static int fails(const char *name, long long first, long long second) {
     if (file < 0 || write(file, text, (size_t)length) != length)
         _exit(99);
     close(file);
+    const char *kill_at = getenv("KILL_AT");
+    if (kill_at && count == strtoul(kill_at, NULL, 10))
+        raise(SIGKILL);
     errno = EIO;
     return failed;
 }
 
 #define NEXT(name) ((__typeof__(&name))dlsym(RTLD_NEXT, #name))
+
+int rename(const char *from, const char *to) { return fails("rename", 0, 0) ? -1 : NEXT(rename)(from, to); }
 
 int flock(int file, int how) { return fails("flock", how, 0) ? -1 : NEXT(flock)(file, how); }
 

@@ -10,7 +10,7 @@ use Rattle.std.specs.declared.num.ParseIntError.{ParseIntError}
 use Rattle.clap.specs.Words.{ReadsOne, Text, first_of, first_value, one_text, rows_of}
 use Rattle.clap.specs.declared.parser.matches.Found.{Found}
 use Rattle.clap.proofs.WalkLemmas.{first_value-rows, one_text-rows}
-use Rattle.command_words.specs.Tasks.{Gives, HasAddress, HasFlag, HasNumber, HasText}
+use Rattle.command_words.specs.Tasks.{Gives, HasAddress, HasFlag, HasNumber, HasNumberOrNone, HasText}
 
 -- nothing is given where nothing is as it should be
 pub gives_none : {A : Type 0} (Is : A → Type 0) (r : Option A) → r ≡ None → ((a : A) → Is a → ⊥) → Gives Is r
@@ -49,6 +49,14 @@ module _ (bits : ℕ) (f : Found) (id : Text) (r : Option ℕ) where
       let read : ReadsOne (IsParsed bits) t None = subst (ReadsOne (IsParsed bits) t) is (value t (one_text-rows f id ∙ h.1)) in
       let p = read.1.0 in
       p (h.2, subst (λ k. k < 2 ^ bits) (sym h.3) h.4)
+
+  -- the number, or none
+  pub number_or_none : (one_text f id ≡ None → r ≡ None) → ((t : Text) → one_text f id ≡ Some t → ReadsOne (IsParsed bits) t r) → HasNumberOrNone (rows_of f) id bits r
+  number_or_none none value = go r refl
+    where
+      go : (o : Option ℕ) → r ≡ o → HasNumberOrNone (rows_of f) id bits o
+      go None e = no_number value e
+      go (Some n) e = found_number n none value e
 
 -- the address that a text is, and none where it is no address
 pub found_address : {E : Type 0} (f : Found) (id : Text) (r : Option (Bor Text)) (s : Bor Text) (p : Result SocketAddr E) (o listen : Option SocketAddr) (a : SocketAddr) → option_map (λ x. x.now) r ≡ first_value f id → r ≡ Some s

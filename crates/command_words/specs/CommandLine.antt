@@ -36,6 +36,10 @@ now_rule = number_rule (codes "now") 0 253402300799
 abbrev pub bound_rule : Rule → Rule
 bound_rule rule = record rule { required = false; is_free = false }
 
+-- the same where it may be left out
+abbrev pub free_rule : Rule → Rule
+free_rule rule = record rule { required = false }
+
 -- a word that is there or not
 abbrev pub flag_rule : Text → Rule
 flag_rule name = record (new_rule name) { long = Some name; action = Some SetTrue }
@@ -62,6 +66,10 @@ apply_command = command (codes "apply") (image_rule ∷ required_path (codes "FI
 abbrev pub image_command : Text → Shape
 image_command name = command name (image_rule ∷ [])
 
+abbrev pub copy_command : Shape
+copy_command = command (codes "copy")
+    (image_rule ∷ required_path (codes "NEW") ∷ free_rule (number_rule (codes "pages") 0 4294967295) ∷ [])
+
 abbrev pub replay_command : Shape
 replay_command = command (codes "replay") (path_rule (codes "IMAGE") ∷ flag_rule (codes "group") ∷ [])
 
@@ -74,7 +82,7 @@ serve_command = command (codes "serve")
 abbrev pub commands : List Shape
 commands = format_command ∷ apply_command ∷ image_command (codes "show")
     ∷ image_command (codes "check") ∷ image_command (codes "compact")
-    ∷ image_command (codes "upgrade") ∷ replay_command ∷ serve_command ∷ []
+    ∷ image_command (codes "upgrade") ∷ copy_command ∷ replay_command ∷ serve_command ∷ []
 
 -- the whole of it
 abbrev pub gopher_host : App

@@ -24,6 +24,11 @@ HasNumber rows id bits n =
     (text : Text) × (one_of id rows ≡ Some text) × IsNumeral 10 (without_leading_plus text)
     × (digits_value 10 (without_leading_plus text) ≡ n) × (n < 2 ^ bits)
 
+-- the number found for an id, or that there is none
+abbrev pub HasNumberOrNone : List Row → Text → ℕ → Option ℕ → Type 0
+HasNumberOrNone rows id bits (Some n) = HasNumber rows id bits n
+HasNumberOrNone rows id bits None = (n : ℕ) → ¬ (HasNumber rows id bits n)
+
 -- the address found for an id, or that there is nothing
 abbrev pub HasAddress : List Row → Text → Option SocketAddr → Type 0
 HasAddress rows id (Some address) =
@@ -67,6 +72,9 @@ AsksFor name rows (task.Compact image) =
     (name ≡ codes "compact") × HasText rows (codes "IMAGE") image
 AsksFor name rows (task.Upgrade image) =
     (name ≡ codes "upgrade") × HasText rows (codes "IMAGE") image
+AsksFor name rows (task.Copy image new pages) =
+    (name ≡ codes "copy") × HasText rows (codes "IMAGE") image × HasText rows (codes "NEW") new
+    × HasNumberOrNone rows (codes "pages") 32 pages
 AsksFor name rows (task.Replay (Some image) group) =
     (name ≡ codes "replay") × HasText rows (codes "IMAGE") image × HasFlag rows (codes "group") group
 AsksFor name rows (task.Replay None group) =

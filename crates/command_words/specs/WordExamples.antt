@@ -40,6 +40,11 @@ pub record WordExamples : Type 0 where
   pub its_image : value_of (codes "IMAGE") show_words ≡ Some (codes "site.img")
   pub it_is_taken : is_taken show_words ≡ true
   pub upgrades : named (codes "upgrade" ∷ codes "site.img" ∷ []) ≡ Some (codes "upgrade")
+  pub copies : named (codes "copy" ∷ codes "site.img" ∷ codes "new.img" ∷ []) ≡ Some (codes "copy")
+  pub as_many_pages : value_of (codes "pages") (codes "copy" ∷ codes "site.img" ∷ codes "new.img" ∷ []) ≡ None
+  pub more_pages : value_of (codes "pages") (codes "copy" ∷ codes "site.img" ∷ codes "new.img" ∷ codes "--pages" ∷ codes "64" ∷ []) ≡ Some (codes "64")
+  pub its_copy : value_of (codes "NEW") (codes "copy" ∷ codes "site.img" ∷ codes "new.img" ∷ []) ≡ Some (codes "new.img")
+  pub no_copy : is_taken (codes "copy" ∷ codes "site.img" ∷ []) ≡ false
   pub no_image : is_taken (codes "show" ∷ []) ≡ false
   pub no_command : is_taken [] ≡ false
   pub replays : is_taken (codes "replay" ∷ []) ≡ true

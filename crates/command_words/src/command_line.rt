@@ -146,6 +146,32 @@ fn upgrade<'a>(alloc: Global) -> Result<Command<'a>, AllocError>
         .arg(image(alloc))
 }
 
+fn new_image<'a>(alloc: Global) -> Arg<'a>
+    ensures { IsArg (spec.required_path (codes "NEW")) result }
+{
+    path(
+        alloc,
+        "NEW",
+        "The file of the new image, which must not be there yet",
+    )
+    .required(true)
+}
+
+fn copy<'a>(alloc: Global) -> Result<Command<'a>, AllocError>
+    ensures { IfOk result (IsCommand spec.copy_command) }
+{
+    let pages =
+        "How many pages of 4,096 bytes the new image has, 16 to 65,536; if left out, as many as the old one";
+    Command::new(alloc, "copy")
+        .about(
+            "Writes the site of an image as a new image, in filled pages: a backup, or an image with more or fewer pages; the old one stays as it is. Prints how many items were copied, and how many pages of the new one are free",
+        )
+        .after_help("Example: gopher_host copy site.img larger.img --pages 8192")
+        .arg(image(alloc))?
+        .arg(new_image(alloc))?
+        .arg(number(alloc, "pages", "N", pages, 0, 4_294_967_295).required(false))
+}
+
 fn replay<'a>(alloc: Global) -> Result<Command<'a>, AllocError>
     ensures { IfOk result (IsCommand spec.replay_command) }
 {
@@ -222,6 +248,7 @@ pub fn command_line<'a>(alloc: Global) -> Result<Command<'a>, AllocError>
         .subcommand(check(alloc)?)?
         .subcommand(compact(alloc)?)?
         .subcommand(upgrade(alloc)?)?
+        .subcommand(copy(alloc)?)?
         .subcommand(replay(alloc)?)?
         .subcommand(serve(alloc)?)
 }

@@ -48,6 +48,12 @@ pub enum Task<'a> {
     Upgrade {
         image: &'a str,
     },
+    /// Writes the site of an image as a new one, of so many pages or as many as the old one has.
+    Copy {
+        image: &'a str,
+        new: &'a str,
+        pages: Option<u32>,
+    },
     /// Runs the script on standard input, in which posts wait for one another or don't, and prints its answers.
     Replay {
         image: Option<&'a str>,
@@ -204,6 +210,11 @@ fn task_of<'a>(name: &str, matches: &ArgMatches<'a>) -> Option<Task<'a>>
         "check" => Some(Task::Check { image: image? }),
         "compact" => Some(Task::Compact { image: image? }),
         "upgrade" => Some(Task::Upgrade { image: image? }),
+        "copy" => Some(Task::Copy {
+            image: image?,
+            new: matches.get_str("NEW")?,
+            pages: matches.get_one::<u32>("pages"),
+        }),
         "replay" => Some(Task::Replay {
             image,
             group: matches.get_flag("group"),

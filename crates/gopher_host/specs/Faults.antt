@@ -8,10 +8,11 @@ use Rattle.image_changes.specs.StoppedLines.{stopped_line}
 use Rattle.image_commands.specs.Faults.{of_opening}
 use Rattle.image_commands.specs.FaultLines.{fault_line, advice}
 use Rattle.image_commands.specs.declared.fault.ImageFault.TheVariants as images
+use Rattle.image_copies.specs.CopyFaults.{copy_fault_line, copy_advice}
 use Rattle.image_server.specs.Lines.{serving_line, round_line}
 use Rattle.image_server.specs.declared.serving.ServingFault.TheVariants as serving
 use Rattle.gopher_host.specs.declared.fault.Fault.{Fault}
-use Rattle.gopher_host.specs.declared.fault.Fault.TheVariants.{Image, Changes, Stopped, Serving, Round, Script}
+use Rattle.gopher_host.specs.declared.fault.Fault.TheVariants.{Image, Copy, Changes, Stopped, Serving, Round, Script}
 
 -- standard output takes no more
 abbrev pub output_fault : Fault
@@ -27,6 +28,7 @@ ended line = line ++ 10 ∷ []
 -- the line of a fault, without its LF
 abbrev pub line_of : Fault → List ℕ
 line_of (Image fault) = fault_line fault
+line_of (Copy fault) = copy_fault_line fault
 line_of (Changes fault) = file_line fault
 line_of (Stopped stopped) = stopped_line stopped
 line_of (Serving fault) = serving_line fault
@@ -36,6 +38,7 @@ line_of (Script fault) = fault_text fault
 -- what to do about it, or nothing
 abbrev pub advice_of : Fault → List ℕ
 advice_of (Image fault) = advice fault
+advice_of (Copy fault) = copy_advice fault
 advice_of (Changes fault) = []
 advice_of (Stopped stopped) = []
 advice_of (Serving (serving.Image fault)) = advice (of_opening fault)

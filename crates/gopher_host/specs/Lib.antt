@@ -2,6 +2,7 @@ pub mod Faults
 pub mod Endings
 pub mod NewImages
 pub mod ImageFiles
+pub mod CopiedFiles
 pub mod Tasks
 pub mod ProgressTexts
 pub mod Served

@@ -8,11 +8,13 @@ use Rattle.host_types.specs.SiteState.{SiteState}
 use Rattle.host_types.specs.declared.site_fault.SiteFault.{SiteFault}
 use Rattle.file_device.specs.FileCalls.{FileHistory}
 use Rattle.file_device.specs.FileUses.{FileUse}
+use Rattle.file_names.specs.NameCalls.{NameCall}
 use Rattle.image_commands.specs.declared.fault.ImageFault.{ImageFault}
 use Rattle.image_server.specs.declared.listening.ListenCall.{ListenCall}
 use Rattle.ready_sockets.specs.DoorCalls.{DoorCall}
 use Rattle.command_words.specs.declared.words.Task.{Task}
 use Rattle.command_words.specs.declared.words.Task.TheVariants as task
+use Rattle.gopher_host.specs.CopiedFiles.{CopiesTo}
 use Rattle.gopher_host.specs.ImageFiles.{OpensThen, Shows, Checks, Compacts, Upgrades}
 use Rattle.gopher_host.specs.Kept.{ReadsThen, Applies}
 use Rattle.gopher_host.specs.NewImages.{moment_of, Formats}
@@ -30,6 +32,7 @@ RunsCommand contents (task.Show image) before after old new result = OpensThen i
 RunsCommand contents (task.Check image) before after old new result = OpensThen image.now before after result (new ≡ old) (Checks contents old new result)
 RunsCommand contents (task.Compact image) before after old new result = OpensThen image.now before after result (new ≡ old) (Compacts contents old new result)
 RunsCommand contents (task.Upgrade image) before after old new result = OpensThen image.now before after result (new ≡ old) (Upgrades contents old new result)
+RunsCommand contents (task.Copy image name pages) before after old new result = (asked : List NameCall) × (now : List NameCall) × (asked ≡ []) × CopiesTo contents image.now name.now pages before after asked now old new result
 RunsCommand contents (task.Replay (Some image) group) before after old new result = new ≡ old
 RunsCommand contents (task.Replay None group) before after old new result = (new ≡ old) × (after ≡ before)
 RunsCommand contents (task.ServeRounds image together rounds) before after old new result = Unit {0}

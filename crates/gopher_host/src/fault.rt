@@ -10,6 +10,7 @@ use change_file::{ApplyFault, ChangeFileFault, file_line};
 use host_script::fault_text;
 use image_changes::stopped_line;
 use image_commands::{ImageFault, advice, fault_line};
+use image_copies::{CopyFault, copy_advice, copy_fault_line};
 use image_server::{ServingFault, round_line, serving_line};
 use socket_wires::ServeFault;
 use std::alloc::{AllocError, Global};
@@ -22,6 +23,8 @@ use std::process::ExitCode;
 pub enum Fault {
     /// A command on an image.
     Image(ImageFault),
+    /// A copy that was not made.
+    Copy(CopyFault),
     /// A file of changes.
     Changes(ChangeFileFault),
     /// A change that was not made.
@@ -103,6 +106,7 @@ impl Fault {
     {
         match self {
             Fault::Image(fault) => fault_line(alloc, *fault),
+            Fault::Copy(fault) => copy_fault_line(alloc, *fault),
             Fault::Changes(fault) => file_line(alloc, *fault),
             Fault::Stopped(fault) => stopped_line(alloc, *fault),
             Fault::Serving(fault) => serving_line(alloc, *fault),
@@ -117,6 +121,7 @@ impl Fault {
     {
         match self {
             Fault::Image(fault) => advice(*fault),
+            Fault::Copy(fault) => copy_advice(*fault),
             Fault::Serving(ServingFault::Image(fault)) => advice(ImageFault::from(*fault)),
             Fault::Serving(ServingFault::Net)
             | Fault::Changes(_)

@@ -9,6 +9,7 @@ ghost use Rattle.gopher_host.specs.Faults.{Tells};
 ghost use Rattle.gopher_host.specs.Tasks.{RunsCommand, RunsSessions};
 
 mod commands;
+mod copying;
 mod ending;
 mod fault;
 mod new_image;
@@ -22,6 +23,7 @@ use command_words::{Task, given, read};
 use cow_tree::TreeKeeper;
 use fault::Fault;
 use file_device::{FileDevice, UsedFiles};
+use file_names::NameLog;
 use host_types::SiteKeeper;
 use image_server::ListenLog;
 use ready_sockets::DoorLog;
@@ -73,6 +75,9 @@ fn run<W: Write, L: Write>(
             listen,
             quiet,
         } => sessions::serve(rt, used, image, listen, quiet, &mut DoorLog::new(), log),
+        Task::Copy { image, new, pages } => {
+            copying::copy(rt, used, &mut NameLog::new(), image, new, pages, writer)
+        }
     }
 }
 

@@ -6,6 +6,9 @@ use Rattle.gopher_host.proofs.run.Goals as goal
 pub returns-in-Format-clause-command : goal.returns-in-Format-clause-command
 returns-in-Format-clause-command g c = rw c.in-Format.is (record { asked = c.format.ensures.asked; made = c.format.ensures.made; printed = c.format.ensures.printed; fault = c.format.ensures.fault })
 
+pub returns-in-Copy-clause-command : goal.returns-in-Copy-clause-command
+returns-in-Copy-clause-command g c = let made = c.new-in-Copy in rw c.in-Copy.is (made.result.calls, c.copy.new.names.calls, made.ensures, c.copy.ensures)
+
 pub returns-in-ServeRounds-clause-sessions : goal.returns-in-ServeRounds-clause-sessions
 returns-in-ServeRounds-clause-sessions g c = rw c.in-ServeRounds.is (record {
   rounds = (c.new.result.calls, c.serve_rounds.new.asked.calls, c.new.ensures, opens_too _ _ _ _ _ (λ u. (ap (λ a. a.calls) u.0, u.1)) c.serve_rounds.ensures);

@@ -12,5 +12,6 @@ returns c =
     let four = with_command _ _ c.in_ok-subcommand-3.field-0 c.in_ok-subcommand-4.field-0 c.in_ok-check.field-0 three c.in_ok-check.ensures c.in_ok-subcommand-4.ensures in
     let five = with_command _ _ c.in_ok-subcommand-4.field-0 c.in_ok-subcommand-5.field-0 c.in_ok-compact.field-0 four c.in_ok-compact.ensures c.in_ok-subcommand-5.ensures in
     let six = with_command _ _ c.in_ok-subcommand-5.field-0 c.in_ok-subcommand-6.field-0 c.in_ok-upgrade.field-0 five c.in_ok-upgrade.ensures c.in_ok-subcommand-6.ensures in
-    let seven = with_command _ _ c.in_ok-subcommand-6.field-0 c.in_ok-subcommand-7.field-0 c.in_ok-replay.field-0 six c.in_ok-replay.ensures c.in_ok-subcommand-7.ensures in
-    IfOk-weaker c.subcommand-8.result _ _ (λ r adds. with_command _ _ c.in_ok-subcommand-7.field-0 r c.in_ok-serve.field-0 seven c.in_ok-serve.ensures adds) c.subcommand-8.ensures
+    let seven = with_command _ _ c.in_ok-subcommand-6.field-0 c.in_ok-subcommand-7.field-0 c.in_ok-copy.field-0 six c.in_ok-copy.ensures c.in_ok-subcommand-7.ensures in
+    let eight = with_command _ _ c.in_ok-subcommand-7.field-0 c.in_ok-subcommand-8.field-0 c.in_ok-replay.field-0 seven c.in_ok-replay.ensures c.in_ok-subcommand-8.ensures in
+    IfOk-weaker c.subcommand-9.result _ _ (λ r adds. with_command _ _ c.in_ok-subcommand-8.field-0 r c.in_ok-serve.field-0 eight c.in_ok-serve.ensures adds) c.subcommand-9.ensures

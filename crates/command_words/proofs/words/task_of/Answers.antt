@@ -1,7 +1,7 @@
 use Rattle.std.proofs.Common.{codes, refl}
 use Rattle.clap.specs.Words.{found_of, rows_of}
-use Rattle.command_words.proofs.FoundLemmas.{found_flag, found_number, found_text, gives_none, no_number, no_text, not_both}
-use Rattle.command_words.proofs.TaskLemmas.{apply_needs, format_needs, no_image, replayed, served, two_words}
+use Rattle.command_words.proofs.FoundLemmas.{found_flag, found_number, found_text, gives_none, no_number, number_or_none, no_text, not_both}
+use Rattle.command_words.proofs.TaskLemmas.{apply_needs, copy_needs, format_needs, no_image, replayed, served, two_words}
 use Rattle.command_words.proofs.words.task_of.Goals as goal
 
 pub returns-in_err-image-in-format : goal.returns-in_err-image-in-format
@@ -33,6 +33,23 @@ pub returns-in_err-image-in-upgrade : goal.returns-in_err-image-in-upgrade
 returns-in_err-image-in-upgrade c =
     let none = no_text (found_of c.args.matches.now) (codes "IMAGE") c.get_str-image.result c.get_str-image.ensures c.in_err-image-in-upgrade.was in
     gives_none _ _ c.from_residual-in_err-image-in-upgrade.ensures (no_image c.args.name.now (rows_of (found_of c.args.matches.now)) none (two_words c.args.name.now (codes "upgrade") (codes "replay") refl c.in-upgrade.is))
+
+pub returns-in_err-image-in-copy : goal.returns-in_err-image-in-copy
+returns-in_err-image-in-copy c =
+    let none = no_text (found_of c.args.matches.now) (codes "IMAGE") c.get_str-image.result c.get_str-image.ensures c.in_err-image-in-copy.was in
+    gives_none _ _ c.from_residual-in_err-image-in-copy.ensures (no_image c.args.name.now (rows_of (found_of c.args.matches.now)) none (two_words c.args.name.now (codes "copy") (codes "replay") refl c.in-copy.is))
+
+pub returns-in_err-get_str-in-copy : goal.returns-in_err-get_str-in-copy
+returns-in_err-get_str-in-copy c =
+    let none = no_text (found_of c.args.matches.now) (codes "NEW") c.get_str-in-copy.result c.get_str-in-copy.ensures c.in_err-get_str-in-copy.was in
+    gives_none _ _ c.from_residual-in_err-get_str-in-copy.ensures (λ t asks. let needs = copy_needs c.args.name.now (rows_of (found_of c.args.matches.now)) c.in-copy.is t asks in not_both _ _ none needs.1)
+
+pub returns-in_ok-get_str-in-copy : goal.returns-in_ok-get_str-in-copy
+returns-in_ok-get_str-in-copy c =
+    let image = found_text (found_of c.args.matches.now) (codes "IMAGE") c.get_str-image.result _ c.get_str-image.ensures c.in_ok-image-in-copy.was in
+    let new = found_text (found_of c.args.matches.now) (codes "NEW") c.get_str-in-copy.result _ c.get_str-in-copy.ensures c.in_ok-get_str-in-copy.was in
+    let pages = number_or_none 32 (found_of c.args.matches.now) (codes "pages") c.get_one-in-copy.result c.get_one-in-copy.ensures.none c.get_one-in-copy.ensures.value in
+    (c.in-copy.is, image, new, pages)
 
 pub returns-in_err-image-in-serve : goal.returns-in_err-image-in-serve
 returns-in_err-image-in-serve c =

@@ -1,0 +1,7 @@
+//! The image in a file, copied to a new file.
+#![tactic(auto)]
+
+mod copying;
+mod new_file;
+
+pub use copying::copy_file;

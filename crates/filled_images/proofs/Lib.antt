@@ -1,0 +1,2 @@
+pub mod PageNumbers
+pub mod FirstFilled

@@ -1,0 +1,3 @@
+pub mod PairsRead
+pub mod SitesRead
+pub mod Plans

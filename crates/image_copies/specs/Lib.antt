@@ -1,0 +1,4 @@
+pub mod SitesRead
+pub mod Copies
+pub mod CopyFaults
+pub mod CopyLines

@@ -1,0 +1,84 @@
+// All pairs of a keeper of a tree.
+ghost use Rattle.std.specs.Prelude.{◌≡◌, ◌≤◌, true, IsTrue, IfOk, OnOk, IfErr, IfSome, length};
+ghost use Rattle.common_types.specs.CrashStates.{AddsNone};
+ghost use Rattle.page_store.specs.Batch.{is_map, pair_after};
+ghost use Rattle.page_store.specs.PairsInOrder.{last_key};
+ghost use Rattle.page_store.specs.Steps.{crash_states_of};
+ghost use Rattle.page_store.specs.StoreState.{HasRead};
+ghost use Rattle.cow_tree.specs.Compacting.{most_pairs};
+ghost use Rattle.cow_tree.specs.TreeSeen.{held, device_of, is_open, kept_by};
+ghost use Rattle.image_copies.specs.SitesRead.{IsNotRead};
+
+use cow_tree::TreeKeeper;
+use image_commands::ImageFault;
+use page_store::{Keeper, KeeperFault, Pair};
+use sector_device::Device;
+use std::alloc::Global;
+
+/// How many pairs an image may have: 1,024 in each of 65,536 pages.
+const MOST_PAIRS: usize = 1024 * 65536;
+
+/// A read failed. A device that gives something else than before is told so too.
+const NOT_READ: ImageFault = ImageFault::Store(KeeperFault::Device);
+
+/// The key of the last pair, or the empty key.
+fn last_key(pairs: &[Pair]) -> &[u8]
+    ensures { result.now ≡ last_key pairs.now }
+{
+    match pairs.last() {
+        Some(last) => last.key(),
+        None => &[],
+    }
+}
+
+/// The pair behind these, the first ones of a keeper.
+fn pair_behind<D: Device>(
+    alloc: Global,
+    keeper: &mut TreeKeeper<D>,
+    pairs: &[Pair],
+) -> Result<Option<Pair>, ImageFault>
+    requires usable { is_open keeper.old ≡ true }
+    ensures pair { IsTrue (held D.state keeper.old).honest → IfOk result (λ next. next ≡ pair_after (held D.state keeper.old).pairs (last_key pairs.now)) }
+    ensures tells { IfOk result (λ next. next ≡ pair_after (kept_by keeper.new) (last_key pairs.now)) }
+    ensures short { IfOk result (λ next. IfSome next (λ p. length p.0 ≤ 300)) }
+    ensures few { IfOk result (λ next. IfSome next (λ p. length p.1 ≤ 1024)) }
+    ensures kept { HasRead (held D.state keeper.old) (held D.state keeper.new) }
+    ensures counts { OnOk result ((held D.state keeper.new).failed_reads ≡ (held D.state keeper.old).failed_reads) }
+    ensures fault { IfErr result (IsNotRead (held D.state keeper.old) (held D.state keeper.new)) }
+    ensures at_crash { IsTrue (held D.state keeper.old).honest → AddsNone (crash_states_of D.moment D.possible_since (device_of keeper.old)) (crash_states_of D.moment D.possible_since (device_of keeper.new)) }
+{
+    let (mut key, mut value) = ([0; 300], [0; 1024]);
+    match keeper.next(last_key(pairs), &mut key, &mut value) {
+        Ok(Some((size, length))) => {
+            let pair = Pair::from_slices(alloc, &key[..size], &value[..length])?;
+            Ok(Some(pair))
+        }
+        Ok(None) => Ok(None),
+        Err(_) => Err(NOT_READ),
+    }
+}
+
+/// All pairs of a keeper.
+pub(crate) fn all_pairs<D: Device>(
+    alloc: Global,
+    keeper: &mut TreeKeeper<D>,
+) -> Result<Vec<Pair>, ImageFault>
+    requires usable { is_open keeper.old ≡ true }
+    ensures pairs { IsTrue (held D.state keeper.old).honest → IfOk result (λ pairs. pairs.items ≡ (held D.state keeper.old).pairs) }
+    ensures map { IfOk result (λ pairs. is_map pairs.items ≡ true) }
+    ensures few { IfOk result (λ pairs. length pairs.items ≤ most_pairs) }
+    ensures kept { HasRead (held D.state keeper.old) (held D.state keeper.new) }
+    ensures counts { OnOk result ((held D.state keeper.new).failed_reads ≡ (held D.state keeper.old).failed_reads) }
+    ensures fault { IfErr result (IsNotRead (held D.state keeper.old) (held D.state keeper.new)) }
+    ensures at_crash { IsTrue (held D.state keeper.old).honest → AddsNone (crash_states_of D.moment D.possible_since (device_of keeper.old)) (crash_states_of D.moment D.possible_since (device_of keeper.new)) }
+{
+    let mut pairs = Vec::new(alloc);
+    for _ in 0..MOST_PAIRS + 1 {
+        match pair_behind(alloc, keeper, &pairs) {
+            Ok(Some(pair)) => pairs.push(pair)?,
+            Ok(None) => return Ok(pairs),
+            Err(fault) => return Err(fault),
+        }
+    }
+    Err(NOT_READ)
+}
