@@ -1,0 +1,6 @@
+pub mod Inserted
+pub mod Lists
+pub mod MemberLaws
+pub mod SmallTables
+pub mod Puts
+pub mod Files

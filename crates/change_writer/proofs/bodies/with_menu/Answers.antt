@@ -1,0 +1,13 @@
+use Rattle.std.proofs.Common.{◌≡◌, ◌==◌, Some, Ok, pos, false, true, nat_lt, List, ℕ, [], ◌∷◌, None, IfOk, codes, rules, refl, arith, sym, ap, ◌∙◌}
+use Rattle.toml.proofs.Views.{view-String, view-Array, view-Table}
+use Rattle.toml.specs.View.{view, table_view, items_view}
+use Rattle.toml.specs.Data.{string, integer, array, table, no_members}
+use Rattle.change_writer.specs.Members.{with_member}
+use Rattle.change_writer.proofs.Lists.{values_seen, all_named_fine}
+use Rattle.change_writer.proofs.Puts.{menu_added}
+use Rattle.change_writer.proofs.bodies.with_menu.Goals as goal
+
+pub returns-clause-adds : goal.returns-clause-adds
+returns-clause-adds c =
+    let same : table_view c.in_ok-with.field-0 ≡ with_member (codes "menu") (array (items_view c.in_ok-values.values.items)) (table_view c.args.table) = search (rules, view-String, view-Array, view-Table) in
+    rw same (menu_added (table_view c.args.table) (items_view c.in_ok-values.values.items) c.args.menu.now c.in_ok-values.ensures.depth (rw (values_seen c.in_ok-values.values.items) c.in_ok-values.ensures.read) (all_named_fine c.args.menu.now))

@@ -1,0 +1,12 @@
+use Rattle.std.proofs.Common.{◌≡◌, ◌==◌, Some, Ok, pos, false, true, nat_lt, List, ℕ, [], ◌∷◌, None, IfOk, codes, rules, refl, arith, sym, ap, ◌∙◌}
+use Rattle.toml.proofs.Views.{view-String, view-Array, view-Table}
+use Rattle.toml.specs.View.{view, table_view, items_view}
+use Rattle.toml.specs.Data.{string, integer, array, table, no_members}
+use Rattle.change_writer.specs.Members.{with_member}
+use Rattle.change_writer.proofs.Puts.{text_added}
+use Rattle.change_writer.proofs.bodies.with_text.Goals as goal
+
+pub returns : goal.returns
+returns c =
+    let same : table_view c.in_ok-with.field-0 ≡ with_member (codes "text") (string c.args.text.now) (table_view c.args.table) = search (rules, view-String, view-Array, view-Table) in
+    rw same (text_added (table_view c.args.table) c.args.text.now)

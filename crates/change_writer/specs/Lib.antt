@@ -1,0 +1,4 @@
+pub mod Members
+pub mod Said
+pub mod Bodies
+pub mod Writer

@@ -1,0 +1,5 @@
+pub mod Formats
+pub mod Selectors
+pub mod Entries
+pub mod Pages
+pub mod ImportExamples

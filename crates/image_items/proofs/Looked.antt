@@ -1,0 +1,68 @@
+-- A site that is read while it is pinned.
+use Rattle.std.proofs.Common.{◌≡◌, ◌≤◌, ℕ, Bool, true, false, List, length, refl, ap, sym, subst, ◌∙◌, arith, IsTrue}
+use Rattle.host_types.specs.Site.{Items}
+use Rattle.host_types.specs.Card.{viewed_at}
+use Rattle.host_types.specs.SiteState.{SiteState, HasRead, IsReadFault, Rose}
+use Rattle.host_types.specs.Pins.{Pinned, Copied, Numbered, items_or_none, pinned_items, viewed_among, IsPinned, IsUnpinned}
+use Rattle.host_types.specs.declared.site_fault.SiteFault.{SiteFault}
+use Rattle.host_types.specs.declared.site_fault.SiteFault.TheVariants as faults
+use Rattle.view_draws.specs.ViewDraw.{body_at}
+use Rattle.view_draws.specs.declared.view_draw.ViewDraw.{ViewDraw}
+use Rattle.image_items.specs.Looks.{HasLooked}
+
+-- ---- what a pin keeps
+
+pub pinned_keeps : (a b : SiteState) (pin : Pinned) → IsPinned a b pin → IsTrue a.honest → pinned_items b pin ≡ a.site.items
+pinned_keeps a b (Copied items) is honest = is.0 honest
+pinned_keeps a b (Numbered n) is honest = ap items_or_none (is.keeps honest)
+
+pub pinned_honest : (a b : SiteState) (pin : Pinned) → IsPinned a b pin → b.honest ≡ a.honest
+pinned_honest a b (Copied items) is = ap (λ (h : SiteState). h.honest) is.1
+pinned_honest a b (Numbered n) is = ap (λ (h : SiteState). h.honest) is.same
+
+pinned_usable : (a b : SiteState) (pin : Pinned) → IsPinned a b pin → b.usable ≡ a.usable
+pinned_usable a b (Copied items) is = ap (λ (h : SiteState). h.usable) is.1
+pinned_usable a b (Numbered n) is = ap (λ (h : SiteState). h.usable) is.same
+
+pinned_reads : (a b : SiteState) (pin : Pinned) → IsPinned a b pin → b.failed_reads ≡ a.failed_reads
+pinned_reads a b (Copied items) is = ap (λ (h : SiteState). h.failed_reads) is.1
+pinned_reads a b (Numbered n) is = ap (λ (h : SiteState). h.failed_reads) is.same
+
+unpinned_reads : (a b : SiteState) (pin : Pinned) → IsUnpinned a b pin → b.failed_reads ≡ a.failed_reads
+unpinned_reads a b (Copied items) is = ap (λ (h : SiteState). h.failed_reads) is
+unpinned_reads a b (Numbered n) is = ap (λ (h : SiteState). h.failed_reads) is.same
+
+-- the view that is drawn is as long as it was before the pin
+pub drawn_size : (a b : SiteState) (pin : Pinned) (d : ViewDraw) (selector : List ℕ) (view size : ℕ) → IsPinned a b pin → d.source.selector ≡ selector → d.source.view ≡ view →
+    (IsTrue a.honest → length (viewed_at a.site selector view) ≡ size) → IsTrue b.honest → length (body_at b pin d) ≡ size
+drawn_size a b pin d selector view size is same_selector same_view sized honest =
+    let before : IsTrue a.honest = sym (pinned_honest a b pin is) ∙ honest in
+    ap (λ (items : Items). length (viewed_among items d.source.selector d.source.view)) (pinned_keeps a b pin is before)
+    ∙ ap (λ (s : List ℕ). length (viewed_at a.site s d.source.view)) same_selector
+    ∙ ap (λ (v : ℕ). length (viewed_at a.site selector v)) same_view
+    ∙ sized before
+
+-- a fault of a read while the site is pinned
+pub read_fault : (a b c d : SiteState) (pin : Pinned) (fault : SiteFault) → IsPinned a b pin → IsUnpinned c d pin → IsReadFault false b c fault → IsReadFault true a d fault
+read_fault a b c d pin (faults.Refused r) first last is = absurd is
+read_fault a b c d pin faults.Read first last is = λ honest.
+    subst (λ (n : ℕ). Rose n d.failed_reads) (pinned_reads a b pin first) (subst (λ (n : ℕ). Rose b.failed_reads n) (sym (unpinned_reads c d pin last)) (is (pinned_honest a b pin first ∙ honest)))
+read_fault a b c d pin (faults.Full need free) first last is = absurd is
+read_fault a b c d pin faults.Spent first last is = absurd is
+read_fault a b c d pin faults.Deep first last is = absurd is
+read_fault a b c d pin faults.Failed first last is = sym (pinned_usable a b pin first) ∙ is
+read_fault a b c d pin faults.Memory first last is = refl
+
+-- ---- one call after another
+
+pub read : (a b : SiteState) → HasRead a b → HasLooked a b
+read a b is = record { site = is.site; honest = is.honest; usable = is.usable; reads = is.reads; writes = is.writes }
+
+pub then : (a b c : SiteState) → HasLooked a b → HasLooked b c → HasLooked a c
+then a b c first second = record {
+  site = λ honest. second.site (subst IsTrue (sym first.honest) honest) ∙ first.site honest;
+  honest = second.honest ∙ first.honest;
+  usable = second.usable ∙ first.usable;
+  reads = omega (arith, first.reads, second.reads);
+  writes = second.writes ∙ first.writes;
+}

@@ -1,0 +1,13 @@
+use Rattle.std.proofs.Common.{◌≡◌, rules}
+use Rattle.image_items.proofs.Looked.{drawn_size, read_fault}
+use Rattle.image_items.proofs.stored_view.view_bytes.Goals as goal
+
+pub returns-in-Err-clause-fault : goal.returns-in-Err-clause-fault
+returns-in-Err-clause-fault g c = λ sized.
+    let state = g.S.SiteKeeper.site_state in
+    let pin = g.S.SiteKeeper.pinned c.in-Ok.pin in
+    let before = state c.args.site.now in
+    let pinned = state c.pin_site.new.self in
+    let same : c.new-draw.result.source.selector ≡ c.args.selector.now = search rules in
+    read_fault before pinned (state c.draw-drawn.new.site) (state c.unpin_site.new.self) pin c.in-Err.fault c.in-Ok.ensures.pinned c.unpin_site.ensures.unpinned
+    (c.in-Err.ensures.fault (λ honest. c.new-draw.ensures.of _ (drawn_size before pinned pin c.new-draw.result c.args.selector.now c.args.view c.args.size c.in-Ok.ensures.pinned same c.new-draw.ensures.view sized honest)))

@@ -1,0 +1,30 @@
+-- Worked examples: which view is wanted, and what is said where there is none.
+use Rattle.std.specs.Prelude.{◌≡◌, [], ◌∷◌, Some, None, Ok, Err, codes}
+use Rattle.common_types.specs.declared.refused.Refused.TheVariants.{BadName}
+use Rattle.host_types.specs.declared.card.CardBody.{CardBody}
+use Rattle.host_types.specs.declared.card.CardBody.TheVariants as cards
+use Rattle.host_types.specs.declared.card.CardView.{CardView}
+use Rattle.host_types.specs.declared.view.Kind.TheVariants.{Text}
+use Rattle.image_items.specs.Documents.{place_in, place_of}
+use Rattle.image_items.specs.ItemLines.{item_line}
+use Rattle.image_items.specs.declared.fault.ItemFault.TheVariants as faults
+
+-- `Text/plain` with `hi`, `Text/plain De_DE` with `na`, `Text/html` with nothing
+abbrev pub three_views : CardBody
+three_views = cards.Views Text (
+    record { name = codes "Text/plain"; language = []; length = 2 }
+    ∷ record { name = codes "Text/plain"; language = codes "De_DE"; length = 2 }
+    ∷ record { name = codes "Text/html"; language = []; length = 0 } ∷ [])
+
+pub record ItemExamples : Type 0 where
+  pub first : place_of three_views None ≡ Ok 0
+  pub by_name : place_of three_views (Some (codes "Text/html")) ≡ Ok 2
+  pub first_of_the_name : place_of three_views (Some (codes "Text/plain")) ≡ Ok 0
+  pub by_language : place_of three_views (Some (codes "Text/plain De_DE")) ≡ Ok 1
+  pub other_language : place_of three_views (Some (codes "Text/plain Fr_FR")) ≡ Err faults.NoView
+  pub other_name : place_of three_views (Some (codes "Text")) ≡ Err faults.NoView
+  pub no_name : place_of three_views (Some []) ≡ Err faults.NoView
+  pub board : place_of (cards.Board 100 1) None ≡ Err faults.NoDocument
+  pub nothing : place_in None None ≡ Err faults.NotFound
+  pub missing : item_line faults.NotFound ≡ codes "item: NotFound"
+  pub bad_name : item_line (faults.Refused BadName) ≡ codes "item: BadName"

@@ -1,0 +1,5 @@
+pub mod Documents
+pub mod Got
+pub mod ItemExamples
+pub mod ItemLines
+pub mod Looks
