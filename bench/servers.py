@@ -12,7 +12,7 @@ HERE = os.path.dirname(os.path.realpath(__file__))
 TOP = os.path.dirname(HERE)
 sys.path.append(f"{TOP}/tests")
 # for the scripts of this folder too
-from common import asked, free_port, wait_for
+from common import ALL_PLACES, asked, free_port, wait_for
 from common import host as program
 
 ENDLESS = "4294967295"
@@ -21,10 +21,15 @@ SHARED_MEMORY = "0xbeeb0008"
 COUNTS = struct.Struct("=QQ")
 
 
+def has_word(host, word):
+    """Whether the program's server has a word of this name."""
+    output = subprocess.run([host, "serve", "--help"], stdout=subprocess.PIPE, text=True, timeout=10, check=False).stdout
+    return word in output
+
+
 def is_daily(host):
     """Whether the program has the server for daily use."""
-    output = subprocess.run([host, "serve", "--help"], stdout=subprocess.PIPE, text=True, timeout=10, check=False).stdout
-    return "--quiet" in output
+    return has_word(host, "--quiet")
 
 
 def compiled(folder):
@@ -65,7 +70,8 @@ def running(words, port, patience=60, env=None):
 
 def serve_words(host, image, together, daily):
     """The words that serve an image at the site's port."""
-    return [host, "serve", image, "--quiet"] if daily else [host, "serve", image, "--together", str(together), "--rounds", ENDLESS]
+    places = ALL_PLACES if daily and has_word(host, ALL_PLACES[0]) else ()
+    return [host, "serve", image, "--quiet", *places] if daily else [host, "serve", image, "--together", str(together), "--rounds", ENDLESS]
 
 
 class Counts:

@@ -11,6 +11,8 @@ import time
 TOP = os.path.dirname(os.path.dirname(os.path.realpath(__file__)))
 # how long a command, a connection or a server's start may take
 PATIENCE = 120
+# words by which a server for daily use lets in as many clients of one address as it has places
+ALL_PLACES = ("--per-address", "32")
 
 
 @functools.cache

@@ -1,17 +1,24 @@
 -- What clap's builders make of arguments and commands.
-use Rattle.std.proofs.Common.{◌≡◌, ◌∙◌, ◌&&◌, ◌||◌, ◌++◌, ap, ap₂, refl, Bool, true, false, [], ◌∷◌, Some}
+use Rattle.std.proofs.Common.{◌≡◌, ◌∙◌, ◌&&◌, ◌||◌, ◌++◌, ap, ap₂, refl, Bool, true, false, [], ◌∷◌, Some, None}
 use Rattle.std.specs.Borrow.{Bor}
+use Rattle.std.specs.Prelude.{Option, IsSomeAnd}
+use Rattle.clap.specs.Lexer.{usize_max}
 use Rattle.clap.specs.Walk.{is_empty, is_free_arg}
 use Rattle.clap.specs.Simple.{app_of_fields, new_shape, on_top}
 use Rattle.clap.specs.Words.{AddsArg, AddsConflicts, AddsRequirements, AddsSubcommand, App, Rule, Shape, Text, app_of, new_app, new_rule, rule_of, with_rule, with_subcommand}
 use Rattle.clap.specs.declared.builder.action.ArgAction.TheVariants.{SetTrue}
 use Rattle.clap.specs.declared.builder.arg.Arg.{Arg}
 use Rattle.clap.specs.declared.builder.arg.ArgPredicate.{ArgPredicate}
+use Rattle.clap.specs.declared.builder.texts.Texts.TheVariants.{One}
 use Rattle.clap.specs.declared.builder.command.Command.{Command}
 use Rattle.clap.specs.declared.builder.command.Command.TheViews.{out-Command}
 use Rattle.clap.proofs.WalkLemmas.{both}
 use Rattle.clap.proofs.SimpleLemmas.{is_nil, not_empty}
-use Rattle.command_words.specs.CommandLine.{IsApp, IsArg, IsCommand}
+use Rattle.command_words.specs.CommandLine.{IsApp, IsArg, IsCommand, some_values, standing}
+
+some_is : {A : Type 0} (o : Option A) (a : A) → IsSomeAnd o (λ x. x ≡ a) → o ≡ Some a
+some_is None a is = absurd is
+some_is (Some x) a is = ap Some is
 
 third_false : (a b c d : Bool) → c ≡ false → (a && (b && (c && d))) ≡ false
 third_false false b c d e = refl
@@ -59,6 +66,29 @@ with_command app shape old new sub is_app is_sub adds =
 pub may_be_missing : (rule : Rule) (old new : Arg) → IsArg rule old → new ≡ record old { required = false } → IsArg (record rule { required = false }) new
 may_be_missing rule old new is made =
     (ap rule_of made ∙ ap (λ (r : Rule). record r { required = false }) is.0, ap (λ (a : Arg). a.global) made ∙ is.1)
+
+-- one that has to be there
+pub has_to_be_there : (rule : Rule) (old new : Arg) → IsArg rule old → new ≡ record old { required = true } → IsArg (record rule { required = true }) new
+has_to_be_there rule old new is made =
+    (ap rule_of made ∙ ap (λ (r : Rule). record r { required = true }) is.0, ap (λ (a : Arg). a.global) made ∙ is.1)
+
+-- and what stands for one that is missing
+pub standing_arg : (rule : Rule) (value : Bor Text) (old missing valued new : Arg) (h : _) → IsArg rule old → missing ≡ record old { required = false } → valued ≡ record missing { default_vals = One value } → new ≡ record valued { hide_default_value = h } → IsArg (standing value.now rule) new
+standing_arg rule value old missing valued new h is e1 e2 e3 =
+    let rules : rule_of new ≡ record (rule_of old) { required = false; defaults = value.now ∷ [] } =
+    ap rule_of e3 ∙ (ap rule_of e2 ∙ ap (λ (x : Arg). record (rule_of x) { defaults = value.now ∷ [] }) e1) in (
+      rules ∙ ap (λ (r : Rule). record r { required = false; defaults = value.now ∷ [] }) is.0,
+      ap (λ (x : Arg). x.global) e3 ∙ (ap (λ (x : Arg). x.global) e2 ∙ (ap (λ (x : Arg). x.global) e1 ∙ is.1)),
+    )
+
+-- with one value or more
+pub some_values_arg : (rule : Rule) (old new : Arg) → IsArg rule old → new ≡ record old { num_vals = new.num_vals } → IsSomeAnd new.num_vals (λ r. r ≡ record { start_inclusive = 1; end_inclusive = usize_max }) → IsArg (some_values rule) new
+some_values_arg rule old new is made range =
+    let number : new.num_vals ≡ Some (record { start_inclusive = 1; end_inclusive = usize_max }) = some_is new.num_vals _ range in
+    let rules : rule_of new ≡ record (rule_of old) { range = new.num_vals } = ap rule_of made in (
+      rules ∙ ap₂ (λ (r : Rule) (n : _). record r { range = n }) is.0 number,
+      ap (λ (x : Arg). x.global) made ∙ is.1,
+    )
 
 -- texts for the user change nothing that is read
 pub told : (app : App) (c about help : Command) (a : _) (h : _) → IsApp app c → out-Command about ≡ record (out-Command c) { about = a } → out-Command help ≡ record (out-Command about) { after_help = h } → IsApp app help

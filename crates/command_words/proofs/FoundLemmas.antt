@@ -1,5 +1,5 @@
 -- What the getters of the matches say of the rows.
-use Rattle.std.proofs.Common.{◌≡◌, ◌∙◌, ◌<◌, ◌^◌, ap, refl, sym, subst, codes, ℕ, Bool, true, false, Option, Some, None, option_map}
+use Rattle.std.proofs.Common.{◌≡◌, ◌∙◌, ◌<◌, ◌^◌, ap, refl, sym, subst, codes, ℕ, Bool, true, false, List, Option, Some, None, map, option_map}
 use Rattle.std.specs.Prelude.{Result, Ok, Err}
 use Rattle.std.specs.Result.{result_ok}
 use Rattle.std.specs.Net.Grammar.{IsSocketText, Parses}
@@ -7,10 +7,10 @@ use Rattle.std.specs.declared.net.SocketAddr.{SocketAddr}
 use Rattle.std.specs.Borrow.{Bor}
 use Rattle.std.specs.Str.Parse.{ExplainsUnsignedError, HasUnsignedDigitsIfOk, ParsesUnsigned}
 use Rattle.std.specs.declared.num.ParseIntError.{ParseIntError}
-use Rattle.clap.specs.Words.{ReadsOne, Text, first_of, first_value, one_text, rows_of}
+use Rattle.clap.specs.Words.{ReadsOne, Text, all_of, first_of, first_value, matched_of, one_text, raw_values, rows_of}
 use Rattle.clap.specs.declared.parser.matches.Found.{Found}
-use Rattle.clap.proofs.WalkLemmas.{first_value-rows, one_text-rows}
-use Rattle.command_words.specs.Tasks.{Gives, HasAddress, HasFlag, HasNumber, HasNumberOrNone, HasText}
+use Rattle.clap.proofs.WalkLemmas.{first_value-rows, one_text-rows, raw_values-rows}
+use Rattle.command_words.specs.Tasks.{Gives, HasAddress, HasFlag, HasNumber, HasNumberIfAny, HasText, HasTexts}
 
 -- nothing is given where nothing is as it should be
 pub gives_none : {A : Type 0} (Is : A → Type 0) (r : Option A) → r ≡ None → ((a : A) → Is a → ⊥) → Gives Is r
@@ -27,6 +27,13 @@ pub not_both : {A : Type 0} (o : Option A) (a : A) → o ≡ None → o ≡ Some
 not_both o a none some =
     let bad : None ≡ Some a = sym none ∙ some in
     cc
+
+-- all texts of an id, and none
+pub found_texts : (f : Found) (id : Text) (r : Option (Bor (List (Bor Text)))) (s : Bor (List (Bor Text))) → option_map (λ (s : Bor (List (Bor Text))). map (λ (v : Bor Text). v.now) s.now) r ≡ option_map raw_values (matched_of f id) → r ≡ Some s → HasTexts (rows_of f) id (map (λ (v : Bor Text). v.now) s.now)
+found_texts f id r s e is = sym (raw_values-rows f id) ∙ (sym e ∙ ap (option_map (λ (s : Bor (List (Bor Text))). map (λ (v : Bor Text). v.now) s.now)) is)
+
+pub no_texts : (f : Found) (id : Text) (r : Option (Bor (List (Bor Text)))) → option_map (λ (s : Bor (List (Bor Text))). map (λ (v : Bor Text). v.now) s.now) r ≡ option_map raw_values (matched_of f id) → r ≡ None → all_of id (rows_of f) ≡ None
+no_texts f id r e is = sym (raw_values-rows f id) ∙ (sym e ∙ ap (option_map (λ (s : Bor (List (Bor Text))). map (λ (v : Bor Text). v.now) s.now)) is)
 
 -- what `parse` says at an unsigned type of so many bits
 abbrev IsParsed : ℕ → Text → Result ℕ ParseIntError → Type 0
@@ -50,13 +57,19 @@ module _ (bits : ℕ) (f : Found) (id : Text) (r : Option ℕ) where
       let p = read.1.0 in
       p (h.2, subst (λ k. k < 2 ^ bits) (sym h.3) h.4)
 
-  -- the number, or none
-  pub number_or_none : (one_text f id ≡ None → r ≡ None) → ((t : Text) → one_text f id ≡ Some t → ReadsOne (IsParsed bits) t r) → HasNumberOrNone (rows_of f) id bits r
+  -- the number that is found, and none where none is
+  pub number_or_none : (one_text f id ≡ None → r ≡ None) → ((t : Text) → one_text f id ≡ Some t → ReadsOne (IsParsed bits) t r) → Gives (HasNumber (rows_of f) id bits) r
   number_or_none none value = go r refl
     where
-      go : (o : Option ℕ) → r ≡ o → HasNumberOrNone (rows_of f) id bits o
-      go None e = no_number value e
-      go (Some n) e = found_number n none value e
+      go : (o : Option ℕ) → r ≡ o → Gives (HasNumber (rows_of f) id bits) o
+      go None is = no_number value is
+      go (Some n) is = found_number n none value is
+
+-- there is something that is no number, so that neither a number is found nor that there is nothing
+pub no_number_at_all : (bits : ℕ) (f : Found) (id : Text) (r : Option (Bor Text)) (s : Bor Text) → option_map (λ x. x.now) r ≡ first_value f id → r ≡ Some s → ((n : ℕ) → HasNumber (rows_of f) id bits n → ⊥)
+    → (n : Option ℕ) → HasNumberIfAny (rows_of f) id bits n → ⊥
+no_number_at_all bits f id r s e is none (Some n) h = none n h
+no_number_at_all bits f id r s e is none None h = not_both _ s.now h (found_text f id r s e is)
 
 -- the address that a text is, and none where it is no address
 pub found_address : {E : Type 0} (f : Found) (id : Text) (r : Option (Bor Text)) (s : Bor Text) (p : Result SocketAddr E) (o listen : Option SocketAddr) (a : SocketAddr) → option_map (λ x. x.now) r ≡ first_value f id → r ≡ Some s

@@ -1,5 +1,6 @@
 -- The command line: what clap reads of each command and of its arguments.
 use Rattle.std.specs.Prelude.{◌≡◌, ℕ, true, false, List, [], ◌∷◌, Some, codes}
+use Rattle.clap.specs.Lexer.{usize_max}
 use Rattle.clap.specs.Words.{App, Rule, Shape, Text, app_of, new_rule, rule_of}
 use Rattle.clap.specs.Simple.{new_shape}
 use Rattle.clap.specs.declared.builder.action.ArgAction.TheVariants.{Set, SetTrue}
@@ -28,10 +29,6 @@ abbrev pub number_rule : Text → ℕ → ℕ → Rule
 number_rule name least most =
     record (text_rule name) { parser = Some (parser.Unsigned least most) }
 
--- a moment up to the end of the year 9999
-abbrev pub now_rule : Rule
-now_rule = number_rule (codes "now") 0 253402300799
-
 -- the same where it may be left out, and can't stand beside or without another
 abbrev pub bound_rule : Rule → Rule
 bound_rule rule = record rule { required = false; is_free = false }
@@ -39,6 +36,10 @@ bound_rule rule = record rule { required = false; is_free = false }
 -- the same where it may be left out
 abbrev pub free_rule : Rule → Rule
 free_rule rule = record rule { required = false }
+
+-- a moment up to the end of the year 9999, which may be left out
+abbrev pub now_rule : Rule
+now_rule = free_rule (number_rule (codes "now") 0 253402300799)
 
 -- a word that is there or not
 abbrev pub flag_rule : Text → Rule
@@ -59,8 +60,34 @@ format_command = command (codes "format")
     ∷ number_rule (codes "port") 1 65535 ∷ text_rule (codes "admin")
     ∷ text_rule (codes "title") ∷ now_rule ∷ [])
 
+-- a value that may be left out, and what stands for it then
+abbrev pub standing : Text → Rule → Rule
+standing value rule = record rule { required = false; defaults = value ∷ [] }
+
+abbrev pub init_command : Shape
+init_command = command (codes "init")
+    (image_rule ∷ standing (codes "4096") (number_rule (codes "pages") 0 4294967295)
+    ∷ standing (codes "localhost") (text_rule (codes "host"))
+    ∷ standing (codes "70") (number_rule (codes "port") 1 65535)
+    ∷ standing [] (text_rule (codes "admin"))
+    ∷ standing (codes "Home") (text_rule (codes "title")) ∷ now_rule ∷ [])
+
+abbrev pub get_command : Shape
+get_command = command (codes "get")
+    (image_rule ∷ required_path (codes "SELECTOR") ∷ free_rule (text_rule (codes "view")) ∷ [])
+
+-- one value or more
+abbrev pub some_values : Rule → Rule
+some_values rule = record rule { range = Some (record { start_inclusive = 1; end_inclusive = usize_max }) }
+
+abbrev pub drop_command : Shape
+drop_command = command (codes "drop") (image_rule ∷ some_values (required_path (codes "SELECTOR")) ∷ [])
+
 abbrev pub apply_command : Shape
 apply_command = command (codes "apply") (image_rule ∷ required_path (codes "FILE") ∷ now_rule ∷ [])
+
+abbrev pub posts_command : Shape
+posts_command = command (codes "posts") (image_rule ∷ required_path (codes "BOARD") ∷ [])
 
 -- a command that takes an image alone
 abbrev pub image_command : Text → Shape
@@ -77,10 +104,11 @@ abbrev pub serve_command : Shape
 serve_command = command (codes "serve")
     (image_rule ∷ bound_rule (number_rule (codes "together") 1 32)
     ∷ bound_rule (number_rule (codes "rounds") 0 4294967295)
-    ∷ bound_rule (text_rule (codes "listen")) ∷ quiet_rule ∷ [])
+    ∷ bound_rule (text_rule (codes "listen")) ∷ quiet_rule
+    ∷ bound_rule (number_rule (codes "per-address") 1 32) ∷ [])
 
 abbrev pub commands : List Shape
-commands = format_command ∷ apply_command ∷ image_command (codes "show")
+commands = format_command ∷ init_command ∷ apply_command ∷ drop_command ∷ get_command ∷ posts_command ∷ image_command (codes "show")
     ∷ image_command (codes "check") ∷ image_command (codes "compact")
     ∷ image_command (codes "upgrade") ∷ copy_command ∷ replay_command ∷ serve_command ∷ []
 

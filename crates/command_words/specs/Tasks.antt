@@ -1,10 +1,10 @@
 -- What the values found behind a command ask for.
-use Rattle.std.specs.Prelude.{◌≡◌, ◌<◌, ◌^◌, ℕ, Bool, true, false, List, Option, Some, None, codes}
+use Rattle.std.specs.Prelude.{◌≡◌, ◌⊎◌, ◌<◌, ◌^◌, ℕ, Bool, true, false, List, Option, Some, None, codes, map}
 use Rattle.std.specs.Borrow.{Bor}
 use Rattle.std.specs.Net.Grammar.{IsSocketText}
 use Rattle.std.specs.Str.Parse.{IsNumeral, digits_value, without_leading_plus}
 use Rattle.std.specs.declared.net.SocketAddr.{SocketAddr}
-use Rattle.clap.specs.Words.{Row, Text, first_of, one_of}
+use Rattle.clap.specs.Words.{Row, Text, all_of, first_of, one_of}
 use Rattle.command_words.specs.declared.words.NewSite.{NewSite}
 use Rattle.command_words.specs.declared.words.Task.{Task}
 use Rattle.command_words.specs.declared.words.Task.TheVariants as task
@@ -18,6 +18,15 @@ Gives Is None = (a : _) → ¬ (Is a)
 abbrev pub HasText : List Row → Text → Bor Text → Type 0
 HasText rows id text = first_of id rows ≡ Some text.now
 
+-- the text found for an id, or that there is nothing
+abbrev pub HasTextIfAny : List Row → Text → Option (Bor Text) → Type 0
+HasTextIfAny rows id (Some text) = HasText rows id text
+HasTextIfAny rows id None = first_of id rows ≡ None
+
+-- all texts found for an id
+abbrev pub HasTexts : List Row → Text → List Text → Type 0
+HasTexts rows id texts = all_of id rows ≡ Some texts
+
 -- the number found for an id, which its type of so many bits holds
 abbrev pub HasNumber : List Row → Text → ℕ → ℕ → Type 0
 HasNumber rows id bits n =
@@ -26,8 +35,17 @@ HasNumber rows id bits n =
 
 -- the number found for an id, or that there is none
 abbrev pub HasNumberOrNone : List Row → Text → ℕ → Option ℕ → Type 0
-HasNumberOrNone rows id bits (Some n) = HasNumber rows id bits n
-HasNumberOrNone rows id bits None = (n : ℕ) → ¬ (HasNumber rows id bits n)
+HasNumberOrNone rows id bits = Gives (HasNumber rows id bits)
+
+-- the number found for an id, or that there is nothing
+abbrev pub HasNumberIfAny : List Row → Text → ℕ → Option ℕ → Type 0
+HasNumberIfAny rows id bits (Some n) = HasNumber rows id bits n
+HasNumberIfAny rows id bits None = first_of id rows ≡ None
+
+-- the number found for an id, or this one where there is none
+abbrev pub HasNumberOr : ℕ → List Row → Text → ℕ → ℕ → Type 0
+HasNumberOr given rows id bits n =
+    HasNumber rows id bits n ⊎ (((m : ℕ) → ¬ (HasNumber rows id bits m)) × (n ≡ given))
 
 -- the address found for an id, or that there is nothing
 abbrev pub HasAddress : List Row → Text → Option SocketAddr → Type 0
@@ -53,19 +71,31 @@ abbrev pub AsksToServe : Text → List Row → Task → Type 0
 AsksToServe image rows (task.ServeRounds i together rounds) =
     (i.now ≡ image) × HasNumber rows (codes "together") 32 together
     × HasNumber rows (codes "rounds") 32 rounds
-AsksToServe image rows (task.ServeClients i listen quiet) =
+AsksToServe image rows (task.ServeClients i listen quiet per_address) =
     (i.now ≡ image) × ((n : ℕ) → ¬ (HasNumber rows (codes "rounds") 32 n))
     × HasAddress rows (codes "listen") listen × HasFlag rows (codes "quiet") quiet
+    × HasNumberOr 8 rows (codes "per-address") 32 per_address
 AsksToServe image rows _ = ⊥
 
 -- the command of this name, with what was found behind it, asks for the task
 abbrev pub AsksFor : Text → List Row → Task → Type 0
 AsksFor name rows (task.Format image site pages now) =
     (name ≡ codes "format") × HasText rows (codes "IMAGE") image × IsSiteIn rows site
-    × HasNumber rows (codes "pages") 32 pages × HasNumber rows (codes "now") 64 now
+    × HasNumber rows (codes "pages") 32 pages × HasNumberIfAny rows (codes "now") 64 now
 AsksFor name rows (task.Apply image file now) =
     (name ≡ codes "apply") × HasText rows (codes "IMAGE") image
-    × HasText rows (codes "FILE") file × HasNumber rows (codes "now") 64 now
+    × HasText rows (codes "FILE") file × HasNumberIfAny rows (codes "now") 64 now
+AsksFor name rows (task.Init image site pages now) =
+    (name ≡ codes "init") × HasText rows (codes "IMAGE") image × IsSiteIn rows site
+    × HasNumber rows (codes "pages") 32 pages × HasNumberIfAny rows (codes "now") 64 now
+AsksFor name rows (task.Remove image selectors) =
+    (name ≡ codes "drop") × HasText rows (codes "IMAGE") image
+    × HasTexts rows (codes "SELECTOR") (map (λ selector. selector.now) selectors.items)
+AsksFor name rows (task.Get image selector view) =
+    (name ≡ codes "get") × HasText rows (codes "IMAGE") image
+    × HasText rows (codes "SELECTOR") selector × HasTextIfAny rows (codes "view") view
+AsksFor name rows (task.Posts image board) =
+    (name ≡ codes "posts") × HasText rows (codes "IMAGE") image × HasText rows (codes "BOARD") board
 AsksFor name rows (task.Show image) = (name ≡ codes "show") × HasText rows (codes "IMAGE") image
 AsksFor name rows (task.Check image) = (name ≡ codes "check") × HasText rows (codes "IMAGE") image
 AsksFor name rows (task.Compact image) =

@@ -35,6 +35,9 @@ rounds_words = codes "serve" ∷ codes "site.img" ∷ codes "--together" ∷ cod
 abbrev pub quiet_words : List Text
 quiet_words = codes "serve" ∷ codes "--quiet" ∷ codes "site.img" ∷ []
 
+abbrev pub places_words : Text → List Text
+places_words n = codes "serve" ∷ codes "site.img" ∷ codes "--per-address" ∷ n ∷ []
+
 pub record WordExamples : Type 0 where
   pub shows : named show_words ≡ Some (codes "show")
   pub its_image : value_of (codes "IMAGE") show_words ≡ Some (codes "site.img")
@@ -55,10 +58,26 @@ pub record WordExamples : Type 0 where
   pub host : value_of (codes "host") format_words ≡ Some (codes "localhost")
   pub port : value_of (codes "port") format_words ≡ Some (codes "7070")
   pub title : value_of (codes "title") format_words ≡ Some (codes "Top")
+  pub no_moment : value_of (codes "now") (codes "apply" ∷ codes "site.img" ∷ codes "changes.toml" ∷ []) ≡ None
+  pub inits : named (codes "init" ∷ codes "site.img" ∷ []) ≡ Some (codes "init")
+  pub init_is_taken : is_taken (codes "init" ∷ codes "site.img" ∷ []) ≡ true
+  pub its_pages : value_of (codes "pages") (codes "init" ∷ codes "site.img" ∷ []) ≡ Some (codes "4096")
+  pub its_host : value_of (codes "host") (codes "init" ∷ codes "site.img" ∷ []) ≡ Some (codes "localhost")
+  pub its_port : value_of (codes "port") (codes "init" ∷ codes "site.img" ∷ []) ≡ Some (codes "70")
+  pub given_port : value_of (codes "port") (codes "init" ∷ codes "site.img" ∷ codes "--port" ∷ codes "7070" ∷ []) ≡ Some (codes "7070")
+  pub gets : value_of (codes "SELECTOR") (codes "get" ∷ codes "site.img" ∷ codes "/a" ∷ []) ≡ Some (codes "/a")
+  pub first_view : value_of (codes "view") (codes "get" ∷ codes "site.img" ∷ codes "/a" ∷ []) ≡ None
+  pub its_view : value_of (codes "view") (codes "get" ∷ codes "site.img" ∷ codes "/a" ∷ codes "--view" ∷ codes "V" ∷ []) ≡ Some (codes "V")
+  pub lists_posts : value_of (codes "BOARD") (codes "posts" ∷ codes "site.img" ∷ codes "/book" ∷ []) ≡ Some (codes "/book")
+  pub of_no_board : is_taken (codes "posts" ∷ codes "site.img" ∷ []) ≡ false
+  pub drops : is_taken (codes "drop" ∷ codes "site.img" ∷ codes "/a" ∷ codes "/b" ∷ []) ≡ true
+  pub nothing_to_drop : is_taken (codes "drop" ∷ codes "site.img" ∷ []) ≡ false
   pub all_is_there : is_taken format_words ≡ true
   pub no_port_is_0 : is_taken port_zero ≡ false
   pub rounds : value_of (codes "rounds") rounds_words ≡ Some (codes "100")
   pub together : value_of (codes "together") rounds_words ≡ Some (codes "2")
   pub loud_rounds : value_of (codes "quiet") rounds_words ≡ Some (codes "false")
   pub is_quiet : value_of (codes "quiet") quiet_words ≡ Some (codes "true")
+  pub two_places : value_of (codes "per-address") (places_words (codes "2")) ≡ Some (codes "2")
+  pub as_many_as_else : value_of (codes "per-address") quiet_words ≡ None
   pub anywhere : value_of (codes "listen") quiet_words ≡ None

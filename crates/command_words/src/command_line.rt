@@ -1,5 +1,6 @@
 // The words of the command line, with their help texts.
 ghost use Rattle.std.specs.Prelude.{◌≡◌, IfOk, [], ◌∷◌, codes};
+ghost use Rattle.clap.specs.Words.{Rule};
 ghost use Rattle.clap.specs.declared.builder.arg.ArgPredicate.TheVariants.{IsPresent};
 ghost use Rattle.command_words.specs.CommandLine as spec;
 ghost use Rattle.command_words.specs.CommandLine.{IsApp, IsArg, IsCommand};
@@ -60,8 +61,8 @@ fn now<'a>(alloc: Global) -> Arg<'a>
     ensures { IsArg spec.now_rule result }
 {
     let help =
-        "The moment of the change, in seconds since 1970-01-01, up to the end of the year 9999; `date +%s` prints this one";
-    number(alloc, "now", "SECONDS", help, 0, GREATEST_MOMENT)
+        "The moment of the change, in seconds since 1970-01-01, up to the end of the year 9999; if left out, this one, by the system's clock";
+    number(alloc, "now", "SECONDS", help, 0, GREATEST_MOMENT).required(false)
 }
 
 fn format<'a>(alloc: Global) -> Result<Command<'a>, AllocError>
@@ -77,7 +78,7 @@ fn format<'a>(alloc: Global) -> Result<Command<'a>, AllocError>
     Command::new(alloc, "format")
         .about("Makes an image with an empty top menu; what the file held is gone")
         .after_help(
-            "Example: gopher_host format site.img --pages 4096 --host localhost --port 7070 --admin 'Ada <ada@localhost>' --title Top --now $(date +%s)",
+            "Example: gopher_host format site.img --pages 4096 --host localhost --port 7070 --admin 'Ada <ada@localhost>' --title Top",
         )
         .arg(image(alloc))?
         .arg(number(alloc, "pages", "N", pages, 0, 4_294_967_295))?
@@ -85,6 +86,38 @@ fn format<'a>(alloc: Global) -> Result<Command<'a>, AllocError>
         .arg(number(alloc, "port", "N", port, 1, 65_535))?
         .arg(text(alloc, "admin", "TEXT", admin))?
         .arg(text(alloc, "title", "TEXT", title))?
+        .arg(now(alloc))
+}
+
+/// The same where it may be left out, and what stands for it then.
+fn standing<'a>(arg: Arg<'a>, value: &'a str) -> Arg<'a>
+    ensures { (rule : Rule) → IsArg rule arg.entry → IsArg (spec.standing value.entry.now rule) result }
+{
+    arg.required(false)
+        .default_value(value)
+        .hide_default_value(true)
+}
+
+fn init<'a>(alloc: Global) -> Result<Command<'a>, AllocError>
+    ensures { IfOk result (IsCommand spec.init_command) }
+{
+    let pages = "How many pages of 4,096 bytes the image has, 16 to 65,536; if left out, 4,096";
+    let host =
+        "The name of the host, as menus give it to clients: 1 to 100 visible characters of ASCII; if left out, localhost";
+    let port =
+        "The port that menus give to clients, and that `serve` listens on, 1 to 65,535; if left out, 70";
+    let admin = "The administrator, as attributes show it: at most 100 bytes; if left out, nobody";
+    let title =
+        "The title of the top menu, which is empty at first: at most 69 bytes; if left out, Home";
+    Command::new(alloc, "init")
+        .about("Makes an image with an empty top menu in a file that is not there")
+        .after_help("Example: gopher_host init site.img --host gopher.example --title 'My burrow'")
+        .arg(image(alloc))?
+        .arg(standing(number(alloc, "pages", "N", pages, 0, 4_294_967_295), "4096"))?
+        .arg(standing(text(alloc, "host", "NAME", host), "localhost"))?
+        .arg(standing(number(alloc, "port", "N", port, 1, 65_535), "70"))?
+        .arg(standing(text(alloc, "admin", "TEXT", admin), ""))?
+        .arg(standing(text(alloc, "title", "TEXT", title), "Home"))?
         .arg(now(alloc))
 }
 
@@ -96,10 +129,55 @@ fn apply<'a>(alloc: Global) -> Result<Command<'a>, AllocError>
         .about(
             "Makes the changes of a file, one after another; the first that is refused ends it, and earlier ones stay. On a terminal it shows how far it is",
         )
-        .after_help("Example: gopher_host apply site.img changes.toml --now $(date +%s)")
+        .after_help("Example: gopher_host apply site.img changes.toml")
         .arg(image(alloc))?
         .arg(file)?
         .arg(now(alloc))
+}
+
+/// The same with one value or more.
+fn some_values<'a>(arg: Arg<'a>) -> Arg<'a>
+    ensures { (rule : Rule) → IsArg rule arg.entry → IsArg (spec.some_values rule) result }
+{
+    arg.num_args(1..)
+}
+
+fn drop<'a>(alloc: Global) -> Result<Command<'a>, AllocError>
+    ensures { IfOk result (IsCommand spec.drop_command) }
+{
+    let selector = path(alloc, "SELECTOR", "The selectors of the items").required(true);
+    Command::new(alloc, "drop")
+        .about(
+            "Removes items, posts too, one after another; the first that is refused ends it, and those before it stay removed",
+        )
+        .after_help("Example: gopher_host drop site.img post//book/3 /old")
+        .arg(image(alloc))?
+        .arg(some_values(selector))
+}
+
+fn get<'a>(alloc: Global) -> Result<Command<'a>, AllocError>
+    ensures { IfOk result (IsCommand spec.get_command) }
+{
+    let selector = path(alloc, "SELECTOR", "The selector of the document").required(true);
+    let view =
+        "Which view of it, by its name, as Text/plain, or by name and language, as 'Text/plain De_DE'; if left out, the first one";
+    Command::new(alloc, "get")
+        .about("Writes the bytes of a document to standard output, as they are stored")
+        .after_help("Example: gopher_host get site.img /about >about.txt")
+        .arg(image(alloc))?
+        .arg(selector)?
+        .arg(text(alloc, "view", "NAME", view).required(false))
+}
+
+fn posts<'a>(alloc: Global) -> Result<Command<'a>, AllocError>
+    ensures { IfOk result (IsCommand spec.posts_command) }
+{
+    let board = path(alloc, "BOARD", "The selector of the board").required(true);
+    Command::new(alloc, "posts")
+        .about("Prints a line for each post of a board, as `show` prints lines, the newest last")
+        .after_help("Example: gopher_host posts site.img /book")
+        .arg(image(alloc))?
+        .arg(board)
 }
 
 fn show<'a>(alloc: Global) -> Result<Command<'a>, AllocError>
@@ -216,6 +294,8 @@ fn serve<'a>(alloc: Global) -> Result<Command<'a>, AllocError>
     let rounds = "How many rounds are served, 0 to 4,294,967,295, after which the server ends";
     let listen = "Where to listen; if left out, on 127.0.0.1 at the site's own port";
     let quiet = "Writes no log; if left out, a line for each request";
+    let per_address =
+        "How many clients of one address are let in at a time, 1 to 32; if left out, 8";
     Command::new(alloc, "serve")
         .about(
             "Serves the site of an image on 127.0.0.1, at the site's own port, until it is ended, which is harmless at any moment; or so many rounds of connections, and prints how many replies were written whole",
@@ -231,7 +311,12 @@ fn serve<'a>(alloc: Global) -> Result<Command<'a>, AllocError>
                 .required(false)
                 .conflicts_with("rounds")?,
         )?
-        .arg(flag(alloc, "quiet", quiet).conflicts_with("rounds")?)
+        .arg(flag(alloc, "quiet", quiet).conflicts_with("rounds")?)?
+        .arg(
+            number(alloc, "per-address", "N", per_address, 1, 32)
+                .required(false)
+                .conflicts_with("rounds")?,
+        )
 }
 
 /// The whole command line.
@@ -243,7 +328,11 @@ pub fn command_line<'a>(alloc: Global) -> Result<Command<'a>, AllocError>
         .about("A Gopher server whose site lies on one disk image")
         .subcommand_required(true)
         .subcommand(format(alloc)?)?
+        .subcommand(init(alloc)?)?
         .subcommand(apply(alloc)?)?
+        .subcommand(drop(alloc)?)?
+        .subcommand(get(alloc)?)?
+        .subcommand(posts(alloc)?)?
         .subcommand(show(alloc)?)?
         .subcommand(check(alloc)?)?
         .subcommand(compact(alloc)?)?

@@ -1,11 +1,11 @@
 // What the words of the command line ask for.
-ghost use Rattle.std.specs.Prelude.{◌≡◌, ◌≤◌, ◌↔◌, ◌⊎◌, IfOk, IfErr, map};
+ghost use Rattle.std.specs.Prelude.{◌≡◌, ◌≤◌, ◌↔◌, ◌⊎◌, IfOk, IfErr, codes, map};
 ghost use Rattle.std.specs.String.{string_bytes};
 ghost use Rattle.std.specs.Process.{exit_status};
 ghost use Rattle.clap.specs.Words.{found_of, rows_of};
 ghost use Rattle.command_words.specs.Misreads.{misread_of, status_of};
 ghost use Rattle.command_words.specs.Reading.{IsReadAs};
-ghost use Rattle.command_words.specs.Tasks.{AsksFor, AsksToServe, Gives, IsSiteIn};
+ghost use Rattle.command_words.specs.Tasks.{AsksFor, AsksToServe, Gives, HasNumber, HasNumberIfAny, HasNumberOr, IsSiteIn};
 ghost use Rattle.command_words.specs.declared.words.Misread.TheVariants.{Memory};
 
 use crate::command_line::command_line;
@@ -16,21 +16,47 @@ use std::io;
 use std::net::SocketAddr;
 use std::process::ExitCode;
 
-/// What the program is asked to do. Images are names of files, and moments seconds since 1970-01-01.
-#[derive(Clone, Copy, Debug)]
+/// How many clients of one address are let in at a time, where no number is given.
+const MOST_PER_ADDRESS: u32 = 8;
+
+/// What the program is asked to do. Images are names of files, and moments seconds since 1970-01-01; where none is given, the system's clock tells it.
+#[derive(Debug, Drop)]
 pub enum Task<'a> {
     /// Makes an image.
     Format {
         image: &'a str,
         site: NewSite<'a>,
         pages: u32,
-        now: u64,
+        now: Option<u64>,
+    },
+    /// Makes an image in a file that is not there.
+    Init {
+        image: &'a str,
+        site: NewSite<'a>,
+        pages: u32,
+        now: Option<u64>,
     },
     /// Makes the changes of a file.
     Apply {
         image: &'a str,
         file: &'a str,
-        now: u64,
+        now: Option<u64>,
+    },
+    /// Removes items, one after another.
+    Remove {
+        image: &'a str,
+        selectors: Vec<&'a str>,
+    },
+    /// Prints the bytes of a document, of its first view or of the one that is named.
+    Get {
+        image: &'a str,
+        selector: &'a str,
+        view: Option<&'a str>,
+    },
+    /// Lists the posts of a board.
+    Posts {
+        image: &'a str,
+        board: &'a str,
     },
     /// Lists the items of an image.
     Show {
@@ -65,11 +91,12 @@ pub enum Task<'a> {
         together: u32,
         rounds: u32,
     },
-    /// Serves whoever comes, at an address or else the site's own port on 127.0.0.1, with a log or without.
+    /// Serves whoever comes, at an address or else the site's own port on 127.0.0.1, with a log or without, so many clients of one address at a time.
     ServeClients {
         image: &'a str,
         listen: Option<SocketAddr>,
         quiet: bool,
+        per_address: u32,
     },
 }
 
@@ -166,6 +193,33 @@ fn new_site<'a>(matches: &ArgMatches<'a>) -> Option<NewSite<'a>>
     })
 }
 
+/// How many clients of one address are let in at a time.
+fn per_address(matches: &ArgMatches<'_>) -> u32
+    ensures { HasNumberOr 8 (rows_of (found_of matches.now)) (codes "per-address") 32 result }
+{
+    match matches.get_one::<u32>("per-address") {
+        Some(most) => most,
+        None => MOST_PER_ADDRESS,
+    }
+}
+
+/// How many pages an image is to have.
+fn pages(matches: &ArgMatches<'_>) -> Option<u32>
+    ensures { Gives (HasNumber (rows_of (found_of matches.now)) (codes "pages") 32) result }
+{
+    matches.get_one::<u32>("pages")
+}
+
+/// The moment that is given, or that none is; nothing where what is given is no number.
+fn moment(matches: &ArgMatches<'_>) -> Option<Option<u64>>
+    ensures { Gives (HasNumberIfAny (rows_of (found_of matches.now)) (codes "now") 64) result }
+{
+    match matches.get_str("now") {
+        Some(_) => Some(Some(matches.get_one::<u64>("now")?)),
+        None => Some(None),
+    }
+}
+
 /// How an image is to be served.
 fn serving<'a>(image: &'a str, matches: &ArgMatches<'a>) -> Option<Task<'a>>
     ensures { Gives (AsksToServe image.entry.now (rows_of (found_of matches.now))) result }
@@ -180,6 +234,7 @@ fn serving<'a>(image: &'a str, matches: &ArgMatches<'a>) -> Option<Task<'a>>
             image,
             listen,
             quiet,
+            per_address: per_address(matches),
         });
     };
     Some(Task::ServeRounds {
@@ -189,22 +244,52 @@ fn serving<'a>(image: &'a str, matches: &ArgMatches<'a>) -> Option<Task<'a>>
     })
 }
 
-/// What the words behind a command ask for.
-fn task_of<'a>(name: &str, matches: &ArgMatches<'a>) -> Option<Task<'a>>
-    ensures { Gives (AsksFor name.now (rows_of (found_of matches.now))) result }
+/// Which items are to be removed.
+fn removing<'a>(alloc: Global, matches: &ArgMatches<'a>) -> Result<Option<Task<'a>>, AllocError>
+    ensures { IfOk result (Gives (AsksFor (codes "drop") (rows_of (found_of matches.now)))) }
+{
+    let Some(image) = matches.get_str("IMAGE") else {
+        return Ok(None);
+    };
+    let Some(found) = matches.get_strs("SELECTOR") else {
+        return Ok(None);
+    };
+    let mut selectors = Vec::new(alloc);
+    selectors.extend_from_slice(found)?;
+    Ok(Some(Task::Remove { image, selectors }))
+}
+
+/// What the words behind a command ask for, but for the one that removes items.
+fn other_task_of<'a>(name: &str, matches: &ArgMatches<'a>) -> Option<Task<'a>>
+    ensures { (name.now ≡ codes "drop" → ⊥) → Gives (AsksFor name.now (rows_of (found_of matches.now))) result }
 {
     let image = matches.get_str("IMAGE");
     match name {
         "format" => Some(Task::Format {
             image: image?,
             site: new_site(matches)?,
-            pages: matches.get_one::<u32>("pages")?,
-            now: matches.get_one::<u64>("now")?,
+            pages: pages(matches)?,
+            now: moment(matches)?,
+        }),
+        "init" => Some(Task::Init {
+            image: image?,
+            site: new_site(matches)?,
+            pages: pages(matches)?,
+            now: moment(matches)?,
         }),
         "apply" => Some(Task::Apply {
             image: image?,
             file: matches.get_str("FILE")?,
-            now: matches.get_one::<u64>("now")?,
+            now: moment(matches)?,
+        }),
+        "get" => Some(Task::Get {
+            image: image?,
+            selector: matches.get_str("SELECTOR")?,
+            view: matches.get_str("view"),
+        }),
+        "posts" => Some(Task::Posts {
+            image: image?,
+            board: matches.get_str("BOARD")?,
         }),
         "show" => Some(Task::Show { image: image? }),
         "check" => Some(Task::Check { image: image? }),
@@ -213,7 +298,7 @@ fn task_of<'a>(name: &str, matches: &ArgMatches<'a>) -> Option<Task<'a>>
         "copy" => Some(Task::Copy {
             image: image?,
             new: matches.get_str("NEW")?,
-            pages: matches.get_one::<u32>("pages"),
+            pages: pages(matches),
         }),
         "replay" => Some(Task::Replay {
             image,
@@ -224,6 +309,20 @@ fn task_of<'a>(name: &str, matches: &ArgMatches<'a>) -> Option<Task<'a>>
     }
 }
 
+/// What the words behind a command ask for.
+fn task_of<'a>(
+    alloc: Global,
+    name: &str,
+    matches: &ArgMatches<'a>,
+) -> Result<Option<Task<'a>>, AllocError>
+    ensures { IfOk result (Gives (AsksFor name.now (rows_of (found_of matches.now)))) }
+{
+    if name == "drop" {
+        return removing(alloc, matches);
+    }
+    Ok(other_task_of(name, matches))
+}
+
 /// What the words ask for, the first of which is the program's name.
 pub fn read<'a>(alloc: Global, words: &'a [String]) -> Result<Task<'a>, Misread>
     ensures { IsReadAs (map string_bytes words.entry.now) result }
@@ -232,7 +331,7 @@ pub fn read<'a>(alloc: Global, words: &'a [String]) -> Result<Task<'a>, Misread>
     let Some((name, matches)) = matches.subcommand() else {
         return Err(Misread::Incomplete);
     };
-    match task_of(name, matches) {
+    match task_of(alloc, name, matches)? {
         Some(task) => Ok(task),
         None => Err(Misread::Incomplete),
     }

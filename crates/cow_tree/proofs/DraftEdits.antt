@@ -72,8 +72,9 @@ module _ (slot : Slot) (image : Image) (edits : ℕ) (pairs : List Pair) (ledger
   has = leaf_knows (old_under slot image) (old_is slot image) tree key d.valid need ∙ ap (λ (l : List Pair). is_some (value_at l key)) d.pairs_are
 
   pub put_told : (value w : List ℕ) (r : Result Draft KeeperFault) → edit.value ≡ Some w → value ≡ w → length pairs < 2 ^ 64 - 1 → IfOk r (λ x. state_of x.tree ≡ put_under key value tree.root tree.height) → IfOk r (λ x. x.keys ≡ keys_with (has_under key tree.root) keys)
-      → IfOk r (λ x. (state_of x.tree).height ≤ most_levels) → IfErr r (IsPutFault (put_under key value tree.root tree.height)) → Tells (MayBeTooDeep slot (edits + 1)) r (IsCounted slot image (edits + 1) (edited pairs edit) ledger)
-  put_told value w (Ok x) is v small made count low fault =
+      → IfOk r (λ x. (state_of x.tree).height ≤ most_levels) → IfErr r (IsPutFault (put_under key value tree.root tree.height)) → (now : RootState) → put_under key value tree.root tree.height ≡ now
+      → Tells (MayBeTooDeep slot (edits + 1) × (most_levels < now.height)) r (IsCounted slot image (edits + 1) (edited pairs edit) ledger)
+  put_told value w (Ok x) is v small made count low fault now now_is =
       let same = edited_put pairs edit key value w k is v in
       let height = ap (λ (s : RootState). s.height) made in
       let rise = both_true (rises (map key_of pairs)) (list_all is_pair pairs) map_is in
@@ -83,17 +84,19 @@ module _ (slot : Slot) (image : Image) (edits : ℕ) (pairs : List Pair) (ledger
         keys = count ∙ keys_after_put keys (has_under key tree.root) pairs key value rise.0 counted small has ∙ ap (λ (l : List Pair). length l) same;
         map = edited_map pairs edit map_is sizes;
       }
-  put_told value w (Err faults.Device) is v small made count low fault = absurd fault
-  put_told value w (Err faults.NoImage) is v small made count low fault = absurd fault
-  put_told value w (Err faults.Version) is v small made count low fault = absurd fault
-  put_told value w (Err (faults.Damaged page)) is v small made count low fault = fault
-  put_told value w (Err faults.Small) is v small made count low fault = absurd fault
-  put_told value w (Err faults.Spent) is v small made count low fault = absurd fault
-  put_told value w (Err (faults.Full n free)) is v small made count low fault = absurd fault
-  put_told value w (Err faults.Failed) is v small made count low fault = absurd fault
-  put_told value w (Err faults.Memory) is v small made count low fault = tt
-  put_told value w (Err faults.Deep) is v small made count low fault =
-      levels_deep slot.root.height (edits + 1) (edits + 1) (put_under key value tree.root tree.height) (omega arith) (omega arith) (levels_put (old_under slot image) slot.root.height edits tree key value d.valid (edit_sizes edit key value w sizes k is v) d.grown) fault
+  put_told value w (Err faults.Device) is v small made count low fault now now_is = absurd fault
+  put_told value w (Err faults.NoImage) is v small made count low fault now now_is = absurd fault
+  put_told value w (Err faults.Version) is v small made count low fault now now_is = absurd fault
+  put_told value w (Err (faults.Damaged page)) is v small made count low fault now now_is = fault
+  put_told value w (Err faults.Small) is v small made count low fault now now_is = absurd fault
+  put_told value w (Err faults.Spent) is v small made count low fault now now_is = absurd fault
+  put_told value w (Err (faults.Full n free)) is v small made count low fault now now_is = absurd fault
+  put_told value w (Err faults.Failed) is v small made count low fault now now_is = absurd fault
+  put_told value w (Err faults.Memory) is v small made count low fault now now_is = tt
+  put_told value w (Err faults.Deep) is v small made count low fault now now_is = (
+    levels_deep slot.root.height (edits + 1) (edits + 1) (put_under key value tree.root tree.height) (omega arith) (omega arith) (levels_put (old_under slot image) slot.root.height edits tree key value d.valid (edit_sizes edit key value w sizes k is v) d.grown) fault,
+    subst (λ (s : RootState). most_levels < s.height) now_is fault,
+  )
 
   pub delete_told : (x : Draft) → edit.value ≡ None → state_of x.tree ≡ delete_under key tree.root tree.height → x.keys ≡ keys_without (has_under key tree.root) keys → IsCounted slot image (edits + 1) (edited pairs edit) ledger x
   delete_told x is made count =

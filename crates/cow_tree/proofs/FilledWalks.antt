@@ -12,11 +12,15 @@ filled : (pairs : List Pair) → 1 ≤ length pairs → IsFilled pairs
 filled [] h = absurd (omega (arith, h))
 filled (p ∷ ps) h = tt
 
+pub filled_some : (pairs : List Pair) → IsFilled pairs → 1 ≤ length pairs
+filled_some [] h = absurd h
+filled_some (p ∷ ps) h = omega arith
+
 filled_joined : (xs ys : List Pair) → IsFilled xs → IsFilled (xs ++ ys)
 filled_joined [] ys h = absurd h
 filled_joined (x ∷ xs) ys h = tt
 
-leaf_filled : (place : Place) (low : List ℕ) (high : Option (List ℕ)) (bytes : List ℕ) (pairs : List Pair) → leaf_of place low high bytes ≡ Some pairs → IsFilled pairs
+pub leaf_filled : (place : Place) (low : List ℕ) (high : Option (List ℕ)) (bytes : List ℕ) (pairs : List Pair) → leaf_of place low high bytes ≡ Some pairs → IsFilled pairs
 unfolding leaf_of
 leaf_filled place low high bytes pairs e =
     let f = bind_some (entries_of pair_at place bytes) (λ ps. where_true (are_leaf low high ps) (Some ps)) pairs e in

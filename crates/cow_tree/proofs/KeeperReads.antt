@@ -18,7 +18,7 @@ use Rattle.page_store.specs.declared.slot.Slot.{Slot}
 use Rattle.cow_tree.specs.Walks.{CountsPages}
 use Rattle.cow_tree.specs.Ways.{IsAnswer}
 use Rattle.cow_tree.specs.Opening.{fault_of, bounds_under}
-use Rattle.cow_tree.specs.Needs.{MayNeed, NeedsPages}
+use Rattle.cow_tree.specs.Needs.{MayNeed, NeedsThis}
 use Rattle.cow_tree.specs.Compacting.{MayNeedFilled, NeedsFilled}
 use Rattle.cow_tree.specs.PinnedTrees.{pins_from}
 use Rattle.cow_tree.specs.TreeState.{found_under, tree_holding}
@@ -55,11 +55,11 @@ module _ (old new : State) (slot : Slot) (ledger : LedgerState) (top : ℕ) (usa
       lies true h = absurd (h refl)
       lies false h = refl
 
--- a batch needs as much after a read as before it
+-- a batch needs the same after a read as before it
 pub needs_again : (old new : State) (slot : Slot) → OnlyReads old new → NeedsTheSame (λ batch need. MayNeed slot old batch need) (λ batch need. MayNeed slot new batch need)
 needs_again old new slot only = record {
-  after = λ batch need before now. let keeps = subst IsTrue only.same.honest now in subst (λ (d : Disk). NeedsPages slot d.view batch need) (sym (only.disk keeps)) (before keeps);
-  before = λ batch need after keeps. subst (λ (d : Disk). NeedsPages slot d.view batch need) (only.disk keeps) (after (subst IsTrue (sym only.same.honest) keeps));
+  after = λ batch need before now. let keeps = subst IsTrue only.same.honest now in subst (λ (d : Disk). NeedsThis slot d.view batch need) (sym (only.disk keeps)) (before keeps);
+  before = λ batch need after keeps. subst (λ (d : Disk). NeedsThis slot d.view batch need) (only.disk keeps) (after (subst IsTrue (sym only.same.honest) keeps));
 }
 
 -- writing all pairs anew needs as much after a read as before it

@@ -1,5 +1,5 @@
 -- The pairs of a leaf in the bytes of its page.
-use Rattle.std.proofs.Common.{◌≡◌, ℕ, zero, suc, ◌+◌, true, List, length, drop, Option, Some, None, refl, sym, ap, ◌∙◌}
+use Rattle.std.proofs.Common.{◌≡◌, ◌≤◌, ℕ, zero, suc, ◌+◌, true, List, [], length, drop, Option, Some, None, refl, sym, ap, ◌∙◌, arith}
 use Rattle.std.specs.Prelude.{◌&&◌, bytes_eq, nat_le, take}
 use Rattle.std.specs.List.{list_all}
 use Rattle.std.specs.Int.{Width, w16, w32, w64, byte_len, from_be_bytes}
@@ -9,7 +9,7 @@ use Rattle.page_store.specs.Roots.{is_zero}
 use Rattle.page_store.specs.Pages.{Pair, Head, Place, head_at, page_word, pair_at, entries_at, entries_of, fits_place, leaf_of, are_leaf}
 use Rattle.page_store.specs.Batch.{is_pair}
 use Rattle.page_store.proofs.Fields.{bind_some, test_passed}
-use Rattle.tree_nodes.specs.PageViews.{pairs_in, then_more}
+use Rattle.tree_nodes.specs.PageViews.{pairs_in, then_more, row_behind, entries_by_head, begins_page, has_head}
 use Rattle.tree_nodes.proofs.SizesRead.{some_is, pair_read, pairs_read}
 use Rattle.tree_nodes.proofs.EntriesOneByOne.{in_row_all}
 use Rattle.tree_nodes.proofs.WalksWithinBounds.{pairs_is}
@@ -81,3 +81,22 @@ there place low high bytes pairs e =
 -- The pairs of a leaf stand behind the head of its page.
 pub pairs_there : (place : Place) (low : List ℕ) (high : Option (List ℕ)) (bytes : List ℕ) (pairs : List Pair) (n : ℕ) → leaf_of place low high bytes ≡ Some pairs → n ≡ length pairs → pairs_in n (drop 24 bytes) ≡ pairs
 pairs_there place low high bytes pairs n e is = ap (λ (m : ℕ). pairs_in m (drop 24 bytes)) is ∙ there place low high bytes pairs e
+
+-- ---- a leaf that was read
+
+row_some : (n m : ℕ) (bytes : List ℕ) → m ≡ length (pairs_in n bytes) → 1 ≤ m → pairs_in m bytes ≡ [] → ⊥
+row_some zero m bytes is some none = absurd (omega (arith, is, some))
+row_some (suc n) zero bytes is some none = absurd (omega (arith, some))
+row_some (suc n) (suc m) bytes is some none = go (pair_at bytes) is none
+  where
+    go : (r : Option (Pair × List ℕ)) → suc m ≡ length (then_more (pairs_in n) r) → then_more (pairs_in m) r ≡ [] → ⊥
+    go None is none = absurd (omega (arith, is))
+    go (Some x) is none = cc none
+
+-- bytes behind a head that give some pairs have a first one
+pub read_some : (place : Place) (bytes : List ℕ) (count : ℕ) → has_head place bytes ≡ true → count ≡ length (entries_by_head pair_at bytes) → 1 ≤ count → pairs_in count (drop 24 bytes) ≡ [] → ⊥
+read_some place bytes count headed is some none = go (head_at page_word bytes) refl headed is
+  where
+    go : (r : Option (Head × List ℕ)) → head_at page_word bytes ≡ r → begins_page place r ≡ true → count ≡ length (row_behind pair_at r) → ⊥
+    go None e headed is = absurd (cc headed)
+    go (Some h) e headed is = row_some h.0.count count (drop 24 bytes) (is ∙ ap (λ (l : List ℕ). length (pairs_in h.0.count l)) (head_rest page_word bytes h e)) some none

@@ -33,7 +33,7 @@ use Rattle.tree_pages.proofs.Fitted.{written_whole, patched_whole}
 use Rattle.cow_tree.specs.Opening.{bounds_under}
 use Rattle.cow_tree.specs.TreeState.{found_under}
 use Rattle.page_store.specs.declared.edit.Edit.{Edit}
-use Rattle.cow_tree.specs.Needs.{NeedsPages, drafted}
+use Rattle.cow_tree.specs.Needs.{NeedsPages, StaysLow, drafted}
 use Rattle.cow_tree.specs.Drafts.{old_under, bytes_in, one_if, most_nodes, OnlyMarks, Tells, IsDraft}
 use Rattle.cow_tree.specs.Taken.{Takes, taking_all}
 use Rattle.cow_tree.specs.Plans.{levels_under, IsHeld, IsPlan, IsPlannedAt, IsRootWritten, IsRootInside, IsRoomFault, IsPlanFault}
@@ -332,8 +332,8 @@ pub few_nodes : (slot : Slot) (view : Image) (edits : ℕ) (pairs : List Pair) (
 few_nodes slot view edits pairs ledger tree d = let f = d.few in omega (arith, f)
 
 -- what the tree after a batch owns is what a commit of it needs
-pub needs_pages : (slot : Slot) (view : Image) (batch : List Edit) (tree : RootState) (need : ℕ) → tree ≡ drafted slot view batch → need ≡ min (owned_under tree.root) (2 ^ 64 - 1) → owned_under tree.root ≤ most_nodes slot (length batch) → NeedsPages slot view batch need
-needs_pages slot view batch tree need made is few = record { exact = is ∙ ap (λ (s : RootState). min (owned_under s.root) (2 ^ 64 - 1)) made; most = omega (arith, is, few) }
+pub needs_pages : (slot : Slot) (view : Image) (batch : List Edit) (tree : RootState) (need : ℕ) → tree ≡ drafted slot view batch → need ≡ min (owned_under tree.root) (2 ^ 64 - 1) → owned_under tree.root ≤ most_nodes slot (length batch) → StaysLow slot view batch → NeedsPages slot view batch need
+needs_pages slot view batch tree need made is few low = record { exact = is ∙ ap (λ (s : RootState). min (owned_under s.root) (2 ^ 64 - 1)) made; most = omega (arith, is, few); low = low }
 
 pub room_fault : (e : KeeperFault) (free left : ℕ) (P Q : ℕ → Type 0) → left ≡ free → ((n : ℕ) → P n → Q n) → IsRoomFault left P e → IsPlanFault free Q e
 room_fault faults.Device free left P Q is f h = absurd h

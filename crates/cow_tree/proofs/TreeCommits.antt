@@ -15,7 +15,7 @@ use Rattle.page_store.specs.Same.{Agree}
 use Rattle.page_store.specs.Steps.{AllAre}
 use Rattle.page_store.specs.Counting.{CountsReads, reads_after}
 use Rattle.page_store.specs.Content.{tree_as, Found, content_under, found_as, tree_found, is_among}
-use Rattle.page_store.specs.StoreState.{StoreState, HasStayed, IsCommitFault, MayBeDeep}
+use Rattle.page_store.specs.StoreState.{StoreState, CommitNeed, SoManyPages, TooManyLevels, HasStayed, IsCommitFault, MayBeDeep}
 use Rattle.page_store.specs.Compaction.{IsCompactFault}
 use Rattle.page_store.specs.declared.banner.Banner.{Banner}
 use Rattle.page_store.specs.declared.slot.Slot.{Slot}
@@ -84,8 +84,8 @@ pub lies : (b : Bool) → (IsTrue b → ⊥) → b ≡ false
 lies true h = absurd (h refl)
 lies false h = refl
 
-pub commit_fault : {T : Type 0} (old new : StoreState) (edits : ℕ) (may : ℕ → Type 0) (slot : Slot) (deep : Type 0) (P : T → Type 0) (N : ℕ → Type 0) (e : KeeperFault) → HasStayed old new → CountsReads {T = T} (Err e) old.failed_reads new.failed_reads
-    → (IsTrue old.honest → Tells {T = T} deep (Err e) P) → (deep → MayBeDeep old edits) → IsPlanFault old.free N e → ((n : ℕ) → N n → IsTrue old.honest → may n) → IsCommitFault old new edits may e
+pub commit_fault : {T : Type 0} (old new : StoreState) (edits : ℕ) (may : CommitNeed → Type 0) (slot : Slot) (deep : Type 0) (P : T → Type 0) (N : ℕ → Type 0) (e : KeeperFault) → HasStayed old new → CountsReads {T = T} (Err e) old.failed_reads new.failed_reads
+    → (IsTrue old.honest → Tells {T = T} deep (Err e) P) → (deep → MayBeDeep old edits × may TooManyLevels) → IsPlanFault old.free N e → ((n : ℕ) → N n → IsTrue old.honest → may (SoManyPages n)) → IsCommitFault old new edits may e
 commit_fault old new edits may slot deep P N faults.Device stayed reads answered levels fault need = (stayed, reads)
 commit_fault old new edits may slot deep P N faults.NoImage stayed reads answered levels fault need = absurd fault
 commit_fault old new edits may slot deep P N faults.Version stayed reads answered levels fault need = absurd fault

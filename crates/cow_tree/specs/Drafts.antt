@@ -71,7 +71,7 @@ pub record OnlyRetires (old new : LedgerState) : Type 0 where
   pub marks : OnlyMarks old new
   pub free : free_count new ≡ free_count old
 
--- What is known of a step of a commit on an honest device: nothing is damaged, and levels are too many only where they may be.
+-- What is known of a step of a commit on an honest device: nothing is damaged, and levels are too many only where this holds.
 abbrev pub Tells : {T : Type 0} → Type 0 → Result T KeeperFault → (T → Type 0) → Type 0
 Tells deep (Ok x) P = P x
 Tells deep (Err faults.Deep) P = deep

@@ -1,16 +1,19 @@
 -- What holds of each keeper of a tree.
 use Rattle.std.specs.Prelude.{◌≡◌, ◌≤◌, ◌<◌, ℕ, zero, suc, List, [], ◌∷◌, length, Option, None, Some, IsTrue}
-use Rattle.std.proofs.Common.{ap, ◌∙◌, arith}
+use Rattle.std.proofs.Common.{ap, sym, refl, ◌∙◌, arith}
+use Rattle.sector_device.specs.Device.{State}
 use Rattle.sector_device.specs.Disk.{Disk, IsImage}
 use Rattle.page_alloc.specs.LedgerState.{LedgerState}
 use Rattle.page_store.specs.Reading.{◌>>=◌}
 use Rattle.page_store.specs.Sectors.{Image, page_of}
 use Rattle.page_store.specs.Roots.{current}
-use Rattle.page_store.specs.Content.{tree_found, tree_as, Found, content, content_under, found_as, pairs_and_banner}
-use Rattle.page_store.specs.StoreState.{most_levels}
+use Rattle.page_store.specs.Content.{tree_found, tree_as, Found, content, content_under, pairs_and_banner}
+use Rattle.page_store.specs.StoreState.{CommitNeed, SoManyPages, TooManyLevels, most_levels}
+use Rattle.page_store.specs.declared.edit.Edit.{Edit}
 use Rattle.page_store.specs.declared.slot.Root.{Root}
 use Rattle.page_store.specs.declared.slot.Slot.{Slot}
 use Rattle.page_store.proofs.Fields.{bind_again}
+use Rattle.cow_tree.specs.Needs.{MayNeed}
 use Rattle.cow_tree.specs.Opening.{IsRooted}
 use Rattle.cow_tree.specs.PinnedTrees.{pins_from, ArePinned}
 use Rattle.cow_tree.specs.declared.tree_root.TreeRoot.{TreeRoot}
@@ -42,6 +45,13 @@ at_most image number (Some tree ∷ trees) = let rest = at_most image (suc numbe
 -- there are no more than 32 pins
 pub few_out : (image : Image) (pages : ℕ) (ledger : LedgerState) (trees : List (Option TreeRoot)) → ArePinned pages ledger trees → length (pins_from image 0 trees) ≤ 32
 few_out image pages ledger trees pins = let most = at_most image 0 trees in let count = pins.count in omega (arith, most, count)
+
+-- a batch needs so many pages or too many levels, and not both
+pub needs_one : (slot : Slot) (state : State) (batch : List Edit) (a b : CommitNeed) → IsTrue state.honest → MayNeed slot state batch a → MayNeed slot state batch b → a ≡ b
+needs_one slot state batch (SoManyPages m) (SoManyPages n) honest first second = ap (λ (k : ℕ). SoManyPages k) ((first honest).exact ∙ sym (second honest).exact)
+needs_one slot state batch (SoManyPages m) TooManyLevels honest first second = let low = (first honest).low (second honest).0 in let deep = (second honest).1 in absurd (omega (arith, low, deep))
+needs_one slot state batch TooManyLevels (SoManyPages n) honest first second = let low = (second honest).low (first honest).0 in let deep = (first honest).1 in absurd (omega (arith, low, deep))
+needs_one slot state batch TooManyLevels TooManyLevels honest first second = refl
 
 -- each crash state of a usable keeper has its pairs and its banner
 pub crash_states_have_the_tree : (disk : Disk) (slot : Slot) (ledger : LedgerState) (top : ℕ) → IsTrue (is_tree_version slot.root.banner.version) → IsThere disk.view slot ledger → IsDurable disk slot top → (c : Image) → IsImage disk c → TreeHas c (found_under slot disk.view).pairs slot.root.banner

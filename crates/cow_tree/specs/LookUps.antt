@@ -1,5 +1,5 @@
 -- What looking pairs up in a tree does to a device, and what it answers.
-use Rattle.std.specs.Prelude.{◌≡◌, ◌≤◌, ℕ, Bool, List, Option, Some, Result, IsTrue, IfOk, IfSome, option_map, take}
+use Rattle.std.specs.Prelude.{◌≡◌, ◌≤◌, ℕ, Bool, List, [], Option, Some, Result, IsTrue, IfOk, OnOk, IfSome, option_map, take}
 use Rattle.std.specs.Option.{is_some}
 use Rattle.common_types.specs.CrashStates.{CrashStates}
 use Rattle.sector_device.specs.Device.{State}
@@ -20,10 +20,11 @@ pub record LooksUp {D : Type 0} (state : D → State) (crash_states : D → Cras
   pub buffer : IsFilled (λ n. n) result before after
   pub reads : ReadsPages state crash_states old new result
 
--- A call that reads the leaf of the pair after a key: it only reads pages, on an honest device the leaf tells that pair of the tree, and the answer is whether the leaf has one.
+-- A call that reads the leaf of the pair after a key: it only reads pages, on an honest device the leaf tells that pair of the tree, and the answer is whether the leaf has one. On every device the leaf has a pair.
 pub record ReadsNextLeaf {D : Type 0} (state : D → State) (crash_states : D → CrashStates Image) (is_tree : (ℕ → List ℕ) → Found → Type 0) (bounds : Bounds) (key : List ℕ) (old new : D) (leaf_now : List Pair) (result : Result Bool PageFault) : Type 0 where
   pub leaf : IsTrue (state old).honest → (found : Found) → is_tree (page_of (state old).disk.view) found → IsAnswer result (λ there. IsNextLeaf (page_of (state old).disk.view) bounds key found leaf_now)
   pub there : IfOk result (λ there. there ≡ is_some (pair_after leaf_now key))
+  pub some : OnOk result (leaf_now ≡ [] → ⊥)
   pub reads : ReadsPages state crash_states old new result
 
 -- A call that keeps the leaf of the pair after a key: it only reads pages, and on an honest device it tells that pair of the tree and keeps then a leaf of the tree or nothing.

@@ -1,7 +1,8 @@
--- How many pages a commit needs.
-use Rattle.std.specs.Prelude.{◌≡◌, ◌≤◌, ◌-◌, ◌^◌, min, ℕ, List, length, replicate, fold, Option, Some, None, IsTrue}
+-- What a commit needs: so many pages, or more levels than a tree may have.
+use Rattle.std.specs.Prelude.{◌≡◌, ◌≤◌, ◌<◌, ◌-◌, ◌^◌, min, ℕ, List, length, take, replicate, fold, Option, Some, None, IsTrue}
 use Rattle.sector_device.specs.Device.{State}
 use Rattle.page_store.specs.Sectors.{Image}
+use Rattle.page_store.specs.StoreState.{CommitNeed, SoManyPages, TooManyLevels, most_levels}
 use Rattle.page_store.specs.declared.edit.Edit.{Edit}
 use Rattle.page_store.specs.declared.slot.Slot.{Slot}
 use Rattle.tree_nodes.specs.Tree.{OldPages}
@@ -29,11 +30,24 @@ drafted slot image batch = fold (edit_made (old_under slot image) slot.root.heig
 abbrev pub pages_needed : Slot → Image → List Edit → ℕ
 pages_needed slot image batch = min (owned_under (drafted slot image batch).root) (2 ^ 64 - 1)
 
--- A commit of a batch needs so many pages.
+-- the first edits of a batch, however many, leave no more levels than a tree may have
+abbrev pub StaysLow : Slot → Image → List Edit → Type 0
+StaysLow slot image batch = (front : ℕ) → (drafted slot image (take front batch)).height ≤ most_levels
+
+-- the first edits of a batch, for some number of them, make more levels than a tree may have
+abbrev pub GetsTooDeep : Slot → Image → List Edit → Type 0
+GetsTooDeep slot image batch = (front : ℕ) × (most_levels < (drafted slot image (take front batch)).height)
+
+-- A commit of a batch needs so many pages, and on no way there too many levels.
 pub record NeedsPages (slot : Slot) (image : Image) (batch : List Edit) (need : ℕ) : Type 0 where
   pub exact : need ≡ pages_needed slot image batch
   pub most : need ≤ most_nodes slot (length batch)
+  pub low : StaysLow slot image batch
+
+abbrev pub NeedsThis : Slot → Image → List Edit → CommitNeed → Type 0
+NeedsThis slot image batch (SoManyPages need) = NeedsPages slot image batch need
+NeedsThis slot image batch TooManyLevels = GetsTooDeep slot image batch
 
 -- the same on a device in this state, which has to be honest
-abbrev pub MayNeed : Slot → State → List Edit → ℕ → Type 0
-MayNeed slot state batch need = IsTrue state.honest → NeedsPages slot state.disk.view batch need
+abbrev pub MayNeed : Slot → State → List Edit → CommitNeed → Type 0
+MayNeed slot state batch need = IsTrue state.honest → NeedsThis slot state.disk.view batch need

@@ -1,5 +1,5 @@
 // The leaf that a next pair was last read from.
-ghost use Rattle.std.specs.Prelude.{◌≡◌, ◌≤◌, ◌<◌, ◌*◌, ◌∷◌, ◌⊎◌, false, List, [], None, Some, Ok, IsTrue, IfSome, MatchOption, option_map, length, take};
+ghost use Rattle.std.specs.Prelude.{◌≡◌, ◌≤◌, ◌<◌, ◌*◌, ◌∷◌, ◌⊎◌, false, List, [], None, Some, Ok, IsTrue, OnOk, IfSome, MatchOption, option_map, length, take};
 ghost use Rattle.std.specs.Option.{is_some};
 ghost use Rattle.page_store.specs.Sectors.{page_of};
 ghost use Rattle.page_store.specs.Steps.{crash_states_of};
@@ -79,7 +79,7 @@ impl KeptLeaf {
         self.last = NOWHERE;
     }
 
-    /// Reads a leaf from its page, of which the opening has tested all, or which a commit has written: only its head is tested again.
+    /// Reads a leaf from its page, of which the opening has tested all, or which a commit has written: only its head is tested again, and that it has a pair.
     pub(crate) fn read<D: Device>(
         &mut self,
         device: &mut D,
@@ -90,12 +90,16 @@ impl KeptLeaf {
         requires most { page < bounds.pages }
         ensures pairs { IsTrue (D.state device.old).honest → (pairs : List Pair) → leaf_of (place_in (bounds_of bounds) 0 page) [] None (page_of (D.state device.old).disk.view page) ≡ Some pairs →
             IsAnswer result (λ done. self.new ≡ pairs) }
+        ensures some { OnOk result (self.new ≡ [] → ⊥) }
         ensures reads { ReadsPages D.state (crash_states_of D.moment D.possible_since) device.old device.new result }
     {
         self.last.left = 0;
         load_page(device, page, &mut self.bytes)?;
         let leaf = leaf_by_head(bounds, page, &self.bytes)?;
         self.count = count_pairs(leaf);
+        if self.count < 1 {
+            return Err(PageFault::Damaged { page });
+        }
         Ok(())
     }
 

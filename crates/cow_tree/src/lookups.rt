@@ -1,5 +1,5 @@
 // Looking pairs up in a tree: the pages on the way to them are read, and no others.
-ghost use Rattle.std.specs.Prelude.{◌≡◌, ◌≤◌, ◌*◌, IsTrue, IfOk, IfSome, Some, option_map, take};
+ghost use Rattle.std.specs.Prelude.{◌≡◌, ◌≤◌, ◌<◌, ◌*◌, [], IsTrue, OnOk, IfOk, IfSome, Some, option_map, take};
 ghost use Rattle.page_store.specs.Steps.{crash_states_of};
 ghost use Rattle.page_store.specs.Content.{tree_found};
 ghost use Rattle.page_store.specs.Batch.{pair_after};
@@ -50,6 +50,7 @@ pub(crate) fn read_next_leaf<D: Device>(
     requires fits { 8 * tree.pages ≤ (D.state device.old).size }
     requires rooted { IsRootedAt tree }
     ensures next { KeepsNext D.state (crash_states_of D.moment D.possible_since) (λ pages found. tree_at tree pages ≡ Some found) (bounds_at tree) after.now device.old device.new kept.new (λ done. pair_after kept.new after.now) result }
+    ensures some { OnOk result (0 < tree.height → kept.new ≡ [] → ⊥) }
 {
     if tree.height == 0 {
         kept.clear();
@@ -86,6 +87,7 @@ pub(crate) fn find_next<D: Device>(
     ensures next { KeepsNext D.state (crash_states_of D.moment D.possible_since) (λ pages found. (tree_found slot.now pages ≡ Some found) × IsKeptLeaf pages (bounds_under slot.now) found kept.old)
         (bounds_under slot.now) after.now device.old device.new kept.new (λ sizes. option_map (λ n. (take n.0 key.new, take n.1 value.new)) sizes) result }
     ensures from_kept { IfOk result (λ sizes. option_map (λ n. (take n.0 key.new, take n.1 value.new)) sizes ≡ pair_after kept.new after.now) }
+    ensures some { OnOk result (0 < slot.now.root.height → kept.new ≡ [] → ⊥) }
     ensures key { IsFilled (λ n. n.0) result key.old key.new }
     ensures value { IsFilled (λ n. n.1) result value.old value.new }
     // Where the kept leaf tells the pair, nothing is read.

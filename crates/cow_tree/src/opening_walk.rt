@@ -15,7 +15,7 @@ ghost use Rattle.cow_tree.specs.declared.page_fault.PageFault.TheVariants.{Devic
 
 use crate::page_fault::PageFault;
 use page_alloc::Ledger;
-use page_store::read_page;
+use page_store::fill_page;
 use sector_device::Device;
 use tree_nodes::{Branch, ImageBounds, Leaf};
 
@@ -30,7 +30,7 @@ pub(crate) fn load_page<D: Device>(
     ensures fault { IfErr result (λ e. e ≡ NoRead) }
     ensures reads { ReadsPages D.state (crash_states_of D.moment D.possible_since) device.old device.new result }
 {
-    match read_page(device, page, bytes) {
+    match fill_page(device, page, bytes) {
         Ok(()) => Ok(()),
         Err(_) => Err(PageFault::Device),
     }

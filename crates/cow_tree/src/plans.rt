@@ -15,7 +15,7 @@ ghost use Rattle.tree_nodes.specs.Growth.{owned_under};
 ghost use Rattle.tree_pages.specs.Written.{IsTreePage};
 ghost use Rattle.cow_tree.specs.TreeState.{IsFitted, IsFittedSlot};
 ghost use Rattle.cow_tree.specs.Drafts.{IsCountedRead, IsCounted, OnlyMarks, Tells, MayBeTooDeep};
-ghost use Rattle.cow_tree.specs.Needs.{NeedsPages};
+ghost use Rattle.cow_tree.specs.Needs.{NeedsPages, GetsTooDeep};
 ghost use Rattle.cow_tree.specs.Plans.{levels_of, IsHeld, Starts, IsPlanned, IsMade, IsPlanFault, IsRoomFault, IsTreeFault, IsRootWritten, IsRootInside};
 
 use crate::drafts::{Draft, draft_batch};
@@ -132,7 +132,8 @@ pub(crate) fn plan_commit<D: Device>(
     ensures made { IfOk result (IsMade slot.now seal banner) }
     ensures room { IfOk result (λ plan. length plan.pages.items ≤ free_count ledger.old) }
     ensures planned { IsTrue (D.state device.old).honest → (top : ℕ) (pairs : List Pair) → IsHeld (D.state device.old).disk.view slot.now top ledger.old → Starts slot.now (D.state device.old).disk.view pairs ledger.old → seal ≡ top + 1 → IsTrue (is_tree_version banner.version) →
-        Tells (MayBeTooDeep slot.now (length batch.now)) result (λ plan. IsPlanned (D.state device.old).disk.view slot.now top (updated pairs batch.now) ledger.new plan × NeedsPages slot.now (D.state device.old).disk.view batch.now (length plan.pages.items)) }
+        Tells (MayBeTooDeep slot.now (length batch.now) × GetsTooDeep slot.now (D.state device.old).disk.view batch.now) result
+        (λ plan. IsPlanned (D.state device.old).disk.view slot.now top (updated pairs batch.now) ledger.new plan × NeedsPages slot.now (D.state device.old).disk.view batch.now (length plan.pages.items)) }
     ensures marks { OnlyMarks ledger.old ledger.new }
     ensures refused { OnErr result (ledger.new ≡ ledger.old) }
     ensures fault { IfErr result (IsPlanFault (free_count ledger.old) (λ need. IsTrue (D.state device.old).honest → (pairs : List Pair) → Starts slot.now (D.state device.old).disk.view pairs ledger.old → NeedsPages slot.now (D.state device.old).disk.view batch.now need)) }

@@ -1,17 +1,17 @@
 // The calls of a keeper of a tree.
-ghost use Rattle.std.specs.Prelude.{◌≡◌, ◌≤◌, ◌<◌, ◌+◌, ◌⊎◌, ℕ, true, false, IsTrue, OnOk, IfOk, IfErr, IfSome, IsErrOf, length, option_map, take};
+ghost use Rattle.std.specs.Prelude.{◌≡◌, ◌≤◌, ◌<◌, ◌+◌, ◌⊎◌, ℕ, [], true, false, IsTrue, OnOk, IfOk, IfErr, IfSome, IsErrOf, length, option_map, take};
 ghost use Rattle.common_types.specs.CrashStates.{AddsOnly, AddsNone};
 ghost use Rattle.page_store.specs.Sectors.{Image};
 ghost use Rattle.page_store.specs.Batch.{is_batch, updated, pair_after};
 ghost use Rattle.page_store.specs.Counting.{CountsReads, CountsWrites};
-ghost use Rattle.page_store.specs.StoreState.{HasRead, HasTried, NeedsTheSame, IsFilled, IsReadFault, IsCommitFault, numbers_out, last_generation};
+ghost use Rattle.page_store.specs.StoreState.{SoManyPages, HasRead, HasTried, NeedsTheSame, IsFilled, IsReadFault, IsCommitFault, numbers_out, last_generation};
 ghost use Rattle.page_store.specs.declared.fault.KeeperFault.TheVariants.{Failed, Spent};
 ghost use Rattle.page_store.specs.Steps.{crash_states_of};
 ghost use Rattle.cow_tree.specs.Needs.{MayNeed};
 ghost use Rattle.cow_tree.specs.Committed.{is_tree_version, TreeHas, WritesOnePlan, WritesNoPinnedPage};
 ghost use Rattle.cow_tree.specs.TreeSeen.{held, device_of, slot_of, top_of, kept_by, pinned_by};
 ghost use Rattle.cow_tree.specs.KeptLeaves.{has_next};
-ghost use Rattle.cow_tree.specs.KeeperLaws.{opens_trees, few_levels, crash_states_have_the_tree};
+ghost use Rattle.cow_tree.specs.KeeperLaws.{opens_trees, few_levels, needs_one, crash_states_have_the_tree};
 
 use crate::TreeKeeper;
 use crate::commits::write_plan;
@@ -39,6 +39,8 @@ impl<D: Device> Keeper for TreeKeeper<D> {
     ghost levels = { λ k. few_levels k.slot.root k.fitted.rooted };
 
     ghost ordered = { λ k honest. (k.there honest).map };
+
+    ghost one_need = { λ k batch a b honest first second. needs_one (slot_of k) (D.state (device_of k)) batch a b honest first second };
 
     ghost crash_states_represent = { λ k c honest usable left. crash_states_have_the_tree (D.state k.device).disk k.slot k.ledger k.top k.fitted.version (k.there honest) (k.durable honest usable) c (D.crash_states_are_images k.device c honest left) };
 
@@ -88,6 +90,8 @@ impl<D: Device> Keeper for TreeKeeper<D> {
 
         // The pair stands in the leaf that is kept afterwards, and where the one that was kept tells it the device isn't asked.
         ensures from_kept { IfOk result (λ found. option_map (λ n. (take n.0 key.new, take n.1 value.new)) found ≡ pair_after (kept_by self.new) after.now) }
+        // Where the tree has a level, that leaf has a pair: a walk doesn't end because a page gives none.
+        ensures some { OnOk result (0 < (slot_of self.new).root.height → kept_by self.new ≡ [] → ⊥) }
         ensures unread { IsTrue (has_next (kept_by self.old) after.now) → (device_of self.new ≡ device_of self.old) × (kept_by self.new ≡ kept_by self.old) }
     {
         if !self.usable {
@@ -117,7 +121,7 @@ impl<D: Device> Keeper for TreeKeeper<D> {
         ensures out { OnOk result (numbers_out (held D.state self.new) ≡ numbers_out (held D.state self.old)) }
         ensures pins { IsTrue (held D.state self.old).honest → OnOk result ((held D.state self.new).pins ≡ (held D.state self.old).pins) }
         ensures generation { OnOk result ((held D.state self.new).generation ≡ (held D.state self.old).top + 1) }
-        ensures fits { IsTrue (held D.state self.old).honest → OnOk result ((n : ℕ) × MayNeed (slot_of self.old) (D.state (device_of self.old)) batch.now n × (n ≤ (held D.state self.old).free)) }
+        ensures fits { IsTrue (held D.state self.old).honest → OnOk result ((n : ℕ) × MayNeed (slot_of self.old) (D.state (device_of self.old)) batch.now (SoManyPages n) × (n ≤ (held D.state self.old).free)) }
         ensures fault { IfErr result (IsCommitFault (held D.state self.old) (held D.state self.new) (length batch.now) (MayNeed (slot_of self.old) (D.state (device_of self.old)) batch.now)) }
         ensures need { IfErr result (λ e. (held D.state self.new).usable ≡ (held D.state self.old).usable → NeedsTheSame (MayNeed (slot_of self.old) (D.state (device_of self.old))) (MayNeed (slot_of self.new) (D.state (device_of self.new)))) }
         ensures closed { (held D.state self.old).usable ≡ false → IsErrOf result Failed }
@@ -129,14 +133,14 @@ impl<D: Device> Keeper for TreeKeeper<D> {
         ensures at_crash { IsTrue (held D.state self.old).honest → (held D.state self.old).usable ≡ true →
             AddsOnly (crash_states_of D.moment D.possible_since (device_of self.old)) (crash_states_of D.moment D.possible_since (device_of self.new))
             (λ c. TreeHas c (held D.state self.old).pairs (held D.state self.old).banner ⊎ TreeHas c (updated (held D.state self.old).pairs batch.now) banner) }
-        ensures tight { IsTrue (held D.state self.old).honest → (held D.state self.old).usable ≡ true → (held D.state self.new).usable ≡ false → (n : ℕ) × MayNeed (slot_of self.old) (D.state (device_of self.old)) batch.now n × (n ≤ (held D.state self.old).free) }
+        ensures tight { IsTrue (held D.state self.old).honest → (held D.state self.old).usable ≡ true → (held D.state self.new).usable ≡ false → (n : ℕ) × MayNeed (slot_of self.old) (D.state (device_of self.old)) batch.now (SoManyPages n) × (n ≤ (held D.state self.old).free) }
         ensures no_new_crash_state { IsTrue (held D.state self.old).honest → IfErr result (λ e. (held D.state self.new).usable ≡ true → AddsNone (crash_states_of D.moment D.possible_since (device_of self.old)) (crash_states_of D.moment D.possible_since (device_of self.new))) }
         ensures no_new_crash_state_when_closed { IsTrue (held D.state self.old).honest → (held D.state self.old).usable ≡ false → AddsNone (crash_states_of D.moment D.possible_since (device_of self.old)) (crash_states_of D.moment D.possible_since (device_of self.new)) }
 
         // How it writes: by one plan, on whose way each crash leaves the image, and by no page that a pinned tree has.
         ensures between { IsTrue (held D.state self.old).honest → (held D.state self.old).usable ≡ true →
             WritesOnePlan (crash_states_of D.moment D.possible_since (device_of self.old)) (crash_states_of D.moment D.possible_since (device_of self.new))
-            (D.state (device_of self.old)).disk.view (slot_of self.old) (top_of self.old) (pinned_by self.old) (MayNeed (slot_of self.old) (D.state (device_of self.old)) batch.now) (updated (held D.state self.old).pairs batch.now) banner }
+            (D.state (device_of self.old)).disk.view (slot_of self.old) (top_of self.old) (pinned_by self.old) (λ n. MayNeed (slot_of self.old) (D.state (device_of self.old)) batch.now (SoManyPages n)) (updated (held D.state self.old).pairs batch.now) banner }
         ensures unheld { IsTrue (held D.state self.old).honest → (held D.state self.old).usable ≡ true → WritesNoPinnedPage (pinned_by self.old) (D.state (device_of self.old)).disk.view (D.state (device_of self.new)).disk.view
             (crash_states_of D.moment D.possible_since (device_of self.old)) (crash_states_of D.moment D.possible_since (device_of self.new)) }
     {

@@ -1,3 +1,4 @@
 pub mod Found
 pub mod Opened
+pub mod Pieces
 pub mod Shown

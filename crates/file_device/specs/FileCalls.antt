@@ -50,6 +50,11 @@ after sound (Write n bytes) d = written n bytes d
 after sound (FailedWrite n bytes) d = listed n bytes d
 after sound FailedSync d = d
 
+-- A read of each of these sectors, from this one on, and before them the earlier calls.
+abbrev pub read_calls : ℕ → List (List ℕ) → List FileCall → List FileCall
+read_calls n [] earlier = earlier
+read_calls n (bytes ∷ sectors) earlier = read_calls (suc n) sectors (Read n bytes ∷ earlier)
+
 -- a disk without sectors
 abbrev pub no_sectors : Disk
 no_sectors = record { base = []; writes = []; view = [] }

@@ -1,5 +1,5 @@
 // A file as a disk of sectors. What the file holds is read once, at its opening, and kept in memory; each write goes to both.
-ghost use Rattle.std.specs.Prelude.{◌≡◌, ◌⊎◌, ◌*◌, ◌<◌, false, [], ◌∷◌, IfOk, IfErr, OnOk, OnErr, IsOk, IsTrue, Some, length, slice_get, refl};
+ghost use Rattle.std.specs.Prelude.{◌≡◌, ◌⊎◌, ◌*◌, ◌+◌, ◌<◌, ◌^◌, List, false, [], ◌∷◌, IfOk, IfErr, OnOk, OnErr, IsOk, IsTrue, Some, length, slice_get, refl};
 ghost use Rattle.sector_device.specs.Disk.{written, synced, WriteFailed, SyncFailed};
 ghost use Rattle.sector_device.specs.Device.{Elapses};
 ghost use Rattle.sector_device.specs.Effects.{ReadOutcome, WriteOutcome};
@@ -8,6 +8,7 @@ ghost use Rattle.common_types.specs.Counts.{counted};
 ghost use Rattle.file_device.specs.FileCalls.{disk_of, file_state, PossibleSince};
 ghost use Rattle.file_device.specs.FileCallLaws.{good, only_images, all_images};
 ghost use Rattle.file_device.specs.Opening.{AreRead, IsUnread, IsOpened, IsUnused, Asks};
+ghost use Rattle.file_device.specs.declared.file_call.FileCall.{FileCall as CallValue};
 ghost use Rattle.file_device.specs.declared.file_call.FileCall.TheVariants.{Open, Create, Lock, SetLength, Sync, DropCache, ReadAhead, Length, Write, FailedWrite, FailedSync};
 
 use crate::image_file::ImageFile;
@@ -16,6 +17,9 @@ use std::alloc::Global;
 use std::fs::{File, Files};
 use std::io;
 use std::marker::Model;
+
+/// How many sectors an opening reads by one call: 1 MB.
+const PIECE: usize = 2048;
 
 /// A file as a disk. Its length div 512 is its count of sectors.
 #[derive(Drop)]
@@ -71,6 +75,29 @@ fn renew_cache(image: &mut ImageFile) -> io::Result<()>
     image.read_ahead()
 }
 
+/// Reads the next sectors behind those that were read, as many as there is room for in the piece.
+fn read_piece(
+    file: &mut ImageFile,
+    piece: &mut [[u8; 512]],
+    view: &mut Vec<[u8; 512]>,
+    first: u64,
+) -> Result<(), DeviceFault>
+    requires fits { first + length piece.old < 2 ^ 64 }
+    requires shown { view.old.items ≡ (disk_of file.old.made.calls).view }
+    ensures read { OnOk result ((before : List CallValue) → AreRead first before file.old.made.calls → AreRead (first + length piece.old) before file.new.made.calls) }
+    ensures shown { OnOk result (view.new.items ≡ (disk_of file.new.made.calls).view) }
+    ensures length { length piece.new ≡ length piece.old }
+    ensures fault { IfErr result (λ e. (e ≡ NoFile) ⊎ (e ≡ Memory)) }
+{
+    match file.read(first, piece) {
+        Ok(()) => match view.extend_from_slice(piece) {
+            Ok(()) => Ok(()),
+            Err(_) => Err(DeviceFault::Memory),
+        },
+        Err(_) => Err(DeviceFault::NoFile),
+    }
+}
+
 /// Reads so many sectors from the first.
 fn read_all(
     alloc: Global,
@@ -85,13 +112,14 @@ fn read_all(
     let Ok(mut view) = Vec::with_capacity(alloc, sectors as usize) else {
         return Err(DeviceFault::Memory);
     };
-    for n in 0..sectors {
-        let Ok(bytes) = file.read(n) else {
-            return Err(DeviceFault::NoFile);
-        };
-        if view.push(bytes).is_err() {
-            return Err(DeviceFault::Memory);
-        }
+    let Ok(mut piece) = vec![in alloc; [0; 512]; PIECE] else {
+        return Err(DeviceFault::Memory);
+    };
+    let mut n = 0;
+    while n < sectors {
+        let count = (sectors - n).min(PIECE as u64);
+        read_piece(file, &mut piece[..count as usize], &mut view, n)?;
+        n += count;
     }
     Ok(view)
 }

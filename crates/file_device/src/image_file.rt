@@ -1,8 +1,8 @@
-// The calls of the system on an image's file. Each function here makes one of them and notes it. That it makes the call which it notes, no clause can say:
-// so each is short, and tests on a real file hold it.
-ghost use Rattle.std.specs.Prelude.{◌≡◌, ◌*◌, ◌<◌, ◌^◌, [], ◌∷◌, IfOk, OnOk};
-ghost use Rattle.file_device.specs.FileCalls.{noted};
-ghost use Rattle.file_device.specs.declared.file_call.FileCall.TheVariants.{Open, Create, Lock, SetLength, Sync, DropCache, ReadAhead, Length, Read, Write, FailedWrite, FailedSync};
+// The calls of the system on an image's file. Each function here makes one of them and notes it: a read of several sectors as a read of each, and the zeros of
+// a file that grows as its length. That it makes the call which it notes, no clause can say: so each is short, and tests on a real file hold it.
+ghost use Rattle.std.specs.Prelude.{◌≡◌, ◌*◌, ◌+◌, ◌<◌, ◌^◌, [], ◌∷◌, IfOk, OnOk, length};
+ghost use Rattle.file_device.specs.FileCalls.{noted, read_calls};
+ghost use Rattle.file_device.specs.declared.file_call.FileCall.TheVariants.{Open, Create, Lock, SetLength, Sync, DropCache, ReadAhead, Length, Write, FailedWrite, FailedSync};
 
 use crate::FileCall;
 use crate::record::Record;
@@ -10,6 +10,9 @@ use std::fs::{File, Files};
 use std::io;
 use std::os::fd::AsRawFd;
 use std::os::unix::fs::FileExt;
+
+/// How many zeros are written by one call.
+const ZEROS: usize = 65_536;
 
 /// A file, and the calls that were made of it since it was opened.
 #[derive(Drop)]
@@ -23,6 +26,18 @@ fn offset_of(n: u64) -> u64
     ensures { n < 2 ^ 55 → result ≡ 512 * n }
 {
     n.saturating_mul(512)
+}
+
+/// Notes a read of each of these sectors, from this one on.
+fn note_reads(made: &mut Record, first: u64, sectors: &[[u8; 512]])
+    requires { first + length sectors.now < 2 ^ 64 }
+    ensures { made.new.calls ≡ read_calls first sectors.now made.old.calls }
+{
+    let mut n = first;
+    for bytes in sectors {
+        made.note(FileCall::Read(n, *bytes));
+        n += 1;
+    }
 }
 
 impl ImageFile {
@@ -59,12 +74,26 @@ impl ImageFile {
         Ok(())
     }
 
-    /// Cuts the file to so many bytes, or fills it up with zeros.
+    /// Cuts the file to so many bytes, or fills it up with zeros. These are written, so that a disk which has no room for them says so here.
     pub(crate) fn set_length(&mut self, bytes: u64) -> io::Result<()>
         ensures { OnOk result (self.new.made.calls ≡ SetLength bytes ∷ self.old.made.calls) }
     {
+        let length = self.file.metadata()?.len();
+        self.write_zeros(length, bytes)?;
         self.file.set_len(bytes)?;
         self.made.note(FileCall::SetLength(bytes));
+        Ok(())
+    }
+
+    /// Writes zeros from one place to another; none where that isn't behind it.
+    fn write_zeros(&self, from: u64, to: u64) -> io::Result<()> {
+        let zeros = [0; ZEROS];
+        let mut at = from;
+        while at < to {
+            let count = (to - at).min(ZEROS as u64);
+            self.file.write_all_at(&zeros[..count as usize], at)?;
+            at += count;
+        }
         Ok(())
     }
 
@@ -113,14 +142,16 @@ impl ImageFile {
         Ok(bytes)
     }
 
-    /// Reads a sector.
-    pub(crate) fn read(&mut self, n: u64) -> io::Result<[u8; 512]>
-        ensures { IfOk result (λ bytes. self.new.made.calls ≡ Read n bytes ∷ self.old.made.calls) }
+    /// Reads sectors into the room by one call, from this one on, as many as it has room for. A read of each is noted.
+    pub(crate) fn read(&mut self, first: u64, room: &mut [[u8; 512]]) -> io::Result<()>
+        requires { first + length room.old < 2 ^ 64 }
+        ensures length { length room.new ≡ length room.old }
+        ensures noted { OnOk result (self.new.made.calls ≡ read_calls first room.new self.old.made.calls) }
     {
-        let mut bytes = [0; 512];
-        self.file.read_exact_at(&mut bytes, offset_of(n))?;
-        self.made.note(FileCall::Read(n, bytes));
-        Ok(bytes)
+        self.file
+            .read_exact_at(room.as_flattened_mut(), offset_of(first))?;
+        note_reads(&mut self.made, first, room);
+        Ok(())
     }
 
     /// Writes a sector. It takes no memory.

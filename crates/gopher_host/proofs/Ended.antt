@@ -8,8 +8,8 @@ use Rattle.file_device.specs.Opening.{IsOpened, IsUnused}
 use Rattle.file_device.specs.declared.file_call.FileCall.TheVariants.{Open, Lock}
 use Rattle.host_on_disk.specs.OpenFaults.{HandsBack}
 use Rattle.image_commands.specs.declared.fault.ImageFault.{ImageFault}
-use Rattle.gopher_host.specs.Endings.{Gives, text_of, given_beside, device_beside}
-use Rattle.gopher_host.specs.ImageFiles.{OpensThen, Answers, IsUnwritten, file_crash_states}
+use Rattle.gopher_host.specs.Endings.{GivesAs, text_of, given_beside, device_beside}
+use Rattle.gopher_host.specs.ImageFiles.{OpensThen, AnswersAs, IsUnwritten, file_crash_states}
 use Rattle.gopher_host.specs.declared.fault.Fault.{Fault}
 
 pub ok_too : {T E : Type 0} {P Q : T → Type 0} (result : Result T E) → ((t : T) → P t → Q t) → IfOk result P → IfOk result Q
@@ -33,8 +33,8 @@ all_err_too (Ok t) f p q r = tt
 all_err_too (Err e) f p q r = f e p q r
 
 -- what was given is printed, or its fault is answered
-pub answers : {A W X : Type 0} (text : A → List ℕ) (handed : Result (A × FileHistory) (ImageFault × FileHistory)) (given : Result A ImageFault) (Is : FileHistory → List ℕ → Type 0) (IsCause : FileHistory → ImageFault → Type 0) (contents : W → Option (List ℕ)) (old new : W) (result : Result X Fault) →
-    given ≡ given_beside handed → Gives (text_of text given) contents old new result → IfOk handed (λ r. Is r.1 (text r.0)) → IfErr handed (λ e. IsCause e.1 e.0) → Answers (Is (device_beside handed)) (IsCause (device_beside handed)) contents old new result
+pub answers : {A W X : Type 0} {as_fault : ImageFault → Fault} (text : A → List ℕ) (handed : Result (A × FileHistory) (ImageFault × FileHistory)) (given : Result A ImageFault) (Is : FileHistory → List ℕ → Type 0) (IsCause : FileHistory → ImageFault → Type 0) (contents : W → Option (List ℕ)) (old new : W) (result : Result X Fault) →
+    given ≡ given_beside handed → GivesAs as_fault (text_of text given) contents old new result → IfOk handed (λ r. Is r.1 (text r.0)) → IfErr handed (λ e. IsCause e.1 e.0) → AnswersAs as_fault (Is (device_beside handed)) (IsCause (device_beside handed)) contents old new result
 answers text (Ok r) given Is IsCause contents old new result is gives done caused =
     record { given = text_of text given; gives = gives; is = subst (λ g. IfOk (text_of text g) (Is r.1)) (sym is) done; caused = subst (λ g. IfErr (text_of text g) (IsCause r.1)) (sym is) tt }
 answers text (Err e) given Is IsCause contents old new result is gives done caused =

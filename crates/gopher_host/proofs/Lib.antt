@@ -6,3 +6,5 @@ pub mod Written
 pub mod Opens
 pub mod Formatted
 pub mod Scripts
+pub mod ItemsRead
+pub mod Clocks

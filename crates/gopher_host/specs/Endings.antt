@@ -27,12 +27,15 @@ abbrev pub text_of : {A E : Type 0} → (A → List ℕ) → Result A E → Resu
 text_of text (Ok given) = Ok (text given)
 text_of text (Err refused) = Err refused
 
--- The text that was given is printed and nothing else, or standard output took no more; or its fault is answered, and nothing is printed.
+-- The text that was given is printed and nothing else, or standard output took no more; or its fault is answered as this one, and nothing is printed.
+abbrev pub GivesAs : {W X : Type 0} → (ImageFault → Fault) → Result (List ℕ) ImageFault → (W → Option (List ℕ)) → W → W → Result X Fault → Type 0
+GivesAs as_fault (Ok text) contents old new (Ok _) = Appends (contents old) (contents new) text
+GivesAs as_fault (Ok text) contents old new (Err fault) = fault ≡ output_fault
+GivesAs as_fault (Err refused) contents old new (Ok _) = ⊥
+GivesAs as_fault (Err refused) contents old new (Err fault) = (fault ≡ as_fault refused) × (new ≡ old)
+
 abbrev pub Gives : {W X : Type 0} → Result (List ℕ) ImageFault → (W → Option (List ℕ)) → W → W → Result X Fault → Type 0
-Gives (Ok text) contents old new (Ok _) = Appends (contents old) (contents new) text
-Gives (Ok text) contents old new (Err fault) = fault ≡ output_fault
-Gives (Err refused) contents old new (Ok _) = ⊥
-Gives (Err refused) contents old new (Err fault) = (fault ≡ Image refused) × (new ≡ old)
+Gives given contents old new result = GivesAs (λ fault. Image fault) given contents old new result
 
 -- The line of a count is printed and nothing else, or standard output took no more, or there was no memory for the line; or a fault is answered, and nothing is printed.
 abbrev pub GivesCount : {I E W X : Type 0} → Result (Result ℕ I) E → (ℕ → List ℕ) → (I → Fault) → (E → Fault) → (W → Option (List ℕ)) → W → W → Result X Fault → Type 0

@@ -16,7 +16,7 @@ use Rattle.image_commands.specs.declared.fault.ImageFault.{ImageFault}
 use Rattle.image_commands.specs.declared.fault.ImageFault.TheVariants.{NoFile, Memory}
 use Rattle.host_on_disk.specs.Upgrades.{KeepsEither}
 use Rattle.std.specs.Prelude.{length}
-use Rattle.gopher_host.specs.Endings.{Gives}
+use Rattle.gopher_host.specs.Endings.{GivesAs}
 use Rattle.gopher_host.specs.Faults.{ended}
 use Rattle.gopher_host.specs.declared.fault.Fault.{Fault}
 use Rattle.gopher_host.specs.declared.fault.Fault.TheVariants as faults
@@ -48,12 +48,15 @@ OpensThen image before now result Untouched Holds =
 
 -- ---- what is printed, and what was done for it
 
--- A text of which this holds is printed, or standard output took no more; or such a fault is answered, and nothing is printed.
-pub record Answers {W X : Type 0} (Is : List ℕ → Type 0) (IsCause : ImageFault → Type 0) (contents : W → Option (List ℕ)) (old new : W) (result : Result X Fault) : Type 0 where
+-- A text of which this holds is printed, or standard output took no more; or such a fault is answered, as this one, and nothing is printed.
+pub record AnswersAs {W X : Type 0} (as_fault : ImageFault → Fault) (Is : List ℕ → Type 0) (IsCause : ImageFault → Type 0) (contents : W → Option (List ℕ)) (old new : W) (result : Result X Fault) : Type 0 where
   pub given : Result (List ℕ) ImageFault
-  pub gives : Gives given contents old new result
+  pub gives : GivesAs as_fault given contents old new result
   pub is : IfOk given Is
   pub caused : IfErr given IsCause
+
+abbrev pub Answers : {W X : Type 0} → (List ℕ → Type 0) → (ImageFault → Type 0) → (W → Option (List ℕ)) → W → W → Result X Fault → Type 0
+Answers Is IsCause contents old new result = AnswersAs (λ fault. faults.Image fault) Is IsCause contents old new result
 
 -- nothing was written
 abbrev pub IsUnwritten : FileHistory → FileHistory → Type 0
@@ -74,7 +77,7 @@ Checks contents old new result opened left =
 -- The line of its free pages, once its site is written anew. Where a fault comes nothing was written; or it may have been, and a crash leaves the same site.
 abbrev pub Compacts : {W X : Type 0} → (W → Option (List ℕ)) → W → W → Result X Fault → FileHistory → FileHistory → Type 0
 Compacts contents old new result opened left =
-    Answers
+    AnswersAs (λ fault. faults.Compact fault)
     (λ text. (line : List ℕ) × (text ≡ ended line) × KeepsSite file_state file_crash_states opened left × IsWrittenAnew (file_state left).disk.view line)
     (λ fault. IsCompactingFault (file_state opened) (file_state left) fault × (IsUnwritten opened left ⊎ (MayHaveWritten fault × KeepsSite file_state file_crash_states opened left)))
     contents old new result

@@ -1,17 +1,21 @@
 -- What `apply` does to the image in a file, whatever it answers.
-use Rattle.std.specs.Prelude.{◌≡◌, ◌⊎◌, ℕ, List, length, Option, Some, Result, Ok, Err, IfOk, IfErr, IsUtf8}
+use Rattle.std.specs.Prelude.{◌≡◌, ◌⊎◌, ◌++◌, ℕ, List, codes, decimal, length, map, Option, Some, Result, Ok, Err, IfOk, IfErr, IsUtf8}
 use Rattle.change_file.specs.Changes as file
+use Rattle.change_file.specs.Changes.{file_change, remove}
+use Rattle.change_file.specs.Named.{selector_named}
 use Rattle.change_file.specs.Printed.{applied_line}
 use Rattle.change_file.specs.declared.fault.ApplyFault.{ApplyFault}
 use Rattle.change_file.specs.declared.fault.ChangeFileFault.{ChangeFileFault}
 use Rattle.change_file.specs.declared.fault.FileChange.{FileChange}
 use Rattle.file_device.specs.FileCalls.{FileHistory, file_state}
+use Rattle.file_device.specs.FileUses.{FileUse}
 use Rattle.host_on_disk.specs.OpenFaults.{IsOpeningFault, HandsBack}
 use Rattle.host_on_disk.specs.declared.open_fault.OpenFault.{OpenFault}
 use Rattle.image_changes.specs.ImageChanges.{AppliesToImage}
 use Rattle.image_commands.specs.Faults.{of_opening}
 use Rattle.gopher_host.specs.Endings.{GivesCount, given_beside, device_beside}
-use Rattle.gopher_host.specs.ImageFiles.{file_crash_states}
+use Rattle.gopher_host.specs.Faults.{memory_fault}
+use Rattle.gopher_host.specs.ImageFiles.{OpensThen, file_crash_states}
 use Rattle.gopher_host.specs.declared.fault.Fault.{Fault}
 use Rattle.gopher_host.specs.declared.fault.Fault.TheVariants as faults
 
@@ -21,11 +25,31 @@ ReadsThen result Untouched Holds =
     ((fault : ChangeFileFault) × (result ≡ Err (faults.Changes fault)) × Untouched)
     ⊎ ((bytes : List ℕ) × (changes : List FileChange) × IsUtf8 bytes × (file.read bytes ≡ Some (Ok changes)) × Holds changes)
 
--- Changes were made on the site of an image, all or those before one that was not, and it is printed how many they are, or answered which was not made; or the image was refused.
-pub record Applies {W X : Type 0} (contents : W → Option (List ℕ)) (now : ℕ) (old new : W) (result : Result X Fault) (changes : List FileChange) (opened left : FileHistory) : Type 0 where
+-- Changes were made on the site of an image, all or those before one that was not, and the line of how many they are is printed, or it is answered which was not made; or the image was refused.
+pub record Makes {W X : Type 0} (line : ℕ → List ℕ) (contents : W → Option (List ℕ)) (now : ℕ) (old new : W) (result : Result X Fault) (changes : List FileChange) (opened left : FileHistory) : Type 0 where
   pub given : Result (Result ℕ ApplyFault × FileHistory) (OpenFault × FileHistory)
   pub handed : left ≡ device_beside given
-  pub printed : GivesCount (given_beside given) applied_line (λ stopped. faults.Stopped stopped) (λ fault. faults.Image (of_opening fault)) contents old new result
+  pub printed : GivesCount (given_beside given) line (λ stopped. faults.Stopped stopped) (λ fault. faults.Image (of_opening fault)) contents old new result
   pub applied : IfOk given (λ r. AppliesToImage file_state file_crash_states opened r.1 changes now r.0)
   pub all : IfOk given (λ r. IfOk r.0 (λ count. count ≡ length changes))
   pub refused : IfErr given (λ e. HandsBack IsOpeningFault file_state file_crash_states opened e.1 e.0)
+
+-- those of a file
+abbrev pub Applies : {W X : Type 0} → (W → Option (List ℕ)) → ℕ → W → W → Result X Fault → List FileChange → FileHistory → FileHistory → Type 0
+Applies contents now old new result changes = Makes applied_line contents now old new result changes
+
+-- ---- items that are removed
+
+-- the change that removes the item of this name, as a table of a file of changes says it
+abbrev pub removal : List ℕ → FileChange
+removal name = file_change (remove (selector_named name))
+
+-- so many items were removed
+abbrev pub dropped_line : ℕ → List ℕ
+dropped_line count = codes "dropped " ++ decimal count
+
+-- Items were removed one after another, at one moment; or there was no memory for their changes, and nothing is done.
+abbrev pub Drops : {W X : Type 0} → (W → Option (List ℕ)) → List ℕ → List (List ℕ) → ℕ → List FileUse → List FileUse → W → W → Result X Fault → Type 0
+Drops contents image names now before after old new result =
+    ((result ≡ Err memory_fault) × (new ≡ old) × (after ≡ before))
+    ⊎ OpensThen image before after result (new ≡ old) (Makes dropped_line contents now old new result (map removal names))

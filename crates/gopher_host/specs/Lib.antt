@@ -7,3 +7,5 @@ pub mod Tasks
 pub mod ProgressTexts
 pub mod Served
 pub mod Kept
+pub mod Clock
+pub mod Items

@@ -10,12 +10,15 @@ use Rattle.page_store.specs.declared.fault.KeeperFault.{KeeperFault}
 use Rattle.file_device.specs.FileCalls.{FileHistory, file_state}
 use Rattle.file_device.specs.FileUses.{FileUse, Opened, NotOpened, Left}
 use Rattle.file_device.specs.Opening.{IsOpened, IsUnused}
+use Rattle.file_names.specs.NameCalls.{NameCall, Looked}
+use Rattle.file_names.specs.declared.names.Look.{Look}
+use Rattle.file_names.specs.declared.names.Look.TheVariants as looks
 use Rattle.file_device.specs.declared.file_call.FileCall.TheVariants.{Create, Lock, SetLength}
 use Rattle.image_commands.specs.Faults.{of_store}
 use Rattle.image_commands.specs.Formatted.{names_of, sectors_of, first_site, IsFormatted}
 use Rattle.image_commands.specs.Lines.{formatted_line}
 use Rattle.image_commands.specs.declared.fault.ImageFault.{ImageFault}
-use Rattle.image_commands.specs.declared.fault.ImageFault.TheVariants.{Refused, Memory}
+use Rattle.image_commands.specs.declared.fault.ImageFault.TheVariants.{Refused, Memory, NoFile}
 use Rattle.image_commands.specs.declared.names.SiteNames.{SiteNames}
 use Rattle.command_words.specs.declared.words.NewSite.{NewSite}
 use Rattle.gopher_host.specs.Faults.{ended, output_fault}
@@ -97,3 +100,17 @@ pub record Formats {W X : Type 0} (contents : W → Option (List ℕ)) (image : 
   pub made : OnOk result (IsMade image site pages now before after)
   pub printed : OnOk result (Appends (contents old) (contents new) (ended (formatted_line pages)))
   pub fault : IfErr result (λ e. ((e ≡ output_fault) × IsMade image site pages now before after) ⊎ ((new ≡ old) × (cause : ImageFault) × (e ≡ faults.Image cause) × IsNotMade (asked_at site pages now) image pages before after cause))
+
+-- ---- a file that must not be there
+
+-- what is answered where there may be a file of the name
+abbrev pub IsTaken : Look → Fault → Type 0
+IsTaken looks.There fault = fault ≡ faults.There
+IsTaken looks.Missing fault = ⊥
+IsTaken looks.Unknown fault = fault ≡ faults.Image NoFile
+
+-- The file was looked for, of which `asked` and `told` are what the system was asked about names. Where it may be there that is answered, and nothing else is done. Else an image is made, as `format` does.
+abbrev pub Inits : {W X : Type 0} → (W → Option (List ℕ)) → List ℕ → NewSite → ℕ → ℕ → List FileUse → List FileUse → List NameCall → List NameCall → W → W → Result X Fault → Type 0
+Inits contents image site pages now before after asked told old new result =
+    ((answer : Look) × (fault : Fault) × IsTaken answer fault × (result ≡ Err fault) × (told ≡ asked ++ Looked image answer ∷ []) × (after ≡ before) × (new ≡ old))
+    ⊎ ((told ≡ asked ++ Looked image looks.Missing ∷ []) × Formats contents image site pages now before after old new result)

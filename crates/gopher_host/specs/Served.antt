@@ -35,14 +35,14 @@ use Rattle.gopher_host.specs.declared.fault.Fault.TheVariants as faults
 abbrev pub OnFile : {S L : Type 0} → Bool → (S → FileHistory) → (S → SiteState) → (S → Changes → SiteFault → Type 0) → (S → CrashStates L) → (L → Site → Type 0) → Ran FileHistory
 OnFile grouped device site_state lacks crash_states stands = OnImage grouped file_state device site_state lacks crash_states stands file_crash_states
 
--- Clients were served as they came, and the command answers how that ended. The device that was given back is the one that was left.
-pub record Visits {S L Log X : Type 0} (contents : Log → Option (List ℕ)) (device : S → FileHistory) (site_state : S → SiteState) (lacks : S → Changes → SiteFault → Type 0) (crash_states : S → CrashStates L) (stands : L → Site → Type 0) (listen : Option SocketAddr) (asked_before asked_now : List DoorCall) (log_before log_now : Log) (result : Result X Fault) (opened left : FileHistory) : Type 0 where
+-- Clients were served as they came, so many of one origin at a time, and the command answers how that ended. The device that was given back is the one that was left.
+pub record Visits {S L Log X : Type 0} (contents : Log → Option (List ℕ)) (device : S → FileHistory) (site_state : S → SiteState) (lacks : S → Changes → SiteFault → Type 0) (crash_states : S → CrashStates L) (stands : L → Site → Type 0) (listen : Option SocketAddr) (most : ℕ) (asked_before asked_now : List DoorCall) (log_before log_now : Log) (result : Result X Fault) (opened left : FileHistory) : Type 0 where
   pub given : Result (Result X VisitFault × FileHistory) (ServingFault × FileHistory)
   pub handed : left ≡ device_beside given
   pub ended : result ≡ serving_ended (given_beside given)
   pub moments : List ℕ
   pub read : List Reading
-  pub served : IfOk given (λ r. VisitedImage contents file_state device site_state lacks crash_states stands file_crash_states r.0 opened r.1 (log_before, []) (log_now, read) [] moments)
+  pub served : IfOk given (λ r. VisitedImage contents file_state device site_state lacks crash_states stands file_crash_states most r.0 opened r.1 (log_before, []) (log_now, read) [] moments)
   pub listened : OnOk given (IsListened Listened (file_state opened) listen asked_before asked_now)
   pub asked : IfErr given (λ e. IsAskedInVain Listened NotListened (file_state opened) listen asked_before asked_now e.0)
   pub refused : IfErr given (λ e. HandsBack IsServingFault file_state file_crash_states opened e.1 e.0)

@@ -1,5 +1,6 @@
 -- What each task did.
-use Rattle.std.specs.Prelude.{◌≡◌, ℕ, Bool, true, false, List, [], Option, Some, None, Result, Err, OnOk}
+use Rattle.std.specs.Prelude.{◌≡◌, ℕ, Bool, true, false, List, [], Option, Some, None, Result, Err, OnOk, map}
+use Rattle.std.specs.Option.{option_copied}
 use Rattle.std.specs.declared.net.socket_addr.SocketAddr.{SocketAddr}
 use Rattle.host_types.specs.AllChanges.{Changes}
 use Rattle.host_types.specs.CrashStates.{CrashStates}
@@ -10,33 +11,44 @@ use Rattle.file_device.specs.FileCalls.{FileHistory}
 use Rattle.file_device.specs.FileUses.{FileUse}
 use Rattle.file_names.specs.NameCalls.{NameCall}
 use Rattle.image_commands.specs.declared.fault.ImageFault.{ImageFault}
+use Rattle.socket_wires.specs.declared.system_clock.ClockReading.{ClockReading}
 use Rattle.image_server.specs.declared.listening.ListenCall.{ListenCall}
 use Rattle.ready_sockets.specs.DoorCalls.{DoorCall}
 use Rattle.command_words.specs.declared.words.Task.{Task}
 use Rattle.command_words.specs.declared.words.Task.TheVariants as task
+use Rattle.gopher_host.specs.Clock.{IsMoment, TellsMoment}
 use Rattle.gopher_host.specs.CopiedFiles.{CopiesTo}
 use Rattle.gopher_host.specs.ImageFiles.{OpensThen, Shows, Checks, Compacts, Upgrades}
-use Rattle.gopher_host.specs.Kept.{ReadsThen, Applies}
-use Rattle.gopher_host.specs.NewImages.{moment_of, Formats}
+use Rattle.gopher_host.specs.Items.{NamesItem, Gets, ListsPosts}
+use Rattle.gopher_host.specs.Kept.{ReadsThen, Applies, Drops}
+use Rattle.gopher_host.specs.NewImages.{moment_of, Formats, Inits}
 use Rattle.gopher_host.specs.Served.{Visits, ServesRounds, ReplaysFile, RepliesToAll}
 use Rattle.gopher_host.specs.declared.fault.Fault.{Fault}
 use Rattle.gopher_host.specs.declared.fault.Fault.TheVariants as faults
 
--- What a command on an image did with files and printed, whatever it answers. Of sessions it stands below.
-abbrev pub RunsCommand : {W X : Type 0} → (W → Option (List ℕ)) → Task → List FileUse → List FileUse → W → W → Result X Fault → Type 0
-RunsCommand contents (task.Format image site pages now) before after old new result = Formats contents image.now site pages now before after old new result
-RunsCommand contents (task.Apply image file now) before after old new result =
+-- changes are made at a moment
+abbrev pub AppliesAt : {W X : Type 0} → (W → Option (List ℕ)) → List ℕ → ℕ → List FileUse → List FileUse → W → W → Result X Fault → Type 0
+AppliesAt contents image now before after old new result =
     ((e : ImageFault) → moment_of now ≡ Err e → (result ≡ Err (faults.Image e)) × (new ≡ old) × (after ≡ before))
-    × OnOk (moment_of now) (ReadsThen result ((new ≡ old) × (after ≡ before)) (λ changes. OpensThen image.now before after result (new ≡ old) (Applies contents now old new result changes)))
-RunsCommand contents (task.Show image) before after old new result = OpensThen image.now before after result (new ≡ old) (Shows contents old new result)
-RunsCommand contents (task.Check image) before after old new result = OpensThen image.now before after result (new ≡ old) (Checks contents old new result)
-RunsCommand contents (task.Compact image) before after old new result = OpensThen image.now before after result (new ≡ old) (Compacts contents old new result)
-RunsCommand contents (task.Upgrade image) before after old new result = OpensThen image.now before after result (new ≡ old) (Upgrades contents old new result)
-RunsCommand contents (task.Copy image name pages) before after old new result = (asked : List NameCall) × (now : List NameCall) × (asked ≡ []) × CopiesTo contents image.now name.now pages before after asked now old new result
-RunsCommand contents (task.Replay (Some image) group) before after old new result = new ≡ old
-RunsCommand contents (task.Replay None group) before after old new result = (new ≡ old) × (after ≡ before)
-RunsCommand contents (task.ServeRounds image together rounds) before after old new result = Unit {0}
-RunsCommand contents (task.ServeClients image listen quiet) before after old new result = new ≡ old
+    × OnOk (moment_of now) (ReadsThen result ((new ≡ old) × (after ≡ before)) (λ changes. OpensThen image before after result (new ≡ old) (Applies contents now old new result changes)))
+
+-- What a command on an image did with files and printed, whatever it answers; `first` and `read` are the clock's readings before it and behind it. Of sessions it stands below.
+abbrev pub RunsCommand : {W X : Type 0} → (W → Option (List ℕ)) → Task → List ClockReading → List ClockReading → List FileUse → List FileUse → W → W → Result X Fault → Type 0
+RunsCommand contents (task.Format image site pages given) first read before after old new result = (now : ℕ) × IsMoment given first read now × Formats contents image.now site pages now before after old new result
+RunsCommand contents (task.Apply image file given) first read before after old new result = (now : ℕ) × IsMoment given first read now × AppliesAt contents image.now now before after old new result
+RunsCommand contents (task.Init image site pages given) first read before after old new result = (now : ℕ) × IsMoment given first read now × (asked : List NameCall) × (told : List NameCall) × (asked ≡ []) × Inits contents image.now site pages now before after asked told old new result
+RunsCommand contents (task.Get image selector view) first read before after old new result = NamesItem selector.now result ((new ≡ old) × (after ≡ before)) (OpensThen image.now before after result (new ≡ old) (Gets selector.now (option_copied view) contents old new result))
+RunsCommand contents (task.Posts image board) first read before after old new result = NamesItem board.now result ((new ≡ old) × (after ≡ before)) (OpensThen image.now before after result (new ≡ old) (ListsPosts board.now contents old new result))
+RunsCommand contents (task.Remove image selectors) first read before after old new result = (now : ℕ) × TellsMoment first read now × Drops contents image.now (map (λ name. name.now) selectors.items) now before after old new result
+RunsCommand contents (task.Show image) first read before after old new result = OpensThen image.now before after result (new ≡ old) (Shows contents old new result)
+RunsCommand contents (task.Check image) first read before after old new result = OpensThen image.now before after result (new ≡ old) (Checks contents old new result)
+RunsCommand contents (task.Compact image) first read before after old new result = OpensThen image.now before after result (new ≡ old) (Compacts contents old new result)
+RunsCommand contents (task.Upgrade image) first read before after old new result = OpensThen image.now before after result (new ≡ old) (Upgrades contents old new result)
+RunsCommand contents (task.Copy image name pages) first read before after old new result = (asked : List NameCall) × (now : List NameCall) × (asked ≡ []) × CopiesTo contents image.now name.now pages before after asked now old new result
+RunsCommand contents (task.Replay (Some image) group) first read before after old new result = new ≡ old
+RunsCommand contents (task.Replay None group) first read before after old new result = (new ≡ old) × (after ≡ before)
+RunsCommand contents (task.ServeRounds image together rounds) first read before after old new result = Unit {0}
+RunsCommand contents (task.ServeClients image listen quiet per_address) first read before after old new result = new ≡ old
 
 -- ---- tasks of sessions
 
@@ -46,8 +58,8 @@ IfRounds (task.ServeRounds image together rounds) Holds = Holds image.now togeth
 IfRounds other Holds = Unit {0}
 
 -- of whoever comes, where the task is to serve them
-abbrev pub IfClients : Task → (List ℕ → Option SocketAddr → Bool → Type 0) → Type 0
-IfClients (task.ServeClients image listen quiet) Holds = Holds image.now listen quiet
+abbrev pub IfClients : Task → (List ℕ → Option SocketAddr → Bool → ℕ → Type 0) → Type 0
+IfClients (task.ServeClients image listen quiet per_address) Holds = Holds image.now listen quiet per_address
 IfClients other Holds = Unit {0}
 
 -- of a script over an image, where the task is to replay one
@@ -58,6 +70,6 @@ IfScript other Holds = Unit {0}
 -- What these tasks did with the image in a file, whatever they answer; `used` and `after` are what was done with files, `before` and `now` are the log, where clients are told of that have gone, and `first` and `asked` what was asked of the system for a listener.
 pub record RunsSessions {S L Pin W Log Sink : Type 0} (ghosts : _) (printed : W → Option (List ℕ)) (told : Log → Option (List ℕ)) (sunk : Sink → Option (List ℕ)) (device : S → FileHistory) (site_state : S → SiteState) (lacks : S → Changes → SiteFault → Type 0) (crash_states : S → CrashStates L) (stands : L → Site → Type 0) (done : Task) (used after : List FileUse) (old new : W) (before now : Log) (result : Result (Unit {0}) Fault) : Type 0 where
   pub rounds : IfRounds done (λ image together rounds. (first : List ListenCall) × (asked : List ListenCall) × (first ≡ []) × OpensThen image used after result ((asked ≡ first) × (new ≡ old)) (ServesRounds {Pin = Pin} ghosts printed device site_state lacks crash_states stands together rounds first asked old new result))
-  pub logged : IfClients done (λ image listen quiet. quiet ≡ false → (first : List DoorCall) × (asked : List DoorCall) × (first ≡ []) × OpensThen image used after result ((asked ≡ first) × (now ≡ before)) (Visits told device site_state lacks crash_states stands listen first asked before now result))
-  pub unlogged : IfClients done (λ image listen quiet. quiet ≡ true → (now ≡ before) × (first : List DoorCall) × (asked : List DoorCall) × (first ≡ []) × OpensThen image used after result (asked ≡ first) (λ opened left. (from : Sink) × (to : Sink) × Visits sunk device site_state lacks crash_states stands listen first asked from to result opened left))
+  pub logged : IfClients done (λ image listen quiet most. quiet ≡ false → (first : List DoorCall) × (asked : List DoorCall) × (first ≡ []) × OpensThen image used after result ((asked ≡ first) × (now ≡ before)) (Visits told device site_state lacks crash_states stands listen most first asked before now result))
+  pub unlogged : IfClients done (λ image listen quiet most. quiet ≡ true → (now ≡ before) × (first : List DoorCall) × (asked : List DoorCall) × (first ≡ []) × OpensThen image used after result (asked ≡ first) (λ opened left. (from : Sink) × (to : Sink) × Visits sunk device site_state lacks crash_states stands listen most first asked from to result opened left))
   pub script : IfScript done (λ image group. RepliesToAll (after ≡ used) (ReplaysFile group device site_state lacks crash_states stands image used after) result)

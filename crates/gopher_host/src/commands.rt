@@ -9,20 +9,21 @@ ghost use Rattle.image_commands.specs.declared.fault.ImageFault.{ImageFault as R
 ghost use Rattle.gopher_host.specs.Faults.{ended, output_fault};
 ghost use Rattle.gopher_host.specs.ImageFiles.{OpensThen, Shows, Checks, Compacts, Upgrades};
 ghost use Rattle.gopher_host.specs.Kept.{ReadsThen, Applies};
-ghost use Rattle.gopher_host.specs.NewImages.{moment_of, asked_at, IsMade, IsNotMade};
+ghost use Rattle.gopher_host.specs.NewImages.{moment_of, asked_at, IsMade, IsNotMade, Inits};
 ghost use Rattle.gopher_host.specs.declared.fault.Fault.TheVariants as faults;
 
 use crate::fault::Fault;
 use crate::new_image::{made, moment};
 use crate::opening::{closed, open};
-use crate::printing::{print_applied, print_given, print_line, print_listing};
+use crate::printing::{print_applied, print_compacted, print_given, print_line, print_listing};
 use crate::progress::Shown;
 use crate::reading::whole_file;
 use change_file::{ChangeFileFault, FileChange, read_changes};
 use command_words::NewSite;
 use file_device::UsedFiles;
+use file_names::{Look, NameLog, look_for};
 use image_changes::apply_on;
-use image_commands::{check_image, compact_image, show_image, upgrade_image};
+use image_commands::{ImageFault, check_image, compact_image, show_image, upgrade_image};
 use std::alloc::Global;
 use std::io;
 use std::io::{ErrorKind, Write};
@@ -45,6 +46,26 @@ pub fn format<W: Write>(
     let now = moment(now)?;
     let line = made(alloc, used, image, site, pages, now)?;
     print_line(writer, &line)
+}
+
+/// Makes an image in a file that is not there, as `format` does.
+pub fn init<W: Write>(
+    rt: &HostRuntime,
+    used: &mut UsedFiles<'_, HostRuntime>,
+    names: &mut NameLog,
+    image: &str,
+    site: NewSite<'_>,
+    pages: u32,
+    now: u64,
+    writer: &mut W,
+) -> Result<(), Fault>
+    ensures { Inits W.contents image.now site.entry pages now used.old.log.uses used.new.log.uses names.old.calls names.new.calls writer.old writer.new result }
+{
+    match look_for(rt, names, image) {
+        Look::Missing => format(rt.alloc(), used, image, site, pages, now, writer),
+        Look::There => Err(Fault::There),
+        Look::Unknown => Err(Fault::Image(ImageFault::NoFile)),
+    }
 }
 
 /// What the bytes of a file of changes say. A file that can't be read says nothing.
@@ -122,7 +143,7 @@ pub fn compact<W: Write>(
 {
     let device = open(used, image)?;
     let compacted = compact_image(alloc, device);
-    print_given(closed(used, compacted), writer)
+    print_compacted(closed(used, compacted), writer)
 }
 
 /// Takes over an image of version 1, and prints how many records were written.

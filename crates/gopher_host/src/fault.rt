@@ -11,7 +11,9 @@ use host_script::fault_text;
 use image_changes::stopped_line;
 use image_commands::{ImageFault, advice, fault_line};
 use image_copies::{CopyFault, copy_advice, copy_fault_line};
+use image_items::{ItemFault, item_line};
 use image_server::{ServingFault, round_line, serving_line};
+use page_store::KeeperFault;
 use socket_wires::ServeFault;
 use std::alloc::{AllocError, Global};
 use std::io;
@@ -23,12 +25,18 @@ use std::process::ExitCode;
 pub enum Fault {
     /// A command on an image.
     Image(ImageFault),
+    /// There is something of the name of the file that is to be made.
+    There,
+    /// An image that was not compacted.
+    Compact(ImageFault),
     /// A copy that was not made.
     Copy(CopyFault),
     /// A file of changes.
     Changes(ChangeFileFault),
     /// A change that was not made.
     Stopped(ApplyFault),
+    /// An item that is not what a command wants.
+    Item(ItemFault),
     /// An image or a port that is not served.
     Serving(ServingFault),
     /// A round of connections.
@@ -69,6 +77,14 @@ impl From<ApplyFault> for Fault {
     }
 }
 
+impl From<ItemFault> for Fault {
+    ghost from_gives = { λ item fault. fault ≡ faults.Item item };
+
+    fn from(fault: ItemFault) -> Self {
+        Fault::Item(fault)
+    }
+}
+
 impl From<ServingFault> for Fault {
     ghost from_gives = { λ serving fault. fault ≡ faults.Serving serving };
 
@@ -105,10 +121,12 @@ impl Fault {
         ensures { IfOk result (λ t. string_bytes t ≡ line_of self.now) }
     {
         match self {
-            Fault::Image(fault) => fault_line(alloc, *fault),
+            Fault::Image(fault) | Fault::Compact(fault) => fault_line(alloc, *fault),
+            Fault::There => String::from_str(alloc, "image: There"),
             Fault::Copy(fault) => copy_fault_line(alloc, *fault),
             Fault::Changes(fault) => file_line(alloc, *fault),
             Fault::Stopped(fault) => stopped_line(alloc, *fault),
+            Fault::Item(fault) => item_line(alloc, *fault),
             Fault::Serving(fault) => serving_line(alloc, *fault),
             Fault::Round(fault) => round_line(alloc, *fault),
             Fault::Script(fault) => fault_text(alloc, fault),
@@ -121,11 +139,19 @@ impl Fault {
     {
         match self {
             Fault::Image(fault) => advice(*fault),
+            Fault::Compact(ImageFault::Store(KeeperFault::Full { .. })) => {
+                "The command `copy` writes the site into an image with more pages."
+            }
+            Fault::Compact(fault) => advice(*fault),
+            Fault::There => {
+                "Give another name, or make the image in this file by `format`: what it holds is lost then."
+            }
             Fault::Copy(fault) => copy_advice(*fault),
             Fault::Serving(ServingFault::Image(fault)) => advice(ImageFault::from(*fault)),
             Fault::Serving(ServingFault::Net)
             | Fault::Changes(_)
             | Fault::Stopped(_)
+            | Fault::Item(_)
             | Fault::Round(_)
             | Fault::Script(_) => "",
         }

@@ -5,14 +5,18 @@ ghost use Rattle.std.specs.String.{string_bytes};
 ghost use Rattle.change_file.specs.Printed as changes;
 ghost use Rattle.image_commands.specs.Faults.{of_opening};
 ghost use Rattle.image_server.specs.Lines as serving;
-ghost use Rattle.gopher_host.specs.Endings.{Gives, GivesCount, text_of};
+ghost use Rattle.gopher_host.specs.Endings.{Gives, GivesAs, GivesCount, text_of};
 ghost use Rattle.gopher_host.specs.Faults.{ended, output_fault};
-ghost use Rattle.gopher_host.specs.declared.fault.Fault.TheVariants.{Image, Round, Serving, Stopped};
+ghost use Rattle.gopher_host.specs.Items.{GivesItem, item_bytes};
+ghost use Rattle.gopher_host.specs.Kept as kept;
+ghost use Rattle.gopher_host.specs.declared.fault.Fault.TheVariants.{Compact, Image, Round, Serving, Stopped};
 
 use crate::fault::Fault;
+use crate::removing::dropped_line;
 use change_file::{ApplyFault, applied_line};
 use host_on_disk::OpenFault;
 use image_commands::ImageFault;
+use image_items::ItemFault;
 use image_server::{ServingFault, served_line};
 use socket_wires::ServeFault;
 use std::alloc::Global;
@@ -39,6 +43,19 @@ pub fn print_given<W: Write>(given: Result<String, ImageFault>, writer: &mut W) 
     }
 }
 
+/// Prints the line that a compaction gave.
+pub fn print_compacted<W: Write>(
+    given: Result<String, ImageFault>,
+    writer: &mut W,
+) -> Result<(), Fault>
+    ensures { GivesAs (λ fault. Compact fault) (text_of (λ line. ended (string_bytes line)) given) W.contents writer.old writer.new result }
+{
+    match given {
+        Ok(line) => print_line(writer, &line),
+        Err(fault) => Err(Fault::Compact(fault)),
+    }
+}
+
 /// Prints the listing that `show` gave.
 pub fn print_listing<W: Write>(
     given: Result<Vec<u8>, ImageFault>,
@@ -51,6 +68,23 @@ pub fn print_listing<W: Write>(
             Ok(()) => Ok(()),
             Err(_) => Err(Fault::of_output()),
         },
+        Err(fault) => Err(Fault::Image(fault)),
+    }
+}
+
+/// Prints what was read of an item.
+pub fn print_item<W: Write>(
+    given: Result<Result<Vec<u8>, ItemFault>, ImageFault>,
+    writer: &mut W,
+) -> Result<(), Fault>
+    ensures { GivesItem (item_bytes (λ bytes. bytes.items) given) W.contents writer.old writer.new result }
+{
+    match given {
+        Ok(Ok(bytes)) => match writer.write_all(&bytes) {
+            Ok(()) => Ok(()),
+            Err(_) => Err(Fault::of_output()),
+        },
+        Ok(Err(fault)) => Err(Fault::Item(fault)),
         Err(fault) => Err(Fault::Image(fault)),
     }
 }
@@ -70,6 +104,24 @@ pub fn print_applied<W: Write>(
         },
         Ok(Err(stopped)) => Err(Fault::Stopped(stopped)),
         Err(fault) => Err(Fault::Image(ImageFault::from(fault))),
+    }
+}
+
+/// Prints how many items were removed.
+pub fn print_dropped<W: Write>(
+    alloc: Global,
+    given: Result<Result<u64, ApplyFault>, OpenFault>,
+    writer: &mut W,
+) -> Result<(), Fault>
+    ensures { GivesCount given kept.dropped_line (λ stopped. Stopped stopped) (λ fault. Image (of_opening fault)) W.contents writer.old writer.new result }
+{
+    match given {
+        Ok(Ok(count)) => match dropped_line(alloc, count) {
+            Ok(line) => print_line(writer, &line),
+            Err(_) => Err(Fault::of_memory()),
+        },
+        Ok(Err(refused)) => Err(Fault::Stopped(refused)),
+        Err(unopened) => Err(Fault::Image(ImageFault::from(unopened))),
     }
 }
 

@@ -33,10 +33,11 @@ fn serve_logged<R: Net + Time + AllocGlobal, L: Write>(
     used: &mut UsedFiles<'_, HostRuntime>,
     image: &str,
     listen: Option<SocketAddr>,
+    most: u32,
     asked: &mut DoorLog,
     log: &mut L,
 ) -> Result<(), Fault>
-    ensures { let k = ⟦<DiskSite<TreeKeeper<FileDevice>> as SiteKeeper>⟧ in OpensThen image.now used.old.log.uses used.new.log.uses result ((asked.new ≡ asked.old) × (log.new ≡ log.old)) (Visits L.contents (λ d. device_of (keeper_of d)) k.site_state k.lacks k.crash_states k.represents listen asked.old.calls asked.new.calls log.old log.new result) }
+    ensures { let k = ⟦<DiskSite<TreeKeeper<FileDevice>> as SiteKeeper>⟧ in OpensThen image.now used.old.log.uses used.new.log.uses result ((asked.new ≡ asked.old) × (log.new ≡ log.old)) (Visits L.contents (λ d. device_of (keeper_of d)) k.site_state k.lacks k.crash_states k.represents listen most asked.old.calls asked.new.calls log.old log.new result) }
 {
     let device = open(used, image)?;
     let (mut watch, mut clock) = (Stopwatch::start(rt), SystemClock::new(rt));
@@ -49,11 +50,12 @@ fn serve_logged<R: Net + Time + AllocGlobal, L: Write>(
         &mut watch,
         &mut clock,
         log,
+        most,
     );
     serving_ended(closed(used, served))
 }
 
-/// Serves whoever comes over the site of an image, at an address or else the site's port on 127.0.0.1, until that can't go on. The log gets a line for each
+/// Serves whoever comes over the site of an image, at an address or else the site's port on 127.0.0.1, so many clients of one origin at a time, until that can't go on. The log gets a line for each
 /// client that has gone, unless that is not wanted. What is asked of the system for a listener is noted.
 pub fn serve<R: Net + Time + AllocGlobal, L: Write>(
     rt: &R,
@@ -61,17 +63,18 @@ pub fn serve<R: Net + Time + AllocGlobal, L: Write>(
     image: &str,
     listen: Option<SocketAddr>,
     quiet: bool,
+    most: u32,
     asked: &mut DoorLog,
     log: &mut L,
 ) -> Result<(), Fault>
     ensures quiet { quiet ≡ true → log.new ≡ log.old }
-    ensures logged { let k = ⟦<DiskSite<TreeKeeper<FileDevice>> as SiteKeeper>⟧ in quiet ≡ false → OpensThen image.now used.old.log.uses used.new.log.uses result ((asked.new ≡ asked.old) × (log.new ≡ log.old)) (Visits L.contents (λ d. device_of (keeper_of d)) k.site_state k.lacks k.crash_states k.represents listen asked.old.calls asked.new.calls log.old log.new result) }
-    ensures unlogged { let k = ⟦<DiskSite<TreeKeeper<FileDevice>> as SiteKeeper>⟧ in quiet ≡ true → OpensThen image.now used.old.log.uses used.new.log.uses result (asked.new ≡ asked.old) (λ opened left. (before : Sink) × (now : Sink) × Visits ⟦<Sink as Write>⟧.contents (λ d. device_of (keeper_of d)) k.site_state k.lacks k.crash_states k.represents listen asked.old.calls asked.new.calls before now result opened left) }
+    ensures logged { let k = ⟦<DiskSite<TreeKeeper<FileDevice>> as SiteKeeper>⟧ in quiet ≡ false → OpensThen image.now used.old.log.uses used.new.log.uses result ((asked.new ≡ asked.old) × (log.new ≡ log.old)) (Visits L.contents (λ d. device_of (keeper_of d)) k.site_state k.lacks k.crash_states k.represents listen most asked.old.calls asked.new.calls log.old log.new result) }
+    ensures unlogged { let k = ⟦<DiskSite<TreeKeeper<FileDevice>> as SiteKeeper>⟧ in quiet ≡ true → OpensThen image.now used.old.log.uses used.new.log.uses result (asked.new ≡ asked.old) (λ opened left. (before : Sink) × (now : Sink) × Visits ⟦<Sink as Write>⟧.contents (λ d. device_of (keeper_of d)) k.site_state k.lacks k.crash_states k.represents listen most asked.old.calls asked.new.calls before now result opened left) }
 {
     if quiet {
-        serve_logged(rt, used, image, listen, asked, &mut io::sink())
+        serve_logged(rt, used, image, listen, most, asked, &mut io::sink())
     } else {
-        serve_logged(rt, used, image, listen, asked, log)
+        serve_logged(rt, used, image, listen, most, asked, log)
     }
 }
 

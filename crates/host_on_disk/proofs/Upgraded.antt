@@ -10,7 +10,7 @@ use Rattle.page_store.specs.Content.{is_tree_version, Found, HasContent, content
 use Rattle.page_store.specs.Roots.{greatest_seal}
 use Rattle.page_store.specs.Pages.{Pair}
 use Rattle.page_store.specs.Sectors.{Image}
-use Rattle.page_store.specs.StoreState.{StoreState, edits_to_be_deep}
+use Rattle.page_store.specs.StoreState.{StoreState, CommitNeed, edits_to_be_deep}
 use Rattle.page_store.specs.declared.banner.Banner.{Banner}
 use Rattle.page_store.specs.declared.edit.Edit.{Edit}
 use Rattle.page_store.specs.declared.slot.Slot.{Slot}
@@ -61,7 +61,7 @@ pub record IsUnder (old : State) (before : StoreState) : Type 0 where
   pub height : IsTrue old.honest → (slot : Slot) × (found : Found) × (content old.disk.view ≡ Some (slot, found)) × (slot.root.height ≡ before.height)
 
 -- why it was not upgraded, once its pairs were opened
-pub refused : (old new : State) (before after : StoreState) (need : List Edit → ℕ → Type 0) → ArePairs old before → IsUnder old before → (before.banner.version ≡ 2 → ⊥) → new.failed_reads ≡ after.failed_reads → new.failed_writes ≡ after.failed_writes → (fault : SiteOpenFault) → IsNotUpgraded before after need fault → IsUpgradeRefusal old new (of_site fault)
+pub refused : (old new : State) (before after : StoreState) (need : List Edit → CommitNeed → Type 0) → ArePairs old before → IsUnder old before → (before.banner.version ≡ 2 → ⊥) → new.failed_reads ≡ after.failed_reads → new.failed_writes ≡ after.failed_writes → (fault : SiteOpenFault) → IsNotUpgraded before after need fault → IsUpgradeRefusal old new (of_site fault)
 refused old new before after need opened under other reads writes fault is = inr (opened.large, first, by fault is)
   where
     first : spec.IsFirst old
@@ -101,7 +101,7 @@ refused old new before after need opened under other reads writes fault is = inr
     by (reading.Keeper kinds.Memory) is = absurd is.cause
 
 -- a refusal leaves the store usable, or a write or a sync failed while a site was written
-pub usable_or_failed : (old new : StoreState) (need : List Edit → ℕ → Type 0) (fault : SiteOpenFault) → IsUpgradeFault old new need fault → old.usable ≡ true → (new.usable ≡ true) ⊎ ((fault ≡ reading.Keeper kinds.Failed) × (IsTrue old.honest → (s : Site) × FirstBy old s))
+pub usable_or_failed : (old new : StoreState) (need : List Edit → CommitNeed → Type 0) (fault : SiteOpenFault) → IsUpgradeFault old new need fault → old.usable ≡ true → (new.usable ≡ true) ⊎ ((fault ≡ reading.Keeper kinds.Failed) × (IsTrue old.honest → (s : Site) × FirstBy old s))
 usable_or_failed old new need reading.BadRecord is up = inl (is.0.usable ∙ up)
 usable_or_failed old new need reading.Memory is up = inl (is.usable ∙ up)
 usable_or_failed old new need (reading.Keeper kinds.Device) is up = inl (is.usable ∙ up)

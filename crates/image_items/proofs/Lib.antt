@@ -1,3 +1,4 @@
 pub mod Places
 pub mod Looked
 pub mod Found
+pub mod Posted

@@ -3,3 +3,4 @@ pub mod Got
 pub mod ItemExamples
 pub mod ItemLines
 pub mod Looks
+pub mod Posts

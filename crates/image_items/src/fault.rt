@@ -24,6 +24,9 @@ pub enum ItemFault {
     /// The document has no such view.
     #[error("NoView")]
     NoView,
+    /// What stands there is no board.
+    #[error("NoBoard")]
+    NoBoard,
 }
 
 impl From<Refused> for ItemFault {
@@ -46,5 +49,6 @@ pub fn item_line(alloc: Global, fault: ItemFault) -> Result<String, AllocError>
         ItemFault::NotFound => String::from_str(alloc, "item: NotFound"),
         ItemFault::NoDocument => String::from_str(alloc, "item: NoDocument"),
         ItemFault::NoView => String::from_str(alloc, "item: NoView"),
+        ItemFault::NoBoard => String::from_str(alloc, "item: NoBoard"),
     }
 }

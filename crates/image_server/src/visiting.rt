@@ -47,7 +47,7 @@ pub(crate) fn given_or_own(address: Option<SocketAddr>, port: u16) -> SocketAddr
     }
 }
 
-/// Serves whoever comes, over a valid site in one hub, in which posts wait for one another and whose sessions count from 1, and hands the site back once that has ended. `Memory` comes before the first client, and
+/// Serves whoever comes, so many clients of one origin at a time, over a valid site in one hub, in which posts wait for one another and whose sessions count from 1, and hands the site back once that has ended. `Memory` comes before the first client, and
 /// before anything is asked of the room's door.
 pub fn visits_over<S: SearchKeeper, C: Clock, R: Time, L: Write>(
     alloc: Global,
@@ -57,11 +57,12 @@ pub fn visits_over<S: SearchKeeper, C: Clock, R: Time, L: Write>(
     room: &mut Room,
     clock: &mut C,
     log: &mut L,
+    most: u32,
 ) -> Result<(Result<(), VisitFault>, S), (OpenFault, S)>
     requires usable { (S.site_state site).usable ≡ true }
     requires unpinned { (S.site_state site).pins ≡ [] }
     requires valid { IsTrue (S.site_state site).honest → ∥ IsSite (S.site_state site).site ∥₁ }
-    ensures served { IfOk result (λ r. VisitedOver S.site_state S.lacks S.crash_states S.represents L.contents r.0 site r.1 (room.old, log.old, watch.old.read.readings) (room.new, log.new, watch.new.read.readings) (C.given clock.old) (C.given clock.new)) }
+    ensures served { IfOk result (λ r. VisitedOver S.site_state S.lacks S.crash_states S.represents L.contents most r.0 site r.1 (room.old, log.old, watch.old.read.readings) (room.new, log.new, watch.new.read.readings) (C.given clock.old) (C.given clock.new)) }
     ensures unasked { OnErr result ((room.new ≡ room.old) × (log.new ≡ log.old) × (watch.new ≡ watch.old)) }
     ensures unpinned { IfOk result (λ r. (S.site_state r.1).pins ≡ []) }
     ensures err { IfErr result (λ e. (e.0 ≡ OpenFault.Memory) × (e.1 ≡ site)) }
@@ -71,11 +72,11 @@ pub fn visits_over<S: SearchKeeper, C: Clock, R: Time, L: Write>(
         Ok(hub) => hub,
         Err((_, site)) => return Err((OpenFault::Memory, site)),
     };
-    let ended = serve_visits(alloc, rt, watch, room, &mut hub, clock, log);
+    let ended = serve_visits(alloc, rt, watch, room, &mut hub, clock, log, most);
     Ok((ended, hub.close()))
 }
 
-/// Opens the image on a device, and serves whoever comes over its site, at an address or else at the site's port on 127.0.0.1, until a write or a sync of the device has
+/// Opens the image on a device, and serves whoever comes over its site, so many clients of one origin at a time, at an address or else at the site's port on 127.0.0.1, until a write or a sync of the device has
 /// failed, or no socket can be waited for. Then it hands the device back.
 ///
 /// What a crash at any moment leaves on the device represents the site after the first so many commits of the events that the clients made, with each that was acknowledged by
@@ -89,8 +90,9 @@ pub fn serve_clients<D: Device, R: Net + Time, C: Clock, L: Write>(
     watch: &mut Stopwatch,
     clock: &mut C,
     log: &mut L,
+    most: u32,
 ) -> Result<(Result<(), VisitFault>, D), (ServingFault, D)>
-    ensures served { let k = ⟦<DiskSite<TreeKeeper<D>> as SiteKeeper>⟧ in IfOk result (λ r. VisitedImage L.contents D.state (λ d. device_of (keeper_of d)) k.site_state k.lacks k.crash_states k.represents (crash_states_of D.moment D.possible_since) r.0 device r.1 (log.old, watch.old.read.readings) (log.new, watch.new.read.readings) (C.given clock.old) (C.given clock.new)) }
+    ensures served { let k = ⟦<DiskSite<TreeKeeper<D>> as SiteKeeper>⟧ in IfOk result (λ r. VisitedImage L.contents D.state (λ d. device_of (keeper_of d)) k.site_state k.lacks k.crash_states k.represents (crash_states_of D.moment D.possible_since) most r.0 device r.1 (log.old, watch.old.read.readings) (log.new, watch.new.read.readings) (C.given clock.old) (C.given clock.new)) }
     ensures listened { OnOk result (IsListened Listened (D.state device) address asked.old.calls asked.new.calls) }
     ensures asked { IfErr result (λ e. IsAskedInVain Listened NotListened (D.state device) address asked.old.calls asked.new.calls e.0) }
     ensures refused { IfErr result (λ e. HandsBack IsServingFault D.state (crash_states_of D.moment D.possible_since) device e.1 e.0) }
@@ -110,7 +112,7 @@ pub fn serve_clients<D: Device, R: Net + Time, C: Clock, L: Write>(
         Err(VisitFault::Net) => return Err((ServingFault::Net, site.into_keeper().into_device())),
         Err(VisitFault::Failed) => unreachable!(),
     };
-    match visits_over(alloc, site, rt, watch, &mut room, clock, log) {
+    match visits_over(alloc, site, rt, watch, &mut room, clock, log, most) {
         Ok((ended, site)) => Ok((ended, site.into_keeper().into_device())),
         Err((fault, site)) => Err((ServingFault::Image(fault), site.into_keeper().into_device())),
     }

@@ -1,6 +1,6 @@
 -- What a compaction of a key-value store leaves: the same pairs, written anew.
 use Rattle.std.specs.Prelude.{◌≡◌, ◌+◌, ℕ, true, IsTrue}
-use Rattle.page_store.specs.StoreState.{StoreState, IsCommitFault, numbers_out}
+use Rattle.page_store.specs.StoreState.{StoreState, OnlyPages, IsCommitFault, numbers_out}
 use Rattle.page_store.specs.declared.fault.KeeperFault.{KeeperFault}
 use Rattle.page_store.specs.declared.fault.KeeperFault.TheVariants as faults
 
@@ -22,4 +22,4 @@ pub record CompactsTheSame (old new : ℕ → Type 0) : Type 0 where
 -- When a fault may come of a compaction, and what stands then: as of a commit, but there are never too many levels.
 abbrev pub IsCompactFault : StoreState → StoreState → (ℕ → Type 0) → KeeperFault → Type 0
 IsCompactFault old new may_need faults.Deep = ⊥
-IsCompactFault old new may_need other = IsCommitFault old new 0 may_need other
+IsCompactFault old new may_need other = IsCommitFault old new 0 (OnlyPages may_need) other

@@ -15,7 +15,7 @@ use Rattle.page_store.specs.Steps.{AllAre}
 use Rattle.page_store.specs.declared.fault.KeeperFault.{KeeperFault}
 use Rattle.page_store.specs.declared.fault.KeeperFault.TheVariants as faults
 use Rattle.page_store.specs.Commit.{Commit, IsBetween}
-use Rattle.page_store.specs.StoreState.{StoreState}
+use Rattle.page_store.specs.StoreState.{StoreState, CommitNeed, OnlyPages}
 use Rattle.page_store.specs.ReadFaults.{MayBeNamed}
 use Rattle.page_store.specs.declared.banner.Banner.{Banner}
 use Rattle.page_store.specs.declared.slot.Root.{Root}
@@ -44,6 +44,10 @@ pub record CrashStatesDoRepresent (disk : Disk) (slot : Slot) (pairs : List Pair
 -- how many pages a batch needs
 abbrev pub NeedsPages : List Pair → List Edit → ℕ → Type 0
 NeedsPages pairs batch need = need ≡ pages_needed (updated pairs batch)
+
+-- what a batch may need: pages alone
+abbrev pub FlatNeeds : List Pair → List Edit → CommitNeed → Type 0
+FlatNeeds pairs batch need = OnlyPages (NeedsPages pairs batch) need
 
 -- the first page of the other half
 abbrev pub other_half : Root → ℕ

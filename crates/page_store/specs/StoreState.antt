@@ -67,10 +67,20 @@ pub record HasRead (old new : StoreState) : Type 0 where
   pub reads : old.failed_reads ≤ new.failed_reads
   pub writes : new.failed_writes ≡ old.failed_writes
 
--- A batch may need as much after a call as before it.
-pub record NeedsTheSame (old new : List Edit → ℕ → Type 0) : Type 0 where
-  pub after : (batch : List Edit) (need : ℕ) → old batch need → new batch need
-  pub before : (batch : List Edit) (need : ℕ) → new batch need → old batch need
+-- what a commit of a batch needs: so many pages, or more levels than a tree may have
+pub data CommitNeed : Type 0 where
+  SoManyPages : ℕ → CommitNeed
+  TooManyLevels : CommitNeed
+
+-- pages alone, and never too many levels
+abbrev pub OnlyPages : (ℕ → Type 0) → CommitNeed → Type 0
+OnlyPages may_need (SoManyPages need) = may_need need
+OnlyPages may_need TooManyLevels = ⊥
+
+-- A batch may need the same after a call as before it.
+pub record NeedsTheSame (old new : List Edit → CommitNeed → Type 0) : Type 0 where
+  pub after : (batch : List Edit) (need : CommitNeed) → old batch need → new batch need
+  pub before : (batch : List Edit) (need : CommitNeed) → new batch need → old batch need
 
 -- A buffer that an answer fills from the front: behind the answer it stays, and whole where nothing is found or a fault comes.
 abbrev pub IsFilled : {A E : Type 0} → (A → ℕ) → Result (Option A) E → List ℕ → List ℕ → Type 0
@@ -104,16 +114,16 @@ pub record HasFailed (old new : StoreState) : Type 0 where
   pub cause : IsTrue old.usable → new.failed_writes ≡ counted old.failed_writes
   pub top : (new.top ≡ old.top) ⊎ (new.top ≡ old.top + 1)
 
--- When a fault may come of a commit of so many edits, and what stands then; `may_need` says how much the batch may need.
-abbrev pub IsCommitFault : StoreState → StoreState → ℕ → (ℕ → Type 0) → KeeperFault → Type 0
+-- When a fault may come of a commit of so many edits, and what stands then; `may_need` says what the batch may need.
+abbrev pub IsCommitFault : StoreState → StoreState → ℕ → (CommitNeed → Type 0) → KeeperFault → Type 0
 IsCommitFault old new edits may_need faults.Device = HasStayed old new × (new.failed_reads ≡ counted old.failed_reads)
 IsCommitFault old new edits may_need faults.NoImage = ⊥
 IsCommitFault old new edits may_need faults.Version = ⊥
 IsCommitFault old new edits may_need (faults.Damaged page) = HasStayed old new × (old.honest ≡ false)
 IsCommitFault old new edits may_need faults.Small = ⊥
 IsCommitFault old new edits may_need faults.Spent = HasStayed old new × (old.top ≡ last_generation)
-IsCommitFault old new edits may_need faults.Deep = HasStayed old new × (IsTrue old.honest → MayBeDeep old edits)
-IsCommitFault old new edits may_need (faults.Full need free) = HasStayed old new × (free ≡ old.free) × (free < need) × (IsTrue old.honest → may_need need)
+IsCommitFault old new edits may_need faults.Deep = HasStayed old new × (IsTrue old.honest → MayBeDeep old edits × may_need TooManyLevels)
+IsCommitFault old new edits may_need (faults.Full need free) = HasStayed old new × (free ≡ old.free) × (free < need) × (IsTrue old.honest → may_need (SoManyPages need))
 IsCommitFault old new edits may_need faults.Failed = HasFailed old new
 IsCommitFault old new edits may_need faults.Memory = HasStayed old new
 

@@ -6,14 +6,14 @@ ghost use Rattle.common_types.specs.Counts.{Counts};
 ghost use Rattle.page_store.specs.Commit.{IsBetween};
 ghost use Rattle.page_store.specs.FlatPlan.{IsPlan};
 ghost use Rattle.page_store.specs.Counting.{CountsReads, CountsWrites};
-ghost use Rattle.page_store.specs.StoreState.{HasTried, NeedsTheSame, IsCommitFault, numbers_out, last_generation};
+ghost use Rattle.page_store.specs.StoreState.{SoManyPages, HasTried, NeedsTheSame, IsCommitFault, numbers_out, last_generation};
 ghost use Rattle.page_store.specs.FlatSeen.{held, device_of, slot_of, pairs_of, top_of, is_open};
 ghost use Rattle.page_store.specs.declared.fault.KeeperFault.TheVariants.{Failed, Spent};
 ghost use Rattle.page_store.specs.Content.{is_opened, ImageHas};
 ghost use Rattle.page_store.specs.Sectors.{Image};
 ghost use Rattle.page_store.specs.Steps.{crash_states_of};
-ghost use Rattle.page_store.specs.FlatState.{NeedsPages, IsFlatBetween, flat_commit};
-ghost use Rattle.page_store.specs.CrashStatesRepresent.{crash_states_represent_content, opens_zero, no_levels};
+ghost use Rattle.page_store.specs.FlatState.{FlatNeeds, IsFlatBetween, flat_commit};
+ghost use Rattle.page_store.specs.CrashStatesRepresent.{crash_states_represent_content, opens_zero, no_levels, one_flat_need};
 
 use crate::batch::{next_pair, value_of};
 use crate::commit::commit_pages;
@@ -61,7 +61,7 @@ impl<D: Device> FlatKeeper<D> {
 impl<D: Device> Keeper for FlatKeeper<D> {
     ghost store_state = { λ k. held D.state k };
 
-    ghost may_need = { λ k batch need. NeedsPages (pairs_of k) batch need };
+    ghost may_need = { λ k batch need. FlatNeeds (pairs_of k) batch need };
 
     ghost holds_version = { is_opened };
 
@@ -76,6 +76,8 @@ impl<D: Device> Keeper for FlatKeeper<D> {
     ghost levels = { λ k. no_levels };
 
     ghost ordered = { λ k honest. k.fitted.map };
+
+    ghost one_need = { λ k batch a b honest first second. one_flat_need (pairs_of k) batch a b first second };
 
     ghost crash_states_represent = { λ k c honest usable left. crash_states_represent_content (D.state k.device).disk k.slot k.pairs.items k.top (k.crash_states_represent honest usable) k.fitted.version c (D.crash_states_are_images k.device c honest left) };
 
@@ -134,9 +136,9 @@ impl<D: Device> Keeper for FlatKeeper<D> {
         ensures out { OnOk result (numbers_out (held D.state self.new) ≡ numbers_out (held D.state self.old)) }
         ensures pins { IsTrue (held D.state self.old).honest → OnOk result ((held D.state self.new).pins ≡ (held D.state self.old).pins) }
         ensures generation { OnOk result ((held D.state self.new).generation ≡ (held D.state self.old).top + 1) }
-        ensures fits { IsTrue (held D.state self.old).honest → OnOk result ((n : ℕ) × NeedsPages (pairs_of self.old) batch.now n × (n ≤ (held D.state self.old).free)) }
-        ensures fault { IfErr result (IsCommitFault (held D.state self.old) (held D.state self.new) (length batch.now) (NeedsPages (pairs_of self.old) batch.now)) }
-        ensures need { IfErr result (λ e. (held D.state self.new).usable ≡ (held D.state self.old).usable → NeedsTheSame (NeedsPages (pairs_of self.old)) (NeedsPages (pairs_of self.new))) }
+        ensures fits { IsTrue (held D.state self.old).honest → OnOk result ((n : ℕ) × FlatNeeds (pairs_of self.old) batch.now (SoManyPages n) × (n ≤ (held D.state self.old).free)) }
+        ensures fault { IfErr result (IsCommitFault (held D.state self.old) (held D.state self.new) (length batch.now) (FlatNeeds (pairs_of self.old) batch.now)) }
+        ensures need { IfErr result (λ e. (held D.state self.new).usable ≡ (held D.state self.old).usable → NeedsTheSame (FlatNeeds (pairs_of self.old)) (FlatNeeds (pairs_of self.new))) }
         ensures closed { (held D.state self.old).usable ≡ false → IsErrOf result Failed }
         ensures spent { (held D.state self.old).usable ≡ true → (held D.state self.old).top ≡ last_generation → IsErrOf result Spent }
         ensures unchanged { (held D.state self.old).usable ≡ false → held D.state self.new ≡ held D.state self.old }
@@ -146,7 +148,7 @@ impl<D: Device> Keeper for FlatKeeper<D> {
         ensures at_crash { IsTrue (held D.state self.old).honest → (held D.state self.old).usable ≡ true →
             AddsOnly (crash_states_of D.moment D.possible_since (device_of self.old)) (crash_states_of D.moment D.possible_since (device_of self.new))
             (λ c. ImageHas c (held D.state self.old).pairs (held D.state self.old).banner ⊎ ImageHas c (updated (held D.state self.old).pairs batch.now) banner) }
-        ensures tight { IsTrue (held D.state self.old).honest → (held D.state self.old).usable ≡ true → (held D.state self.new).usable ≡ false → (n : ℕ) × NeedsPages (pairs_of self.old) batch.now n × (n ≤ (held D.state self.old).free) }
+        ensures tight { IsTrue (held D.state self.old).honest → (held D.state self.old).usable ≡ true → (held D.state self.new).usable ≡ false → (n : ℕ) × FlatNeeds (pairs_of self.old) batch.now (SoManyPages n) × (n ≤ (held D.state self.old).free) }
         ensures no_new_crash_state { IsTrue (held D.state self.old).honest → IfErr result (λ e. (held D.state self.new).usable ≡ true → AddsNone (crash_states_of D.moment D.possible_since (device_of self.old)) (crash_states_of D.moment D.possible_since (device_of self.new))) }
         ensures no_new_crash_state_when_closed { IsTrue (held D.state self.old).honest → (held D.state self.old).usable ≡ false → AddsNone (crash_states_of D.moment D.possible_since (device_of self.old)) (crash_states_of D.moment D.possible_since (device_of self.new)) }
 

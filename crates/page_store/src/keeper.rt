@@ -4,7 +4,7 @@ ghost use Rattle.common_types.specs.CrashStates.{CrashStates, AddsOnly, AddsNone
 ghost use Rattle.page_store.specs.Pages.{Pair};
 ghost use Rattle.page_store.specs.Batch.{value_at, pair_after, updated, is_batch, is_map};
 ghost use Rattle.page_store.specs.Counting.{CountsReads, CountsWrites};
-ghost use Rattle.page_store.specs.StoreState.{StoreState, IsFigures, HasRead, HasTried, NeedsTheSame, IsFilled, IsReadFault, IsCommitFault, numbers_out, last_generation, most_levels};
+ghost use Rattle.page_store.specs.StoreState.{StoreState, CommitNeed, SoManyPages, IsFigures, HasRead, HasTried, NeedsTheSame, IsFilled, IsReadFault, IsCommitFault, numbers_out, last_generation, most_levels};
 ghost use Rattle.page_store.specs.declared.banner.Banner.{Banner as BannerValue};
 ghost use Rattle.page_store.specs.declared.edit.Edit.{Edit as EditValue};
 ghost use Rattle.page_store.specs.declared.fault.KeeperFault.TheVariants.{Failed, Spent};
@@ -18,8 +18,8 @@ pub trait Keeper {
     /// The pairs and the banner, the flags and the counts.
     ghost store_state: { Self → StoreState };
 
-    /// How much a commit of a batch may need.
-    ghost may_need: { Self → List EditValue → ℕ → Type 0 };
+    /// What a commit of a batch may need: so many pages, or too many levels.
+    ghost may_need: { Self → List EditValue → CommitNeed → Type 0 };
 
     /// Whether an image of that version is held.
     ghost holds_version: { ℕ → Bool };
@@ -91,7 +91,7 @@ pub trait Keeper {
         ensures out { OnOk result (numbers_out (store_state self.new) ≡ numbers_out (store_state self.old)) }
         ensures pins { IsTrue (store_state self.old).honest → OnOk result ((store_state self.new).pins ≡ (store_state self.old).pins) }
         ensures generation { OnOk result ((store_state self.new).generation ≡ (store_state self.old).top + 1) }
-        ensures fits { IsTrue (store_state self.old).honest → OnOk result ((n : ℕ) × may_need self.old batch.now n × (n ≤ (store_state self.old).free)) }
+        ensures fits { IsTrue (store_state self.old).honest → OnOk result ((n : ℕ) × may_need self.old batch.now (SoManyPages n) × (n ≤ (store_state self.old).free)) }
         ensures fault { IfErr result (IsCommitFault (store_state self.old) (store_state self.new) (length batch.now) (may_need self.old batch.now)) }
         ensures need { IfErr result (λ e. (store_state self.new).usable ≡ (store_state self.old).usable → NeedsTheSame (may_need self.old) (may_need self.new)) }
         ensures closed { (store_state self.old).usable ≡ false → IsErrOf result Failed }
@@ -106,7 +106,7 @@ pub trait Keeper {
             AddsOnly (crash_states self.old) (crash_states self.new) (λ c. has_content c (store_state self.old).pairs (store_state self.old).banner ⊎ has_content c (updated (store_state self.old).pairs batch.now) banner) }
 
         // Where a write or a sync failed, the batch had room.
-        ensures tight { IsTrue (store_state self.old).honest → (store_state self.old).usable ≡ true → (store_state self.new).usable ≡ false → (n : ℕ) × may_need self.old batch.now n × (n ≤ (store_state self.old).free) }
+        ensures tight { IsTrue (store_state self.old).honest → (store_state self.old).usable ≡ true → (store_state self.new).usable ≡ false → (n : ℕ) × may_need self.old batch.now (SoManyPages n) × (n ≤ (store_state self.old).free) }
 
         // Where no write or sync has failed and nothing was changed, nothing was written.
         ensures no_new_crash_state { IsTrue (store_state self.old).honest → IfErr result (λ e. (store_state self.new).usable ≡ true → AddsNone (crash_states self.old) (crash_states self.new)) }
@@ -120,6 +120,9 @@ pub trait Keeper {
 
     /// The keys rise in byte order, and keys and values have their sizes.
     ghost ordered: { (k : Self) → IsTrue (store_state k).honest → IsTrue (is_map (store_state k).pairs) };
+
+    /// A batch needs one thing: where it needs so many pages, it needs no other number, and not too many levels.
+    ghost one_need: { (k : Self) (batch : List EditValue) (a b : CommitNeed) → IsTrue (store_state k).honest → may_need k batch a → may_need k batch b → a ≡ b };
 
     /// Between two calls each crash state has the pairs and the banner.
     ghost crash_states_represent: { (k : Self) (c : CrashState) → IsTrue (store_state k).honest → (store_state k).usable ≡ true → may_crash_to (crash_states k) c → has_content c (store_state k).pairs (store_state k).banner };

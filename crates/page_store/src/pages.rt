@@ -33,6 +33,24 @@ pub fn read_sector<D: Device>(
     device.read(n, buffer)
 }
 
+/// Reads the eight sectors of a page. A fault may leave some of them in the buffer. It takes no memory.
+pub fn fill_page<D: Device>(
+    device: &mut D,
+    page: u32,
+    bytes: &mut [u8; 4096],
+) -> Result<(), DeviceFault>
+    requires { 8 * page + 8 ≤ (D.state device.old).size }
+    ensures page { ReadsDevice D.state (crash_states_of D.moment D.possible_since) device.old device.new result (λ view _. page_of view page ≡ bytes.new) }
+{
+    let first = 8 * page as u64;
+    let mut sector = [0; 512];
+    for part in 0..8 {
+        read_sector(device, first + part as u64, &mut sector)?;
+        bytes[512 * part..512 * part + 512].copy_from_slice(&sector);
+    }
+    Ok(())
+}
+
 /// Reads the eight sectors of a page. A fault leaves the buffer. It takes no memory.
 pub fn read_page<D: Device>(
     device: &mut D,
@@ -43,13 +61,8 @@ pub fn read_page<D: Device>(
     ensures page { ReadsDevice D.state (crash_states_of D.moment D.possible_since) device.old device.new result (λ view _. page_of view page ≡ bytes.new) }
     ensures untouched { IfErr result (λ e. bytes.new ≡ bytes.old) }
 {
-    let first = 8 * page as u64;
-    let mut sector = [0; 512];
     let mut read = [0; 4096];
-    for part in 0..8 {
-        read_sector(device, first + part as u64, &mut sector)?;
-        read[512 * part..512 * part + 512].copy_from_slice(&sector);
-    }
+    fill_page(device, page, &mut read)?;
     *bytes = read;
     Ok(())
 }

@@ -1,6 +1,6 @@
 -- Who comes in behind those who are in, and what was asked of the door meanwhile.
-use Rattle.std.proofs.Common.{◌≡◌, ℕ, ◌+◌, ◌<◌, ◌≤◌, Bool, true, false, not, is_some, ◌&&◌, nat_lt, Some, None, List, [], ◌∷◌, ◌++◌, map, length, length-append, refl, sym, ap, ◌∙◌, append_assoc, arith, subst}
-use Rattle.std.proofs.lemmas.List.{append-nil, map-append}
+use Rattle.std.proofs.Common.{◌≡◌, ℕ, ◌+◌, ◌<◌, ◌≤◌, Bool, true, false, not, ◌&&◌, nat_lt, Some, None, List, [], ◌∷◌, ◌++◌, length, length-append, refl, sym, ap, ◌∙◌, append_assoc, arith, subst}
+use Rattle.std.proofs.lemmas.List.{append-nil}
 use Rattle.std.proofs.lemmas.Bool.Decides.{nat_tests}
 use Rattle.std.specs.declared.net.ip_addr.IpAddr.{IpAddr}
 use Rattle.mio.specs.declared.net.stream.TcpStream.{TcpStream}
@@ -13,8 +13,9 @@ use Rattle.ready_turns.specs.Seats.{SeatState, IsSeated, Dismissed, For, joined_
 use Rattle.ready_turns.specs.declared.seat.Seat.{Seat}
 use Rattle.ready_sockets.specs.declared.ready_socket.ReadySocket.{ReadySocket}
 use Rattle.ready_sockets.specs.DoorCalls.{DoorCall, Came, NotHad, both_ways}
-use Rattle.ready_sockets.specs.Rounds.{came_call, may_not, none_had, HasLetIn}
-use Rattle.ready_sockets.specs.Visits.{asks, HasAsked, AreNew, ComesIn, ComesInOrNot, IsNew, comes, turned_away}
+use Rattle.ready_sockets.specs.Rounds.{came_call, AreReceived, nobody, in_behind, away, may_not, enough, none_had, HasLetIn}
+use Rattle.ready_sockets.specs.Visits.{asks, is_crowded, HasAsked, ComesIn, ComesInOrNot, IsReceived, IsReceivedIf, comes, no_space}
+use Rattle.ready_sockets.specs.declared.crowd.Away.{Away}
 use Rattle.ready_sockets.specs.declared.room.Room.{Room}
 use Rattle.ready_sockets.specs.declared.visit.Visit.{Visit}
 
@@ -41,8 +42,8 @@ comes_in has_space from token now wire seat old new es os unread is seated = com
   };
 })
 
-pub turns_away : (has_space : Type 0) (from : IpAddr) (token : Token) (now : ℕ) (wire : ReadySocket) (seat back gone : Seat ReadySocket) (old new : List Visit) (es fs : List Event) (os ps : List Outcome) → (has_space → ⊥) → new ≡ old → back ≡ seat → IsSeated wire es os seat → For (λ (w : ReadySocket). w.made.calls) Dismissed back fs ps gone → ComesInOrNot has_space from token now old (es ++ fs) (os ++ ps) new
-turns_away has_space from token now wire seat back gone old new es fs os ps full is same seated dismissed = turned_away full is (record {
+pub finds_no_space : (has_space : Type 0) (from : IpAddr) (token : Token) (now : ℕ) (wire : ReadySocket) (seat back gone : Seat ReadySocket) (old new : List Visit) (es fs : List Event) (os ps : List Outcome) → (has_space → ⊥) → new ≡ old → back ≡ seat → IsSeated wire es os seat → For (λ (w : ReadySocket). w.made.calls) Dismissed back fs ps gone → ComesInOrNot has_space from token now old (es ++ fs) (os ++ ps) new
+finds_no_space has_space from token now wire seat back gone old new es fs os ps full is same seated dismissed = no_space full is (record {
   socket = wire;
   seat = seat;
   gone = gone;
@@ -59,118 +60,123 @@ turns_away has_space from token now wire seat back gone old new es fs os ps full
 -- where there is space it comes in
 comes_surely : {has_space : Type 0} {from : IpAddr} {token : Token} {now : ℕ} {old new : List Visit} {es : List Event} {os : List Outcome} → ComesInOrNot has_space from token now old es os new → has_space → ComesIn from token now old es os new
 comes_surely (comes one) space = one
-comes_surely (turned_away full is gone) space = absurd (full space)
+comes_surely (no_space full is gone) space = absurd (full space)
+
+-- ---- one who came
+
+-- it is in, or was turned away, behind those who came before
+received_next : (b : Bool) (most now : ℕ) (old visits new : List Visit) (from : IpAddr) (token : Token) (has_space : Type 0) (es fs : List Event) (os ps : List Outcome) (calls : List DoorCall) (crowd after : List Away) → has_space → is_crowded most visits from ≡ b → AreReceived most now old es os visits calls crowd → IsReceivedIf b has_space from token now visits fs ps new crowd after → AreReceived most now old (es ++ fs) (os ++ ps) new (calls ++ Came from token both_ways ∷ []) after
+received_next true most now old visits new from token has_space es fs os ps calls crowd after space is before out =
+    let all = calls ++ Came from token both_ways ∷ [] in
+    subst (λ l. AreReceived most now old l (os ++ ps) new all after) (sym (ap (λ l. es ++ l) out.no_events ∙ append-nil es))
+    (subst (λ l. AreReceived most now old es l new all after) (sym (ap (λ l. os ++ l) out.no_outcomes ∙ append-nil os))
+    (subst (λ l. AreReceived most now old es os l all after) (sym out.same)
+    (subst (λ l. AreReceived most now old es os visits all l) (sym out.noted) (away es os visits calls crowd from token out.socket before is out.declined))))
+received_next false most now old visits new from token has_space es fs os ps calls crowd after space is before received =
+    let one = comes_surely received.0 space in
+    let call_is : came_call one.visit ≡ Came from token both_ways = cc (one.from_is, one.token_is) in
+    subst (λ l. AreReceived most now old (es ++ l) (os ++ ps) new (calls ++ Came from token both_ways ∷ []) after) (sym one.events_are)
+    (subst (λ l. AreReceived most now old (es ++ events.Join ∷ []) (os ++ l) new (calls ++ Came from token both_ways ∷ []) after) (sym one.outcomes_are)
+    (subst (λ l. AreReceived most now old (es ++ events.Join ∷ []) (os ++ one.outcome ∷ []) l (calls ++ Came from token both_ways ∷ []) after) (sym one.is)
+    (subst (λ call. AreReceived most now old (es ++ events.Join ∷ []) (os ++ one.outcome ∷ []) (visits ++ one.visit ∷ []) (calls ++ call ∷ []) after) call_is
+    (subst (λ l. AreReceived most now old (es ++ events.Join ∷ []) (os ++ one.outcome ∷ []) (visits ++ one.visit ∷ []) (calls ++ came_call one.visit ∷ []) l) (sym received.1)
+    (in_behind es os visits calls crowd one.visit one.outcome before (ap (is_crowded most visits) one.from_is ∙ is) one.is_new)))))
+
+-- no more than one is in more
+grown : (b : Bool) (visits new : List Visit) (from : IpAddr) (token : Token) (now : ℕ) (has_space : Type 0) (fs : List Event) (ps : List Outcome) (crowd after : List Away) → has_space → IsReceivedIf b has_space from token now visits fs ps new crowd after → length new ≤ length visits + 1
+grown true visits new from token now has_space fs ps crowd after space out = omega (arith, ap length out.same)
+grown false visits new from token now has_space fs ps crowd after space received =
+    let one = comes_surely received.0 space in
+    omega (arith, ap length one.is, length-append visits (one.visit ∷ []))
+
+-- ---- one after another
 
 -- So many came so far, by these events, and no one else was asked for.
-pub record IsLettingIn (now count : ℕ) (old : Room) (es : List Event) (os : List Outcome) (mid : Room) : Type 0 where
-  pub came : List Visit
-  pub made : mid.door.made.calls ≡ old.door.made.calls ++ map came_call came
-  pub count_is : length came ≡ count
+pub record IsLettingIn (most now count : ℕ) (old : Room) (es : List Event) (os : List Outcome) (mid : Room) (crowd : List Away) : Type 0 where
+  pub calls : List DoorCall
+  pub made : mid.door.made.calls ≡ old.door.made.calls ++ calls
+  pub count_is : length calls ≡ count
   pub may_accept : mid.may_accept ≡ old.may_accept
+  pub lost : mid.lost ≡ old.lost
   pub unasked : asks old ≡ false → mid ≡ old
-  pub is : mid.visits.items ≡ old.visits.items ++ came
-  pub new_ones : AreNew now os came
-  pub events_are : es ≡ map (λ visit. events.Join) came
+  pub received : AreReceived most now old.visits.items es os mid.visits.items calls crowd
   pub few : length old.visits.items ≤ 32 → length mid.visits.items ≤ 32
 
-pub none_yet : (now : ℕ) (room : Room) → IsLettingIn now 0 room [] [] room
-none_yet now room = record {
-  came = [];
+pub none_yet : (most now : ℕ) (room : Room) (crowd : List Away) → crowd ≡ [] → IsLettingIn most now 0 room [] [] room crowd
+none_yet most now room crowd is = record {
+  calls = [];
   made = sym (append-nil room.door.made.calls);
   count_is = refl;
   may_accept = refl;
+  lost = refl;
   unasked = λ h. refl;
-  is = sym (append-nil room.visits.items);
-  new_ones = tt;
-  events_are = refl;
+  received = subst (λ l. AreReceived most now room.visits.items [] [] room.visits.items [] l) (sym is) nobody;
   few = λ h. h;
 }
 
--- one new one behind others
-one_new : (now : ℕ) (outcomes : List Outcome) (visits : List Visit) (outcome : Outcome) (visit : Visit) → AreNew now outcomes visits → IsNew now outcome visit → AreNew now (outcomes ++ outcome ∷ []) (visits ++ visit ∷ [])
-one_new now [] [] outcome visit are is = (is, tt)
-one_new now (o ∷ outcomes) (v ∷ visits) outcome visit are is = (are.0, one_new now outcomes visits outcome visit are.1 is)
-one_new now [] (v ∷ visits) outcome visit are is = absurd are
-one_new now (o ∷ outcomes) [] outcome visit are is = absurd are
-
 asks_if : (may : Bool) (count : ℕ) → may ≡ true → count < 32 → (may && nat_lt count 32) ≡ true
 asks_if may count is few = grind (arith, nat_tests)
-
-full_up : (may : Bool) (count : ℕ) → 32 ≤ count → (may && nat_lt count 32) ≡ false
-full_up may count full = grind (arith, nat_tests)
 
 not_both : {X : Type 0} (b : Bool) → b ≡ true → b ≡ false → X
 not_both b is is_not = absurd cc
 
 -- a client that came was asked for by one call
-came_by : (asked may : Bool) (next : TcpStream × IpAddr × Token) (made : List DoorCall) → asked ≡ true → HasAsked asked may (Some next) made → made ≡ Came next.1 next.2 both_ways ∷ []
-came_by true may next made is h = h
-came_by false may next made is h = absurd cc
-
-one_comes : (now count : ℕ) (old mid asked new : Room) (next : TcpStream × IpAddr × Token) (es fs : List Event) (os ps : List Outcome) → asked.visits ≡ mid.visits → length mid.visits.items < 32 → (mid.may_accept ≡ true) × (asked.may_accept ≡ true) → (made : List DoorCall) × (asked.door.made.calls ≡ mid.door.made.calls ++ made) × HasAsked (asks mid) asked.may_accept (Some next) made → new.door ≡ asked.door → new.may_accept ≡ asked.may_accept → IsLettingIn now count old es os mid → ComesIn next.1 next.2 now asked.visits.items fs ps new.visits.items → IsLettingIn now (count + 1) old (es ++ fs) (os ++ ps) new
-one_comes now count old mid asked new next es fs os ps same room may calls door kept before one = record {
-  came = before.came ++ one.visit ∷ [];
-  made =
-      let asked_is : asks mid ≡ true = asks_if mid.may_accept (length mid.visits.items) may.0 room in
-      let calls_are : asked.door.made.calls ≡ mid.door.made.calls ++ Came next.1 next.2 both_ways ∷ [] = calls.1 ∙ ap (λ l. mid.door.made.calls ++ l) (came_by (asks mid) asked.may_accept next calls.0 asked_is calls.2) in
-      let call_is : Came next.1 next.2 both_ways ≡ came_call one.visit = cc (one.from_is, one.token_is) in
-      ap (λ d. d.made.calls) door ∙ calls_are ∙ ap (λ l. l ++ Came next.1 next.2 both_ways ∷ []) before.made ∙ append_assoc old.door.made.calls (map came_call before.came) (Came next.1 next.2 both_ways ∷ [])
-      ∙ ap (λ call. old.door.made.calls ++ (map came_call before.came ++ call ∷ [])) call_is ∙ ap (λ l. old.door.made.calls ++ l) (sym (map-append came_call before.came (one.visit ∷ [])));
-  count_is = omega (arith, before.count_is, length-append before.came (one.visit ∷ []));
-  may_accept = cc (may.0, may.1, before.may_accept);
-  unasked = λ h.
-      not_both (asks mid) (asks_if mid.may_accept (length mid.visits.items) may.0 room) (ap asks (before.unasked h) ∙ h);
-  is = one.is ∙ ap (λ v. v.items ++ one.visit ∷ []) same ∙ ap (λ (l : List Visit). l ++ one.visit ∷ []) before.is ∙ append_assoc old.visits.items before.came (one.visit ∷ []);
-  new_ones = subst (λ l. AreNew now (os ++ l) (before.came ++ one.visit ∷ [])) (sym one.outcomes_are) (one_new now os before.came one.outcome one.visit before.new_ones one.is_new);
-  events_are = ap (λ l. l ++ fs) before.events_are ∙ ap (λ l. map (λ visit. events.Join) before.came ++ l) one.events_are ∙ sym (map-append (λ visit. events.Join) before.came (one.visit ∷ []));
-  few = λ h. omega (arith, ap length one.is, ap (λ v. length v.items) same, length-append asked.visits.items (one.visit ∷ []));
-}
+came_by : (asked may lost : Bool) (next : TcpStream × IpAddr × Token) (made : List DoorCall) → asked ≡ true → HasAsked asked may lost (Some next) made → made ≡ Came next.1 next.2 both_ways ∷ []
+came_by true may lost next made is h = h
+came_by false may lost next made is h = absurd cc
 
 -- one more came
-pub one_more : (now count : ℕ) (old mid asked new : Room) (next : TcpStream × IpAddr × Token) (has_space : Type 0) (es fs : List Event) (os ps : List Outcome) → has_space → asked.visits ≡ mid.visits → length mid.visits.items < 32 → (mid.may_accept ≡ true) × (asked.may_accept ≡ true) → (made : List DoorCall) × (asked.door.made.calls ≡ mid.door.made.calls ++ made) × HasAsked (asks mid) asked.may_accept (Some next) made → new.door ≡ asked.door → new.may_accept ≡ asked.may_accept → IsLettingIn now count old es os mid → ComesInOrNot has_space next.1 next.2 now asked.visits.items fs ps new.visits.items → IsLettingIn now (count + 1) old (es ++ fs) (os ++ ps) new
-one_more now count old mid asked new next has_space es fs os ps space same room may calls door kept before came = one_comes now count old mid asked new next es fs os ps same room may calls door kept before (comes_surely came space)
+pub one_more : (most now count : ℕ) (old mid asked new : Room) (next : TcpStream × IpAddr × Token) (has_space : Type 0) (es fs : List Event) (os ps : List Outcome) (crowd after : List Away) → has_space → asked.visits ≡ mid.visits → length mid.visits.items < 32 → (mid.may_accept ≡ true) × (asked.may_accept ≡ true) → asked.lost ≡ mid.lost → (made : List DoorCall) × (asked.door.made.calls ≡ mid.door.made.calls ++ made) × HasAsked (asks mid) asked.may_accept asked.lost (Some next) made → new.door ≡ asked.door → new.may_accept ≡ asked.may_accept → new.lost ≡ asked.lost → IsLettingIn most now count old es os mid crowd → IsReceived most has_space next.1 next.2 now asked.visits.items fs ps new.visits.items crowd after → IsLettingIn most now (count + 1) old (es ++ fs) (os ++ ps) new after
+one_more most now count old mid asked new next has_space es fs os ps crowd after space same room may lost_is calls door kept kept_lost before one =
+    let asked_is : asks mid ≡ true = asks_if mid.may_accept (length mid.visits.items) may.0 room in
+    let calls_are : asked.door.made.calls ≡ mid.door.made.calls ++ Came next.1 next.2 both_ways ∷ [] = calls.1 ∙ ap (λ l. mid.door.made.calls ++ l) (came_by (asks mid) asked.may_accept asked.lost next calls.0 asked_is calls.2) in
+    let here : AreReceived most now old.visits.items es os asked.visits.items before.calls crowd = subst (λ v. AreReceived most now old.visits.items es os v before.calls crowd) (ap (λ v. v.items) (sym same)) before.received in
+    record {
+      calls = before.calls ++ Came next.1 next.2 both_ways ∷ [];
+      made = ap (λ d. d.made.calls) door ∙ calls_are ∙ ap (λ l. l ++ Came next.1 next.2 both_ways ∷ []) before.made ∙ append_assoc old.door.made.calls before.calls (Came next.1 next.2 both_ways ∷ []);
+      count_is = omega (arith, before.count_is, length-append before.calls (Came next.1 next.2 both_ways ∷ []));
+      may_accept = cc (kept, may.0, may.1, before.may_accept);
+      lost = cc (kept_lost, lost_is, before.lost);
+      unasked = λ h. not_both (asks mid) asked_is (ap asks (before.unasked h) ∙ h);
+      received = received_next (is_crowded most asked.visits.items next.1) most now old.visits.items asked.visits.items new.visits.items next.1 next.2 has_space es fs os ps before.calls crowd after space refl here one;
+      few = λ h. omega (arith, ap (λ v. length v.items) same, grown (is_crowded most asked.visits.items next.1) asked.visits.items new.visits.items next.1 next.2 now has_space fs ps crowd after space one);
+    }
 
-nobody_more : (now count : ℕ) (old mid new : Room) (es : List Event) (os : List Outcome) (asked : Bool) (made : List DoorCall) → asks mid ≡ asked → IsLettingIn now count old es os mid → count < 32 → new.visits ≡ mid.visits → new.door.made.calls ≡ mid.door.made.calls ++ made → HasAsked {W = TcpStream} asked new.may_accept None made → (asks mid ≡ false → new ≡ mid) → HasLetIn now old es os new
-nobody_more now count old mid new es os false made asked_is before few same calls none unasked = record {
-  came = before.came;
+nobody_more : (most now count : ℕ) (old mid new : Room) (es : List Event) (os : List Outcome) (crowd : List Away) (asked : Bool) (made : List DoorCall) → asks mid ≡ asked → IsLettingIn most now count old es os mid crowd → count < 32 → new.visits ≡ mid.visits → new.door.made.calls ≡ mid.door.made.calls ++ made → HasAsked {W = TcpStream} asked new.may_accept new.lost None made → (asks mid ≡ false → new ≡ mid) → HasLetIn most now old es os new crowd
+nobody_more most now count old mid new es os crowd false made asked_is before few same calls none unasked = record {
+  calls = before.calls;
   last = [];
-  made = calls ∙ ap (λ l. mid.door.made.calls ++ l) none ∙ append-nil mid.door.made.calls ∙ before.made ∙ ap (λ l. old.door.made.calls ++ l) (sym (append-nil (map came_call before.came)));
-  most = omega (arith, before.count_is);
-  ends = may_not (ap asks (unasked asked_is) ∙ asked_is) (ap (λ r. r.may_accept) (unasked asked_is) ∙ before.may_accept);
+  made = calls ∙ ap (λ l. mid.door.made.calls ++ l) none ∙ append-nil mid.door.made.calls ∙ before.made ∙ ap (λ l. old.door.made.calls ++ l) (sym (append-nil before.calls));
+  least = omega (arith, before.count_is);
+  ends = may_not (ap asks (unasked asked_is) ∙ asked_is) (ap (λ r. r.may_accept) (unasked asked_is) ∙ before.may_accept) (ap (λ r. r.lost) (unasked asked_is) ∙ before.lost);
   unasked = λ h. unasked asked_is ∙ before.unasked h;
-  is = ap (λ v. v.items) same ∙ before.is;
-  new_ones = before.new_ones;
-  events_are = before.events_are;
+  received = subst (λ v. AreReceived most now old.visits.items es os v before.calls crowd) (ap (λ v. v.items) (sym same)) before.received;
   few = λ h. omega (arith, before.few h, ap (λ v. length v.items) same);
 }
-nobody_more now count old mid new es os true made asked_is before few same calls none unasked = record {
-  came = before.came;
+nobody_more most now count old mid new es os crowd true made asked_is before few same calls none unasked = record {
+  calls = before.calls;
   last = NotHad none.0 ∷ [];
-  made = calls ∙ ap (λ l. mid.door.made.calls ++ l) none.1 ∙ ap (λ l. l ++ NotHad none.0 ∷ []) before.made ∙ append_assoc old.door.made.calls (map came_call before.came) (NotHad none.0 ∷ []);
-  most = omega (arith, before.count_is);
-  ends = none_had none.0 none.2;
+  made = calls ∙ ap (λ l. mid.door.made.calls ++ l) none.1 ∙ ap (λ l. l ++ NotHad none.0 ∷ []) before.made ∙ append_assoc old.door.made.calls before.calls (NotHad none.0 ∷ []);
+  least = omega (arith, before.count_is);
+  ends = none_had none.0 none.2 none.3;
   unasked = λ h. not_both (asks mid) asked_is (ap asks (before.unasked h) ∙ h);
-  is = ap (λ v. v.items) same ∙ before.is;
-  new_ones = before.new_ones;
-  events_are = before.events_are;
+  received = subst (λ v. AreReceived most now old.visits.items es os v before.calls crowd) (ap (λ v. v.items) (sym same)) before.received;
   few = λ h. omega (arith, before.few h, ap (λ v. length v.items) same);
 }
 
 -- nobody more came
-pub no_more : (now count : ℕ) (old mid new : Room) (es : List Event) (os : List Outcome) → IsLettingIn now count old es os mid → count < 32 → new.visits ≡ mid.visits → (made : List DoorCall) × (new.door.made.calls ≡ mid.door.made.calls ++ made) × HasAsked {W = TcpStream} (asks mid) new.may_accept None made → (asks mid ≡ false → new ≡ mid) → HasLetIn now old es os new
-no_more now count old mid new es os before few same calls = nobody_more now count old mid new es os (asks mid) calls.0 refl before few same calls.1 calls.2
+pub no_more : (most now count : ℕ) (old mid new : Room) (es : List Event) (os : List Outcome) (crowd : List Away) → IsLettingIn most now count old es os mid crowd → count < 32 → new.visits ≡ mid.visits → (made : List DoorCall) × (new.door.made.calls ≡ mid.door.made.calls ++ made) × HasAsked {W = TcpStream} (asks mid) new.may_accept new.lost None made → (asks mid ≡ false → new ≡ mid) → HasLetIn most now old es os new crowd
+no_more most now count old mid new es os crowd before few same calls = nobody_more most now count old mid new es os crowd (asks mid) calls.0 refl before few same calls.1 calls.2
 
--- as many came as are in at most
-pub all_came : (now : ℕ) (old new : Room) (es : List Event) (os : List Outcome) → IsLettingIn now 32 old es os new → HasLetIn now old es os new
-all_came now old new es os before = record {
-  came = before.came;
+-- as many came as are asked for at most
+pub all_came : (most now : ℕ) (old new : Room) (es : List Event) (os : List Outcome) (crowd : List Away) → IsLettingIn most now 32 old es os new crowd → HasLetIn most now old es os new crowd
+all_came most now old new es os crowd before = record {
+  calls = before.calls;
   last = [];
-  made = before.made ∙ ap (λ l. old.door.made.calls ++ l) (sym (append-nil (map came_call before.came)));
-  most = omega (arith, before.count_is);
-  ends = may_not (full_up new.may_accept (length new.visits.items) (omega (arith, before.count_is, ap length before.is, length-append old.visits.items before.came))) before.may_accept;
+  made = before.made ∙ ap (λ l. old.door.made.calls ++ l) (sym (append-nil before.calls));
+  least = omega (arith, before.count_is);
+  ends = enough before.count_is before.may_accept before.lost;
   unasked = before.unasked;
-  is = before.is;
-  new_ones = before.new_ones;
-  events_are = before.events_are;
+  received = before.received;
   few = before.few;
 }

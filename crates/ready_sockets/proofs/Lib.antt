@@ -6,5 +6,6 @@ pub mod Passes
 pub mod Rounds
 pub mod SameClients
 pub mod SocketCalls
+pub mod Spread
 pub mod ToldOnes
 pub mod NobodyWaits

@@ -11,8 +11,8 @@ use Rattle.ready_sockets.specs.declared.stopwatch.Reading.{Reading}
 use Rattle.ready_sockets.specs.declared.room.VisitFault.{VisitFault}
 use Rattle.ready_sockets.specs.declared.room.VisitFault.TheVariants.{Net}
 
-pub wait_failed : {L X : Type 0} (contents : L → Option (List ℕ)) (result : Result X VisitFault) (fault : VisitFault) (usable : Bool) (rounds : ℕ) (old last new : Room) (log_before log : L) (written : List WireCall) (readings_before readings : List Reading) (es : List Event) (os : List Outcome) →
-    IsErrAnd result (λ e. e ≡ fault) → fault ≡ Net → usable ≡ true → HasHadRounds contents rounds (old, (log_before, []), readings_before) es os (last, (log, written), readings) → HasNotWaited last new → HasServed contents result usable (old, log_before, readings_before) es os (new, log, readings)
-wait_failed contents (Ok x) fault usable rounds old last new log_before log written readings_before readings es os is net was had failed = absurd is
-wait_failed {X = X} contents (Err e) fault usable rounds old last new log_before log written readings_before readings es os is net was had failed =
-    subst (λ f. HasServed {X = X} contents (Err f) usable (old, log_before, readings_before) es os (new, log, readings)) (sym (is ∙ net)) (record { rounds = rounds; last = last; written = written; had = had; ends = (was, failed) })
+pub wait_failed : {L X : Type 0} (contents : L → Option (List ℕ)) (most : ℕ) (result : Result X VisitFault) (fault : VisitFault) (usable : Bool) (rounds : ℕ) (old last new : Room) (log_before log : L) (written : List WireCall) (readings_before readings : List Reading) (es : List Event) (os : List Outcome) →
+    IsErrAnd result (λ e. e ≡ fault) → fault ≡ Net → usable ≡ true → HasHadRounds contents most rounds (old, (log_before, []), readings_before) es os (last, (log, written), readings) → HasNotWaited last new → HasServed contents most result usable (old, log_before, readings_before) es os (new, log, readings)
+wait_failed contents most (Ok x) fault usable rounds old last new log_before log written readings_before readings es os is net was had failed = absurd is
+wait_failed {X = X} contents most (Err e) fault usable rounds old last new log_before log written readings_before readings es os is net was had failed =
+    subst (λ f. HasServed {X = X} contents most (Err f) usable (old, log_before, readings_before) es os (new, log, readings)) (sym (is ∙ net)) (record { rounds = rounds; last = last; written = written; had = had; ends = (was, failed) })

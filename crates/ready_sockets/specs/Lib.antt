@@ -1,6 +1,7 @@
 pub mod DoorCalls
 pub mod Doors
 pub mod Heads
+pub mod Origins
 pub mod Sent
 pub mod Limits
 pub mod Lines

@@ -2,7 +2,7 @@
 use Rattle.std.specs.Prelude.{ℕ, List, ◌++◌, codes, decimal}
 use Rattle.printed_names.specs.Shown.{shown}
 use Rattle.ready_turns.specs.declared.seat.Ending.{Ending}
-use Rattle.ready_turns.specs.declared.seat.Ending.TheVariants.{Served, Full, Failed, Cut, Late}
+use Rattle.ready_turns.specs.declared.seat.Ending.TheVariants.{Served, Full, Failed, Cut, Late, Crowd}
 
 abbrev pub ending_word : Ending → List ℕ
 ending_word Served = codes "served"
@@ -10,6 +10,7 @@ ending_word Full = codes "full"
 ending_word Failed = codes "failed"
 ending_word Cut = codes "cut"
 ending_word Late = codes "late"
+ending_word Crowd = codes "crowd"
 
 abbrev pub log_line : ℕ → List ℕ → List ℕ → Ending → ℕ → List ℕ
 log_line now from selector ending taken =

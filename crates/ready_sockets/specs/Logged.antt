@@ -2,19 +2,25 @@
 use Rattle.std.specs.Prelude.{◌≡◌, ℕ, Bool, true, false, Option, Some, List, [], ◌∷◌, ◌++◌, flat_map, codes}
 use Rattle.std.specs.List.{list_any}
 use Rattle.std.specs.Io.KnownBytes.{Appends}
-use Rattle.std.specs.Net.Text.{ip_text}
 use Rattle.turns.specs.WireCalls.{WireCall, HasMade, IsSent}
 use Rattle.ready_turns.specs.Seats.{ending_of}
 use Rattle.ready_turns.specs.declared.seat.Ending.{Ending}
+use Rattle.ready_turns.specs.declared.seat.Ending.TheVariants.{Crowd}
 use Rattle.ready_sockets.specs.Due.{bytes_by}
 use Rattle.ready_sockets.specs.Lines.{log_line}
+use Rattle.ready_sockets.specs.Origins.{address_text}
 use Rattle.ready_sockets.specs.Sent.{asked_by, taken_by}
 use Rattle.ready_sockets.specs.Visits.{has_gone}
+use Rattle.ready_sockets.specs.declared.crowd.Away.{Away}
 use Rattle.ready_sockets.specs.declared.visit.Visit.{Visit}
 
 -- The line of a client whose session ended so: when it had gone, its address, what it asked for and how many bytes it took.
 abbrev pub line_of : ℕ → Visit → Ending → List ℕ
-line_of moment visit ending = log_line moment (ip_text visit.from) (asked_by visit.seat.wire.made.calls) ending (taken_by visit.seat.wire.made.calls)
+line_of moment visit ending = log_line moment (address_text visit.from) (asked_by visit.seat.wire.made.calls) ending (taken_by visit.seat.wire.made.calls)
+
+-- The line of one who was turned away: nothing was read of its connection.
+abbrev pub crowd_line : ℕ → Away → List ℕ
+crowd_line moment away = log_line moment (address_text away.from) [] Crowd away.taken
 
 -- what stands in its place where there is no memory for it
 abbrev pub no_memory_line : List ℕ
@@ -26,21 +32,35 @@ module _ {L : Type 0} (contents : L → Option (List ℕ)) where
     pub sent : HasMade old.1 new.1 (λ made. IsSent bytes made whole)
     pub has : HasMade old.1 new.1 (λ made. Appends (contents old.0) (contents new.0) (flat_map bytes_by made))
 
-  -- What the log gets for a client: nothing while it is in; else its line and an LF, or that there was no memory for it; of that it has a front where a write fails or takes none.
+  -- A line and an LF were written; or, where there was no memory for it, that there was none. The log has a front of that where a write fails or takes none.
+  pub data HasLine (line : List ℕ) (old new : L × List WireCall) : Type 0 where
+    line_written : (whole : Bool) → IsWritten old new (line ++ 10 ∷ []) whole → HasLine line old new
+    no_memory : (whole : Bool) → IsWritten old new (no_memory_line ++ 10 ∷ []) whole → HasLine line old new
+
+  -- what the log gets for a client: nothing while it is in, and else its line
   pub data IsTold (moment : ℕ) (visit : Visit) (old new : L × List WireCall) : Type 0 where
     in_still : has_gone visit ≡ false → new ≡ old → IsTold moment visit old new
-    told : (ending : Ending) (whole : Bool) → ending_of visit.seat.stage ≡ Some ending → IsWritten old new (line_of moment visit ending ++ 10 ∷ []) whole → IsTold moment visit old new
-    no_memory : (whole : Bool) → has_gone visit ≡ true → IsWritten old new (no_memory_line ++ 10 ∷ []) whole → IsTold moment visit old new
+    told : (ending : Ending) → ending_of visit.seat.stage ≡ Some ending → HasLine (line_of moment visit ending) old new → IsTold moment visit old new
 
-  -- what it gets for each of some clients, in order
+  -- and for one who was turned away
+  abbrev pub IsToldOff : ℕ → Away → L × List WireCall → L × List WireCall → Type 0
+  IsToldOff moment away old new = HasLine (crowd_line moment away) old new
+
+  -- what it gets for each of some, in order
+  abbrev pub AllTold : {X : Type 0} → (X → L × List WireCall → L × List WireCall → Type 0) → List X → L × List WireCall → L × List WireCall → Type 0
+  AllTold Tells [] old new = new ≡ old
+  AllTold Tells (x ∷ xs) old new = (mid : L × List WireCall) × Tells x old mid × AllTold Tells xs mid new
+
   abbrev pub AreTold : ℕ → List Visit → L × List WireCall → L × List WireCall → Type 0
-  AreTold moment [] old new = new ≡ old
-  AreTold moment (visit ∷ visits) old new = (mid : L × List WireCall) × IsTold moment visit old mid × AreTold moment visits mid new
+  AreTold moment visits old new = AllTold (IsTold moment) visits old new
 
-  -- What the log gets where those go out who have gone: nothing where nobody has; else what it gets for each, at one moment that a clock gave.
-  pub data IsLogged (given_old given_new : List ℕ) (visits : List Visit) (old new : L × List WireCall) : Type 0 where
-    nobody : list_any has_gone visits ≡ false → given_new ≡ given_old → new ≡ old → IsLogged given_old given_new visits old new
-    at : (moment : ℕ) → given_new ≡ given_old ++ moment ∷ [] → AreTold moment visits old new → IsLogged given_old given_new visits old new
+  abbrev pub AreToldOff : ℕ → List Away → L × List WireCall → L × List WireCall → Type 0
+  AreToldOff moment crowd old new = AllTold (IsToldOff moment) crowd old new
+
+  -- What the log gets where those go out who have gone: nothing where nobody has, or was turned away; else what it gets for each, at one moment that a clock gave.
+  pub data IsLogged (given_old given_new : List ℕ) (crowd : List Away) (visits : List Visit) (old new : L × List WireCall) : Type 0 where
+    nobody : crowd ≡ [] → list_any has_gone visits ≡ false → given_new ≡ given_old → new ≡ old → IsLogged given_old given_new crowd visits old new
+    at : (moment : ℕ) (mid : L × List WireCall) → given_new ≡ given_old ++ moment ∷ [] → AreToldOff moment crowd old mid → AreTold moment visits mid new → IsLogged given_old given_new crowd visits old new
 
 -- What writes take of bytes that are sent is a front of them; and all of them, where the last write did not fail and took some.
 abbrev pub TakesAFront : Type 0

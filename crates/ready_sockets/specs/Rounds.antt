@@ -19,8 +19,10 @@ use Rattle.turns.specs.WireCalls.{WireCall}
 use Rattle.ready_sockets.specs.DoorCalls.{DoorCall, Came, NotHad, both_ways, is_nobody}
 use Rattle.ready_sockets.specs.Logged.{IsLogged}
 use Rattle.ready_sockets.specs.Readings.{seconds_of}
-use Rattle.ready_sockets.specs.Visits.{has_gone, asks, AreNew, HasWaited, HasNotWaited, WereServed, NobodyWaits}
+use Rattle.ready_sockets.specs.Visits.{has_gone, asks, away_on, is_crowded, IsDeclined, IsSpread, IsNew, HasWaited, HasNotWaited, WereServed, NobodyWaits}
+use Rattle.ready_sockets.specs.declared.crowd.Away.{Away}
 use Rattle.ready_sockets.specs.declared.door_log.Missed.{Missed}
+use Rattle.ready_sockets.specs.declared.ready_socket.ReadySocket.{ReadySocket}
 use Rattle.ready_sockets.specs.declared.room.Room.{Room}
 use Rattle.ready_sockets.specs.declared.stopwatch.Reading.{Reading}
 use Rattle.ready_sockets.specs.declared.room.VisitFault.{VisitFault}
@@ -33,23 +35,28 @@ use Rattle.ready_sockets.specs.declared.visit.Visit.{Visit}
 abbrev pub came_call : Visit → DoorCall
 came_call visit = Came visit.from visit.token both_ways
 
--- Why no more clients are asked for, with the last call: no more may come in; or none was had, and somebody may still be at the door, but where nobody was there.
-pub data EndsAsking (old new : Room) : List DoorCall → Type 0 where
-  may_not : asks new ≡ false → new.may_accept ≡ old.may_accept → EndsAsking old new []
-  none_had : (missed : Missed) → new.may_accept ≡ not (is_nobody missed) → EndsAsking old new (NotHad missed ∷ [])
+-- Who came at the door, one behind the other, by these events and by these calls of it. For one a session joined, and it is in, behind those who were in before; but where as many of its origin were in as may be, no session joined, and it was turned away: told to try again later, and
+-- disconnected.
+pub data AreReceived (most now : ℕ) (old : List Visit) : List Event → List Outcome → List Visit → List DoorCall → List Away → Type 0 where
+  nobody : AreReceived most now old [] [] old [] []
+  in_behind : (es : List Event) (os : List Outcome) (visits : List Visit) (calls : List DoorCall) (crowd : List Away) (visit : Visit) (outcome : Outcome) → AreReceived most now old es os visits calls crowd → is_crowded most visits visit.from ≡ false → IsNew now outcome visit → AreReceived most now old (es ++ events.Join ∷ []) (os ++ outcome ∷ []) (visits ++ visit ∷ []) (calls ++ came_call visit ∷ []) crowd
+  away : (es : List Event) (os : List Outcome) (visits : List Visit) (calls : List DoorCall) (crowd : List Away) (from : IpAddr) (token : Token) (socket : ReadySocket) → AreReceived most now old es os visits calls crowd → is_crowded most visits from ≡ true → IsDeclined socket → AreReceived most now old es os visits (calls ++ Came from token both_ways ∷ []) (crowd ++ away_on from socket ∷ [])
 
--- Clients were asked for, one by one and 32 times at most, until no more are. Who was in is in, in front and as before; behind them, in order, are those who came at the
--- door, each with the session that joined for it, and no other session joined; and no more than 32 are in, where there were no more. Nothing is done where none is to be asked for.
-pub record HasLetIn (now : ℕ) (old : Room) (es : List Event) (os : List Outcome) (new : Room) : Type 0 where
-  pub came : List Visit
+-- Why no more clients are asked for, with the last call: no more may come in; 32 came; or none was had, and somebody may still be at the door, but where nobody was there.
+pub data EndsAsking (old new : Room) (came : ℕ) : List DoorCall → Type 0 where
+  may_not : asks new ≡ false → new.may_accept ≡ old.may_accept → new.lost ≡ old.lost → EndsAsking old new came []
+  enough : came ≡ 32 → new.may_accept ≡ old.may_accept → new.lost ≡ old.lost → EndsAsking old new came []
+  none_had : (missed : Missed) → new.may_accept ≡ not (is_nobody missed) → new.lost ≡ not (is_nobody missed) → EndsAsking old new came (NotHad missed ∷ [])
+
+-- Clients were asked for, one by one and 32 times at most, until no more are, and received as they came; so no more than 32 are in, where there were no more, and of no origin more than may be, where there were no more. Nothing is done where none is to be asked for.
+pub record HasLetIn (most now : ℕ) (old : Room) (es : List Event) (os : List Outcome) (new : Room) (crowd : List Away) : Type 0 where
+  pub calls : List DoorCall
   pub last : List DoorCall
-  pub made : new.door.made.calls ≡ old.door.made.calls ++ (map came_call came ++ last)
-  pub most : length came + length last ≤ 32
-  pub ends : EndsAsking old new last
+  pub made : new.door.made.calls ≡ old.door.made.calls ++ (calls ++ last)
+  pub least : length calls + length last ≤ 32
+  pub ends : EndsAsking old new (length calls) last
   pub unasked : asks old ≡ false → new ≡ old
-  pub is : new.visits.items ≡ old.visits.items ++ came
-  pub new_ones : AreNew now os came
-  pub events_are : es ≡ map (λ visit. events.Join) came
+  pub received : AreReceived most now old.visits.items es os new.visits.items calls crowd
   pub few : length old.visits.items ≤ 32 → length new.visits.items ≤ 32
 
 -- ---- rounds
@@ -58,19 +65,20 @@ pub record HasLetIn (now : ℕ) (old : Room) (es : List Event) (os : List Outcom
 abbrev pub who : Visit → IpAddr × Token × ℕ
 who visit = (visit.from, visit.token, visit.came)
 
--- Whoever is at the door was let in, and their sessions joined. Then all who are in were served, nobody else came or went, no more was asked of the door, and nobody's post waits any more.
-pub record HasHadTurns (now : ℕ) (old : Room) (es : List Event) (os : List Outcome) (new : Room) : Type 0 where
+-- Whoever is at the door was let in, and their sessions joined, or turned away. Then all who are in were served, nobody else came or went, no more was asked of the door, and nobody's post waits any more.
+pub record HasHadTurns (most now : ℕ) (old : Room) (es : List Event) (os : List Outcome) (new : Room) (crowd : List Away) : Type 0 where
   pub full : Room
   pub join_events : List Event
   pub join_outcomes : List Outcome
   pub turn_events : List Event
   pub turn_outcomes : List Outcome
-  pub let_in : HasLetIn now old join_events join_outcomes full
+  pub let_in : HasLetIn most now old join_events join_outcomes full crowd
   pub served : WereServed now full.visits.items turn_events turn_outcomes new.visits.items
   pub events_are : es ≡ join_events ++ turn_events
   pub outcomes_are : os ≡ join_outcomes ++ turn_outcomes
   pub door : new.door ≡ full.door
   pub may_accept : new.may_accept ≡ full.may_accept
+  pub lost : new.lost ≡ full.lost
   pub clients : map who new.visits.items ≡ map who full.visits.items
   pub nobody_waits : NobodyWaits new.visits.items
 
@@ -79,25 +87,27 @@ pub record HasSeenOff (old new : Room) : Type 0 where
   pub visits : new.visits.items ≡ filter (λ visit. not (has_gone visit)) old.visits.items
   pub door : new.door ≡ old.door
   pub may_accept : new.may_accept ≡ old.may_accept
+  pub lost : new.lost ≡ old.lost
 
 -- A room, a log with the writes that were made of it, and the readings of a watch.
 abbrev pub House : Type 0 → Type 0
 House L = Room × (L × List WireCall) × List Reading
 
-module _ {L : Type 0} (contents : L → Option (List ℕ)) where
-  -- A round of a room with its log, and with a watch that is read once: one wait, then turns with whoever is at the door, by these events and at the moment that was read, then those go out who have gone, and of each the log gets a line.
+module _ {L : Type 0} (contents : L → Option (List ℕ)) (most : ℕ) where
+  -- A round of a room with its log, and with a watch that is read once: one wait, then turns with whoever is at the door, by these events and at the moment that was read, then those go out who have gone, and of each of them, and of each who was turned away, the log gets a line.
   pub record HasHadRound (old : House L) (es : List Event) (os : List Outcome) (new : House L) : Type 0 where
     pub called : List SocketEvent
     pub reading : Reading
     pub waited : Room
     pub turned : Room
+    pub crowd : List Away
     pub given_before : List ℕ
     pub given_now : List ℕ
     pub wait : HasWaited called old.0 waited
     pub read : new.2 ≡ old.2 ++ reading ∷ []
-    pub turns : HasHadTurns (seconds_of reading) waited es os turned
+    pub turns : HasHadTurns most (seconds_of reading) waited es os turned crowd
     pub seen_off : HasSeenOff turned new.0
-    pub logged : IsLogged contents given_before given_now turned.visits.items old.1 new.1
+    pub logged : IsLogged contents given_before given_now crowd turned.visits.items old.1 new.1
 
   -- so many rounds, one after another, by these events
   pub data HasHadRounds : ℕ → House L → List Event → List Outcome → House L → Type 0 where
@@ -111,15 +121,22 @@ EndsServing (Err Net) usable rounds last new = (usable ≡ true) × HasNotWaited
 EndsServing (Err Failed) usable rounds last new = (usable ≡ false) × (new ≡ last)
 EndsServing (Err Memory) usable rounds last new = ⊥
 
--- Rounds were had by these events, and why it ended; behind the last of them the log gets nothing. What is written to the log is written by the writes that are noted, from the first on.
-pub record HasServed {L X : Type 0} (contents : L → Option (List ℕ)) (result : Result X VisitFault) (usable : Bool) (old : Room × L × List Reading) (es : List Event) (os : List Outcome) (new : Room × L × List Reading) : Type 0 where
+-- Rounds were had by these events, in which of no origin more than so many are in, and why it ended; behind the last of them the log gets nothing. What is written to the log is written by the writes that are noted, from the first on.
+pub record HasServed {L X : Type 0} (contents : L → Option (List ℕ)) (most : ℕ) (result : Result X VisitFault) (usable : Bool) (old : Room × L × List Reading) (es : List Event) (os : List Outcome) (new : Room × L × List Reading) : Type 0 where
   pub rounds : ℕ
   pub last : Room
   pub written : List WireCall
-  pub had : HasHadRounds contents rounds (old.0, (old.1, []), old.2) es os (last, (new.1, written), new.2)
+  pub had : HasHadRounds contents most rounds (old.0, (old.1, []), old.2) es os (last, (new.1, written), new.2)
   pub ends : EndsServing result usable rounds last new.0
 
 -- All that was done to a hub is a run, by the events of these rounds.
-abbrev pub ServesVisits : {S L Log X : Type 0} {bound : _} {ghosts : _} → (S → SiteState) → (S → Changes → SiteFault → Type 0) → (S → CrashStates L) → (L → Site → Type 0) → (Log → Option (List ℕ)) → Result X VisitFault → Hub S bound ghosts → Hub S bound ghosts → Room × Log × List Reading → Room × Log × List Reading → List ℕ → List ℕ → Type 0
-ServesVisits site_state lacks crash_states stands contents result old new first last told_before told_now = HasRun (HubRun site_state lacks crash_states stands) old new told_before told_now (λ es os.
-    HasServed contents result (site_state (keeper_of new)).usable first es os last)
+abbrev pub ServesVisits : {S L Log X : Type 0} {bound : _} {ghosts : _} → (S → SiteState) → (S → Changes → SiteFault → Type 0) → (S → CrashStates L) → (L → Site → Type 0) → (Log → Option (List ℕ)) → ℕ → Result X VisitFault → Hub S bound ghosts → Hub S bound ghosts → Room × Log × List Reading → Room × Log × List Reading → List ℕ → List ℕ → Type 0
+ServesVisits site_state lacks crash_states stands contents most result old new first last told_before told_now = HasRun (HubRun site_state lacks crash_states stands) old new told_before told_now (λ es os.
+    HasServed contents most result (site_state (keeper_of new)).usable first es os last)
+
+-- Of no origin more are in than may be: so it is where nobody is, where others were let in, behind turns, and behind rounds.
+pub record StaysSpread {L : Type 0} (contents : L → Option (List ℕ)) : Type 0 where
+  pub at_first : (most : ℕ) → IsSpread most []
+  pub let_in : (most now : ℕ) (old new : Room) (es : List Event) (os : List Outcome) (crowd : List Away) → HasLetIn most now old es os new crowd → IsSpread most old.visits.items → IsSpread most new.visits.items
+  pub by_turns : (most now : ℕ) (old new : Room) (es : List Event) (os : List Outcome) (crowd : List Away) → HasHadTurns most now old es os new crowd → IsSpread most old.visits.items → IsSpread most new.visits.items
+  pub by_rounds : (most rounds : ℕ) (old new : House L) (es : List Event) (os : List Outcome) → HasHadRounds contents most rounds old es os new → IsSpread most old.0.visits.items → IsSpread most new.0.visits.items

@@ -1,20 +1,28 @@
 -- What is done for clients that are in.
-use Rattle.std.specs.Prelude.{◌≡◌, ◌≤◌, ◌<◌, ◌==◌, ℕ, Bool, true, false, not, ◌&&◌, ◌||◌, is_some, if◌then◌else◌, Option, Some, None, List, [], ◌∷◌, ◌++◌, All, nat_lt, map, length}
+use Rattle.std.specs.Prelude.{◌≡◌, ◌≤◌, ◌<◌, ◌==◌, ℕ, Bool, true, false, not, ◌&&◌, ◌||◌, is_some, if◌then◌else◌, Option, Some, None, Result, List, [], ◌∷◌, ◌++◌, All, nat_lt, map, filter, length, vec_len, vec_capacity}
+use Rattle.std.specs.Global.{Vec}
 use Rattle.std.specs.List.{list_all, list_any}
 use Rattle.std.specs.declared.net.ip_addr.IpAddr.{IpAddr}
 use Rattle.mio.specs.Event.{event_token}
 use Rattle.mio.specs.declared.event.event.Event.{Event as SocketEvent}
 use Rattle.mio.specs.declared.token.Token.{Token}
+use Rattle.text_writer.specs.Errors.{error_reply}
+use Rattle.text_writer.specs.declared.error.ErrorText.TheVariants.{TryAgainLater}
 use Rattle.group_world.specs.declared.event.Event.{Event}
 use Rattle.group_world.specs.declared.event.Event.TheVariants as events
 use Rattle.group_world.specs.declared.event.Outcome.{Outcome}
 use Rattle.turns.specs.Turns.{Both, InOrder, IsFlushed, Times}
+use Rattle.turns.specs.WireCalls.{Closed}
+use Rattle.turns.specs.declared.wire.WireFault.{WireFault}
 use Rattle.ready_turns.specs.Seats.{For, Turn, Learns, Dismissed, IsSeated, acts, is_waiting, ending_of, joined_state, state_of}
+use Rattle.ready_turns.specs.Tries.{write_try}
 use Rattle.ready_turns.specs.declared.seat.Seat.{Seat}
 use Rattle.ready_sockets.specs.DoorCalls.{DoorCall, Waited, WaitFailed, Came, NotHad, both_ways, is_nobody}
 use Rattle.ready_sockets.specs.Doors.{listener_token, HasSameListener}
 use Rattle.ready_sockets.specs.Limits.{is_over, longest_stay}
-use Rattle.ready_sockets.specs.Sent.{has_line}
+use Rattle.ready_sockets.specs.Origins.{Origin, origin_of, is_same}
+use Rattle.ready_sockets.specs.Sent.{has_line, taken_by}
+use Rattle.ready_sockets.specs.declared.crowd.Away.{Away}
 use Rattle.ready_sockets.specs.declared.door_log.Missed.{Missed}
 use Rattle.ready_sockets.specs.declared.ready_socket.ReadySocket.{ReadySocket}
 use Rattle.ready_sockets.specs.declared.visit.Visit.{Visit}
@@ -101,7 +109,12 @@ pub record HasWoken (all : Bool) (events : List SocketEvent) (old new : Room) : 
 pub record IsFresh (room : Room) : Type 0 where
   pub nobody : room.visits.items ≡ []
   pub may_accept : room.may_accept ≡ true
+  pub lost : room.lost ≡ false
   pub made : room.door.made.calls ≡ []
+
+-- the next client is asked for: fewer than 32 are in, and somebody may be at the door
+abbrev pub asks : Room → Bool
+asks room = room.may_accept && nat_lt (length room.visits.items) 32
 
 -- ---- a wait
 
@@ -109,9 +122,9 @@ pub record IsFresh (room : Room) : Type 0 where
 abbrev pub all_wait : List Visit → Bool
 all_wait visits = list_all (λ visit. not (has_turn visit)) visits
 
--- in nanoseconds: none where somebody has a turn, without end where nobody is in or may be at the door, and else a second
+-- in nanoseconds: none where somebody has a turn, or where one who may be at the door may come in and none was lost since the last wait; without end where nobody is in or may be at the door; and else a second
 abbrev pub patience : Room → Option ℕ
-patience room = if not (all_wait room.visits.items) then Some 0 else (if length room.visits.items == 0 && not room.may_accept then None else Some 1_000_000_000)
+patience room = if not (all_wait room.visits.items) || (asks room && not room.lost) then Some 0 else (if length room.visits.items == 0 && not room.may_accept then None else Some 1_000_000_000)
 
 -- a wait that had patience ended with no event
 abbrev pub was_in_vain : Option ℕ → List SocketEvent → Bool
@@ -122,6 +135,7 @@ was_in_vain None events = length events == 0
 pub record HasWaited (events : List SocketEvent) (old new : Room) : Type 0 where
   pub made : new.door.made.calls ≡ old.door.made.calls ++ Waited (patience old) events ∷ []
   pub woken : HasWoken (was_in_vain (patience old) events) events old new
+  pub lost : new.lost ≡ false
   pub listener : HasSameListener old.door new.door
 
 -- One wait of that patience failed: who is in stays as it was.
@@ -129,6 +143,7 @@ pub record HasNotWaited (old new : Room) : Type 0 where
   pub made : new.door.made.calls ≡ old.door.made.calls ++ WaitFailed (patience old) ∷ []
   pub visits : new.visits ≡ old.visits
   pub may_accept : new.may_accept ≡ old.may_accept
+  pub lost : new.lost ≡ old.lost
   pub listener : HasSameListener old.door new.door
 
 -- ---- turns for all
@@ -146,6 +161,10 @@ WereServed now old es os new = Both (HadPasses now) (Both (Both IsFlushed (InOrd
 
 -- ---- who comes in
 
+-- one more can be in, and no memory is asked for
+abbrev pub HasSpace : Vec Visit → Type 0
+HasSpace visits = vec_len visits < vec_capacity visits
+
 -- It came at this moment, no call was made of its socket, and its session is the one whose number the hub answered, if it did; and it has a turn.
 pub record IsNew (now : ℕ) (outcome : Outcome) (visit : Visit) : Type 0 where
   pub came : visit.came ≡ now
@@ -153,13 +172,6 @@ pub record IsNew (now : ℕ) (outcome : Outcome) (visit : Visit) : Type 0 where
   pub unread : visit.seat.wire.made.calls ≡ []
   pub session : state_of visit.seat ≡ joined_state outcome
   pub turn : has_turn visit ≡ true
-
--- so are these, in order, each by its own outcome
-abbrev pub AreNew : ℕ → List Outcome → List Visit → Type 0
-AreNew now [] [] = Unit {0}
-AreNew now (outcome ∷ outcomes) (visit ∷ visits) = IsNew now outcome visit × AreNew now outcomes visits
-AreNew now [] (visit ∷ visits) = ⊥
-AreNew now (outcome ∷ outcomes) [] = ⊥
 
 -- A client of this address and token has come in behind the others, at this moment, and its session is all that joined.
 pub record ComesIn (from : IpAddr) (token : Token) (now : ℕ) (old : List Visit) (es : List Event) (os : List Outcome) (new : List Visit) : Type 0 where
@@ -173,7 +185,7 @@ pub record ComesIn (from : IpAddr) (token : Token) (now : ℕ) (old : List Visit
   pub is_new : IsNew now outcome visit
 
 -- A session joined, and was dismissed at once.
-pub record IsTurnedAway (es : List Event) (os : List Outcome) : Type 0 where
+pub record FindsNoSpace (es : List Event) (os : List Outcome) : Type 0 where
   pub socket : ReadySocket
   pub seat : Seat ReadySocket
   pub gone : Seat ReadySocket
@@ -186,17 +198,54 @@ pub record IsTurnedAway (es : List Event) (os : List Outcome) : Type 0 where
   pub events_are : es ≡ join_events ++ later_events
   pub outcomes_are : os ≡ join_outcomes ++ later_outcomes
 
--- A client has come in; or, where there is no space, it is turned away.
+-- how many of them are of an origin
+abbrev pub count_of : Origin → List Visit → ℕ
+count_of origin visits = length (filter (λ visit. is_same (origin_of visit.from) origin) visits)
+
+-- as many of them are of this address's origin as may be
+abbrev pub is_crowded : ℕ → List Visit → IpAddr → Bool
+is_crowded most visits from = not (nat_lt (count_of (origin_of from) visits) most)
+
+-- of no origin are there more
+abbrev pub IsSpread : ℕ → List Visit → Type 0
+IsSpread most visits = (origin : Origin) → count_of origin visits ≤ most
+
+-- A client has come in; or, where there is no space, it goes at once.
 pub data ComesInOrNot (has_space : Type 0) (from : IpAddr) (token : Token) (now : ℕ) (old : List Visit) (es : List Event) (os : List Outcome) (new : List Visit) : Type 0 where
   comes : ComesIn from token now old es os new → ComesInOrNot has_space from token now old es os new
-  turned_away : (has_space → ⊥) → new ≡ old → IsTurnedAway es os → ComesInOrNot has_space from token now old es os new
+  no_space : (has_space → ⊥) → new ≡ old → FindsNoSpace es os → ComesInOrNot has_space from token now old es os new
 
--- the next client is asked for: fewer than 32 are in, and somebody may be at the door
-abbrev pub asks : Room → Bool
-asks room = room.may_accept && nat_lt (length room.visits.items) 32
+-- The call by which it was asked for, if any: a client came; or none did, and somebody may be at the door afterwards, but where nobody was there. One who was there was lost.
+abbrev pub HasAsked : {W : Type 0} → Bool → Bool → Bool → Option (W × IpAddr × Token) → List DoorCall → Type 0
+HasAsked false may_accept lost next made = made ≡ []
+HasAsked true may_accept lost (Some next) made = made ≡ Came next.1 next.2 both_ways ∷ []
+HasAsked true may_accept lost None made = (missed : Missed) × (made ≡ NotHad missed ∷ []) × (may_accept ≡ not (is_nobody missed)) × (lost ≡ not (is_nobody missed))
 
--- The call by which it was asked for, if any: a client came; or none did, and somebody may be at the door afterwards, but where nobody was there.
-abbrev pub HasAsked : {W : Type 0} → Bool → Bool → Option (W × IpAddr × Token) → List DoorCall → Type 0
-HasAsked false may_accept next made = made ≡ []
-HasAsked true may_accept (Some next) made = made ≡ Came next.1 next.2 both_ways ∷ []
-HasAsked true may_accept None made = (missed : Missed) × (made ≡ NotHad missed ∷ []) × (may_accept ≡ not (is_nobody missed))
+-- what one is told who is turned away; as a plain client is told, since its request is not read
+abbrev pub crowd_reply : List ℕ
+crowd_reply = error_reply false TryAgainLater []
+
+-- Two calls were made of its connection: one write, which was offered all of that, and then it was closed.
+abbrev pub IsDeclined : ReadySocket → Type 0
+IsDeclined socket = (tried : Result (Option ℕ) WireFault) × (socket.made.calls ≡ write_try tried crowd_reply ∷ Closed ∷ [])
+
+-- one of this address who was turned away, and how many bytes it took
+abbrev pub away_on : IpAddr → ReadySocket → Away
+away_on from socket = record { from = from; taken = taken_by socket.made.calls }
+
+-- One is turned away: no session joins, it is told so, its connection is closed, and it is noted who it was.
+pub record IsKeptOut (from : IpAddr) (old : List Visit) (es : List Event) (os : List Outcome) (new : List Visit) (before after : List Away) : Type 0 where
+  pub socket : ReadySocket
+  pub declined : IsDeclined socket
+  pub no_events : es ≡ []
+  pub no_outcomes : os ≡ []
+  pub same : new ≡ old
+  pub noted : after ≡ before ++ away_on from socket ∷ []
+
+-- one who came, by whether as many of its origin were in as may be
+abbrev pub IsReceivedIf : Bool → Type 0 → IpAddr → Token → ℕ → List Visit → List Event → List Outcome → List Visit → List Away → List Away → Type 0
+IsReceivedIf true has_space from token now old es os new before after = IsKeptOut from old es os new before after
+IsReceivedIf false has_space from token now old es os new before after = ComesInOrNot has_space from token now old es os new × (after ≡ before)
+
+abbrev pub IsReceived : ℕ → Type 0 → IpAddr → Token → ℕ → List Visit → List Event → List Outcome → List Visit → List Away → List Away → Type 0
+IsReceived most has_space from token now old es os new before after = IsReceivedIf (is_crowded most old from) has_space from token now old es os new before after

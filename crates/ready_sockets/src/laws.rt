@@ -4,8 +4,11 @@ ghost use Rattle.mio.specs.declared.event.event.Event.{Event as SocketEvent};
 ghost use Rattle.ready_sockets.specs.Due.{GivesWhatIsDue};
 ghost use Rattle.ready_sockets.specs.Examples.{VisitExamples};
 ghost use Rattle.ready_sockets.specs.Logged.{TakesAFront};
+ghost use Rattle.ready_sockets.specs.Rounds.{StaysSpread};
 ghost use Rattle.ready_sockets.specs.Visits.{woken_by, IsSameClient};
 ghost use Rattle.ready_sockets.specs.declared.visit.Visit.{Visit};
+
+use std::io::Write;
 
 /// The head of all that was sent is the head of its pieces, one after another.
 pub fn head_of_pieces()
@@ -20,6 +23,11 @@ pub fn wait_keeps_clients()
 /// What a client is given is what was drawn for its session, in order, or that it is to try again later, and nothing else.
 pub fn gives_what_is_due()
     ensures { GivesWhatIsDue }
+{}
+
+/// Of no origin more clients are in than may be, through all rounds.
+pub fn stays_spread<L: Write>()
+    ensures { StaysSpread L.contents }
 {}
 
 /// A log has a front of each line that is written to it, and all of it where the writes say so.

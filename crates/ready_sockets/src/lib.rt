@@ -1,6 +1,7 @@
 //! Visits over sockets that never wait: whoever is ready has a turn, up to 32 clients at a time.
 #![tactic(auto)]
 
+mod crowd;
 mod door;
 mod door_log;
 mod head;
@@ -15,10 +16,12 @@ mod visit;
 mod waking;
 mod written;
 
+pub use crowd::{Away, Crowd};
 pub use door_log::{DoorLog, Missed};
 pub use head::Head;
 pub use laws::{
-    gives_what_is_due, head_of_pieces, takes_a_front, wait_keeps_clients, worked_examples,
+    gives_what_is_due, head_of_pieces, stays_spread, takes_a_front, wait_keeps_clients,
+    worked_examples,
 };
 pub use limits::{
     LONGEST_LINE, LONGEST_REQUEST, LONGEST_SILENCE, LONGEST_VISIT, is_over, longest_stay,

@@ -2,11 +2,13 @@
 ghost use Rattle.std.specs.Prelude.{◌≡◌, IfOk};
 ghost use Rattle.std.specs.String.{string_bytes};
 ghost use Rattle.ready_sockets.specs.Lines as spec;
+ghost use Rattle.ready_sockets.specs.Origins as origins;
 
 use host_types::Stamp;
 use printed_names::escaped;
 use ready_turns::Ending;
 use std::alloc::{AllocError, Global};
+use std::net::IpAddr;
 
 /// What the log says of a client that has gone.
 #[derive(Clone, Copy, Debug)]
@@ -32,7 +34,15 @@ fn ending_word(ending: Ending) -> &'static str
         Ending::Failed => "failed",
         Ending::Cut => "cut",
         Ending::Late => "late",
+        Ending::Crowd => "crowd",
     }
+}
+
+/// An address as the log names it: one that is mapped into IPv6 by the IPv4 address in it.
+pub(crate) fn address_text(alloc: Global, from: IpAddr) -> Result<String, AllocError>
+    ensures { IfOk result (λ text. string_bytes text ≡ origins.address_text from) }
+{
+    from.to_canonical().to_string(alloc)
 }
 
 /// The line of a client, without its LF: seconds since the start of 1970, its address, the selector in quotes with escapes, how it ended, and how many bytes it took.

@@ -36,6 +36,8 @@ pub enum VisitFault {
 pub struct Room {
     door: Door,
     may_accept: bool,
+    /// Since the last wait one was lost who was at the door.
+    lost: bool,
     pub(crate) visits: Vec<Visit>,
     ghost few: { vec_len visits ≤ 32 },
     ghost space: { 32 ≤ vec_capacity visits },
@@ -69,15 +71,23 @@ impl Room {
         Ok(Room {
             door,
             may_accept: true,
+            lost: false,
             visits,
         })
     }
 
-    /// How long the next wait may be: none where somebody has a turn, and without end where nobody is in or may be at the door.
+    /// Whether the next client is asked for.
+    fn asks(&self) -> bool
+        ensures { result ≡ asks self.now }
+    {
+        self.may_accept && self.visits.len() < MOST_VISITS
+    }
+
+    /// How long the next wait may be: none where somebody has a turn or the next client may come in, and without end where nobody is in or may be at the door.
     fn patience(&self) -> Option<Duration>
         ensures { option_map as_nanos result ≡ patience self.now }
     {
-        if !all_wait(&self.visits) {
+        if !all_wait(&self.visits) || (self.asks() && !self.lost) {
             Some(Duration::ZERO)
         } else if self.visits.is_empty() && !self.may_accept {
             None
@@ -90,6 +100,7 @@ impl Room {
     fn wake(&mut self)
         ensures woken { HasWoken false (items self.old.door.events) self.old self.new }
         ensures door { self.new.door ≡ self.old.door }
+        ensures lost { self.new.lost ≡ self.old.lost }
     {
         self.may_accept |= is_called(self.door.events(), LISTENER);
         wake_called(&mut self.visits, self.door.events());
@@ -100,6 +111,7 @@ impl Room {
         ensures visits { self.new.visits.items ≡ map woken self.old.visits.items }
         ensures may_accept { self.new.may_accept ≡ true }
         ensures door { self.new.door ≡ self.old.door }
+        ensures lost { self.new.lost ≡ self.old.lost }
     {
         self.may_accept = true;
         for visit in self.visits.iter_mut() {
@@ -115,6 +127,7 @@ impl Room {
     {
         let patience = self.patience();
         self.door.wait(patience)?;
+        self.lost = false;
         if was_in_vain(self.door.events(), patience) {
             self.wake_all();
             return Ok(());
@@ -131,18 +144,18 @@ impl Room {
         ensures token { IfSome result (λ next. next.2 ≢ listener_token) }
         ensures may_accept { IfSome result (λ _. (self.old.may_accept ≡ true) × (self.new.may_accept ≡ true)) }
         ensures shut { (self.new.may_accept ≡ self.old.may_accept) ⊎ (self.new.may_accept ≡ false) }
-        ensures asked { (made : List DoorCall) × (self.new.door.made.calls ≡ self.old.door.made.calls ++ made) × HasAsked (asks self.old) self.new.may_accept result made }
+        ensures lost { IfSome result (λ _. self.new.lost ≡ self.old.lost) }
+        ensures asked { (made : List DoorCall) × (self.new.door.made.calls ≡ self.old.door.made.calls ++ made) × HasAsked (asks self.old) self.new.may_accept self.new.lost result made }
         ensures unasked { asks self.old ≡ false → self.new ≡ self.old }
     {
-        if !self.may_accept || self.visits.len() >= MOST_VISITS {
+        if !self.asks() {
             return None;
         }
         match self.door.take() {
             Ok(next) => Some(next),
             Err(missed) => {
-                if missed.is_nobody() {
-                    self.may_accept = false;
-                }
+                self.may_accept = !missed.is_nobody();
+                self.lost = self.may_accept;
                 None
             }
         }
@@ -160,6 +173,7 @@ impl Room {
         ensures visits { self.new.visits.items ≡ filter (λ visit. not (has_gone visit)) self.old.visits.items }
         ensures door { self.new.door ≡ self.old.door }
         ensures may_accept { self.new.may_accept ≡ self.old.may_accept }
+        ensures lost { self.new.lost ≡ self.old.lost }
     {
         self.visits.retain(|visit| !visit.is_closed());
     }

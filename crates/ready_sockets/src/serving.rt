@@ -1,15 +1,16 @@
 // Serves whoever comes.
-ghost use Rattle.std.specs.Prelude.{◌≡◌, ◌<◌, ◌≤◌, Some, [], ◌∷◌, ◌++◌, map, vec_len, vec_capacity, IfOk};
+ghost use Rattle.std.specs.Prelude.{◌≡◌, ◌+◌, ◌<◌, ◌≤◌, ℕ, List, [], ◌∷◌, ◌++◌, length, map, vec_capacity, IfOk, IsOkAnd};
 ghost use Rattle.std.specs.String.{string_bytes};
 ghost use Rattle.group_hub.specs.Calls.{HubRun};
 ghost use Rattle.turns.specs.Runs.{HasRun};
-ghost use Rattle.ready_turns.specs.Seats.{ending_of};
 ghost use Rattle.ready_sockets.specs.Rounds.{who, HasLetIn, HasHadTurns, HasSeenOff, ServesVisits};
 ghost use Rattle.turns.specs.Turns.{Both, InOrder, IsFlushed};
-ghost use Rattle.ready_sockets.specs.Visits.{NobodyWaits, HadTurn, Learned, WasDismissed, HadPasses, WereServed, ComesInOrNot};
-ghost use Rattle.ready_sockets.specs.Logged.{line_of, IsTold, AreTold, IsLogged};
+ghost use Rattle.ready_sockets.specs.Visits.{HasSpace, NobodyWaits, HadTurn, Learned, WasDismissed, HadPasses, WereServed, ComesInOrNot, IsReceived};
+ghost use Rattle.ready_sockets.specs.Logged.{crowd_line, HasLine, IsTold, IsToldOff, AreTold, AreToldOff, IsLogged};
 
 use crate::ReadySocket;
+use crate::crowd::{Away, Crowd, decline, is_crowded, note_away};
+use crate::lines::{Record, address_text, log_line};
 use crate::room::{MOST_VISITS, Room, VisitFault};
 use crate::stopwatch::Stopwatch;
 use crate::visit::Visit;
@@ -38,7 +39,7 @@ fn enter<S: SearchKeeper>(
     next: (TcpStream, IpAddr, Token),
     now: u64,
 )
-    ensures run { HasRun (HubRun S.site_state S.lacks S.crash_states S.represents) hub.old hub.new [] [] (λ es os. ComesInOrNot (vec_len visits.old < vec_capacity visits.old) next.1 next.2 now visits.old.items es os visits.new.items) }
+    ensures run { HasRun (HubRun S.site_state S.lacks S.crash_states S.represents) hub.old hub.new [] [] (λ es os. ComesInOrNot (HasSpace visits.old) next.1 next.2 now visits.old.items es os visits.new.items) }
     ensures capacity { vec_capacity visits.old ≤ vec_capacity visits.new }
 {
     let (stream, from, token) = next;
@@ -55,16 +56,41 @@ fn enter<S: SearchKeeper>(
     }
 }
 
-/// A session joins for each client that comes, as long as there is room.
-fn admit<S: SearchKeeper>(room: &mut Room, hub: &mut Hub<S>, now: u64)
-    ensures { HasRun (HubRun S.site_state S.lacks S.crash_states S.represents) hub.old hub.new [] [] (λ es os. HasLetIn now room.old es os room.new) }
+/// A session joins for a client that came, or it is turned away, where as many of its origin are in as may be.
+fn receive<S: SearchKeeper>(
+    visits: &mut Vec<Visit>,
+    hub: &mut Hub<S>,
+    next: (TcpStream, IpAddr, Token),
+    now: u64,
+    most: u32,
+    crowd: &mut Crowd,
+)
+    requires { length crowd.old.items < 32 }
+    ensures run { HasRun (HubRun S.site_state S.lacks S.crash_states S.represents) hub.old hub.new [] [] (λ es os. IsReceived most (HasSpace visits.old) next.1 next.2 now visits.old.items es os visits.new.items crowd.old.items crowd.new.items) }
+    ensures capacity { vec_capacity visits.old ≤ vec_capacity visits.new }
+    ensures few { length crowd.new.items ≤ length crowd.old.items + 1 }
 {
+    if is_crowded(visits.as_slice(), next.1, most) {
+        let (stream, from, _) = next;
+        let socket = decline(stream);
+        note_away(crowd, from, &socket);
+    } else {
+        enter(visits, hub, next, now);
+    }
+}
+
+/// A session joins for each client that comes, as long as there is room and not too many of its origin are in. It answers who was turned away.
+fn admit<S: SearchKeeper>(room: &mut Room, hub: &mut Hub<S>, now: u64, most: u32) -> Crowd
+    ensures { HasRun (HubRun S.site_state S.lacks S.crash_states S.represents) hub.old hub.new [] [] (λ es os. HasLetIn most now room.old es os room.new result.items) }
+{
+    let mut crowd = Crowd::new();
     for _client in 0..MOST_VISITS {
         let Some(next) = room.next() else {
-            return;
+            return crowd;
         };
-        enter(&mut room.visits, hub, next, now);
+        receive(&mut room.visits, hub, next, now, most, &mut crowd);
     }
+    crowd
 }
 
 /// One turn for a client.
@@ -172,33 +198,20 @@ fn serve_all<S: SearchKeeper, C: Clock>(
     dismiss_late(visits, hub, now);
 }
 
-/// The line of a client whose session ended so, with its LF.
-fn line_with_end(
-    alloc: Global,
-    visit: &Visit,
-    ending: Ending,
-    moment: Stamp,
-) -> Result<String, AllocError>
-    ensures { IfOk result (λ text. string_bytes text ≡ line_of moment visit.now ending ++ 10 ∷ []) }
+/// A line with its LF.
+fn with_end(line: Result<String, AllocError>) -> Result<String, AllocError>
+    ensures { IfOk result (λ text. IsOkAnd line (λ l. string_bytes text ≡ string_bytes l ++ 10 ∷ [])) }
 {
-    let mut line = visit.line(alloc, moment, ending)?;
+    let mut line = line?;
     line.push('\n')?;
     Ok(line)
 }
 
-/// The line of a client is written to the log. Where there is no memory for it, the log says so.
-fn tell<L: Write>(
-    alloc: Global,
-    visit: &Visit,
-    ending: Ending,
-    moment: Stamp,
-    log: &mut L,
-    written: &mut CallLog,
-)
-    requires { ending_of visit.now.seat.stage ≡ Some ending }
-    ensures { IsTold L.contents moment visit.now (log.old, written.old.calls) (log.new, written.new.calls) }
+/// A line is written to the log. Where there is no memory for it, the log says so.
+fn write_line<L: Write>(line: Result<String, AllocError>, log: &mut L, written: &mut CallLog)
+    ensures { (bytes : List ℕ) → IfOk line (λ l. string_bytes l ≡ bytes) → HasLine L.contents bytes (log.old, written.old.calls) (log.new, written.new.calls) }
 {
-    match line_with_end(alloc, visit, ending, moment) {
+    match with_end(line) {
         Ok(line) => {
             write_out(log, written, line.as_bytes());
         }
@@ -219,7 +232,7 @@ fn tell_if_gone<L: Write>(
     ensures { IsTold L.contents moment visit.now (log.old, written.old.calls) (log.new, written.new.calls) }
 {
     if let Some(ending) = visit.seat.stage().ending() {
-        tell(alloc, visit, ending, moment, log, written);
+        write_line(visit.line(alloc, moment, ending), log, written);
     }
 }
 
@@ -238,32 +251,82 @@ fn tell_gone<L: Write>(
     }
 }
 
-/// A line of the log for each client that has gone, and then it is in no more.
+/// The line of a client that was turned away.
+fn away_line(alloc: Global, away: &Away, moment: Stamp) -> Result<String, AllocError>
+    ensures { IfOk result (λ text. string_bytes text ≡ crowd_line moment away.now) }
+{
+    let from = address_text(alloc, away.from)?;
+    let ending = Ending::Crowd;
+    log_line(
+        alloc,
+        &Record {
+            moment,
+            from: &from,
+            selector: b"",
+            ending,
+            taken: away.taken,
+        },
+    )
+}
+
+/// A line of the log for a client that was turned away.
+fn tell_off<L: Write>(alloc: Global, away: &Away, moment: Stamp, log: &mut L, written: &mut CallLog)
+    ensures { IsToldOff L.contents moment away.now (log.old, written.old.calls) (log.new, written.new.calls) }
+{
+    write_line(away_line(alloc, away, moment), log, written);
+}
+
+/// A line of the log for each client that was turned away.
+fn tell_crowd<L: Write>(
+    alloc: Global,
+    crowd: &[Away],
+    moment: Stamp,
+    log: &mut L,
+    written: &mut CallLog,
+)
+    ensures { AreToldOff L.contents moment crowd.now (log.old, written.old.calls) (log.new, written.new.calls) }
+{
+    for away in crowd.iter() {
+        tell_off(alloc, away, moment, log, written);
+    }
+}
+
+/// A line of the log for each client that was turned away or has gone, and then it is in no more.
 fn see_off<R: Time, L: Write>(
     alloc: Global,
     room: &mut Room,
+    crowd: &[Away],
     moments: &mut SystemClock<'_, R>,
     log: &mut L,
     written: &mut CallLog,
 )
     ensures gone { HasSeenOff room.old room.new }
-    ensures logged { IsLogged L.contents moments.old.given.moments moments.new.given.moments room.old.visits.items (log.old, written.old.calls) (log.new, written.new.calls) }
+    ensures logged { IsLogged L.contents moments.old.given.moments moments.new.given.moments crowd.now room.old.visits.items (log.old, written.old.calls) (log.new, written.new.calls) }
 {
-    if room.has_closed() {
-        tell_gone(alloc, &room.visits, moments.now(), log, written);
+    if !crowd.is_empty() || room.has_closed() {
+        let moment = moments.now();
+        tell_crowd(alloc, crowd, moment, log, written);
+        tell_gone(alloc, &room.visits, moment, log, written);
         room.sweep();
     }
 }
 
-/// Who is ready comes in, and has turns; whose time is over goes.
-fn round<S: SearchKeeper, C: Clock>(room: &mut Room, hub: &mut Hub<S>, clock: &mut C, now: u64)
-    ensures { HasRun (HubRun S.site_state S.lacks S.crash_states S.represents) hub.old hub.new (C.given clock.old) (C.given clock.new) (λ es os. HasHadTurns now room.old es os room.new) }
+/// Who is ready comes in, and has turns; whose time is over goes. It answers who was turned away.
+fn round<S: SearchKeeper, C: Clock>(
+    room: &mut Room,
+    hub: &mut Hub<S>,
+    clock: &mut C,
+    now: u64,
+    most: u32,
+) -> Crowd
+    ensures { HasRun (HubRun S.site_state S.lacks S.crash_states S.represents) hub.old hub.new (C.given clock.old) (C.given clock.new) (λ es os. HasHadTurns most now room.old es os room.new result.items) }
 {
-    admit(room, hub, now);
+    let crowd = admit(room, hub, now, most);
     serve_all(&mut room.visits, hub, clock, now);
+    crowd
 }
 
-/// Serves whoever comes, up to 32 clients at a time, until a write or a sync of what the site is kept on has failed, or no socket can be waited for.
+/// Serves whoever comes, up to 32 clients at a time and so many of one origin at most, until a write or a sync of what the site is kept on has failed, or no socket can be waited for.
 /// Where posts wait for one another they are made behind the turns of each round, and behind a round nobody waits: who did learned that the post is stored, or is asked to try again later.
 /// For each client that has gone the log gets a line, as far as it takes it. The watch is read once a round.
 pub fn serve_visits<S: SearchKeeper, C: Clock, R: Time, L: Write>(
@@ -274,8 +337,9 @@ pub fn serve_visits<S: SearchKeeper, C: Clock, R: Time, L: Write>(
     hub: &mut Hub<S>,
     clock: &mut C,
     log: &mut L,
+    most: u32,
 ) -> Result<(), VisitFault>
-    ensures { ServesVisits S.site_state S.lacks S.crash_states S.represents L.contents result hub.old hub.new (room.old, log.old, watch.old.read.readings) (room.new, log.new, watch.new.read.readings) (C.given clock.old) (C.given clock.new) }
+    ensures { ServesVisits S.site_state S.lacks S.crash_states S.represents L.contents most result hub.old hub.new (room.old, log.old, watch.old.read.readings) (room.new, log.new, watch.new.read.readings) (C.given clock.old) (C.given clock.new) }
 {
     let mut moments = SystemClock::new(rt);
     let mut written = CallLog::new();
@@ -284,8 +348,15 @@ pub fn serve_visits<S: SearchKeeper, C: Clock, R: Time, L: Write>(
             return Err(VisitFault::Failed);
         }
         room.wait()?;
-        round(room, hub, clock, watch.seconds(rt));
-        see_off(alloc, room, &mut moments, log, &mut written);
+        let crowd = round(room, hub, clock, watch.seconds(rt), most);
+        see_off(
+            alloc,
+            room,
+            crowd.as_slice(),
+            &mut moments,
+            log,
+            &mut written,
+        );
     }
     Ok(())
 }

@@ -7,7 +7,7 @@ ghost use Rattle.ready_sockets.specs.Visits.{has_gone, has_turn, is_late, woken}
 
 use crate::ReadySocket;
 use crate::limits::{is_over, longest_stay};
-use crate::lines::{Record, log_line};
+use crate::lines::{Record, address_text, log_line};
 use host_types::Stamp;
 use mio::Token;
 use ready_turns::{Ending, Seat};
@@ -76,7 +76,7 @@ impl Visit {
     ) -> Result<String, AllocError>
         ensures { IfOk result (λ text. string_bytes text ≡ line_of moment self.now ending) }
     {
-        let from = self.from.to_string(alloc)?;
+        let from = address_text(alloc, self.from)?;
         let socket = self.seat.wire();
         log_line(
             alloc,

@@ -20,6 +20,8 @@ pub enum Ending {
     Cut,
     /// Its time was over.
     Late,
+    /// None joined: as many of its client's origin were in as may be.
+    Crowd,
 }
 
 /// How far the session on a wire is.

@@ -2,7 +2,7 @@
 use Rattle.std.proofs.Common.{◌∙◌, ap, ℕ, List, Result, Ok, Err}
 use Rattle.std.specs.Prelude.{IsTrue, IfOk, IfErr, OnOk}
 use Rattle.host_types.specs.CrashStates.{CrashStates}
-use Rattle.page_store.specs.StoreState.{StoreState}
+use Rattle.page_store.specs.StoreState.{StoreState, CommitNeed}
 use Rattle.page_store.specs.declared.edit.Edit.{Edit}
 use Rattle.site_store.specs.StoreReads.{ReadsOnly, NoneFailed}
 use Rattle.site_store.specs.Reads.{Reads, AlwaysReads}
@@ -26,7 +26,7 @@ on_more : {X E : Type 0} {P Q : Type 0} (r : Result X E) → OnOk r P → (P →
 on_more (Ok x) p more = more p
 on_more (Err e) p more = tt
 
-module _ {K L : Type 0} {store_state : K → StoreState} {may_need : K → List Edit → ℕ → Type 0} {crash_states : K → CrashStates L} where
+module _ {K L : Type 0} {store_state : K → StoreState} {may_need : K → List Edit → CommitNeed → Type 0} {crash_states : K → CrashStates L} where
   pub read_on : {a b c : K} → ReadsOnly store_state may_need crash_states a b → ReadsOnly store_state may_need crash_states b c → ReadsOnly store_state may_need crash_states a c
   read_on {a = a} {b = b} {c = c} x y = reads_later store_state may_need crash_states a b c x y
 

@@ -138,11 +138,11 @@ second_true : (a b : Bool) → (a && b) ≡ true → b ≡ true
 second_true true b h = h
 second_true false b h = absurd cc
 
-with_value-at : (pairs : Pairs) (key : List ℕ) (value : Value) (q : List ℕ) → IsTrue (is_sorted byte_cmp pairs) → value_at (with_value pairs key value) q ≡ cond (is_at (byte_cmp q) key) value (value_at pairs q)
+pub with_value-at : (pairs : Pairs) (key : List ℕ) (value : Value) (q : List ℕ) → IsTrue (is_sorted byte_cmp pairs) → value_at (with_value pairs key value) q ≡ cond (is_at (byte_cmp q) key) value (value_at pairs q)
 with_value-at pairs key None q h = lookup-remove_entry pairs key q h
 with_value-at pairs key (Some value) q h = lookup-insert_entry pairs key value q
 
-sorted_value : (pairs : Pairs) (key : List ℕ) (value : Value) → IsTrue (is_sorted byte_cmp pairs) → IsTrue (is_sorted byte_cmp (with_value pairs key value))
+pub sorted_value : (pairs : Pairs) (key : List ℕ) (value : Value) → IsTrue (is_sorted byte_cmp pairs) → IsTrue (is_sorted byte_cmp (with_value pairs key value))
 sorted_value pairs key None h = is_sorted-remove_entry pairs key h
 sorted_value pairs key (Some value) h = is_sorted-insert_entry pairs key value h
 

@@ -9,6 +9,7 @@ pub mod DecodedViews
 pub mod Chunking
 pub mod Planned
 pub mod PinsKept
+pub mod OneBatch
 pub mod StoreAsSite
 pub mod PinsMade
 pub mod PinnedReads

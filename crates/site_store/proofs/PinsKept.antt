@@ -8,7 +8,7 @@ use Rattle.host_types.specs.Site.{Items}
 use Rattle.host_types.specs.Pins as sites
 use Rattle.page_store.specs.Content as stores
 use Rattle.page_store.specs.Pages.{Pair}
-use Rattle.page_store.specs.StoreState.{StoreState, HasRead, HasStayed, IsCommitFault, numbers_out}
+use Rattle.page_store.specs.StoreState.{StoreState, CommitNeed, HasRead, HasStayed, IsCommitFault, numbers_out}
 use Rattle.page_store.specs.declared.fault.KeeperFault.{KeeperFault}
 use Rattle.page_store.specs.declared.fault.KeeperFault.TheVariants as kinds
 use Rattle.site_store.specs.PinnedItems.{Pins, IsLaidOut, HasItems, AllHave, items_of, items_at, pins_of, same_items}
@@ -105,7 +105,7 @@ pins_stay_read old new read = record { out = read.same.out; pins = read.same.pin
 pins_stayed : (old new : StoreState) → HasStayed old new → PinsStay old new
 pins_stayed old new same = record { out = same.out; pins = same.pins }
 
-fault_pins : (old new : StoreState) (edits : ℕ) (may_need : ℕ → Type 0) (fault : KeeperFault) → IsCommitFault old new edits may_need fault → PinsStay old new
+fault_pins : (old new : StoreState) (edits : ℕ) (may_need : CommitNeed → Type 0) (fault : KeeperFault) → IsCommitFault old new edits may_need fault → PinsStay old new
 fault_pins old new edits may_need kinds.Device h = pins_stayed old new h.0
 fault_pins old new edits may_need kinds.NoImage h = absurd h
 fault_pins old new edits may_need kinds.Version h = absurd h
@@ -117,7 +117,7 @@ fault_pins old new edits may_need (kinds.Full need free) h = pins_stayed old new
 fault_pins old new edits may_need kinds.Failed h = record { out = h.out; pins = h.pins }
 fault_pins old new edits may_need kinds.Memory h = pins_stayed old new h
 
-pub pins_stay_written : {U : Type 0} (r : Result U KeeperFault) (old new : StoreState) (edits : ℕ) (may_need : ℕ → Type 0) → OnOk r (numbers_out new ≡ numbers_out old) → (IsTrue old.honest → OnOk r (new.pins ≡ old.pins)) → IfErr r (IsCommitFault old new edits may_need) → PinsStay old new
+pub pins_stay_written : {U : Type 0} (r : Result U KeeperFault) (old new : StoreState) (edits : ℕ) (may_need : CommitNeed → Type 0) → OnOk r (numbers_out new ≡ numbers_out old) → (IsTrue old.honest → OnOk r (new.pins ≡ old.pins)) → IfErr r (IsCommitFault old new edits may_need) → PinsStay old new
 pins_stay_written (Ok x) old new edits may_need out pins fault = record { out = out; pins = pins }
 pins_stay_written (Err e) old new edits may_need out pins fault = fault_pins old new edits may_need e fault
 

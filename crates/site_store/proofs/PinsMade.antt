@@ -14,7 +14,7 @@ use Rattle.host_types.specs.Pins as site_pins
 use Rattle.host_types.specs.declared.pin_fault.SitePinFault.{SitePinFault}
 use Rattle.host_types.specs.declared.site_fault.SiteFault.{SiteFault}
 use Rattle.page_store.specs.Pins.{is_out, pairs_at, IsPinned, IsPinFault, IsUnpinned}
-use Rattle.page_store.specs.StoreState.{StoreState, NeedsTheSame}
+use Rattle.page_store.specs.StoreState.{StoreState, CommitNeed, NeedsTheSame}
 use Rattle.page_store.specs.declared.edit.Edit.{Edit}
 use Rattle.page_store.specs.declared.pin_fault.PinFault.{PinFault}
 use Rattle.page_store.specs.declared.pin_fault.PinFault.TheVariants as pin_faults
@@ -46,7 +46,7 @@ state_still old new ko kn same =
     let still = site_kept_still old new ko kn same in
     λ i. record { site = still i; honest = (same i).honest; usable = (same i).usable; free = new.free; failed_reads = (same i).failed_reads; failed_writes = (same i).failed_writes; pins = (site_state_of new kn).pins }
 
-pub lacks_repinned : {K : Type 0} (store_state : K → StoreState) (may_need : K → List Edit → ℕ → Type 0) (k0 k1 : K) (ko : HasSite (store_state k0)) (kn : HasSite (store_state k1)) → NeedsTheSame (may_need k0) (may_need k1) → Repinned (store_state k0) (store_state k1)
+pub lacks_repinned : {K : Type 0} (store_state : K → StoreState) (may_need : K → List Edit → CommitNeed → Type 0) (k0 k1 : K) (ko : HasSite (store_state k0)) (kn : HasSite (store_state k1)) → NeedsTheSame (may_need k0) (may_need k1) → Repinned (store_state k0) (store_state k1)
     → sites.LacksTheSame (IsLacking store_state may_need k0 (site_of (store_state k0) ko)) (IsLacking store_state may_need k1 (site_of (store_state k1) kn))
 lacks_repinned store_state may_need k0 k1 ko kn need same =
     lacks_still store_state may_need k0 k1 (site_of (store_state k0) ko) (site_of (store_state k1) kn) (site_kept_still (store_state k0) (store_state k1) ko kn same) need (ap (λ (h : StoreState). h.top) same) (ap (λ (h : StoreState). h.banner) same) (ap (λ (h : StoreState). h.height) same)

@@ -7,7 +7,7 @@ use Rattle.host_types.specs.Counting as sites
 use Rattle.common_types.specs.declared.refused.Refused.{Refused}
 use Rattle.host_types.specs.declared.site_fault.SiteFault.{SiteFault}
 use Rattle.host_types.specs.declared.site_fault.SiteFault.TheVariants as faults
-use Rattle.page_store.specs.StoreState.{StoreState, HasRead, IsReadFault, IsCommitFault}
+use Rattle.page_store.specs.StoreState.{StoreState, CommitNeed, HasRead, IsReadFault, IsCommitFault}
 use Rattle.page_store.specs.Counting.{reads_after, writes_after}
 use Rattle.page_store.specs.declared.edit.Edit.{Edit}
 use Rattle.page_store.specs.declared.fault.KeeperFault.{KeeperFault}
@@ -53,7 +53,7 @@ read_counted a b ka fault to_site_fault is h = subst (λ (f : SiteFault). sites.
 pub closed_counts : (usable : Bool) (count : ℕ) → usable ≡ false → count ≡ sites.writes_after usable faults.Failed count
 closed_counts usable count closed = rw closed refl
 
-module _ {D K L : Type 0} (keeper : D → K) (store_state : K → StoreState) (may_need : K → List Edit → ℕ → Type 0) (crash_states : K → CrashStates L) where
+module _ {D K L : Type 0} (keeper : D → K) (store_state : K → StoreState) (may_need : K → List Edit → CommitNeed → Type 0) (crash_states : K → CrashStates L) where
   -- a change that was not planned counts what its look-ups do
   pub plan_counted : (d0 d1 : D) (ka : HasSite (store_state (keeper d0))) (applied : Site → Result Site Refused) (fault : SiteFault) → (store_state (keeper d0)).usable ≡ true
       → IsPlanFault (ShowsValid (λ d. IsShown store_state (keeper d))) (λ a b. HasNotFound store_state may_need crash_states (keeper a) (keeper b)) d0 d1 applied fault
@@ -81,7 +81,7 @@ module _ {D K L : Type 0} (keeper : D → K) (store_state : K → StoreState) (m
   plan_writes d0 d1 applied faults.Memory up h same = rw up same
 
 -- a commit counts as the store's does, whose look-ups before failed in nothing
-pub commit_reads : (a b c : StoreState) (edits : ℕ) (may : ℕ → Type 0) (fault : KeeperFault) → HasRead a b → NoneFailed a b → IsCommitFault b c edits may fault → c.failed_reads ≡ reads_after fault b.failed_reads
+pub commit_reads : (a b c : StoreState) (edits : ℕ) (may : CommitNeed → Type 0) (fault : KeeperFault) → HasRead a b → NoneFailed a b → IsCommitFault b c edits may fault → c.failed_reads ≡ reads_after fault b.failed_reads
     → sites.IsReadCounted a.honest (store_site_fault_of fault) a.failed_reads c.failed_reads
 commit_reads a b c edits may kinds.Device read none h is = λ honest. is ∙ ap counted none
 commit_reads a b c edits may kinds.NoImage read none h is = absurd h

@@ -16,7 +16,7 @@ use Rattle.host_types.specs.declared.site_fault.SiteFault.{SiteFault}
 use Rattle.host_types.specs.declared.site_fault.SiteFault.TheVariants as faults
 use Rattle.page_store.specs.Pages.{Pair}
 use Rattle.page_store.specs.Batch.{updated, edit_key}
-use Rattle.page_store.specs.StoreState.{StoreState, HasRead, NeedsTheSame, HasStayed, HasFailed, HasTried, MayBeDeep, IsReadFault, IsCommitFault, edits_to_be_deep}
+use Rattle.page_store.specs.StoreState.{StoreState, CommitNeed, SoManyPages, TooManyLevels, HasRead, NeedsTheSame, HasStayed, HasFailed, HasTried, MayBeDeep, IsReadFault, IsCommitFault, edits_to_be_deep}
 use Rattle.page_store.specs.declared.banner.Banner.{Banner}
 use Rattle.page_store.specs.declared.edit.Edit.{Edit}
 use Rattle.page_store.specs.declared.fault.KeeperFault.{KeeperFault}
@@ -115,18 +115,19 @@ site_still a b ka kb same still = by a.honest refl
 deep_later : (a b : StoreState) (edits : ℕ) → b.banner ≡ a.banner → b.height ≡ a.height → MayBeDeep a edits → MayBeDeep b edits
 deep_later a b edits banner height deep = (subst (λ (x : Banner). 0 < x.version) (sym banner) deep.0, subst (λ (n : ℕ). edits_to_be_deep n ≤ edits) (sym height) deep.1)
 
-lacks_later : {K : Type 0} → (store_state : K → StoreState) (may_need : K → List Edit → ℕ → Type 0) (k0 k1 : K) (s : Site) (changes : Changes) (fault : SiteFault) → ((batch : List Edit) (need : ℕ) → may_need k0 batch need → may_need k1 batch need) → (store_state k1).top ≡ (store_state k0).top → (store_state k1).banner ≡ (store_state k0).banner → (store_state k1).height ≡ (store_state k0).height
+lacks_later : {K : Type 0} → (store_state : K → StoreState) (may_need : K → List Edit → CommitNeed → Type 0) (k0 k1 : K) (s : Site) (changes : Changes) (fault : SiteFault) → ((batch : List Edit) (need : CommitNeed) → may_need k0 batch need → may_need k1 batch need) → (store_state k1).top ≡ (store_state k0).top → (store_state k1).banner ≡ (store_state k0).banner → (store_state k1).height ≡ (store_state k0).height
     → IsLacking store_state may_need k0 s changes fault → IsLacking store_state may_need k1 s changes fault
 lacks_later store_state may_need k0 k1 s changes (faults.Refused r) need top banner height h = h
 lacks_later store_state may_need k0 k1 s changes faults.Read need top banner height h = h
-lacks_later store_state may_need k0 k1 s changes (faults.Full may_be_out_of_memory free) need top banner height (batch, t, applied, keys, makes, (is, needs)) = (batch, t, applied, keys, makes, (is, need batch may_be_out_of_memory needs))
+lacks_later store_state may_need k0 k1 s changes (faults.Full may_be_out_of_memory free) need top banner height (batch, t, applied, keys, makes, (is, needs)) = (batch, t, applied, keys, makes, (is, need batch (SoManyPages may_be_out_of_memory) needs))
 lacks_later store_state may_need k0 k1 s changes faults.Spent need top banner height h = top ∙ h
-lacks_later store_state may_need k0 k1 s changes faults.Deep need top banner height h = deep_later (store_state k0) (store_state k1) (length (keys_of_all s changes)) banner height h
+lacks_later store_state may_need k0 k1 s changes faults.Deep need top banner height (many, (batch, t, applied, keys, makes, (is, needs))) =
+    (deep_later (store_state k0) (store_state k1) (length (keys_of_all s changes)) banner height many, (batch, t, applied, keys, makes, (is, need batch TooManyLevels needs)))
 lacks_later store_state may_need k0 k1 s changes faults.Failed need top banner height h = h
 lacks_later store_state may_need k0 k1 s changes faults.Memory need top banner height h = h
 
 -- what a change may lack stays where the site and these of the keeper do
-pub lacks_still : {K : Type 0} → (store_state : K → StoreState) (may_need : K → List Edit → ℕ → Type 0) (k0 k1 : K) (s0 s1 : Site) → s1 ≡ s0 → NeedsTheSame (may_need k0) (may_need k1) → (store_state k1).top ≡ (store_state k0).top → (store_state k1).banner ≡ (store_state k0).banner → (store_state k1).height ≡ (store_state k0).height
+pub lacks_still : {K : Type 0} → (store_state : K → StoreState) (may_need : K → List Edit → CommitNeed → Type 0) (k0 k1 : K) (s0 s1 : Site) → s1 ≡ s0 → NeedsTheSame (may_need k0) (may_need k1) → (store_state k1).top ≡ (store_state k0).top → (store_state k1).banner ≡ (store_state k0).banner → (store_state k1).height ≡ (store_state k0).height
     → sites.LacksTheSame (IsLacking store_state may_need k0 s0) (IsLacking store_state may_need k1 s1)
 lacks_still store_state may_need k0 k1 s0 s1 still need top banner height = record {
   after = λ changes fault h. lacks_later store_state may_need k0 k1 s1 changes fault need.after top banner height (subst (λ (s : Site). IsLacking store_state may_need k0 s changes fault) (sym still) h);
@@ -134,7 +135,7 @@ lacks_still store_state may_need k0 k1 s0 s1 still need top banner height = reco
 }
 
 -- a call that reads leaves it
-pub lacks_same : {K L : Type 0} → (store_state : K → StoreState) (may_need : K → List Edit → ℕ → Type 0) (crash_states : K → CrashStates L) (k0 k1 : K) (ka : HasSite (store_state k0)) (kb : HasSite (store_state k1)) → ReadsOnly store_state may_need crash_states k0 k1
+pub lacks_same : {K L : Type 0} → (store_state : K → StoreState) (may_need : K → List Edit → CommitNeed → Type 0) (crash_states : K → CrashStates L) (k0 k1 : K) (ka : HasSite (store_state k0)) (kb : HasSite (store_state k1)) → ReadsOnly store_state may_need crash_states k0 k1
     → sites.LacksTheSame (IsLacking store_state may_need k0 (site_of (store_state k0) ka)) (IsLacking store_state may_need k1 (site_of (store_state k1) kb))
 lacks_same store_state may_need crash_states k0 k1 ka kb reads_only =
     let still = site_still (store_state k0) (store_state k1) ka kb reads_only.read.honest (has_read (store_state k0) (store_state k1) ka kb reads_only.read).site in
@@ -188,7 +189,7 @@ same_after a b c ka kc read same honest_is = record {
 }
 
 -- a change that was not planned
-module _ {D K L : Type 0} (keeper : D → K) (store_state : K → StoreState) (may_need : K → List Edit → ℕ → Type 0) (crash_states : K → CrashStates L) where
+module _ {D K L : Type 0} (keeper : D → K) (store_state : K → StoreState) (may_need : K → List Edit → CommitNeed → Type 0) (crash_states : K → CrashStates L) where
   abbrev PlanFault : D → D → (Site → Result Site Refused) → SiteFault → Type 0
   PlanFault d0 d1 applied fault = IsPlanFault (ShowsValid (λ d. IsShown store_state (keeper d))) (λ a b. HasNotFound store_state may_need crash_states (keeper a) (keeper b)) d0 d1 applied fault
 
@@ -282,7 +283,7 @@ is_ok (Ok x) t e = refl
 is_ok (Err x) t e = absurd (cc e)
 
 -- a change that was not written
-pub commit_fault_comes : {K : Type 0} → (store_state : K → StoreState) (may_need : K → List Edit → ℕ → Type 0) (k0 k1 k2 : K) (ka : HasSite (store_state k0)) (kc : HasSite (store_state k2)) (changes : Changes) (replacements : List Replacement) (banner : Banner) (fault : KeeperFault)
+pub commit_fault_comes : {K : Type 0} → (store_state : K → StoreState) (may_need : K → List Edit → CommitNeed → Type 0) (k0 k1 k2 : K) (ka : HasSite (store_state k0)) (kc : HasSite (store_state k2)) (changes : Changes) (replacements : List Replacement) (banner : Banner) (fault : KeeperFault)
     → HasRead (store_state k0) (store_state k1) → NeedsTheSame (may_need k0) (may_need k1) → HasTried (store_state k1) (store_state k2) → (store_state k1).usable ≡ true → (IsTrue (store_state k0).honest → Makes (store_state k0) (store_state k1) ka changes replacements banner)
     → IsCommitFault (store_state k1) (store_state k2) (length (batch_of (edits_of replacements))) (MayNeed may_need k1 (batch_of (edits_of replacements))) fault
     → sites.IsChangeFault (IsLacking store_state may_need k0 (site_of (store_state k0) ka) changes) (site_state_of (store_state k0) ka) (site_state_of (store_state k2) kc) (one_refusal (all_applied (site_of (store_state k0) ka) changes)) (store_site_fault_of fault)
@@ -299,10 +300,14 @@ commit_fault_comes store_state may_need k0 k1 k2 ka kc changes replacements bann
   same_after (store_state k0) (store_state k1) (store_state k2) ka kc read h.0 tried.honest,
   λ honest.
       let made = m honest in
+      let deep = h.1 (read.honest ∙ honest) in
       let batch = batch_of (edits_of replacements) in
       let many : length batch ≡ length (keys_of_all (site_of (store_state k0) ka) changes) = sym (length-map batch edit_key) ∙ ap (λ (keys : List (List ℕ)). length keys) made.keys in (
         is_ok (all_applied (site_of (store_state k0) ka) changes) made.site made.applied,
-        subst (λ (n : ℕ). MayBeDeep (store_state k0) n) many (deep_later (store_state k1) (store_state k0) (length batch) (sym read.same.banner) (sym read.same.height) (h.1 (read.honest ∙ honest))),
+        (
+          subst (λ (n : ℕ). MayBeDeep (store_state k0) n) many (deep_later (store_state k1) (store_state k0) (length batch) (sym read.same.banner) (sym read.same.height) deep.0),
+          (batch, made.site, made.applied, made.keys, ap (λ (ps : List Pair). updated ps batch) (sym made.before.all) ∙ made.shows.all, (deep.1.0, need.before batch TooManyLevels deep.1.1)),
+        ),
       ),
 )
 commit_fault_comes store_state may_need k0 k1 k2 ka kc changes replacements banner (kinds.Full may_be_out_of_memory free) read need tried up m h = (
@@ -318,7 +323,7 @@ commit_fault_comes store_state may_need k0 k1 k2 ka kc changes replacements bann
           made.applied,
           made.keys,
           ap (λ (ps : List Pair). updated ps (batch_of (edits_of replacements))) (sym made.before.all) ∙ made.shows.all,
-          (room.0, need.before (batch_of (edits_of replacements)) may_be_out_of_memory room.1),
+          (room.0, need.before (batch_of (edits_of replacements)) (SoManyPages may_be_out_of_memory) room.1),
         ),
       ),
 )
@@ -375,7 +380,7 @@ after_port b (Some name) (Some admin) h given = given
 
 -- ---- what a commit leaves
 
-err_kept : (b c : StoreState) (edits : ℕ) (may_need : ℕ → Type 0) (fault : KeeperFault) (s : Site) → IsCommitFault b c edits may_need fault → IsTrue b.honest → RepresentedBy b s → RepresentedBy c s
+err_kept : (b c : StoreState) (edits : ℕ) (may_need : CommitNeed → Type 0) (fault : KeeperFault) (s : Site) → IsCommitFault b c edits may_need fault → IsTrue b.honest → RepresentedBy b s → RepresentedBy c s
 err_kept b c edits may_need kinds.Device s h honest kept = stayed b c s h.0 honest kept
 err_kept b c edits may_need kinds.NoImage s h honest kept = absurd h
 err_kept b c edits may_need kinds.Version s h honest kept = absurd h
@@ -387,7 +392,7 @@ err_kept b c edits may_need (kinds.Full need free) s h honest kept = stayed b c 
 err_kept b c edits may_need kinds.Failed s h honest kept = failed b c s h honest kept
 err_kept b c edits may_need kinds.Memory s h honest kept = stayed b c s h honest kept
 
-err_banner : (b c : StoreState) (edits : ℕ) (may_need : ℕ → Type 0) (fault : KeeperFault) → IsCommitFault b c edits may_need fault → c.banner ≡ b.banner
+err_banner : (b c : StoreState) (edits : ℕ) (may_need : CommitNeed → Type 0) (fault : KeeperFault) → IsCommitFault b c edits may_need fault → c.banner ≡ b.banner
 err_banner b c edits may_need kinds.Device h = h.0.banner
 err_banner b c edits may_need kinds.NoImage h = absurd h
 err_banner b c edits may_need kinds.Version h = absurd h
@@ -402,7 +407,7 @@ err_banner b c edits may_need kinds.Memory h = h.banner
 have_twice : (a b c : StoreState) → HasSite a → HasRead a b → PinsStay b c → IsTrue b.honest → AllHave c.pins
 have_twice a b c ka read stay honest = let keeps = keeps_read a b read ka in have_still b c stay honest (keeps honest).2
 
-pub keeps_written : {U : Type 0} → (r : Result U KeeperFault) (a b c : StoreState) (ka : HasSite a) (changes : Changes) (replacements : List Replacement) (banner : Banner) (edits : ℕ) (may_need : ℕ → Type 0) → HasRead a b → c.honest ≡ b.honest → PinsStay b c
+pub keeps_written : {U : Type 0} → (r : Result U KeeperFault) (a b c : StoreState) (ka : HasSite a) (changes : Changes) (replacements : List Replacement) (banner : Banner) (edits : ℕ) (may_need : CommitNeed → Type 0) → HasRead a b → c.honest ≡ b.honest → PinsStay b c
     → (IsTrue a.honest → Makes a b ka changes replacements banner) → (IsTrue b.honest → OnOk r (c.pairs ≡ updated b.pairs (batch_of (edits_of replacements)))) → OnOk r (c.banner ≡ banner) → IfErr r (IsCommitFault b c edits may_need) → HasSite c
 keeps_written (Ok u) a b c ka changes replacements banner edits may_need read same stay m pairs named fault honest2 =
     let honest1 : IsTrue b.honest = sym same ∙ honest2 in
@@ -427,7 +432,7 @@ has_tried a b c ka kc read tried stay =
 pub has_tried_reading : (a b : StoreState) (ka : HasSite a) (kb : HasSite b) → HasRead a b → sites.HasTried (site_state_of a ka) (site_state_of b kb)
 has_tried_reading a b ka kb read = record { honest = read.honest; reads = read.reads; writes = omega (arith, read.writes); pins = pins_still a b ka kb read.honest (pins_stay_read a b read) }
 
-pub port_written : {U : Type 0} → (r : Result U KeeperFault) (a b c : StoreState) (banner : Banner) (edits : ℕ) (may_need : ℕ → Type 0) → HasRead a b → 0 < a.banner.port → 0 < banner.port → OnOk r (c.banner ≡ banner) → IfErr r (IsCommitFault b c edits may_need) → 0 < c.banner.port
+pub port_written : {U : Type 0} → (r : Result U KeeperFault) (a b c : StoreState) (banner : Banner) (edits : ℕ) (may_need : CommitNeed → Type 0) → HasRead a b → 0 < a.banner.port → 0 < banner.port → OnOk r (c.banner ≡ banner) → IfErr r (IsCommitFault b c edits may_need) → 0 < c.banner.port
 port_written (Ok u) a b c banner edits may_need read old new named fault = subst (λ (x : Banner). 0 < x.port) (sym named) new
 port_written (Err e) a b c banner edits may_need read old new named fault = subst (λ (x : Banner). 0 < x.port) (sym (err_banner b c edits may_need e fault ∙ read.same.banner)) old
 

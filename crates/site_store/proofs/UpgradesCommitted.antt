@@ -8,7 +8,7 @@ use Rattle.host_types.specs.Site.{Site}
 use Rattle.page_store.specs.Batch.{updated}
 use Rattle.page_store.specs.Counting.{reads_after, writes_after}
 use Rattle.page_store.specs.Pages.{Pair}
-use Rattle.page_store.specs.StoreState.{StoreState, HasRead, HasStayed, HasFailed, HasTried, NeedsTheSame, IsCommitFault, MayBeDeep, edits_to_be_deep}
+use Rattle.page_store.specs.StoreState.{StoreState, CommitNeed, SoManyPages, TooManyLevels, HasRead, HasStayed, HasFailed, HasTried, NeedsTheSame, IsCommitFault, MayBeDeep, edits_to_be_deep}
 use Rattle.page_store.specs.declared.banner.Banner.{Banner}
 use Rattle.page_store.specs.declared.edit.Edit.{Edit}
 use Rattle.page_store.specs.declared.fault.KeeperFault.{KeeperFault}
@@ -48,7 +48,7 @@ uncounted true (kinds.Full need free) old new up other same = same
 uncounted true kinds.Failed old new up other same = absurd (other refl)
 uncounted true kinds.Memory old new up other same = same
 
-module _ (a b : StoreState) (may_need : List Edit → ℕ → Type 0) (up : a.usable ≡ true) (read : HasRead a b) where
+module _ (a b : StoreState) (may_need : List Edit → CommitNeed → Type 0) (up : a.usable ≡ true) (read : HasRead a b) where
   keeper_refused : (fault : KeeperFault) → IsCountedFault a b fault → IsNotUpgraded a b may_need (Keeper fault)
   keeper_refused kinds.Device h = record { cause = read.same; honest = read.honest; reads = h.1; writes = uncounted a.usable kinds.Device a.failed_writes b.failed_writes up (λ is. absurd (cc is)) read.writes }
   keeper_refused kinds.NoImage h = absurd h.0
@@ -95,23 +95,24 @@ fail_on a b c x y = record {
   top = ⊎_elim (λ t. inl (t ∙ x.same.top)) (λ t. inr (t ∙ ap (λ (n : ℕ). n + 1) x.same.top)) y.top;
 }
 
-module _ (a b c : StoreState) (need_a need_b : List Edit → ℕ → Type 0) (batch : List Edit) (read : HasRead a b) (none : NoneFailed a b) (needs : NeedsTheSame need_a need_b) (upgrade : IsTrue a.honest → IsUpgradeOf a.pairs a.banner batch) where
-  deep : IsTrue a.honest → MayBeDeep b (length batch) → (s : Site) × FirstBy a s × MayBeDeep a (length s.items)
+module _ (a b c : StoreState) (need_a need_b : List Edit → CommitNeed → Type 0) (batch : List Edit) (read : HasRead a b) (none : NoneFailed a b) (needs : NeedsTheSame need_a need_b) (upgrade : IsTrue a.honest → IsUpgradeOf a.pairs a.banner batch) where
+  deep : IsTrue a.honest → MayBeDeep b (length batch) × need_b batch TooManyLevels → (s : Site) × FirstBy a s × MayBeDeep a (length s.items) × need_a (upgrade_batch s) TooManyLevels
   deep honest h =
       let u = upgrade honest in
       let count : length batch ≡ length u.0.items = ap length u.2 ∙ one_for_each u.0 u.1.valid in (
         u.0,
         u.1,
         (
-          subst (λ (x : Banner). 0 < x.version) read.same.banner h.0,
-          subst (λ (n : ℕ). edits_to_be_deep a.height ≤ n) count (subst (λ (n : ℕ). edits_to_be_deep n ≤ length batch) read.same.height h.1),
+          subst (λ (x : Banner). 0 < x.version) read.same.banner h.0.0,
+          subst (λ (n : ℕ). edits_to_be_deep a.height ≤ n) count (subst (λ (n : ℕ). edits_to_be_deep n ≤ length batch) read.same.height h.0.1),
         ),
+        subst (λ (x : List Edit). need_a x TooManyLevels) u.2 (needs.before batch TooManyLevels h.1),
       )
 
-  full : (need : ℕ) → IsTrue a.honest → need_b batch need → (s : Site) × FirstBy a s × need_a (upgrade_batch s) need
+  full : (need : ℕ) → IsTrue a.honest → need_b batch (SoManyPages need) → (s : Site) × FirstBy a s × need_a (upgrade_batch s) (SoManyPages need)
   full need honest h =
       let u = upgrade honest in
-      (u.0, u.1, subst (λ (x : List Edit). need_a x need) u.2 (needs.before batch need h))
+      (u.0, u.1, subst (λ (x : List Edit). need_a x (SoManyPages need)) u.2 (needs.before batch (SoManyPages need) h))
 
   commit_cause : (fault : KeeperFault) → IsCommitFault b c (length batch) (need_b batch) fault → IsUpgradeFault a c need_a (commit_fault fault)
   commit_cause kinds.Device h = stay_on a b c read h.0

@@ -16,13 +16,13 @@ use Rattle.host_types.specs.declared.site_fault.SiteFault.{SiteFault}
 use Rattle.host_types.specs.declared.site_fault.SiteFault.TheVariants as faults
 use Rattle.host_types.proofs.Boards.{body_is}
 use Rattle.change_plan.specs.LookUps.{HasNoLongNames}
-use Rattle.page_store.specs.StoreState.{StoreState}
+use Rattle.page_store.specs.StoreState.{StoreState, CommitNeed}
 use Rattle.page_store.specs.declared.edit.Edit.{Edit}
 use Rattle.site_store.specs.LookUps.{IsShown, HasFound, IsLookUpFault, HasNotFound}
 use Rattle.site_pairs.specs.ShortReplacements.{IsShort}
 use Rattle.site_store.specs.ReadLaws.{reads_later, not_yet, kept_after, long_none}
 
-module _ {K L : Type 0} (store_state : K → StoreState) (may_need : K → List Edit → ℕ → Type 0) (crash_states : K → CrashStates L) where
+module _ {K L : Type 0} (store_state : K → StoreState) (may_need : K → List Edit → CommitNeed → Type 0) (crash_states : K → CrashStates L) where
   pub nothing_read : (k : K) → HasFound store_state may_need crash_states k k
   nothing_read k = record { reads_only = not_yet store_state may_need crash_states k; none = refl }
 

@@ -6,7 +6,7 @@ use mathlib.Core.Logic.{∥∥₁_elim}
 use Rattle.host_types.specs.Site.{Site, IsSite, item_at}
 use Rattle.host_types.specs.Standing.{limits_at}
 use Rattle.host_types.specs.CrashStates.{CrashStates, no_new_crash_state, adds_none_again}
-use Rattle.page_store.specs.StoreState.{StoreState, HasRead, NeedsTheSame}
+use Rattle.page_store.specs.StoreState.{StoreState, CommitNeed, HasRead, NeedsTheSame}
 use Rattle.page_store.specs.declared.edit.Edit.{Edit}
 use Rattle.site_store.specs.Represented.{RepresentedBy}
 use Rattle.site_store.specs.StoreReads.{ReadsOnly, NoneFailed}
@@ -34,20 +34,20 @@ read_later a b c x y =
 pub none_later : (a b c : StoreState) → NoneFailed a b → NoneFailed b c → NoneFailed a c
 none_later a b c x y = y ∙ x
 
-need_later : (a b c : List Edit → ℕ → Type 0) → NeedsTheSame a b → NeedsTheSame b c → NeedsTheSame a c
+need_later : (a b c : List Edit → CommitNeed → Type 0) → NeedsTheSame a b → NeedsTheSame b c → NeedsTheSame a c
 need_later a b c x y = record {
   after = λ batch need h. y.after batch need (x.after batch need h);
   before = λ batch need h. x.before batch need (y.before batch need h);
 }
 
-pub reads_later : {K L : Type 0} → (store_state : K → StoreState) (may_need : K → List Edit → ℕ → Type 0) (crash_states : K → CrashStates L) (a b c : K) → ReadsOnly store_state may_need crash_states a b → ReadsOnly store_state may_need crash_states b c → ReadsOnly store_state may_need crash_states a c
+pub reads_later : {K L : Type 0} → (store_state : K → StoreState) (may_need : K → List Edit → CommitNeed → Type 0) (crash_states : K → CrashStates L) (a b c : K) → ReadsOnly store_state may_need crash_states a b → ReadsOnly store_state may_need crash_states b c → ReadsOnly store_state may_need crash_states a c
 reads_later store_state may_need crash_states a b c x y = record {
   read = read_later (store_state a) (store_state b) (store_state c) x.read y.read;
   need = need_later (may_need a) (may_need b) (may_need c) x.need y.need;
   no_new_crash_state = λ honest. adds_none_again (crash_states a) (crash_states b) (crash_states c) (x.no_new_crash_state honest) (y.no_new_crash_state (x.read.honest ∙ honest));
 }
 
-pub not_yet : {K L : Type 0} → (store_state : K → StoreState) (may_need : K → List Edit → ℕ → Type 0) (crash_states : K → CrashStates L) (a : K) → ReadsOnly store_state may_need crash_states a a
+pub not_yet : {K L : Type 0} → (store_state : K → StoreState) (may_need : K → List Edit → CommitNeed → Type 0) (crash_states : K → CrashStates L) (a : K) → ReadsOnly store_state may_need crash_states a a
 not_yet store_state may_need crash_states a = record {
   read = record {
     same = record { pairs = λ honest. refl; banner = refl; usable = refl; generation = refl; height = refl; out = refl; pins = λ honest. refl; top = refl; free = refl };

@@ -12,7 +12,7 @@ use Rattle.host_types.specs.declared.item.Body.{Body}
 use Rattle.host_types.specs.declared.item.Body.TheVariants.{Views, Menu, Board, Form, Search, Moved}
 use Rattle.page_store.specs.Pages.{Pair}
 use Rattle.page_store.specs.Batch.{value_at}
-use Rattle.page_store.specs.StoreState.{StoreState, HasRead, NeedsTheSame, IsReadFault}
+use Rattle.page_store.specs.StoreState.{StoreState, CommitNeed, HasRead, NeedsTheSame, IsReadFault}
 use Rattle.page_store.specs.Counting.{reads_after}
 use Rattle.page_store.specs.declared.edit.Edit.{Edit}
 use Rattle.page_store.specs.declared.fault.KeeperFault.{KeeperFault}
@@ -26,7 +26,7 @@ use Rattle.site_store.specs.declared.fault.SiteOpenFault.{SiteOpenFault}
 use Rattle.site_store.specs.declared.fault.SiteOpenFault.TheVariants.{BadRecord, Keeper, Memory}
 
 -- What a call that reads leaves: what is held stays, a batch may need as much as before, and nothing was written.
-pub record ReadsOnly {K L : Type 0} (store_state : K → StoreState) (may_need : K → List Edit → ℕ → Type 0) (crash_states : K → CrashStates L) (old new : K) : Type 0 where
+pub record ReadsOnly {K L : Type 0} (store_state : K → StoreState) (may_need : K → List Edit → CommitNeed → Type 0) (crash_states : K → CrashStates L) (old new : K) : Type 0 where
   pub read : HasRead (store_state old) (store_state new)
   pub need : NeedsTheSame (may_need old) (may_need new)
   pub no_new_crash_state : IsTrue (store_state old).honest → AddsNone (crash_states old) (crash_states new)

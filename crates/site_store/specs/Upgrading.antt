@@ -5,7 +5,7 @@ use Rattle.host_types.specs.Site.{Site, IsSite}
 use Rattle.host_types.specs.declared.item.Item.{Item}
 use Rattle.page_store.specs.Counting.{reads_after, writes_after}
 use Rattle.page_store.specs.Pages.{Pair}
-use Rattle.page_store.specs.StoreState.{StoreState, HasStayed, HasFailed, MayBeDeep, last_generation}
+use Rattle.page_store.specs.StoreState.{StoreState, CommitNeed, SoManyPages, TooManyLevels, HasStayed, HasFailed, MayBeDeep, last_generation}
 use Rattle.page_store.specs.declared.banner.Banner.{Banner}
 use Rattle.page_store.specs.declared.edit.Edit.{Edit}
 use Rattle.page_store.specs.declared.fault.KeeperFault.{KeeperFault}
@@ -111,15 +111,15 @@ pub record IsUpgraded (old new : StoreState) (count : ℕ) : Type 0 where
   pub writes : new.failed_writes ≡ old.failed_writes
 
 -- Why nothing was upgraded, and what stays then: all of it, but that a keeper that has failed may have tried one generation more. `BadRecord` says that the pairs and the banner represent no site in version 1.
-abbrev pub IsUpgradeFault : StoreState → StoreState → (List Edit → ℕ → Type 0) → SiteOpenFault → Type 0
+abbrev pub IsUpgradeFault : StoreState → StoreState → (List Edit → CommitNeed → Type 0) → SiteOpenFault → Type 0
 IsUpgradeFault old new may_need BadRecord = HasStayed old new × (IsTrue old.honest → (s : Site) → FirstBy old s → ⊥)
 IsUpgradeFault old new may_need Memory = HasStayed old new
 IsUpgradeFault old new may_need (Keeper kinds.Device) = HasStayed old new
 IsUpgradeFault old new may_need (Keeper (kinds.Damaged page)) = HasStayed old new × (old.honest ≡ false)
 IsUpgradeFault old new may_need (Keeper kinds.Spent) = HasStayed old new × (old.top ≡ last_generation)
-IsUpgradeFault old new may_need (Keeper kinds.Deep) = HasStayed old new × (IsTrue old.honest → (s : Site) × FirstBy old s × MayBeDeep old (length s.items))
+IsUpgradeFault old new may_need (Keeper kinds.Deep) = HasStayed old new × (IsTrue old.honest → (s : Site) × FirstBy old s × MayBeDeep old (length s.items) × may_need (upgrade_batch s) TooManyLevels)
 IsUpgradeFault old new may_need (Keeper (kinds.Full need free)) =
-    HasStayed old new × ((free ≡ old.free) × (free < need)) × (IsTrue old.honest → (s : Site) × FirstBy old s × may_need (upgrade_batch s) need)
+    HasStayed old new × ((free ≡ old.free) × (free < need)) × (IsTrue old.honest → (s : Site) × FirstBy old s × may_need (upgrade_batch s) (SoManyPages need))
 IsUpgradeFault old new may_need (Keeper kinds.Failed) = HasFailed old new × (IsTrue old.honest → IsTrue old.usable → (s : Site) × FirstBy old s)
 IsUpgradeFault old new may_need (Keeper kinds.NoImage) = ⊥
 IsUpgradeFault old new may_need (Keeper kinds.Version) = ⊥
@@ -151,7 +151,7 @@ writes_counted usable BadRecord count = count
 writes_counted usable Memory count = count
 
 -- Nothing was upgraded: why, and what was counted.
-pub record IsNotUpgraded (old new : StoreState) (may_need : List Edit → ℕ → Type 0) (fault : SiteOpenFault) : Type 0 where
+pub record IsNotUpgraded (old new : StoreState) (may_need : List Edit → CommitNeed → Type 0) (fault : SiteOpenFault) : Type 0 where
   pub cause : IsUpgradeFault old new may_need fault
   pub honest : new.honest ≡ old.honest
   pub reads : new.failed_reads ≡ reads_counted fault old.failed_reads

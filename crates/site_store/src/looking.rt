@@ -2,7 +2,7 @@
 ghost use Rattle.std.specs.Prelude.{◌≡◌, ◌≤◌, ℕ, List, IfOk, IfSome, length, take, option_map};
 ghost use Rattle.host_types.specs.CrashStates.{CrashStates};
 ghost use Rattle.page_store.specs.Batch.{value_at};
-ghost use Rattle.page_store.specs.StoreState.{StoreState};
+ghost use Rattle.page_store.specs.StoreState.{StoreState, CommitNeed};
 ghost use Rattle.page_store.specs.declared.edit.Edit.{Edit};
 ghost use Rattle.site_store.specs.StoreReads.{IsCountedFault, IsKeeperFault};
 ghost use Rattle.site_store.specs.Reads.{AlwaysReads};
@@ -16,8 +16,8 @@ pub trait ValueLookup {
     /// What is held.
     ghost store_state: { Self → StoreState };
 
-    /// How much a batch may need.
-    ghost may_need: { Self → List Edit → ℕ → Type 0 };
+    /// What a batch may need.
+    ghost may_need: { Self → List Edit → CommitNeed → Type 0 };
 
     /// A crash state.
     ghost CrashState: { Type 0 };

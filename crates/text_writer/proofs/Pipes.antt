@@ -4,7 +4,7 @@ use Rattle.std.specs.Prelude.{Some}
 use Rattle.std.proofs.lemmas.Bool.{cases_Bool}
 use Rattle.std.proofs.lemmas.List.{take-append-drop, drop-drop, drop-append-le}
 use Rattle.text_writer.proofs.Runs.{run_given}
-use Rattle.text_writer.specs.Place.{closing, given_from, run_length}
+use Rattle.text_writer.specs.Place.{closing, given_from, run_length, behind_run}
 use Rattle.text_writer.specs.Pipe.{Piped, will_give, given_behind, Passes}
 use Rattle.text_writer.specs.declared.place.Place.{Place}
 
@@ -33,7 +33,7 @@ unchanged_on n m xs ys onward same =
     ap (λ k. drop k xs) split ∙ sym (drop-drop (m - n) n xs) ∙ ap (drop (m - n)) same ∙ drop-drop (m - n) n ys ∙ sym (ap (λ k. drop k ys) split)
 
 -- a run at the front of a chunk, and what is given behind it
-pub run_on : (place : Place) (chunk front more : List ℕ) (k run : ℕ) → front ≡ take k chunk → run ≡ run_length place front → run ≤ length front → given_from place (chunk ++ more) ≡ take run front ++ given_from place (drop run chunk ++ more)
+pub run_on : (place : Place) (chunk front more : List ℕ) (k run : ℕ) → front ≡ take k chunk → run ≡ run_length place front → run ≤ length front → given_from place (chunk ++ more) ≡ take run front ++ given_from (behind_run place run) (drop run chunk ++ more)
 run_on place chunk front more k run is so_many within =
     let halves : chunk ≡ front ++ drop k chunk = sym (take-append-drop k chunk) ∙ ap (λ l. l ++ drop k chunk) (sym is) in
     let later : drop run chunk ++ more ≡ drop run front ++ (drop k chunk ++ more) =
@@ -41,8 +41,8 @@ run_on place chunk front more k run is so_many within =
     ap (λ l. given_from place (l ++ more)) halves
     ∙ ap (given_from place) (append_assoc front (drop k chunk) more)
     ∙ run_given place front (drop k chunk ++ more)
-    ∙ ap (λ n. take n front ++ given_from place (drop n front ++ (drop k chunk ++ more))) (sym so_many)
-    ∙ ap (λ l. take run front ++ given_from place l) (sym later)
+    ∙ ap (λ n. take n front ++ given_from (behind_run place n) (drop n front ++ (drop k chunk ++ more))) (sym so_many)
+    ∙ ap (λ l. take run front ++ given_from (behind_run place run) l) (sym later)
 
 closing_gives : (place : Place) → closing place ≡ [] → ⊥
 closing_gives place none = elim (cases_Bool place.held) [
@@ -60,21 +60,22 @@ some_is_left pipe place some none =
     closing_gives place (second_is_none pipe.ready (closing place) (ap (λ p. pipe.ready ++ given_behind p []) (sym some) ∙ none))
 
 -- a run at the front of a chunk was given
-pub run_passed : (pipe : Piped) (place : Place) (chunk front old new : List ℕ) (at k run : ℕ) → pipe.place ≡ Some place → pipe.ready ≡ [] → front ≡ take k chunk → run ≡ run_length place front → run ≤ length front →
-    take (at + run) new ≡ take at old ++ take run front → (more : List ℕ) → take (at + run) new ++ will_give pipe (drop run chunk ++ more) ≡ take at old ++ will_give pipe (chunk ++ more)
-run_passed pipe place chunk front old new at k run some none is so_many within given more =
+pub run_passed : (pipe now : Piped) (place : Place) (chunk front old new : List ℕ) (at k run : ℕ) → pipe.place ≡ Some place → pipe.ready ≡ [] → now.place ≡ Some (behind_run place run) → now.ready ≡ pipe.ready → front ≡ take k chunk → run ≡ run_length place front → run ≤ length front →
+    take (at + run) new ≡ take at old ++ take run front → (more : List ℕ) → take (at + run) new ++ will_give now (drop run chunk ++ more) ≡ take at old ++ will_give pipe (chunk ++ more)
+run_passed pipe now place chunk front old new at k run some none later as_ready is so_many within given more =
     let gives : (rest : List ℕ) → will_give pipe rest ≡ given_from place rest = λ rest. ap (λ l. l ++ given_behind pipe.place rest) none ∙ ap (λ p. given_behind p rest) some in
-    ap (λ l. l ++ will_give pipe (drop run chunk ++ more)) given
-    ∙ append_assoc (take at old) (take run front) (will_give pipe (drop run chunk ++ more))
-    ∙ ap (λ l. take at old ++ (take run front ++ l)) (gives (drop run chunk ++ more))
+    let gives_now : (rest : List ℕ) → will_give now rest ≡ given_from (behind_run place run) rest = λ rest. ap (λ l. l ++ given_behind now.place rest) (as_ready ∙ none) ∙ ap (λ p. given_behind p rest) later in
+    ap (λ l. l ++ will_give now (drop run chunk ++ more)) given
+    ∙ append_assoc (take at old) (take run front) (will_give now (drop run chunk ++ more))
+    ∙ ap (λ l. take at old ++ (take run front ++ l)) (gives_now (drop run chunk ++ more))
     ∙ ap (λ l. take at old ++ l) (sym (run_on place chunk front more k run is so_many within))
     ∙ ap (λ l. take at old ++ l) (sym (gives (chunk ++ more)))
 
 -- a run more of the chunk
-pub run_taken : (chunk part given rest : List ℕ) (taken run : ℕ) (old now : Piped) → Passes old chunk taken part now → rest ≡ drop taken chunk →
-    ((more : List ℕ) → given ++ will_give now (drop run rest ++ more) ≡ part ++ will_give now (rest ++ more)) → Passes old chunk (taken + run) given now
-run_taken chunk part given rest taken run old now passes is run_given more =
-    ap (λ l. given ++ will_give now (l ++ more)) (sym (drop-drop run taken chunk) ∙ ap (drop run) (sym is))
+pub run_taken : (chunk part given rest : List ℕ) (taken run : ℕ) (old now new : Piped) → Passes old chunk taken part now → rest ≡ drop taken chunk →
+    ((more : List ℕ) → given ++ will_give new (drop run rest ++ more) ≡ part ++ will_give now (rest ++ more)) → Passes old chunk (taken + run) given new
+run_taken chunk part given rest taken run old now new passes is run_given more =
+    ap (λ l. given ++ will_give new (l ++ more)) (sym (drop-drop run taken chunk) ∙ ap (drop run) (sym is))
     ∙ run_given more
     ∙ ap (λ l. part ++ will_give now (l ++ more)) is
     ∙ passes more

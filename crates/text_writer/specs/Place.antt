@@ -1,5 +1,5 @@
 -- Text in one pass over a body. What a byte gives depends on its place in its line alone.
-use Rattle.std.specs.Prelude.{ℕ, Bool, true, false, List, [], ◌∷◌, ◌++◌, ◌==◌, ◌&&◌, ◌||◌, if◌then◌else◌}
+use Rattle.std.specs.Prelude.{ℕ, zero, suc, Bool, true, false, List, [], ◌∷◌, ◌++◌, ◌==◌, ◌&&◌, ◌||◌, if◌then◌else◌}
 use Rattle.std.specs.List.{position_or_len}
 use Rattle.text_writer.specs.Text.{text_end}
 use Rattle.text_writer.specs.declared.place.Place.{Place}
@@ -40,6 +40,16 @@ given_from p (b ∷ bs) = emitted p b ++ given_from (after p b) bs
 abbrev pub may_end_line : ℕ → Bool
 may_end_line b = b == 10 || b == 13
 
--- How many of the next bytes are sent as they are: those before a CR or an LF, once a line has begun.
+-- a period at the front
+abbrev pub begins_with_period : List ℕ → Bool
+begins_with_period [] = false
+begins_with_period (b ∷ bs) = b == 46
+
+-- How many of the next bytes are sent as they are: those before a CR or an LF; none where a CR is held or a line begins with a period.
 abbrev pub run_length : Place → List ℕ → ℕ
-run_length p bytes = if p.held || p.at_start then 0 else position_or_len may_end_line bytes
+run_length p bytes = if p.held || (p.at_start && begins_with_period bytes) then 0 else position_or_len may_end_line bytes
+
+-- the place behind so many bytes that are sent as they are
+abbrev pub behind_run : Place → ℕ → Place
+behind_run p zero = p
+behind_run p (suc run) = record { at_start = false; held = false }

@@ -3,7 +3,14 @@ ghost use Rattle.std.specs.Prelude.{◌≡◌, ◌∷◌, ◌++◌, Some, IfOk, 
 ghost use Rattle.text_writer.specs.Menu as spec;
 
 use host_types::{Address, Bytes, Card, CardBody, Entry, LineList, Selector};
+use itoa::Buffer;
 use std::alloc::{AllocError, Global};
+
+/// The most bytes of a line beside its title, selector and host: its letter, four TABs, the digits of a port, a sign, CR and LF.
+const BESIDE: usize = 13;
+
+/// The line that ends a menu.
+const END: &[u8] = b".\r\n";
 
 /// The letter that a menu line begins with (RFC 1436, section 3.8).
 fn type_letter(body: &CardBody) -> u8
@@ -39,8 +46,11 @@ fn four_fields(
 ) -> Result<Vec<u8>, AllocError>
     ensures { IfOk result (λ line. line.items ≡ letter ∷ title.now ++ 9 ∷ selector.now ++ 9 ∷ host.now ++ 9 ∷ decimal port) }
 {
-    let digits = format!(in alloc; "{port}")?;
-    let mut line = Vec::new(alloc);
+    let names = title
+        .len()
+        .saturating_add(selector.len())
+        .saturating_add(host.len());
+    let mut line = Vec::with_capacity(alloc, names.saturating_add(BESIDE))?;
     line.push(letter)?;
     line.extend_from_slice(title)?;
     line.push(b'\t')?;
@@ -48,7 +58,7 @@ fn four_fields(
     line.push(b'\t')?;
     line.extend_from_slice(host)?;
     line.push(b'\t')?;
-    line.extend_from_slice(digits.as_bytes())?;
+    line.extend_from_slice(Buffer::new().format(port).as_bytes())?;
     Ok(line)
 }
 
@@ -146,10 +156,14 @@ pub fn link_line(
 pub fn menu(alloc: Global, lines: &LineList) -> Result<Bytes, AllocError>
     ensures menu { IfOk result (λ m. m ≡ spec.menu lines.now) }
 {
-    let mut menu = Vec::new(alloc);
+    let mut size = END.len();
+    for line in lines.as_slice() {
+        size = size.saturating_add(line.as_slice().len());
+    }
+    let mut menu = Vec::with_capacity(alloc, size)?;
     for line in lines.as_slice() {
         menu.extend_from_slice(line.as_slice())?;
     }
-    menu.extend_from_slice(b".\r\n")?;
+    menu.extend_from_slice(END)?;
     Ok(Bytes::from(menu))
 }

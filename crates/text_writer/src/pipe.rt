@@ -5,7 +5,7 @@ ghost use Rattle.host_types.specs.SiteState.{IsUnchangedBehind};
 ghost use Rattle.text_writer.specs.Pipe.{Piped, will_give, fresh, Passes, Ends};
 ghost use Rattle.text_writer.specs.Text.{text};
 
-use crate::place::{BODY_START, Place, Ready, after, closing, emitted, run_length};
+use crate::place::{BODY_START, Place, Ready, after, behind_run, closing, emitted, run_length};
 use std::marker::Model;
 
 /// How many bytes of the chunk were taken, and how many bytes of the text were given.
@@ -135,6 +135,12 @@ impl TextPipe {
         ensures behind { IsUnchangedBehind result out.old out.new }
         ensures progress { (self.new.ready ≡ []) ⊎ (result ≡ length out.new) }
     {
+        if self.ready.len() <= out.len() - at {
+            let count = self.ready.len();
+            copy_to(self.ready.as_slice(), out, at);
+            self.ready.clear();
+            return at + count;
+        }
         let mut end = at;
         while end < out.len() && !self.ready.is_empty() {
             out[end] = self.ready.remove(0);
@@ -144,11 +150,12 @@ impl TextPipe {
     }
 
     /// Gives the next bytes that are sent as they are, as far as there is room, and says how many; none while others are ready.
-    fn pass_run(&self, rest: &[u8], out: &mut [u8], at: usize) -> usize
+    fn pass_run(&mut self, rest: &[u8], out: &mut [u8], at: usize) -> usize
         requires { at ≤ length out.old }
         ensures taken { result ≤ length rest.now }
         ensures within { at + result ≤ length out.new }
-        ensures given { (more : List ℕ) → take (at + result) out.new ++ will_give self.now (drop result rest.now ++ more) ≡ take at out.old ++ will_give self.now (rest.now ++ more) }
+        ensures given { (more : List ℕ) → take (at + result) out.new ++ will_give self.new (drop result rest.now ++ more) ≡ take at out.old ++ will_give self.old (rest.now ++ more) }
+        ensures ready { self.new.ready ≡ self.old.ready }
         ensures behind { IsUnchangedBehind (at + result) out.old out.new }
     {
         let Some(place) = self.place else {
@@ -160,6 +167,7 @@ impl TextPipe {
         let next = &rest[..rest.len().min(out.len() - at)];
         let run = run_length(place, next);
         copy_to(&next[..run], out, at);
+        self.place = Some(behind_run(place, run));
         run
     }
 }

@@ -88,10 +88,24 @@ pub fn run_length(place: Place, bytes: &[u8]) -> usize
     ensures run { result ≡ spec.run_length place bytes.now }
     ensures within { result ≤ length bytes.now }
 {
-    if place.held || place.at_start {
+    if place.held || (place.at_start && bytes.first() == Some(&b'.')) {
         0
     } else {
         plain_length(bytes)
+    }
+}
+
+/// Where the line is behind so many bytes that are sent as they are.
+pub fn behind_run(place: Place, run: usize) -> Place
+    ensures { result ≡ spec.behind_run place run }
+{
+    if run == 0 {
+        place
+    } else {
+        Place {
+            at_start: false,
+            held: false,
+        }
     }
 }
 

@@ -3,7 +3,7 @@ ghost use Rattle.std.specs.Prelude.{◌≡◌, IfOk};
 ghost use Rattle.host_types.specs.Lines.{lines};
 ghost use Rattle.text_writer.specs.Text as spec;
 
-use crate::place::{BODY_START, after, closing, emitted, run_length};
+use crate::place::{BODY_START, after, behind_run, closing, emitted, run_length};
 use host_types::Bytes;
 use std::alloc::{AllocError, Global};
 
@@ -23,6 +23,7 @@ pub fn text(alloc: Global, body: &[u8]) -> Result<Bytes, AllocError>
         let later = &body[at + 1..];
         let run = run_length(place, later);
         sent.extend_from_slice(&later[..run])?;
+        place = behind_run(place, run);
         at += 1 + run;
     }
     sent.extend_from_slice(closing(place).as_slice())?;

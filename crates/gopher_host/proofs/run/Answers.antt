@@ -4,14 +4,29 @@ use Rattle.gopher_host.proofs.Scripts.{script_of}
 use Rattle.gopher_host.proofs.run.Goals as goal
 
 pub returns-in-Format-clause-command : goal.returns-in-Format-clause-command
-returns-in-Format-clause-command g c = rw c.in-Format.is (record { asked = c.format.ensures.asked; made = c.format.ensures.made; printed = c.format.ensures.printed; fault = c.format.ensures.fault })
+returns-in-Format-clause-command g c = rw c.in-Format.is (c.seconds_of-now.result, c.seconds_of-now.ensures, record { asked = c.format.ensures.asked; made = c.format.ensures.made; printed = c.format.ensures.printed; fault = c.format.ensures.fault })
+
+pub returns-in-Apply-clause-command : goal.returns-in-Apply-clause-command
+returns-in-Apply-clause-command g c = rw c.in-Apply.is (c.seconds_of-now-in-Apply.result, c.seconds_of-now-in-Apply.ensures, (c.apply.ensures.moment, c.apply.ensures.image))
+
+pub returns-in-Init-clause-command : goal.returns-in-Init-clause-command
+returns-in-Init-clause-command g c = let names = c.new in rw c.in-Init.is (c.seconds_of-now-in-Init.result, c.seconds_of-now-in-Init.ensures, names.result.calls, c.init.new.names.calls, names.ensures, c.init.ensures)
+
+pub returns-in-Get-clause-command : goal.returns-in-Get-clause-command
+returns-in-Get-clause-command g c = rw c.in-Get.is (record { refused = λ e is. let told = c.get.ensures.name e is in (told.0, (told.1, told.2)); named = c.get.ensures.got })
+
+pub returns-in-Posts-clause-command : goal.returns-in-Posts-clause-command
+returns-in-Posts-clause-command g c = rw c.in-Posts.is (record { refused = λ e is. let told = c.posts.ensures.name e is in (told.0, (told.1, told.2)); named = c.posts.ensures.listed })
+
+pub returns-in-Remove-clause-command : goal.returns-in-Remove-clause-command
+returns-in-Remove-clause-command g c = rw c.in-Remove.is (c.moment_now-now.result, c.moment_now-now.ensures, rw c.deref.ensures.value at c.remove.ensures)
 
 pub returns-in-Copy-clause-command : goal.returns-in-Copy-clause-command
 returns-in-Copy-clause-command g c = let made = c.new-in-Copy in rw c.in-Copy.is (made.result.calls, c.copy.new.names.calls, made.ensures, c.copy.ensures)
 
 pub returns-in-ServeRounds-clause-sessions : goal.returns-in-ServeRounds-clause-sessions
-returns-in-ServeRounds-clause-sessions g c = rw c.in-ServeRounds.is (record {
-  rounds = (c.new.result.calls, c.serve_rounds.new.asked.calls, c.new.ensures, opens_too _ _ _ _ _ (λ u. (ap (λ a. a.calls) u.0, u.1)) c.serve_rounds.ensures);
+returns-in-ServeRounds-clause-sessions g c = let new = c.new-in-ServeRounds in rw c.in-ServeRounds.is (record {
+  rounds = (new.result.calls, c.serve_rounds.new.asked.calls, new.ensures, opens_too _ _ _ _ _ (λ u. (ap (λ a. a.calls) u.0, u.1)) c.serve_rounds.ensures);
   logged = tt;
   unlogged = tt;
   script = tt;

@@ -1,6 +1,6 @@
 use Rattle.std.proofs.Common.{codes}
 use Rattle.std.proofs.lemmas.Result.{IfOk-weaker}
-use Rattle.command_words.specs.CommandLine.{text_rule}
+use Rattle.command_words.specs.CommandLine.{number_rule, text_rule}
 use Rattle.command_words.proofs.BuilderLemmas.{conflicting, may_be_missing, told, with_arg}
 use Rattle.command_words.proofs.command_line.serve.Goals as goal
 
@@ -14,4 +14,7 @@ returns c =
     let listen = conflicting _ c.required.result c.in_ok-conflicts_with.field-0 _ missing c.in_ok-conflicts_with.ensures in
     let four = with_arg _ _ c.in_ok-arg-3.field-0 c.in_ok-arg-4.field-0 c.in_ok-conflicts_with.field-0 three listen c.in_ok-arg-4.ensures in
     let quiet = conflicting _ c.flag.result c.in_ok-conflicts_with-2.field-0 _ c.flag.ensures c.in_ok-conflicts_with-2.ensures in
-    IfOk-weaker c.arg-5.result _ _ (λ r adds. with_arg _ _ c.in_ok-arg-4.field-0 r c.in_ok-conflicts_with-2.field-0 four quiet adds) c.arg-5.ensures
+    let five = with_arg _ _ c.in_ok-arg-4.field-0 c.in_ok-arg-5.field-0 c.in_ok-conflicts_with-2.field-0 four quiet c.in_ok-arg-5.ensures in
+    let fewer = may_be_missing (number_rule (codes "per-address") 1 32) c.number.result c.required-2.result c.number.ensures c.required-2.ensures in
+    let places = conflicting _ c.required-2.result c.in_ok-conflicts_with-3.field-0 _ fewer c.in_ok-conflicts_with-3.ensures in
+    IfOk-weaker c.arg-6.result _ _ (λ r adds. with_arg _ _ c.in_ok-arg-5.field-0 r c.in_ok-conflicts_with-3.field-0 five places adds) c.arg-6.ensures

@@ -21,7 +21,7 @@ returns-in_default c =
       | in-None w ↦ without_address (found_of c.args.matches.now) (codes "listen") c.get_str.result _ c.get_str.ensures w.in-None.is w.listen-is
     ] in
     let flag = found_flag (found_of c.args.matches.now) (codes "quiet") c.get_flag-quiet.result c.get_flag-quiet.ensures.none c.get_flag-quiet.ensures.value c.get_flag-quiet.ensures.other in
-    (refl, no_rounds, address, flag)
+    (refl, no_rounds, address, flag, c.per_address.ensures)
 
 pub returns-in_err-get_one : goal.returns-in_err-get_one
 returns-in_err-get_one c =

@@ -6,7 +6,7 @@ use Rattle.std.proofs.lemmas.Result.{err_from_is_err_and}
 use Rattle.sector_device.specs.Disk.{Disk}
 use Rattle.page_store.specs.Sectors.{Image}
 use Rattle.tree_nodes.specs.Steps.{RootState, needed_under, supply_step, stepped}
-use Rattle.cow_tree.specs.Drafts.{old_under, IsDraft, MayBeTooDeep}
+use Rattle.cow_tree.specs.Drafts.{old_under, IsDraft}
 use Rattle.cow_tree.proofs.PathSteps.{read_more, all_read}
 use Rattle.cow_tree.proofs.ReadsInTurn.{reads_again}
 use Rattle.cow_tree.proofs.PathReads.{path_begins, path_goes_on, retires_again, retires_none, tells_fault, draft_more}
@@ -59,7 +59,7 @@ returns-in_err-read_needed-clause-draft g c = λ keeps edits pairs d.
     let here = subst (λ (v : Image). IsDraft slot v edits p.0 pairs c.loop-page.ledger (state_of c.loop-page.tree)) (sym same) p.1 in
     let answered = c.in_err-read_needed.ensures.draft (subst IsTrue (sym inv.device.only.same.honest) keeps) edits p.0 pairs here in
     let e = err_from_is_err_and c.from_residual.result c.from_residual.ensures.1 in
-    rw (e.1, e.2) (tells_fault (MayBeTooDeep slot edits) (MayBeTooDeep slot edits) c.in_err-read_needed.field-0.0 _ _ (λ h. h) answered)
+    rw (e.1, e.2) (tells_fault ⊥ ⊥ c.in_err-read_needed.field-0.0 _ _ (λ h. h) answered)
 
 pub returns-clause-draft : goal.returns-clause-draft
 returns-clause-draft g c = λ keeps edits pairs d.

@@ -16,6 +16,7 @@ returns-then-tree-eq0 g c = record {
     kept = λ keeps found is. ∣ inl c.clear.ensures ∣₁;
     reads = search rules;
   };
+  some = λ level. let none = c.if-tree-eq0.true in absurd (omega (arith, none, level));
 }
 
 pub returns-in-Ok : goal.returns-in-Ok
@@ -33,6 +34,7 @@ returns-in-Ok g c =
             ∣ inr (subst (λ (b : Bounds). IsNextLeaf a b c.args.after.now found c.leaf_after.new.kept) c.bounds.ensures.bounds leaf).is_leaf ∣₁;
         reads = record { device = under.reads.device; reads = under.reads.reads };
       };
+      some = λ level. under.some;
     }
 
 pub returns-in-Err : goal.returns-in-Err
@@ -50,4 +52,5 @@ returns-in-Err g c =
         kept = λ keeps found is. ∣ inl c.clear-in-Err.ensures ∣₁;
         reads = search rules;
       };
+      some = tt;
     }

@@ -18,6 +18,7 @@ leaf_after-returns-in_err-child g t c =
       next = record {
         leaf = λ keeps found walked. answer_err c.from_residual.result c.in_err-child.field-0.0 p.0 _ _ p.1 p.2 (c.in_err-child.ensures.way keeps found walked);
         there = search rules;
+        some = search rules;
         reads = search rules;
       };
     }
@@ -36,6 +37,7 @@ leaf_after-returns-in_err-leaf_after g t c =
             let here = subst (λ (x : Disk). walk (page_of x.view) (bounds_of c.args.bounds) (c.args.level - 1) c.in_ok-child.child [] None ≡ Some w.here) (sym (read.device.only.disk keeps)) w.here_is in
             answer_err c.from_residual-in_err-leaf_after.result c.in_err-leaf_after.field-0.0 p.0 _ _ p.1 p.2 (under.leaf keeps1 w.here here);
         there = search rules;
+        some = search rules;
         reads = search rules;
       };
     }
@@ -57,6 +59,7 @@ leaf_after-returns-then-branch g t c =
             let leaf = subst (λ (x : Disk). IsNextLeaf (page_of x.view) b c.args.after.now w.here c.leaf_after.new.kept) (read.device.only.disk keeps) (under.leaf keeps1 w.here here) in
             next_here a b (c.args.level - 1) c.args.after.now found (c.in_ok-child.child, c.in_ok-child.sibling) w c.leaf_after.new.kept leaf some;
         there = sym some;
+        some = under.some;
         reads = search rules;
       };
     }
@@ -88,6 +91,7 @@ leaf_after-returns-in-Some g t c =
             (subst (λ (y : Disk). IsNextLeaf (page_of y.view) b key n.0 c.leaf_in_sibling.new.kept) disk leaf))
             (beside.leaf keeps2 n.0 (there, λ nothing. n.4 (sym n.3 ∙ nothing)));
         there = beside.there;
+        some = beside.some;
         reads = search rules;
       };
     }
@@ -111,6 +115,7 @@ leaf_after-returns-in-None g t c =
             let rest = subst (λ (s : Option ℕ). IsNext a b (c.args.level - 1) key s found w.rest) c.in-None.is w.next in
             next_nowhere a b (c.args.level - 1) key found (c.in_ok-child.child, c.in_ok-child.sibling) w c.leaf_after.new.kept leaf none rest;
         there = sym none;
+        some = under.some;
         reads = search rules;
       };
     }

@@ -18,6 +18,7 @@ returns g c =
             let leaf = leaf_walked a bounds c.args.page found walked in
             leaf_next a bounds c.args.page c.args.after.now found c.read.new.self leaf.0 leaf.1 (read.pairs keeps leaf.0 leaf.1) walked;
         there = c.has_above.ensures;
+        some = read.some;
         reads = record { device = read.reads.device; reads = read.reads.reads };
       };
     }
@@ -31,6 +32,7 @@ returns-in_err-read g c =
             let leaf = leaf_walked (page_of (g.D.Device.state c.args.device.now).disk.view) (bounds_of c.args.bounds) c.args.page found walked in
             answer_err c.from_residual.result c.in_err-read.field-0.0 p.0 _ _ p.1 p.2 (c.in_err-read.ensures.pairs keeps leaf.0 leaf.1);
         there = search rules;
+        some = search rules;
         reads = search rules;
       };
     }

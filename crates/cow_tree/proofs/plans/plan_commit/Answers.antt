@@ -2,6 +2,7 @@ use Rattle.std.proofs.Common.{ap, length, ◌∙◌, arith}
 use Rattle.page_store.specs.Batch.{updated}
 use Rattle.tree_nodes.specs.OwnedTrees.{state_of}
 use Rattle.cow_tree.specs.Drafts.{MayBeTooDeep}
+use Rattle.cow_tree.specs.Needs.{GetsTooDeep}
 use Rattle.cow_tree.proofs.PathReads.{marks_again}
 use Rattle.cow_tree.proofs.Taken.{abandoned_again}
 use Rattle.cow_tree.proofs.PlansMade.{needs_pages, held_still, few_nodes, free_few, room_fault, room_reads, room_told}
@@ -21,7 +22,7 @@ returns-clause-planned g c = λ keeps top pairs held first seal version.
     let few = first.few in
     let counted = c.in-Ok.ensures.draft keeps pairs first.draft first.keys first.map (omega (arith, few)) in
     let answered = c.in-Err-plan_draft.ensures.planned view top (length batch) (updated pairs batch) (held_still view slot top c.args.ledger.now c.draft_batch.new.ledger c.draft_batch.ensures.reads.ledger.marks held) counted seal version in
-    room_told (MayBeTooDeep slot (length batch)) c.in-Err-plan_draft.fault _ _ _ _ c.in-Err-plan_draft.ensures.fault answered
+    room_told (MayBeTooDeep slot (length batch) × GetsTooDeep slot view batch) c.in-Err-plan_draft.fault _ _ _ _ c.in-Err-plan_draft.ensures.fault answered
 
 pub returns-clause-refused : goal.returns-clause-refused
 returns-clause-refused g c =
@@ -39,7 +40,7 @@ returns-clause-fault g c =
     let counted = c.in-Ok.ensures.draft keeps pairs first.draft first.keys first.map (omega (arith, few)) in
     let most = few_nodes slot view (length batch) (updated pairs batch) c.draft_batch.new.ledger (state_of c.in-Ok.draft.tree) counted.draft_is in
     let made = c.in-Ok.ensures.made keeps pairs first.draft first.keys first.map (omega (arith, few)) in
-    needs_pages slot view batch (state_of c.in-Ok.draft.tree) need made is most)
+    needs_pages slot view batch (state_of c.in-Ok.draft.tree) need made.0 is most made.1)
     c.in-Err-plan_draft.ensures.fault
 
 pub returns-clause-reads : goal.returns-clause-reads
@@ -64,5 +65,5 @@ returns-in-Ok-plan_draft-clause-planned g c = λ keeps top pairs held first seal
     let lives = ap length c.draft_batch.ensures.reads.ledger.marks.lives ∙ c.requires.fitted.rest.pages in
     let small = c.requires.fitted.most in (
       c.in-Ok-plan_draft.ensures.planned view top (length batch) (updated pairs batch) (held_still view slot top c.args.ledger.now c.draft_batch.new.ledger c.draft_batch.ensures.reads.ledger.marks held) counted seal version,
-      needs_pages slot view batch tree _ made (omega (arith, used, room, bound, lives, small)) most,
+      needs_pages slot view batch tree _ made.0 (omega (arith, used, room, bound, lives, small)) most made.1,
     )

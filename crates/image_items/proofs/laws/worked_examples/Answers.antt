@@ -13,5 +13,9 @@ returns c = record {
   board = refl;
   nothing = refl;
   missing = refl;
+  last_three = refl;
+  first_two = refl;
+  no_posts = refl;
+  no_board = λ s. refl;
   bad_name = refl;
 }

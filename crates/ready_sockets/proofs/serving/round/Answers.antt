@@ -7,12 +7,12 @@ use Rattle.ready_sockets.proofs.serving.round.Goals as goal
 
 pub returns : goal.returns
 returns g c =
-    let full = c.admit.new.room.visits in
+    let full = c.admit-crowd.new.room.visits in
     let after = c.serve_all.new.visits in
     let items = with_items_is full after (omega (arith, c.serve_all.auto.visits, c.deref_mut.ensures.len)) in
-    run_both _ _ _ _ g.met.S.SiteKeeper.crash_states_represent _ _ _ _ _ _ _ _ _ (untold _ _ _ _ _ c.admit.ensures) c.serve_all.ensures.run
+    run_both _ _ _ _ g.met.S.SiteKeeper.crash_states_represent _ _ _ _ _ _ _ _ _ (untold _ _ _ _ _ c.admit-crowd.ensures) c.serve_all.ensures.run
     (λ es fs os ps p q. record {
-      full = c.admit.new.room;
+      full = c.admit-crowd.new.room;
       join_events = es;
       join_outcomes = os;
       turn_events = fs;
@@ -23,6 +23,7 @@ returns g c =
       outcomes_are = refl;
       door = refl;
       may_accept = refl;
+      lost = refl;
       nobody_waits = subst NobodyWaits (sym items) c.serve_all.ensures.nobody_waits;
       clients = ap (map who) items ∙ c.serve_all.ensures.clients ∙ ap (map who) c.deref_mut.ensures.value;
     })

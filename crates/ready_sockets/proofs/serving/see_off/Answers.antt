@@ -1,4 +1,5 @@
-use Rattle.std.proofs.Common.{refl, sym, subst, ◌∙◌}
+use Rattle.std.proofs.Common.{refl, sym, subst, ◌∙◌, arith}
+use Rattle.std.proofs.lemmas.Grind.{common_steps}
 use Rattle.ready_sockets.proofs.SameClients.{all_kept}
 use Rattle.ready_sockets.specs.Logged.{AreTold, nobody, at}
 use Rattle.ready_sockets.specs.Visits.{has_gone}
@@ -9,10 +10,12 @@ returns-else-has_closed-clause-gone g c = record {
   visits = all_kept has_gone c.args.room.now.visits.items (sym c.has_closed.ensures ∙ c.if-has_closed.false);
   door = refl;
   may_accept = refl;
+  lost = refl;
 }
 
 pub returns-else-has_closed-clause-logged : goal.returns-else-has_closed-clause-logged
-returns-else-has_closed-clause-logged g c = nobody (sym c.has_closed.ensures ∙ c.if-has_closed.false) refl refl
+returns-else-has_closed-clause-logged g c = nobody (grind (arith, common_steps, c.is_empty.ensures, c.if-not-is_empty.false)) (sym c.has_closed.ensures ∙ c.if-has_closed.false) refl refl
 
-pub returns-then-has_closed-clause-logged : goal.returns-then-has_closed-clause-logged
-returns-then-has_closed-clause-logged g c = at c.now.result c.now.ensures (subst (λ visits. AreTold g.L.Write.contents c.now.result visits (c.args.log.now, c.args.written.now.calls) (c.tell_gone.new.log, c.tell_gone.new.written.calls)) c.deref.ensures.value c.tell_gone.ensures)
+pub returns-then-not-is_empty-clause-logged : goal.returns-then-not-is_empty-clause-logged
+returns-then-not-is_empty-clause-logged g c = at c.now-moment.result (c.tell_crowd.new.log, c.tell_crowd.new.written.calls) c.now-moment.ensures c.tell_crowd.ensures
+    (subst (λ visits. AreTold g.L.Write.contents c.now-moment.result visits (c.tell_crowd.new.log, c.tell_crowd.new.written.calls) (c.tell_gone.new.log, c.tell_gone.new.written.calls)) c.deref.ensures.value c.tell_gone.ensures)

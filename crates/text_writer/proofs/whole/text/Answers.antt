@@ -12,7 +12,7 @@ loop-at-init c = (omega arith, ap (λ l. l ++ given_from (record { at_start = tr
 
 pub loop-at-preserved : goal.loop-at-preserved
 loop-at-preserved c =
-    further c.args.body.now c.loop-at.sent.items _ _ c.loop-at.place _ c.loop-at.at c.run_length-run.result _ _ (omega (arith, c.loop-at-test.true)) refl refl c.after-place.ensures c.run_length-run.ensures.run c.run_length-run.ensures.within
+    further c.args.body.now c.loop-at.sent.items _ _ c.loop-at.place _ _ c.loop-at.at c.run_length-run.result _ _ (omega (arith, c.loop-at-test.true)) refl refl c.after-place.ensures c.run_length-run.ensures.run c.behind_run-place.ensures c.run_length-run.ensures.within
     (c.in_ok-extend_from_slice.ensures.items ∙ ap (λ l. c.loop-at.sent.items ++ l) (c.as_slice.ensures.value ∙ c.emitted.ensures.bytes)) c.in_ok-extend_from_slice-2.ensures.items (c.loop-at.invariant).1
 
 pub returns-clause-client : goal.returns-clause-client

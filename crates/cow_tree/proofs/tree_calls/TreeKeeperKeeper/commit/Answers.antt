@@ -8,12 +8,12 @@ use Rattle.page_store.specs.Commit.{IsBetween}
 use Rattle.page_store.specs.Content.{not_flat, Found}
 use Rattle.page_store.specs.Batch.{updated}
 use Rattle.page_store.specs.Steps.{crash_states_of}
-use Rattle.page_store.specs.StoreState.{HasStayed}
+use Rattle.page_store.specs.StoreState.{SoManyPages, HasStayed}
 use Rattle.cow_tree.specs.PinnedTrees.{ArePinned, AreKept, HeldPagesStay, PinnedPagesStay, PinnedStay}
 use Rattle.cow_tree.specs.Plans.{tree_commit}
 use Rattle.cow_tree.specs.TreeState.{IsFitted, IsThere, found_under, tree_holding}
 use Rattle.cow_tree.specs.Drafts.{MayBeTooDeep}
-use Rattle.cow_tree.specs.Needs.{MayNeed}
+use Rattle.cow_tree.specs.Needs.{MayNeed, GetsTooDeep}
 use Rattle.cow_tree.specs.Committed.{TreeHas}
 use Rattle.cow_tree.specs.KeeperLaws.{crash_states_have_the_tree}
 use Rattle.cow_tree.proofs.KeeperReads.{has_read, needs_again}
@@ -51,8 +51,8 @@ returns-in-Err-clause-fault g c =
     let first = λ (keeps : IsTrue old.honest). starts old.size k.slot old.disk.view k.ledger k.fitted (k.there keeps) in
     let rise = reads_rise c.in-Err.fault old.failed_reads mid.failed_reads c.in-Err.ensures.reads.reads in
     let stayed = subst (λ (l : LedgerState). HasStayed (tree_holding old k.slot k.ledger k.top k.usable k.pinned) (tree_holding mid k.slot l k.top k.usable k.pinned)) (sym c.in-Err.ensures.refused) (has_read old mid k.slot k.ledger k.top k.usable k.pinned only rise).same in
-    commit_fault (tree_holding old k.slot k.ledger k.top k.usable k.pinned) (tree_holding mid k.slot c.plan_commit.new.ledger k.top k.usable k.pinned) (length batch) (MayNeed k.slot old batch) k.slot (MayBeTooDeep k.slot (length batch)) _ _ c.in-Err.fault stayed c.in-Err.ensures.reads.reads
-    (λ keeps. c.in-Err.ensures.planned keeps k.top pairs (held_by keeps) (first keeps) refl version) (λ deep. (not_flat k.slot.root.banner.version k.fitted.version, deep)) c.in-Err.ensures.fault (λ n f keeps again. f keeps pairs (first keeps))
+    commit_fault (tree_holding old k.slot k.ledger k.top k.usable k.pinned) (tree_holding mid k.slot c.plan_commit.new.ledger k.top k.usable k.pinned) (length batch) (MayNeed k.slot old batch) k.slot (MayBeTooDeep k.slot (length batch) × GetsTooDeep k.slot old.disk.view batch) _ _ c.in-Err.fault stayed c.in-Err.ensures.reads.reads
+    (λ keeps. c.in-Err.ensures.planned keeps k.top pairs (held_by keeps) (first keeps) refl version) (λ deep. ((not_flat k.slot.root.banner.version k.fitted.version, deep.0), λ again. deep.1)) c.in-Err.ensures.fault (λ n f keeps again. f keeps pairs (first keeps))
 
 pub returns-in-Err-clause-tried : goal.returns-in-Err-clause-tried
 returns-in-Err-clause-tried g c =
@@ -403,8 +403,8 @@ returns-in-Ok-write_plan-clause-between g c = λ keeps usable.
     let keeps1 = λ (keeps : IsTrue old.honest). let h : IsTrue mid.honest = subst IsTrue (sym only.same.honest) keeps in h in
     let held = held_by keeps in
     let planned = (c.in-Ok.ensures.planned keeps k.top pairs (held_by keeps) (first keeps) refl version) in
-    let plan = tree_plan old.disk.view k.slot k.ledger k.pinned k.fitted.rest k.pins.seals (k.pins_there keeps) (k.there keeps) c.plan_commit.new.ledger k.top (MayNeed k.slot old batch) (updated pairs batch) c.args.banner c.in-Ok.plan c.plan_commit.ensures.marks held planned.0 c.in-Ok.ensures.made.banner_is (λ again. planned.1) in
-    one_plan old.disk.view mid.disk.view (states k.device) (states c.plan_commit.new.device) (states c.write_plan.new.device) k.slot k.top k.pinned (MayNeed k.slot old batch) (updated pairs batch) c.args.banner plan (same keeps)
+    let plan = tree_plan old.disk.view k.slot k.ledger k.pinned k.fitted.rest k.pins.seals (k.pins_there keeps) (k.there keeps) c.plan_commit.new.ledger k.top (λ n. MayNeed k.slot old batch (SoManyPages n)) (updated pairs batch) c.args.banner c.in-Ok.plan c.plan_commit.ensures.marks held planned.0 c.in-Ok.ensures.made.banner_is (λ again. planned.1) in
+    one_plan old.disk.view mid.disk.view (states k.device) (states c.plan_commit.new.device) (states c.write_plan.new.device) k.slot k.top k.pinned (λ n. MayNeed k.slot old batch (SoManyPages n)) (updated pairs batch) c.args.banner plan (same keeps)
     (c.plan_commit.ensures.reads.device.no_new_crash_state keeps) (c.write_plan.ensures.at_crash (keeps1 keeps) (ready keeps))
 
 pub returns-in-Ok-write_plan-clause-unheld : goal.returns-in-Ok-write_plan-clause-unheld
@@ -462,8 +462,8 @@ returns-clause-between g c = λ keeps usable.
     let keeps1 = λ (keeps : IsTrue old.honest). let h : IsTrue mid.honest = subst IsTrue (sym only.same.honest) keeps in h in
     let held = held_by keeps in
     let planned = (c.in-Ok.ensures.planned keeps k.top pairs (held_by keeps) (first keeps) refl version) in
-    let plan = tree_plan old.disk.view k.slot k.ledger k.pinned k.fitted.rest k.pins.seals (k.pins_there keeps) (k.there keeps) c.plan_commit.new.ledger k.top (MayNeed k.slot old batch) (updated pairs batch) c.args.banner c.in-Ok.plan c.plan_commit.ensures.marks held planned.0 c.in-Ok.ensures.made.banner_is (λ again. planned.1) in
-    one_plan old.disk.view mid.disk.view (states k.device) (states c.plan_commit.new.device) (states c.write_plan.new.device) k.slot k.top k.pinned (MayNeed k.slot old batch) (updated pairs batch) c.args.banner plan (same keeps)
+    let plan = tree_plan old.disk.view k.slot k.ledger k.pinned k.fitted.rest k.pins.seals (k.pins_there keeps) (k.there keeps) c.plan_commit.new.ledger k.top (λ n. MayNeed k.slot old batch (SoManyPages n)) (updated pairs batch) c.args.banner c.in-Ok.plan c.plan_commit.ensures.marks held planned.0 c.in-Ok.ensures.made.banner_is (λ again. planned.1) in
+    one_plan old.disk.view mid.disk.view (states k.device) (states c.plan_commit.new.device) (states c.write_plan.new.device) k.slot k.top k.pinned (λ n. MayNeed k.slot old batch (SoManyPages n)) (updated pairs batch) c.args.banner plan (same keeps)
     (c.plan_commit.ensures.reads.device.no_new_crash_state keeps) (c.write_plan.ensures.at_crash (keeps1 keeps) (ready keeps))
 
 pub returns-clause-unheld : goal.returns-clause-unheld

@@ -14,7 +14,7 @@ loop-taken-preserved c =
     record {
       within_chunk = grind (arith, common_steps);
       within = run.ensures.within;
-      passes = run_taken c.args.chunk.now _ _ _ (c.loop-taken.taken + 1) run.result c.args.self.now gave.new.self byte (grind (arith, common_steps)) run.ensures.given;
+      passes = run_taken c.args.chunk.now _ _ _ (c.loop-taken.taken + 1) run.result c.args.self.now gave.new.self run.new.self byte (grind (arith, common_steps)) run.ensures.given;
       behind = run.ensures.behind ∙ unchanged_on gave.result _ gave.new.out c.args.out.now (omega arith) (gave.ensures.behind ∙ unchanged_on c.loop-taken.given gave.result c.loop-taken.out c.args.out.now gave.ensures.onward before.behind);
       progress = grind (arith, common_steps);
     }

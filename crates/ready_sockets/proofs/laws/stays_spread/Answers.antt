@@ -1,0 +1,11 @@
+use Rattle.std.proofs.Common.{arith}
+use Rattle.ready_sockets.proofs.Spread.{received_spread, turns_spread, rounds_spread}
+use Rattle.ready_sockets.proofs.laws.stays_spread.Goals as goal
+
+pub returns : goal.returns
+returns g c = record {
+  at_first = λ most origin. omega arith;
+  let_in = λ most now old new es os crowd had spread. received_spread most now old.visits.items es os new.visits.items had.calls crowd had.received spread;
+  by_turns = turns_spread;
+  by_rounds = rounds_spread g.L.Write.contents;
+}
