@@ -1,4 +1,5 @@
 """The functions of a crate by its sources, and its wrong bodies: which functions each changes, and in which rounds they are tried."""
+import functools
 import os
 import re
 
@@ -27,6 +28,11 @@ def blanked(text):
     """The text with the insides of comments and literals blanked, so that braces and names there do not count."""
     kept = re.compile(r"//[^\n]*|\"(?:\\.|[^\"\\])*\"|b?'(?:\\(?:x[0-9A-Fa-f]{2}|.)|[^\\'\n])'", re.S)
     return kept.sub(lambda it: re.sub(r"[^\n]", " ", it[0]), text)
+
+
+def uncommented(text):
+    """The text without its comments. A slash within a literal begins none."""
+    return re.sub(r"//[^\n]*|(\"(?:\\.|[^\"\\])*\"|b?'(?:\\(?:x[0-9A-Fa-f]{2}|.)|[^\\'\n])')", lambda it: it[1] or "", text, flags=re.S)
 
 
 def end_of_braces(text, at):
@@ -112,6 +118,19 @@ def functions_of(file, text, types):
         is_const = re.search(r"\bconst\s+(?:unsafe\s+)?$", plain[: it.start()]) is not None
         found.append(Function(file, first, last, f"{around}{it[1]}", (place, end), is_const, cycle[1] if cycle else None))
     return found
+
+
+@functools.lru_cache(maxsize=None)
+def bare(text):
+    """A source without its comments and without the bodies of its functions, but for those that are computed where they are named."""
+    kept, at = [], 0
+    for it in sorted(functions_of("src/lib.rt", text, {}), key=lambda it: it.body[0]):
+        first, end = it.body
+        if not it.is_const and first >= at:
+            kept += [text[at:first], "{}"]
+            at = end
+    text = "".join([*kept, text[at:]])
+    return "\n".join(line.rstrip() for line in uncommented(text).split("\n") if line.strip())
 
 
 def constant_at(text, place):

@@ -5,11 +5,12 @@ import subprocess
 import time
 
 from crate_list import CRATES, KIT, PARTS, TOP, below, read
+from edits import bare
 
 # what tries wrong bodies
 SCRIPTS = ("wrong_bodies", "crate_list.py", "edits.py", "refused.py")
 LEDGER = f"{TOP}/tests/refused.txt"
-LEDGER_HEAD = """# The crates whose wrong bodies were all refused, each with the checksum of all that the run read. `tests/wrong_bodies --anew` and `--record` write these lines, and nobody else.
+LEDGER_HEAD = """# The crates whose wrong bodies were all refused, each with the checksum of all that the run could see. `tests/wrong_bodies --anew` and `--record` write these lines, and nobody else.
 """
 # one crate in so many of the ledger is tried all the same
 LOT = 8
@@ -22,7 +23,7 @@ def at_head():
 
 
 class Ledger:
-    """The crates whose wrong bodies were all refused, on whatever machine, each with the checksum of what that run read."""
+    """The crates whose wrong bodies were all refused, on whatever machine, each with the checksum of what that run could see."""
 
     def __init__(self):
         text = read(LEDGER) if os.path.exists(LEDGER) else ""
@@ -50,8 +51,35 @@ def checksum_in(file):
     return file.rpartition("-")[2]
 
 
+def files_in(folder):
+    """The files of a folder and of those in it, in one order on each machine."""
+    found = []
+    for at, folders, files in os.walk(folder):
+        folders.sort()
+        found += [f"{at}/{it}" for it in sorted(files)]
+    return found
+
+
+def is_own_proof(path):
+    """Whether a file is part of the proof of one function. Another crate goes by that function's contract, and can't open its proof."""
+    return os.path.basename(path) in ("Answers.antt", "Invariants.antt", "Proof.antt")
+
+
+def seen_above(path, content):
+    """What a crate above can see of a file: of a source all but comments and the bodies of functions, of any other file all."""
+    return bare(content.decode()).encode() if path.endswith(".rt") else content
+
+
+def sum_of(path, seen=lambda _, content: content):
+    """A file's name and the checksum of what is seen of it, the same on each machine, wherever the clone and the kit lie."""
+    with open(path, "rb") as it:
+        content = seen(path, it.read())
+    return f"{os.path.relpath(path, TOP) if path.startswith(f'{TOP}/') else os.path.basename(path)} {hashlib.sha256(content).hexdigest()}"
+
+
 class Kept:
-    """What was refused on this machine before: for each crate a file that is named by the checksum of all that its run read."""
+    """What was refused on this machine before: for each crate a file that is named by the checksum of all that its run could see: its own files, and of the crates below it
+    their definitions, their lemmas, and their sources without comments and bodies."""
 
     FOLDER = os.path.join(os.environ.get("XDG_CACHE_HOME") or os.path.expanduser("~/.cache"), "zigdular", "wrong-bodies")
 
@@ -64,16 +92,9 @@ class Kept:
 
     def file(self, name):
         lines = [f"{it}: {' '.join(CRATES[it])}" for it in [*below(name), name]]
-        files = [f"{KIT}/KIT-ID", *(f"{TOP}/tests/{it}" for it in SCRIPTS)]
-        parts = [(it, part) for it in [*below(name), name] for part in PARTS] + [(name, it) for it in [*self.kinds, "controls"]]
-        for crate, part in parts:
-            for at, folders, found in os.walk(f"{TOP}/crates/{crate}/{part}"):
-                folders.sort()
-                files += [f"{at}/{it}" for it in sorted(found)]
-        for it in files:
-            with open(it, "rb") as file:
-                # the same on each machine, wherever the clone and the kit lie
-                lines.append(f"{os.path.relpath(it, TOP) if it.startswith(f'{TOP}/') else os.path.basename(it)} {hashlib.sha256(file.read()).hexdigest()}")
+        lines += [sum_of(it) for it in [f"{KIT}/KIT-ID", *(f"{TOP}/tests/{it}" for it in SCRIPTS)]]
+        lines += [sum_of(it, seen_above) for crate in below(name) for part in PARTS for it in files_in(f"{TOP}/crates/{crate}/{part}") if not is_own_proof(it)]
+        lines += [sum_of(it) for part in [*PARTS, *self.kinds, "controls"] for it in files_in(f"{TOP}/crates/{name}/{part}")]
         return f"{self.FOLDER}/{name}-{hashlib.sha256(chr(10).join(lines).encode()).hexdigest()}"
 
     def keep(self, name, file):
