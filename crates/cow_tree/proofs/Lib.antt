@@ -2,6 +2,7 @@ pub mod Pages
 pub mod ReadsInTurn
 pub mod Reaching
 pub mod Walking
+pub mod WorkDone
 pub mod Finding
 pub mod NamedPages
 pub mod NamedWalks

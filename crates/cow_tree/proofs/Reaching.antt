@@ -126,7 +126,7 @@ count_most f (suc n) = step (f n) (count_below f n) (count_most f n)
     step true k le = omega arith
     step false k le = omega arith
 
-free_less : (s : LedgerState) (n : ℕ) → is_free s n ≡ true → free_count s ≡ free_count (holding n s) + 1
+pub free_less : (s : LedgerState) (n : ℕ) → is_free s n ≡ true → free_count s ≡ free_count (holding n s) + 1
 free_less s n h =
     let lt = within_lives s n h in
     let size = length-set s.lives n (Since s.generation) in

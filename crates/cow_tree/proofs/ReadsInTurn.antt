@@ -2,6 +2,7 @@
 use Rattle.std.proofs.Common.{◌∙◌}
 use Rattle.common_types.specs.CrashStates.{CrashStates, adds_none_again}
 use Rattle.sector_device.specs.Device.{State}
+use Rattle.sector_device.proofs.Works.{read_then}
 use Rattle.sector_device.specs.Effects.{OnlyReads}
 use Rattle.page_store.specs.Sectors.{Image}
 use Rattle.page_store.specs.DeviceEffects.{IsReadCall}
@@ -12,6 +13,7 @@ only_reads a b c first second = record {
   same = record { size = second.same.size ∙ first.same.size; honest = second.same.honest ∙ first.same.honest };
   disk = λ honest. second.disk (still_honest a b first.same honest) ∙ first.disk honest;
   writes = second.writes ∙ first.writes;
+  made = read_then first.made second.made;
 }
 
 pub reads_again : {D : Type 0} {state : D → State} {crash_states : D → CrashStates Image} {a b c : D} → IsReadCall state crash_states a b → IsReadCall state crash_states b c → IsReadCall state crash_states a c

@@ -10,6 +10,7 @@ pub mod TreeState
 pub mod TreeSeen
 pub mod KeptLeaves
 pub mod Ways
+pub mod Work
 pub mod LookUps
 pub mod Plans
 pub mod Compacting

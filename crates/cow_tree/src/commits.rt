@@ -1,7 +1,7 @@
 // Writing what a commit has planned.
 ghost use Rattle.std.specs.Prelude.{◌≡◌, ◌≤◌, ◌<◌, ◌*◌, ◌+◌, All, IsTrue, OnOk, OnErr, length};
 ghost use Rattle.common_types.specs.CrashStates.{AddsOnly};
-ghost use Rattle.sector_device.specs.Effects.{WriteOutcome};
+ghost use Rattle.sector_device.specs.Effects.{WriteOutcome, MadeIfOk};
 ghost use Rattle.page_alloc.specs.Calls.{abandoned, advanced};
 ghost use Rattle.page_store.specs.Sectors.{page_of};
 ghost use Rattle.page_store.specs.Same.{Agree};
@@ -42,6 +42,7 @@ pub(crate) fn write_plan<D: Device>(
     ensures pinned { OnOk result (PinnedStay ledger.old ledger.new) }
     ensures abandoned { OnErr result (ledger.new ≡ abandoned ledger.old) }
     ensures outcome { WriteOutcome result (D.state device.old) (D.state device.new) }
+    ensures work { MadeIfOk result 0 (8 * length plan.now.pages.items + 8) 2 (D.state device.old) (D.state device.new) }
 {
     match commit_pages(device, &plan.pages, &plan.slot, &plan.root) {
         Ok(()) => {

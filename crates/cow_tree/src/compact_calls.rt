@@ -1,5 +1,6 @@
 // A keeper of a tree is written anew.
 ghost use Rattle.std.specs.Prelude.{◌≡◌, ◌≤◌, ◌+◌, ℕ, true, false, IsTrue, OnOk, IfErr, IsErrOf};
+ghost use Rattle.cow_tree.specs.Work.{WritesPages, WritesAtMost};
 ghost use Rattle.common_types.specs.CrashStates.{AddsOnly, AddsNone};
 ghost use Rattle.page_store.specs.Compaction.{IsCompacted, IsCompactFault, CompactsTheSame};
 ghost use Rattle.page_store.specs.Counting.{CountsReads, CountsWrites};
@@ -52,6 +53,10 @@ impl<D: Device> CompactKeeper for TreeKeeper<D> {
             (D.state (device_of self.old)).disk.view (slot_of self.old) (top_of self.old) (pinned_by self.old) (MayNeedFilled (slot_of self.old) (D.state (device_of self.old))) (held D.state self.old).pairs (held D.state self.old).banner }
         ensures unheld { IsTrue (held D.state self.old).honest → (held D.state self.old).usable ≡ true → WritesNoPinnedPage (pinned_by self.old) (D.state (device_of self.old)).disk.view (D.state (device_of self.new)).disk.view
             (crash_states_of D.moment D.possible_since (device_of self.old)) (crash_states_of D.moment D.possible_since (device_of self.new)) }
+
+        // So many pages as the filled tree needs and a root are written, with two syncs. A refusal has written no more.
+        ensures work { OnOk result ((n : ℕ) × (n ≤ (held D.state self.old).free) × (IsTrue (held D.state self.old).honest → MayNeedFilled (slot_of self.old) (D.state (device_of self.old)) n) × WritesPages n (D.state (device_of self.old)) (D.state (device_of self.new))) }
+        ensures work_on_fault { IfErr result (λ e. WritesAtMost (held D.state self.old).free (D.state (device_of self.old)) (D.state (device_of self.new))) }
     {
         if !self.usable {
             return Err(KeeperFault::Failed);

@@ -1,8 +1,8 @@
 // Making an image of a tree.
-ghost use Rattle.std.specs.Prelude.{◌≡◌, ◌≢◌, ◌≤◌, ◌<◌, ◌+◌, ◌*◌, All, IsTrue, IfOk, OnOk, IfErr, true};
+ghost use Rattle.std.specs.Prelude.{◌≡◌, ◌≢◌, ◌≤◌, ◌<◌, ◌+◌, ◌*◌, All, IsTrue, IfOk, OnOk, IfErr, true, length};
 ghost use Rattle.std.specs.List.{list_all};
 ghost use Rattle.sector_device.specs.Device.{NothingCounted};
-ghost use Rattle.sector_device.specs.Effects.{IsSameDevice, WriteOutcome};
+ghost use Rattle.sector_device.specs.Effects.{IsSameDevice, WriteOutcome, MadeIfOk};
 ghost use Rattle.page_store.specs.Batch.{is_map, is_pair};
 ghost use Rattle.page_store.specs.Steps.{crash_states_of, AllAre};
 ghost use Rattle.page_store.specs.Content.{is_tree_version, HasContent};
@@ -62,6 +62,7 @@ fn write_first<D: Device>(
     requires slots { 16 ≤ (D.state device.old).size }
     ensures written { IsTrue (D.state device.old).honest → OnOk result (IsFirstWritten pages.now root.now (D.state device.old).disk.view (D.state device.new).disk.view × AllAre (crash_states_of D.moment D.possible_since device.new) (D.state device.new).disk.view) }
     ensures outcome { WriteOutcome result (D.state device.old) (D.state device.new) }
+    ensures work { MadeIfOk result 0 (16 + 8 * length pages.now) 1 (D.state device.old) (D.state device.new) }
 {
     let cleared = [0; 4096];
     write_page(device, 1, &cleared)?;
@@ -91,6 +92,7 @@ pub fn format<D: Device>(
     ensures fits { OnOk result ((16 ≤ pages) × (pages ≤ 65536) × (8 * pages ≤ (D.state device.old).size)) }
     ensures fault { IfErr result (IsFormatFault pages (D.state device.old) (D.state device.new)) }
     ensures counts { OnOk result (NothingCounted (D.state device.old) (D.state device.new)) }
+    ensures work { MadeIfOk result 0 (16 + 8 * length (first_pages pairs.now)) 1 (D.state device.old) (D.state device.new) }
     ensures unwritten { IfErr result (λ e. e ≢ Failed → device.new ≡ device.old) }
     ensures same { IsSameDevice (D.state device.old) (D.state device.new) }
 {

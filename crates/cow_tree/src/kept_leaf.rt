@@ -1,5 +1,6 @@
 // The leaf that a next pair was last read from.
 ghost use Rattle.std.specs.Prelude.{◌≡◌, ◌≤◌, ◌<◌, ◌*◌, ◌∷◌, ◌⊎◌, false, List, [], None, Some, Ok, IsTrue, OnOk, IfSome, MatchOption, option_map, length, take};
+ghost use Rattle.sector_device.specs.Effects.{MadeIfOk};
 ghost use Rattle.std.specs.Option.{is_some};
 ghost use Rattle.page_store.specs.Sectors.{page_of};
 ghost use Rattle.page_store.specs.Steps.{crash_states_of};
@@ -92,6 +93,7 @@ impl KeptLeaf {
             IsAnswer result (λ done. self.new ≡ pairs) }
         ensures some { OnOk result (self.new ≡ [] → ⊥) }
         ensures reads { ReadsPages D.state (crash_states_of D.moment D.possible_since) device.old device.new result }
+        ensures work { MadeIfOk result 8 0 0 (D.state device.old) (D.state device.new) }
     {
         self.last.left = 0;
         load_page(device, page, &mut self.bytes)?;

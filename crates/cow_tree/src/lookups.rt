@@ -1,9 +1,11 @@
 // Looking pairs up in a tree: the pages on the way to them are read, and no others.
 ghost use Rattle.std.specs.Prelude.{◌≡◌, ◌≤◌, ◌<◌, ◌*◌, [], IsTrue, OnOk, IfOk, IfSome, Some, option_map, take};
+ghost use Rattle.sector_device.specs.Effects.{MadeAtMost, MadeIfOk};
 ghost use Rattle.page_store.specs.Steps.{crash_states_of};
 ghost use Rattle.page_store.specs.Content.{tree_found};
 ghost use Rattle.page_store.specs.Batch.{pair_after};
 ghost use Rattle.page_store.specs.StoreState.{IsFilled};
+ghost use Rattle.cow_tree.specs.Work.{pages_tried};
 ghost use Rattle.cow_tree.specs.LookUps.{LooksUp, KeepsNext};
 ghost use Rattle.cow_tree.specs.KeptLeaves.{IsKeptLeaf, has_next};
 ghost use Rattle.cow_tree.specs.Opening.{IsRooted, bounds_under};
@@ -26,6 +28,7 @@ pub(crate) fn find_value<D: Device>(
     requires fits { 8 * tree.pages ≤ (D.state device.old).size }
     requires rooted { IsRootedAt tree }
     ensures found { LooksUp D.state (crash_states_of D.moment D.possible_since) (λ pages. tree_at tree pages) key.now device.old device.new buffer.old buffer.new result }
+    ensures work { MadeIfOk result (8 * tree.height) 0 0 (D.state device.old) (D.state device.new) }
 {
     if tree.height == 0 {
         return Ok(None);
@@ -51,6 +54,7 @@ pub(crate) fn read_next_leaf<D: Device>(
     requires rooted { IsRootedAt tree }
     ensures next { KeepsNext D.state (crash_states_of D.moment D.possible_since) (λ pages found. tree_at tree pages ≡ Some found) (bounds_at tree) after.now device.old device.new kept.new (λ done. pair_after kept.new after.now) result }
     ensures some { OnOk result (0 < tree.height → kept.new ≡ [] → ⊥) }
+    ensures work { MadeAtMost (8 * pages_tried tree.height) 0 0 (D.state device.old) (D.state device.new) }
 {
     if tree.height == 0 {
         kept.clear();
@@ -90,6 +94,7 @@ pub(crate) fn find_next<D: Device>(
     ensures some { OnOk result (0 < slot.now.root.height → kept.new ≡ [] → ⊥) }
     ensures key { IsFilled (λ n. n.0) result key.old key.new }
     ensures value { IsFilled (λ n. n.1) result value.old value.new }
+    ensures work { MadeAtMost (8 * pages_tried slot.now.root.height) 0 0 (D.state device.old) (D.state device.new) }
     // Where the kept leaf tells the pair, nothing is read.
     ensures unread { IsTrue (has_next kept.old after.now) → (device.new ≡ device.old) × (kept.new ≡ kept.old) }
 {

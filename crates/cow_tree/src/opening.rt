@@ -1,5 +1,6 @@
 // Opening an image of a tree.
-ghost use Rattle.std.specs.Prelude.{◌≡◌, ◌≤◌, ◌<◌, ◌*◌, ℕ, true, [], Some, None, IsTrue, IfOk, OnOk, IfErr, length, replicate};
+ghost use Rattle.std.specs.Prelude.{◌≡◌, ◌≤◌, ◌<◌, ◌*◌, ℕ, true, [], Some, None, IsTrue, IfOk, OnOk, IfErr, length, replicate, ◌+◌, ◌-◌};
+ghost use Rattle.sector_device.specs.Effects.{MadeExactly, MadeAtMost, MadeIfOk};
 ghost use Rattle.common_types.specs.CrashStates.{AddsNone};
 ghost use Rattle.sector_device.specs.Device.{State, NothingCounted};
 ghost use Rattle.page_alloc.specs.Calls.{fresh};
@@ -8,12 +9,13 @@ ghost use Rattle.page_store.specs.Sectors.{page_of};
 ghost use Rattle.page_store.specs.Roots.{IsFoundSlot, current, greatest_seal};
 ghost use Rattle.page_store.specs.Steps.{crash_states_of};
 ghost use Rattle.page_store.specs.DeviceEffects.{IsReadCall};
-ghost use Rattle.page_store.specs.Opening.{ReadsToOpen};
+ghost use Rattle.page_store.specs.Opening.{ReadsToOpen, MadeToOpen};
 ghost use Rattle.page_store.specs.Content.{is_tree_version, tree_of, tree_found, HasContent};
 ghost use Rattle.page_store.specs.declared.fault.KeeperFault.TheVariants.{Small, Memory};
 ghost use Rattle.cow_tree.specs.NamedWalks.{root_or_name, tree_or_name};
 ghost use Rattle.cow_tree.specs.Walks.{Tells, Names, WalksPages};
 ghost use Rattle.cow_tree.specs.Opening.{bounds_under, IsRooted, MayName, IsNamed, Finds, AreWhole, IsReadAs, IsSlotOpened, IsOpened, IsSlotFault, IsOpenFault, LeavesSynced};
+ghost use Rattle.cow_tree.specs.Work.{ReadsEachOnce};
 ghost use Rattle.cow_tree.specs.TreeState.{IsAtRest, IsFitted};
 ghost use Rattle.cow_tree.specs.TreeSeen.{device_of, slot_of, ledger_of, top_of, is_open, held};
 
@@ -45,6 +47,7 @@ fn tree_slot<D: Device>(device: &mut D) -> Result<(Slot, u64), KeeperFault>
     ensures fault { IfErr result (IsSlotFault (D.state device.old)) }
     ensures device { IsReadCall D.state (crash_states_of D.moment D.possible_since) device.old device.new }
     ensures reads { CountsReads result (D.state device.old).failed_reads (D.state device.new).failed_reads }
+    ensures work { MadeIfOk result 16 0 0 (D.state device.old) (D.state device.new) }
 {
     let Ok(roots) = open_roots(device) else {
         return Err(KeeperFault::Device);
@@ -73,6 +76,8 @@ fn open_slot<D: Device>(device: &mut D) -> Result<(Slot, u64), KeeperFault>
     ensures large { IfOk result (λ found. 128 ≤ (D.state device.old).size) }
     ensures opens { ReadsToOpen D.state (crash_states_of D.moment D.possible_since) device.old device.new IsOpenFault result }
     ensures synced { IfErr result (LeavesSynced (D.state device.old) (D.state device.new) (crash_states_of D.moment D.possible_since device.new)) }
+    ensures work { OnOk result (MadeExactly 16 0 1 (D.state device.old) (D.state device.new)) }
+    ensures work_on_fault { IfErr result (λ e. MadeAtMost (D.state device.old).size 0 1 (D.state device.old) (D.state device.new)) }
 {
     if device.sectors() < 128 {
         return Err(KeeperFault::Small);
@@ -92,6 +97,7 @@ fn count_tree<D: Device>(device: &mut D, ledger: &mut Ledger, slot: &Slot) -> Re
     ensures named { IfErr result (Names (D.state device.old) (λ bytes. root_or_name slot.now.number bytes (bounds_under slot.now) slot.now.root.height slot.now.root.tree) ledger.old) }
     ensures rooted { OnOk result (IsRooted slot.now.root) }
     ensures walks { WalksPages D.state (crash_states_of D.moment D.possible_since) device.old device.new ledger.old ledger.new (MayName slot.now) result }
+    ensures work { ReadsEachOnce (D.state device.old) (D.state device.new) ledger.old ledger.new }
 {
     let root = &slot.root;
     if root.height == 0 {
@@ -130,6 +136,7 @@ fn walk_slot<D: Device>(device: &mut D, ledger: &mut Ledger, slot: &Slot) -> Res
     ensures rest { IsAtRest slot.now ledger.new }
     ensures unpinned { ledger.new.pins ≡ replicate 32 None }
     ensures walks { WalksPages D.state (crash_states_of D.moment D.possible_since) device.old device.new ledger.old ledger.new (MayName slot.now) result }
+    ensures work { ReadsEachOnce (D.state device.old) (D.state device.new) ledger.old ledger.new }
 {
     let count = count_tree(device, ledger, slot)?;
     if count != slot.root.keys {
@@ -159,6 +166,8 @@ fn open_parts<D: Device>(alloc: Global, device: &mut D) -> Result<(Slot, Ledger,
     ensures large { IfOk result (λ parts. 128 ≤ (D.state device.old).size) }
     ensures opens { ReadsToOpen D.state (crash_states_of D.moment D.possible_since) device.old device.new IsOpenFault result }
     ensures synced { IfErr result (LeavesSynced (D.state device.old) (D.state device.new) (crash_states_of D.moment D.possible_since device.new)) }
+    ensures work { IfOk result (λ parts. MadeToOpen (16 + 8 * (parts.0.root.pages - 2)) (D.state device.old) (D.state device.new)) }
+    ensures work_on_fault { IfErr result (λ e. MadeAtMost (D.state device.old).size 0 1 (D.state device.old) (D.state device.new)) }
 {
     let (slot, top) = open_slot(device)?;
     let mut ledger = new_ledger(alloc, &slot)?;
@@ -183,6 +192,9 @@ impl<D: Device> TreeKeeper<D> {
         ensures honest { IfOk result (λ k. (D.state (device_of k)).honest ≡ (D.state device).honest) }
         ensures large { IfOk result (λ k. 128 ≤ (D.state device).size) }
         ensures counts { IfOk result (λ k. NothingCounted (D.state device) (D.state (device_of k))) }
+        // One sync, and each page of the image is read once at most.
+        ensures work { IfOk result (λ k. MadeToOpen (16 + 8 * ((slot_of k).root.pages - 2)) (D.state device) (D.state (device_of k))) }
+        ensures work_on_fault { IfErr result (λ e. MadeAtMost (D.state device).size 0 1 (D.state device) (D.state e.1)) }
         ensures fault { IfErr result (λ e. IsOpenFault (D.state device) (D.state e.1) e.0) }
         ensures counts_fault { IfErr result (λ e. CountsRefusal e.0 (D.state device) (D.state e.1)) }
         ensures small { IfErr result (λ e. e.0 ≡ Small → e.1 ≡ device) }

@@ -1,7 +1,8 @@
 // The walk of an opening: each page once, with all that is tested of it.
 ghost use Rattle.std.specs.Prelude.{◌≡◌, ◌≤◌, ◌<◌, ◌*◌, ◌+◌, ℕ, true, IsTrue, IfOk, IfErr, None, Some, length, option_copied, not, if◌then◌else◌};
+ghost use Rattle.sector_device.specs.Effects.{MadeIfOk};
 ghost use Rattle.std.specs.List.{list_all};
-ghost use Rattle.page_alloc.specs.LedgerState.{is_free};
+ghost use Rattle.page_alloc.specs.LedgerState.{is_free, free_count};
 ghost use Rattle.page_alloc.specs.Calls.{holding};
 ghost use Rattle.page_store.specs.Sectors.{page_of};
 ghost use Rattle.page_store.specs.Steps.{crash_states_of};
@@ -11,6 +12,7 @@ ghost use Rattle.page_store.specs.Content.{place_in, walk, fan, low_of, high_of}
 ghost use Rattle.tree_nodes.specs.PageViews.{bounds_of, pairs_in, children_in};
 ghost use Rattle.cow_tree.specs.NamedWalks.{walk_or_name, fan_or_name};
 ghost use Rattle.cow_tree.specs.Walks.{Tells, Names, NamesInside, OnlyHolds, ReadsPages, WalksPages};
+ghost use Rattle.cow_tree.specs.Work.{ReadsEachOnce};
 ghost use Rattle.cow_tree.specs.declared.page_fault.PageFault.TheVariants.{Device as NoRead, Damaged};
 
 use crate::page_fault::PageFault;
@@ -29,6 +31,7 @@ pub(crate) fn load_page<D: Device>(
     ensures page { IsTrue (D.state device.old).honest → IfOk result (λ done. page_of (D.state device.old).disk.view page ≡ bytes.new) }
     ensures fault { IfErr result (λ e. e ≡ NoRead) }
     ensures reads { ReadsPages D.state (crash_states_of D.moment D.possible_since) device.old device.new result }
+    ensures work { MadeIfOk result 8 0 0 (D.state device.old) (D.state device.new) }
 {
     match fill_page(device, page, bytes) {
         Ok(()) => Ok(()),
@@ -108,6 +111,7 @@ fn reach(ledger: &mut Ledger, page: u32) -> bool
     ensures is { result ≡ is_free ledger.old page }
     ensures held { ledger.new ≡ (if result then holding page ledger.old else ledger.old) }
     ensures only { OnlyHolds ledger.old ledger.new }
+    ensures count { free_count ledger.old ≡ free_count ledger.new + (if result then 1 else 0) }
 {
     if !ledger.is_free(page) {
         return false;
@@ -133,6 +137,7 @@ fn walk_children<D: Device>(
     ensures answered { IsTrue (D.state device.old).honest → Tells (fan (walk (page_of (D.state device.old).disk.view) (bounds_of bounds) level) low.now (option_copied high.entry) (children_in branch.now.count branch.now.entries.now)) ledger.old ledger.new result }
     ensures named { IfErr result (Names (D.state device.old) (λ bytes. fan_or_name (walk_or_name bytes (bounds_of bounds) level) low.now (option_copied high.entry) (children_in branch.now.count branch.now.entries.now)) ledger.old) }
     ensures walks { WalksPages D.state (crash_states_of D.moment D.possible_since) device.old device.new ledger.old ledger.new (NamesInside bounds.pages) result }
+    ensures work { ReadsEachOnce (D.state device.old) (D.state device.new) ledger.old ledger.new }
 {
     let mut count: u64 = 0;
     let mut left = *branch;
@@ -164,6 +169,7 @@ pub(crate) fn walk_tree<D: Device>(
     ensures answered { IsTrue (D.state device.old).honest → Tells (walk (page_of (D.state device.old).disk.view) (bounds_of bounds) level page low.now (option_copied high.entry)) ledger.old ledger.new result }
     ensures named { IfErr result (Names (D.state device.old) (λ bytes. walk_or_name bytes (bounds_of bounds) level page low.now (option_copied high.entry)) ledger.old) }
     ensures walks { WalksPages D.state (crash_states_of D.moment D.possible_since) device.old device.new ledger.old ledger.new (NamesInside bounds.pages) result }
+    ensures work { ReadsEachOnce (D.state device.old) (D.state device.new) ledger.old ledger.new }
 {
     if !reach(ledger, page) {
         return Err(PageFault::Damaged { page });

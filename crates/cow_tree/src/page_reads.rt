@@ -1,5 +1,6 @@
 // Pages on the way of a key. Each page of a tree was tested when the image was opened, or written by a commit since: only its head is tested again.
-ghost use Rattle.std.specs.Prelude.{◌≡◌, ◌≤◌, ◌<◌, ◌-◌, ◌*◌, [], None, Some, true, false, IsTrue, IfOk, IfErr, IfSome, length, option_map, take};
+ghost use Rattle.std.specs.Prelude.{◌≡◌, ◌≤◌, ◌<◌, ◌-◌, ◌*◌, [], None, Some, true, false, IsTrue, IfOk, IfErr, IfSome, length, option_map, take, ◌+◌};
+ghost use Rattle.sector_device.specs.Effects.{MadeAtMost, MadeIfOk};
 ghost use Rattle.page_store.specs.Sectors.{page_of};
 ghost use Rattle.page_store.specs.Steps.{crash_states_of};
 ghost use Rattle.page_store.specs.Batch.{value_at, pair_after};
@@ -8,6 +9,7 @@ ghost use Rattle.page_store.specs.Content.{Found, place_in, walk};
 ghost use Rattle.page_store.specs.Pages.{pair_at};
 ghost use Rattle.tree_nodes.specs.PageViews.{bounds_of, pairs_in, children_in, entries_by_head, has_head};
 ghost use Rattle.cow_tree.specs.LookUps.{LooksUp, ReadsNextLeaf};
+ghost use Rattle.cow_tree.specs.Work.{pages_tried};
 ghost use Rattle.cow_tree.specs.Walks.{ReadsPages};
 ghost use Rattle.cow_tree.specs.Ways.{pages_around, are_inside, around_in, IsAnswer, IsOnWay};
 ghost use Rattle.cow_tree.specs.declared.page_fault.PageFault.TheVariants.{Damaged};
@@ -85,6 +87,7 @@ fn children_around<D: Device>(
     ensures first { IfOk result (λ around. around.0 < bounds.pages) }
     ensures second { IfOk result (λ around. IfSome around.1 (λ page. page < bounds.pages)) }
     ensures reads { ReadsPages D.state (crash_states_of D.moment D.possible_since) device.old device.new result }
+    ensures work { MadeIfOk result 8 0 0 (D.state device.old) (D.state device.new) }
 {
     let mut bytes = [0; 4096];
     load_page(device, page, &mut bytes)?;
@@ -133,6 +136,7 @@ fn get_in_leaf<D: Device>(
     requires fits { 8 * bounds.pages ≤ (D.state device.old).size }
     requires most { page < bounds.pages }
     ensures found { LooksUp D.state (crash_states_of D.moment D.possible_since) (λ pages. walk pages (bounds_of bounds) 0 page [] None) key.now device.old device.new buffer.old buffer.new result }
+    ensures work { MadeIfOk result 8 0 0 (D.state device.old) (D.state device.new) }
 {
     let mut bytes = [0; 4096];
     load_page(device, page, &mut bytes)?;
@@ -150,6 +154,7 @@ fn read_leaf<D: Device>(
     requires fits { 8 * bounds.pages ≤ (D.state device.old).size }
     requires most { page < bounds.pages }
     ensures next { ReadsNextLeaf D.state (crash_states_of D.moment D.possible_since) (λ pages found. walk pages (bounds_of bounds) 0 page [] None ≡ Some found) (bounds_of bounds) after.now device.old device.new kept.new result }
+    ensures work { MadeIfOk result 8 0 0 (D.state device.old) (D.state device.new) }
 {
     kept.read(device, bounds, page)?;
     Ok(kept.has_above(after))
@@ -167,6 +172,7 @@ pub(crate) fn get_under<D: Device>(
     requires fits { 8 * bounds.pages ≤ (D.state device.old).size }
     requires most { page < bounds.pages }
     ensures found { LooksUp D.state (crash_states_of D.moment D.possible_since) (λ pages. walk pages (bounds_of bounds) level page [] None) key.now device.old device.new buffer.old buffer.new result }
+    ensures work { MadeIfOk result (8 * (level + 1)) 0 0 (D.state device.old) (D.state device.new) }
 {
     if level == 0 {
         return get_in_leaf(device, bounds, page, key, buffer);
@@ -189,6 +195,7 @@ fn leaf_in_sibling<D: Device>(
     requires most { page < bounds.pages }
     ensures next { ReadsNextLeaf D.state (crash_states_of D.moment D.possible_since) (λ pages found. (walk pages (bounds_of bounds) level page [] None ≡ Some found) × (pair_after found.pairs after.now ≡ None → ⊥))
         (bounds_of bounds) after.now device.old device.new kept.new result }
+    ensures work { MadeAtMost (8 * pages_tried (level + 1)) 0 0 (D.state device.old) (D.state device.new) }
 {
     if !leaf_after(device, bounds, level, page, after, kept)? {
         return Err(PageFault::Damaged { page });
@@ -209,6 +216,7 @@ pub(crate) fn leaf_after<D: Device>(
     requires fits { 8 * bounds.pages ≤ (D.state device.old).size }
     requires most { page < bounds.pages }
     ensures next { ReadsNextLeaf D.state (crash_states_of D.moment D.possible_since) (λ pages found. walk pages (bounds_of bounds) level page [] None ≡ Some found) (bounds_of bounds) after.now device.old device.new kept.new result }
+    ensures work { MadeAtMost (8 * pages_tried (level + 1)) 0 0 (D.state device.old) (D.state device.new) }
 {
     if level == 0 {
         return read_leaf(device, bounds, page, after, kept);

@@ -1,10 +1,12 @@
 // Walking over a tree that a pin keeps.
 ghost use Rattle.std.specs.Prelude.{◌≡◌, ◌≤◌, ◌*◌, Some, IsTrue, IfOk, IfSome, option_map, take};
+ghost use Rattle.sector_device.specs.Effects.{MadeAtMost};
 ghost use Rattle.page_store.specs.Sectors.{page_of};
 ghost use Rattle.page_store.specs.Steps.{crash_states_of};
 ghost use Rattle.page_store.specs.Content.{Found};
 ghost use Rattle.page_store.specs.Batch.{pair_after};
 ghost use Rattle.page_store.specs.StoreState.{IsFilled};
+ghost use Rattle.cow_tree.specs.Work.{pages_tried};
 ghost use Rattle.cow_tree.specs.Walks.{ReadsPages};
 ghost use Rattle.cow_tree.specs.Ways.{IsAnswer};
 ghost use Rattle.cow_tree.specs.PinnedTrees.{IsRootedAt, tree_at};
@@ -31,6 +33,7 @@ pub(crate) fn read_next<D: Device>(
     ensures key { IsFilled (λ n. n.0) result key.old key.new }
     ensures value { IsFilled (λ n. n.1) result value.old value.new }
     ensures reads { ReadsPages D.state (crash_states_of D.moment D.possible_since) device.old device.new result }
+    ensures work { MadeAtMost (8 * pages_tried tree.height) 0 0 (D.state device.old) (D.state device.new) }
 {
     let mut leaf = KeptLeaf::none();
     read_next_leaf(device, tree, after, &mut leaf)?;

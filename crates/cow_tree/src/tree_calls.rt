@@ -1,8 +1,10 @@
 // The calls of a keeper of a tree.
-ghost use Rattle.std.specs.Prelude.{◌≡◌, ◌≤◌, ◌<◌, ◌+◌, ◌⊎◌, ℕ, [], true, false, IsTrue, OnOk, IfOk, IfErr, IfSome, IsErrOf, length, option_map, take};
+ghost use Rattle.std.specs.Prelude.{◌≡◌, ◌≤◌, ◌<◌, ◌+◌, ◌⊎◌, ℕ, [], true, false, IsTrue, OnOk, IfOk, IfErr, IfSome, IsErrOf, length, option_map, take, ◌*◌};
+ghost use Rattle.cow_tree.specs.Work.{pages_tried, WritesPages, WritesAtMost};
+ghost use Rattle.sector_device.specs.Effects.{MadeAtMost, MadeIfOk};
 ghost use Rattle.common_types.specs.CrashStates.{AddsOnly, AddsNone};
 ghost use Rattle.page_store.specs.Sectors.{Image};
-ghost use Rattle.page_store.specs.Batch.{is_batch, updated, pair_after};
+ghost use Rattle.page_store.specs.Batch.{is_batch, updated, pair_after, value_at};
 ghost use Rattle.page_store.specs.Counting.{CountsReads, CountsWrites};
 ghost use Rattle.page_store.specs.StoreState.{SoManyPages, HasRead, HasTried, NeedsTheSame, IsFilled, IsReadFault, IsCommitFault, numbers_out, last_generation};
 ghost use Rattle.page_store.specs.declared.fault.KeeperFault.TheVariants.{Failed, Spent};
@@ -60,7 +62,21 @@ impl<D: Device> Keeper for TreeKeeper<D> {
         }
     }
 
-    fn get(&mut self, key: &[u8], buffer: &mut [u8; 1024]) -> Result<Option<usize>, KeeperFault> {
+    fn get(&mut self, key: &[u8], buffer: &mut [u8; 1024]) -> Result<Option<usize>, KeeperFault>
+        ensures within { IfOk result (λ found. IfSome found (λ n. n ≤ length buffer.new)) }
+        ensures value { IsTrue (held D.state self.old).honest → IfOk result (λ found. option_map (λ n. take n buffer.new) found ≡ value_at (held D.state self.old).pairs key.now) }
+        ensures buffer { IsFilled (λ n. n) result buffer.old buffer.new }
+        ensures kept { HasRead (held D.state self.old) (held D.state self.new) }
+        ensures need { NeedsTheSame (MayNeed (slot_of self.old) (D.state (device_of self.old))) (MayNeed (slot_of self.new) (D.state (device_of self.new))) }
+        ensures reads { CountsReads result (held D.state self.old).failed_reads (held D.state self.new).failed_reads }
+        ensures fault { IfErr result (IsReadFault (held D.state self.old) (held D.state self.new)) }
+        ensures closed { (held D.state self.old).usable ≡ false → IsErrOf result Failed }
+        ensures unchanged { (held D.state self.old).usable ≡ false → held D.state self.new ≡ held D.state self.old }
+        ensures at_crash { IsTrue (held D.state self.old).honest → AddsNone (crash_states_of D.moment D.possible_since (device_of self.old)) (crash_states_of D.moment D.possible_since (device_of self.new)) }
+
+        // One page of each level is read.
+        ensures work { MadeIfOk result (8 * (slot_of self.old).root.height) 0 0 (D.state (device_of self.old)) (D.state (device_of self.new)) }
+    {
         if !self.usable {
             return Err(KeeperFault::Failed);
         }
@@ -92,6 +108,7 @@ impl<D: Device> Keeper for TreeKeeper<D> {
         ensures from_kept { IfOk result (λ found. option_map (λ n. (take n.0 key.new, take n.1 value.new)) found ≡ pair_after (kept_by self.new) after.now) }
         // Where the tree has a level, that leaf has a pair: a walk doesn't end because a page gives none.
         ensures some { OnOk result (0 < (slot_of self.new).root.height → kept_by self.new ≡ [] → ⊥) }
+        ensures work { MadeAtMost (8 * pages_tried (slot_of self.old).root.height) 0 0 (D.state (device_of self.old)) (D.state (device_of self.new)) }
         ensures unread { IsTrue (has_next (kept_by self.old) after.now) → (device_of self.new ≡ device_of self.old) × (kept_by self.new ≡ kept_by self.old) }
     {
         if !self.usable {
@@ -143,6 +160,10 @@ impl<D: Device> Keeper for TreeKeeper<D> {
             (D.state (device_of self.old)).disk.view (slot_of self.old) (top_of self.old) (pinned_by self.old) (λ n. MayNeed (slot_of self.old) (D.state (device_of self.old)) batch.now (SoManyPages n)) (updated (held D.state self.old).pairs batch.now) banner }
         ensures unheld { IsTrue (held D.state self.old).honest → (held D.state self.old).usable ≡ true → WritesNoPinnedPage (pinned_by self.old) (D.state (device_of self.old)).disk.view (D.state (device_of self.new)).disk.view
             (crash_states_of D.moment D.possible_since (device_of self.old)) (crash_states_of D.moment D.possible_since (device_of self.new)) }
+
+        // So many pages as the batch needs and a root are written, with two syncs. A refusal has written no more.
+        ensures work { OnOk result ((n : ℕ) × (n ≤ (held D.state self.old).free) × (IsTrue (held D.state self.old).honest → MayNeed (slot_of self.old) (D.state (device_of self.old)) batch.now (SoManyPages n)) × WritesPages n (D.state (device_of self.old)) (D.state (device_of self.new))) }
+        ensures work_on_fault { IfErr result (λ e. WritesAtMost (held D.state self.old).free (D.state (device_of self.old)) (D.state (device_of self.new))) }
     {
         if !self.usable {
             return Err(KeeperFault::Failed);

@@ -1,7 +1,9 @@
 -- The calls that were made of a file, and the disk that they make.
 use Rattle.std.specs.Prelude.{◌≡◌, ◌⊎◌, ◌≤◌, ℕ, suc, Bool, true, false, if◌then◌else◌, Result, Ok, Err, List, [], ◌∷◌, ◌++◌, length}
 use Rattle.sector_device.specs.Disk.{Disk, IsImage, written, listed, synced}
+use Rattle.sector_device.specs.CallsMade.{CallsMade, with_call}
 use Rattle.sector_device.specs.Device.{State}
+use Rattle.sector_device.specs.declared.call_counts.CallKind.TheVariants as kinds
 use Rattle.file_device.specs.declared.file_call.FileCall.{FileCall}
 use Rattle.file_device.specs.declared.file_call.FileCall.TheVariants.{Open, Create, Lock, SetLength, Sync, DropCache, ReadAhead, Length, Read, Write, FailedWrite, FailedSync}
 
@@ -69,11 +71,16 @@ abbrev pub PossibleSince : List FileCall → ℕ → List (List ℕ) → Type 0
 PossibleSince [] t image = (t ≤ 0) × IsImage (disk_of []) image
 PossibleSince (call ∷ earlier) t image = PossibleSince earlier t image ⊎ ((t ≤ suc (length earlier)) × IsImage (disk_of (call ∷ earlier)) image)
 
--- A device over a file: the name by which it was opened, the calls that were made of it, the newest first, and how many writes and syncs failed.
+-- A device over a file: the name by which it was opened, the calls that were made of it, the newest first, how many writes and syncs failed, and how many calls were made of the device itself.
 pub record FileHistory : Type 0 where
   pub path : List ℕ
   pub calls : List FileCall
   pub failed_writes : ℕ
+  pub made : CallsMade
+
+-- after one read more of the device, which changed nothing else
+abbrev pub asked : FileHistory → FileHistory
+asked h = record { path = h.path; calls = h.calls; failed_writes = h.failed_writes; made = with_call kinds.Read h.made }
 
 -- What is trusted of the system: a later opening finds what a crash since a moment of a device before may have left.
 abbrev pub FindsWhatACrashLeft : FileHistory → ℕ → FileHistory → Type 0
@@ -81,7 +88,7 @@ FindsWhatACrashLeft before t later = PossibleSince before.calls t (disk_of later
 
 -- Reads are answered from memory, so none fails, and what they give needs no premise on the file.
 abbrev pub file_state : FileHistory → State
-file_state h = record { disk = disk_of h.calls; size = length (disk_of h.calls).base; honest = true; failed_reads = 0; failed_writes = h.failed_writes }
+file_state h = record { disk = disk_of h.calls; size = length (disk_of h.calls).base; honest = true; failed_reads = 0; failed_writes = h.failed_writes; made = h.made }
 
 -- The copy in memory is what reads give, and it is known whether a write or a sync has failed.
 pub record IsCopy (calls : List FileCall) (copy : List (List ℕ)) (sound : Bool) : Type 0 where

@@ -1,5 +1,6 @@
 -- What a file is asked for before a device over it is used, and what one call of such a device asks.
 use Rattle.std.specs.Prelude.{◌≡◌, ℕ, zero, suc, ◌/◌, true, false, IsErr, Result, List, [], ◌∷◌}
+use Rattle.sector_device.specs.CallsMade.{none_made}
 use Rattle.file_device.specs.FileCalls.{FileHistory, is_sound, no_sectors, disk_of, noted}
 use Rattle.file_device.specs.declared.file_call.FileCall.{FileCall}
 use Rattle.file_device.specs.declared.file_call.FileCall.TheVariants.{Sync, DropCache, ReadAhead, Length, Read}
@@ -27,6 +28,7 @@ pub record IsUnused (d : FileHistory) : Type 0 where
   pub view : (disk_of d.calls).view ≡ (disk_of d.calls).base
   pub sound : is_sound d.calls ≡ true
   pub failures : d.failed_writes ≡ 0
+  pub made : d.made ≡ none_made
 
 -- A write or a sync makes one call of the file, and its answer is that call's. Once one has failed it makes none, and is refused.
 pub record Asks {T E : Type 0} (result : Result T E) (done failed : FileCall) (old new : List FileCall) : Type 0 where

@@ -2,17 +2,17 @@
 ghost use Rattle.std.specs.Prelude.{◌≡◌, ◌⊎◌, ◌*◌, ◌+◌, ◌<◌, ◌^◌, List, false, [], ◌∷◌, IfOk, IfErr, OnOk, OnErr, IsOk, IsTrue, Some, length, slice_get, refl};
 ghost use Rattle.sector_device.specs.Disk.{written, synced, WriteFailed, SyncFailed};
 ghost use Rattle.sector_device.specs.Device.{Elapses};
-ghost use Rattle.sector_device.specs.Effects.{ReadOutcome, WriteOutcome};
+ghost use Rattle.sector_device.specs.Effects.{ReadOutcome, WriteOutcome, MadeExactly};
 ghost use Rattle.sector_device.specs.declared.device.DeviceFault.TheVariants.{Device as Failing, NoFile, Memory};
 ghost use Rattle.common_types.specs.Counts.{counted};
-ghost use Rattle.file_device.specs.FileCalls.{disk_of, file_state, PossibleSince};
+ghost use Rattle.file_device.specs.FileCalls.{disk_of, file_state, asked, PossibleSince};
 ghost use Rattle.file_device.specs.FileCallLaws.{good, only_images, all_images};
 ghost use Rattle.file_device.specs.Opening.{AreRead, IsUnread, IsOpened, IsUnused, Asks};
 ghost use Rattle.file_device.specs.declared.file_call.FileCall.{FileCall as CallValue};
 ghost use Rattle.file_device.specs.declared.file_call.FileCall.TheVariants.{Open, Create, Lock, SetLength, Sync, DropCache, ReadAhead, Length, Write, FailedWrite, FailedSync};
 
 use crate::image_file::ImageFile;
-use sector_device::{Device, DeviceFault};
+use sector_device::{CallCounts, CallKind, Device, DeviceFault};
 use std::alloc::Global;
 use std::fs::{File, Files};
 use std::io;
@@ -31,6 +31,8 @@ pub struct FileDevice {
     /// No write and no sync has failed. Once one has, the file is asked for nothing more, since the system may have dropped what was written.
     is_sound: bool,
     failed_writes: u64,
+    /// The calls of the device, and not those of its file.
+    made: CallCounts,
 }
 
 impl Model for FileDevice {
@@ -39,7 +41,7 @@ impl Model for FileDevice {
 
     ghost Value = { FileHistory };
 
-    ghost view = { λ f. record { path = string_bytes f.path; calls = f.file.made.calls; failed_writes = f.failed_writes } };
+    ghost view = { λ f. record { path = string_bytes f.path; calls = f.file.made.calls; failed_writes = f.failed_writes; made = f.made.made } };
 
     ghost invariant = { λ f. IsCopy f.file.made.calls f.view.items f.is_sound };
 }
@@ -56,7 +58,7 @@ fn gives_up(is_sound: &mut bool, failed_writes: &mut u64) -> DeviceFault
     DeviceFault::Device
 }
 
-/// Makes sure of a file, has the system let go of what it keeps of it, and gives its length in bytes.
+/// MadeExactly sure of a file, has the system let go of what it keeps of it, and gives its length in bytes.
 fn sync_and_measure(file: &mut ImageFile) -> io::Result<u64>
     ensures { IfOk result (λ bytes. file.new.made.calls ≡ Length bytes ∷ DropCache ∷ Sync ∷ file.old.made.calls) }
 {
@@ -174,7 +176,7 @@ impl FileDevice {
         Ok(device)
     }
 
-    /// Makes sure of a file of which no sector was read yet, reads all of it, and has the system keep it by small pieces.
+    /// MadeExactly sure of a file of which no sector was read yet, reads all of it, and has the system keep it by small pieces.
     fn over(alloc: Global, path: &str, file: ImageFile) -> Result<FileDevice, DeviceFault>
         requires { IsUnread file.made.calls }
         ensures opened { IfOk result (λ d. IsOpened file.made.calls d) }
@@ -199,6 +201,7 @@ impl FileDevice {
             view,
             is_sound: true,
             failed_writes: 0,
+            made: CallCounts::new(),
         })
     }
 }
@@ -228,9 +231,11 @@ impl Device for FileDevice {
         ensures read { IsTrue (file_state self.old).honest → OnOk result (slice_get (file_state self.old).disk.view n ≡ Some buffer.new) }
         ensures outcome { ReadOutcome result (file_state self.old) (file_state self.new) }
         ensures time { IsTrue (file_state self.old).honest → Elapses (length self.old.calls) (length self.new.calls) (PossibleSince self.old.calls) (PossibleSince self.new.calls) }
+        ensures work { MadeExactly 1 0 0 (file_state self.old) (file_state self.new) }
         ensures never_fails { IsOk result }
-        ensures same { self.new ≡ self.old }
+        ensures asked { self.new ≡ asked self.old }
     {
+        self.made.note(CallKind::Read);
         *buffer = self.view[n as usize];
         Ok(())
     }
@@ -242,8 +247,10 @@ impl Device for FileDevice {
         ensures failed { IsTrue (file_state self.old).honest → OnErr result (WriteFailed n bytes.now (file_state self.old).disk (file_state self.new).disk) }
         ensures outcome { WriteOutcome result (file_state self.old) (file_state self.new) }
         ensures time { IsTrue (file_state self.old).honest → Elapses (length self.old.calls) (length self.new.calls) (PossibleSince self.old.calls) (PossibleSince self.new.calls) }
+        ensures work { MadeExactly 0 1 0 (file_state self.old) (file_state self.new) }
         ensures asks { Asks result (Write n bytes.now) (FailedWrite n bytes.now) self.old.calls self.new.calls }
     {
+        self.made.note(CallKind::Write);
         if self.is_sound && self.file.write(n, bytes).is_ok() {
             self.view[n as usize] = *bytes;
             return Ok(());
@@ -257,8 +264,10 @@ impl Device for FileDevice {
         ensures failed { IsTrue (file_state self.old).honest → OnErr result (SyncFailed (file_state self.old).disk (file_state self.new).disk) }
         ensures outcome { WriteOutcome result (file_state self.old) (file_state self.new) }
         ensures time { IsTrue (file_state self.old).honest → Elapses (length self.old.calls) (length self.new.calls) (PossibleSince self.old.calls) (PossibleSince self.new.calls) }
+        ensures work { MadeExactly 0 0 1 (file_state self.old) (file_state self.new) }
         ensures asks { Asks result Sync FailedSync self.old.calls self.new.calls }
     {
+        self.made.note(CallKind::Sync);
         if !self.is_sound {
             return Err(gives_up(&mut self.is_sound, &mut self.failed_writes));
         }

@@ -2,6 +2,7 @@
 use Rattle.std.proofs.Common.{◌∙◌, IsTrue, sym, subst, Result}
 use Rattle.common_types.specs.CrashStates.{CrashStates, adds_none_again}
 use Rattle.sector_device.specs.Device.{State}
+use Rattle.sector_device.proofs.Works.{read_then}
 use Rattle.sector_device.specs.Effects.{IsSameDevice, OnlyReads}
 use Rattle.sector_device.specs.declared.device.DeviceFault.{DeviceFault}
 use Rattle.page_store.specs.Sectors.{Image}
@@ -18,6 +19,7 @@ only_then a b c first second = record {
   same = same_after a b c first.same second.same;
   disk = λ honest. second.disk (still_honest a b first.same honest) ∙ first.disk honest;
   writes = second.writes ∙ first.writes;
+  made = read_then first.made second.made;
 }
 
 -- what one read and then another leave as it was

@@ -1,7 +1,8 @@
 -- What is made, and when it is not.
 use Rattle.std.specs.Prelude.{◌≡◌, ◌⊎◌, ◌<◌, ◌*◌, ℕ, Some}
 use Rattle.common_types.specs.Counts.{counted}
-use Rattle.sector_device.specs.Device.{State}
+use Rattle.sector_device.specs.Device.{State, NothingCounted}
+use Rattle.sector_device.specs.Effects.{MadeExactly}
 use Rattle.page_store.specs.Sectors.{Image}
 use Rattle.page_store.specs.Roots.{current, greatest_seal}
 use Rattle.page_store.specs.declared.slot.Slot.{Slot}
@@ -16,6 +17,11 @@ pub record IsFirst (pages : ℕ) (image : Image) : Type 0 where
   pub seal : slot.seal ≡ 1
   pub greatest : greatest_seal image 16 ≡ 1
   pub size : slot.root.pages ≡ pages
+
+-- What was made cost so many writes and one sync, and no call failed.
+pub record IsMadeBy (w : ℕ) (old new : State) : Type 0 where
+  pub counts : NothingCounted old new
+  pub made : MadeExactly 0 w 1 old new
 
 -- When a fault may come of making an image.
 abbrev pub IsFormatFault : ℕ → State → State → KeeperFault → Type 0

@@ -1,7 +1,8 @@
 -- What an opening of an image does to its device.
-use Rattle.std.specs.Prelude.{◌≡◌, Result, OnOk, IfErr}
+use Rattle.std.specs.Prelude.{◌+◌, ℕ, ◌≡◌, Result, OnOk, IfErr}
 use Rattle.common_types.specs.CrashStates.{CrashStates}
 use Rattle.sector_device.specs.Device.{State, NothingCounted}
+use Rattle.sector_device.specs.Effects.{MadeAtMost}
 use Rattle.page_store.specs.Sectors.{Image}
 use Rattle.page_store.specs.Counting.{CountsRefusal}
 use Rattle.page_store.specs.DeviceEffects.{KeepsDevice}
@@ -15,3 +16,8 @@ pub record ReadsToOpen {T D : Type 0} (state : D → State) (crash_states : D �
   pub counts_fault : IfErr result (λ e. CountsRefusal e (state old) (state new))
   pub small : IfErr result (λ e. e ≡ Small → new ≡ old)
   pub fault : IfErr result (reason (state old) (state new))
+
+-- An opening made one sync, at most so many reads, and no write.
+pub record MadeToOpen (r : ℕ) (old new : State) : Type 0 where
+  pub sync : new.made.syncs ≡ old.made.syncs + 1
+  pub most : MadeAtMost r 0 1 old new

@@ -1,6 +1,6 @@
 // New pages, and a new root over them.
-ghost use Rattle.std.specs.Prelude.{◌≡◌, ◌≤◌, ◌+◌, ◌*◌, ℕ, IsTrue, OnOk, All};
-ghost use Rattle.sector_device.specs.Effects.{WriteOutcome};
+ghost use Rattle.std.specs.Prelude.{length, ◌≡◌, ◌≤◌, ◌+◌, ◌*◌, ℕ, IsTrue, OnOk, All};
+ghost use Rattle.sector_device.specs.Effects.{WriteOutcome, MadeIfOk};
 ghost use Rattle.common_types.specs.CrashStates.{AddsOnly};
 ghost use Rattle.page_store.specs.Switch.{IsSlotPage};
 ghost use Rattle.page_store.specs.Steps.{crash_states_of, AllAre};
@@ -22,6 +22,7 @@ pub struct NewPage {
 pub fn write_pages<D: Device>(device: &mut D, pages: &[NewPage]) -> Result<(), DeviceFault>
     requires { All (λ page. 8 * page.number + 8 ≤ (D.state device.old).size) pages.now }
     ensures pages { WritesDevice D.state (crash_states_of D.moment D.possible_since) device.old device.new result (ArePatched pages.now) (IsSameOutside (numbers pages.now)) }
+    ensures work { MadeIfOk result 0 (8 * length pages.now) 0 (D.state device.old) (D.state device.new) }
 {
     for page in pages {
         write_page(device, page.number, &page.bytes)?;
@@ -48,6 +49,7 @@ pub fn commit_pages<D: Device>(
     ensures done { IsTrue (D.state device.old).honest → (commit : Commit) → commit.new ≡ slot.now → IsReady commit pages.now (D.state device.old).disk.view →
         OnOk result (IsDone commit pages.now (crash_states_of D.moment D.possible_since device.new) (D.state device.old).disk.view (D.state device.new).disk.view) }
     ensures outcome { WriteOutcome result (D.state device.old) (D.state device.new) }
+    ensures work { MadeIfOk result 0 (8 * length pages.now + 8) 2 (D.state device.old) (D.state device.new) }
 {
     write_pages(device, pages)?;
     sync_all(device)?;

@@ -1,7 +1,9 @@
 // The calls of a keeper of flat pages.
-ghost use Rattle.std.specs.Prelude.{◌≡◌, ◌⊎◌, ◌≤◌, ◌<◌, ◌+◌, ◌==◌, ℕ, true, false, length, IsTrue, OnOk, OnErr, IfErr, IsErrOf};
+ghost use Rattle.std.specs.Prelude.{◌≡◌, ◌⊎◌, ◌≤◌, ◌<◌, ◌+◌, ◌*◌, ◌==◌, ℕ, true, false, length, IsTrue, OnOk, OnErr, IfErr, IsErrOf};
+ghost use Rattle.sector_device.specs.Effects.{MadeIfOk};
 ghost use Rattle.common_types.specs.CrashStates.{AddsOnly, AddsNone, may_crash_to};
 ghost use Rattle.page_store.specs.Batch.{is_batch, is_map, updated};
+ghost use Rattle.page_store.specs.Encoding.{pages_needed};
 ghost use Rattle.common_types.specs.Counts.{Counts};
 ghost use Rattle.page_store.specs.Commit.{IsBetween};
 ghost use Rattle.page_store.specs.FlatPlan.{IsPlan};
@@ -41,6 +43,7 @@ impl<D: Device> FlatKeeper<D> {
         ensures honest { (D.state (device_of self.new)).honest ≡ (D.state (device_of self.old)).honest }
         ensures reads { (D.state (device_of self.new)).failed_reads ≡ (D.state (device_of self.old)).failed_reads }
         ensures writes { Counts result (D.state (device_of self.old)).failed_writes (D.state (device_of self.new)).failed_writes }
+        ensures work { MadeIfOk result 0 (8 * length plan.pages.items + 8) 2 (D.state (device_of self.old)) (D.state (device_of self.new)) }
     {
         let Plan {
             pairs,
@@ -145,6 +148,7 @@ impl<D: Device> Keeper for FlatKeeper<D> {
         ensures tried { HasTried (held D.state self.old) (held D.state self.new) }
         ensures reads { CountsReads result (held D.state self.old).failed_reads (held D.state self.new).failed_reads }
         ensures writes { CountsWrites (held D.state self.old).usable result (held D.state self.old).failed_writes (held D.state self.new).failed_writes }
+        ensures work { MadeIfOk result 0 (8 * pages_needed (updated (pairs_of self.old) batch.now) + 8) 2 (D.state (device_of self.old)) (D.state (device_of self.new)) }
         ensures at_crash { IsTrue (held D.state self.old).honest → (held D.state self.old).usable ≡ true →
             AddsOnly (crash_states_of D.moment D.possible_since (device_of self.old)) (crash_states_of D.moment D.possible_since (device_of self.new))
             (λ c. ImageHas c (held D.state self.old).pairs (held D.state self.old).banner ⊎ ImageHas c (updated (held D.state self.old).pairs batch.now) banner) }

@@ -1,7 +1,8 @@
 // Opening an image of flat pages.
-ghost use Rattle.std.specs.Prelude.{◌≡◌, ◌⊎◌, ◌≤◌, ◌<◌, ◌*◌, ◌+◌, ◌==◌, ◌^◌, ℕ, List, Bool, true, false, Some, IfOk, IfErr, IsTrue, length};
+ghost use Rattle.std.specs.Prelude.{◌≡◌, ◌⊎◌, ◌≤◌, ◌<◌, ◌*◌, ◌+◌, ◌==◌, ◌^◌, ℕ, List, Bool, true, false, Some, IfOk, OnOk, IfErr, IsTrue, length};
 ghost use Rattle.std.specs.List.{list_all};
 ghost use Rattle.sector_device.specs.Device.{State, NothingCounted};
+ghost use Rattle.sector_device.specs.Effects.{MadeExactly, MadeAtMost, MadeIfOk};
 ghost use Rattle.page_store.specs.Counting.{CountsReads, CountsRefusal};
 ghost use Rattle.page_store.specs.declared.fault.KeeperFault.TheVariants.{Small};
 ghost use Rattle.page_store.specs.Batch.{is_map, is_pair, is_key, is_value};
@@ -9,9 +10,9 @@ ghost use Rattle.page_store.specs.Flat.{half_size, is_half};
 ghost use Rattle.page_store.specs.Content.{HasContent};
 ghost use Rattle.page_store.specs.Steps.{crash_states_of};
 ghost use Rattle.page_store.specs.DeviceEffects.{IsReadCall};
-ghost use Rattle.page_store.specs.Opening.{ReadsToOpen};
+ghost use Rattle.page_store.specs.Opening.{ReadsToOpen, MadeToOpen};
 ghost use Rattle.page_store.specs.FlatState.{IsFitted, CrashStatesDoRepresent, IsOpened, IsSlotFault, IsOpenFault, HasOpened, found_in_half};
-ghost use Rattle.page_store.specs.FlatSeen.{pairs_of, banner_of, device_of, top_of, is_open};
+ghost use Rattle.page_store.specs.FlatSeen.{slot_of, pairs_of, banner_of, device_of, top_of, is_open};
 ghost use Rattle.page_store.specs.Roots.{IsFoundSlot, current, greatest_seal};
 ghost use Rattle.common_types.specs.CrashStates.{AddsNone};
 
@@ -42,6 +43,7 @@ fn flat_slot<D: Device>(device: &mut D) -> Result<(Slot, u64), KeeperFault>
     ensures fault { IfErr result (IsSlotFault (D.state device.old)) }
     ensures device { IsReadCall D.state (crash_states_of D.moment D.possible_since) device.old device.new }
     ensures reads { CountsReads result (D.state device.old).failed_reads (D.state device.new).failed_reads }
+    ensures work { MadeIfOk result 16 0 0 (D.state device.old) (D.state device.new) }
 {
     let Ok(roots) = open_roots(device) else {
         return Err(KeeperFault::Device);
@@ -63,6 +65,8 @@ fn open_slot<D: Device>(device: &mut D) -> Result<(Slot, u64), KeeperFault>
     ensures version { IfOk result (λ found. found.0.root.banner.version ≡ 0) }
     ensures large { IfOk result (λ found. 128 ≤ (D.state device.old).size) }
     ensures opens { ReadsToOpen D.state (crash_states_of D.moment D.possible_since) device.old device.new IsOpenFault result }
+    ensures work { OnOk result (MadeExactly 16 0 1 (D.state device.old) (D.state device.new)) }
+    ensures work_on_fault { IfErr result (λ e. MadeAtMost (D.state device.old).size 0 1 (D.state device.old) (D.state device.new)) }
 {
     if device.sectors() < 128 {
         return Err(KeeperFault::Small);
@@ -105,6 +109,8 @@ fn open_parts<D: Device>(
     ensures fitted { IfOk result (λ parts. IsFitted (D.state device.old).size parts.0 parts.1.items) }
     ensures large { IfOk result (λ parts. 128 ≤ (D.state device.old).size) }
     ensures opens { ReadsToOpen D.state (crash_states_of D.moment D.possible_since) device.old device.new IsOpenFault result }
+    ensures work { IfOk result (λ parts. MadeToOpen (16 + 8 * half_size parts.0.root.pages) (D.state device.old) (D.state device.new)) }
+    ensures work_on_fault { IfErr result (λ e. MadeAtMost (D.state device.old).size 0 1 (D.state device.old) (D.state device.new)) }
 {
     let (slot, top) = open_slot(device)?;
     if !is_half(&slot.root) {
@@ -133,6 +139,8 @@ impl<D: Device> FlatKeeper<D> {
         ensures honest { IfOk result (λ k. (D.state (device_of k)).honest ≡ (D.state device).honest) }
         ensures large { IfOk result (λ k. 128 ≤ (D.state device).size) }
         ensures counts { IfOk result (λ k. NothingCounted (D.state device) (D.state (device_of k))) }
+        ensures work { IfOk result (λ k. MadeToOpen (16 + 8 * half_size (slot_of k).root.pages) (D.state device) (D.state (device_of k))) }
+        ensures work_on_fault { IfErr result (λ e. MadeAtMost (D.state device).size 0 1 (D.state device) (D.state e.1)) }
         ensures fault { IfErr result (λ e. IsOpenFault (D.state device) (D.state e.1) e.0) }
         ensures counts_fault { IfErr result (λ e. CountsRefusal e.0 (D.state device) (D.state e.1)) }
         ensures small { IfErr result (λ e. e.0 ≡ Small → e.1 ≡ device) }

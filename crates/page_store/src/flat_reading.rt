@@ -1,5 +1,6 @@
 // The pairs of flat pages.
 ghost use Rattle.std.specs.Prelude.{◌≡◌, ◌⊎◌, ◌+◌, ◌*◌, ◌<◌, ◌≤◌, ◌^◌, None, Some, IsTrue, IfOk, IfErr, IfSome, option_map, length, false};
+ghost use Rattle.sector_device.specs.Effects.{MadeAtMost};
 ghost use Rattle.page_store.specs.Pages.{pair_at, entries_at};
 ghost use Rattle.page_store.specs.Flat.{flat_page, flat_next, flat_walk, is_over, half_size, with_front, with_pairs, is_flat_head, HasNext};
 ghost use Rattle.page_store.specs.Sectors.{page_of};
@@ -114,6 +115,7 @@ pub(crate) fn read_half<D: Device>(
     ensures fault { IfErr result (IsHalfFault slot.now (D.state device.old).honest (D.state device.old).failed_reads (D.state device.new).failed_reads (flat_walk (page_of (D.state device.old).disk.view) slot.now.seal (half_size slot.now.root.pages) slot.now.root.tree 0 slot.now.root.keys)) }
     ensures device { IsReadCall D.state (crash_states_of D.moment D.possible_since) device.old device.new }
     ensures reads { CountsReads result (D.state device.old).failed_reads (D.state device.new).failed_reads }
+    ensures work { MadeAtMost (8 * half_size slot.now.root.pages) 0 0 (D.state device.old) (D.state device.new) }
 {
     let mut pairs = Vec::new(alloc);
     let mut bytes = [0; 4096];

@@ -1,13 +1,12 @@
 // Making an image.
-ghost use Rattle.std.specs.Prelude.{◌≡◌, ◌≢◌, ◌⊎◌, ◌≤◌, ◌<◌, ◌*◌, IsTrue, OnOk, IfErr, true, length};
-ghost use Rattle.sector_device.specs.Device.{NothingCounted};
+ghost use Rattle.std.specs.Prelude.{◌+◌, ◌≡◌, ◌≢◌, ◌⊎◌, ◌≤◌, ◌<◌, ◌*◌, IsTrue, OnOk, IfErr, true, length};
 ghost use Rattle.sector_device.specs.Effects.{IsSameDevice};
 ghost use Rattle.page_store.specs.Batch.{is_map};
 ghost use Rattle.page_store.specs.Encoding.{pages_needed};
 ghost use Rattle.page_store.specs.Steps.{crash_states_of, AllAre};
 ghost use Rattle.page_store.specs.Content.{HasContent};
 ghost use Rattle.page_store.specs.declared.fault.KeeperFault.TheVariants.{Failed};
-ghost use Rattle.page_store.specs.Formatting.{IsFirst, IsFormatFault};
+ghost use Rattle.page_store.specs.Formatting.{IsFirst, IsFormatFault, IsMadeBy};
 
 use crate::commit::write_pages;
 use crate::encoding::{flat_pages, slot_page};
@@ -35,7 +34,7 @@ pub fn format_flat<D: Device>(
     ensures sure { IsTrue (D.state device.old).honest → OnOk result (AllAre (crash_states_of D.moment D.possible_since device.new) (D.state device.new).disk.view) }
     ensures fits { OnOk result ((16 ≤ pages) × (pages ≤ 65536) × (8 * pages ≤ (D.state device.old).size)) }
     ensures fault { IfErr result (IsFormatFault pages (D.state device.old) (D.state device.new)) }
-    ensures counts { OnOk result (NothingCounted (D.state device.old) (D.state device.new)) }
+    ensures work { OnOk result (IsMadeBy (16 + 8 * pages_needed pairs.now) (D.state device.old) (D.state device.new)) }
     ensures unwritten { IfErr result (λ e. e ≢ Failed → device.new ≡ device.old) }
     ensures same { IsSameDevice (D.state device.old) (D.state device.new) }
 {

@@ -1,6 +1,6 @@
 // Sectors and pages of a device.
 ghost use Rattle.std.specs.Prelude.{◌≡◌, ◌+◌, ◌*◌, ◌<◌, ◌≤◌, IsTrue, OnOk, IfErr};
-ghost use Rattle.sector_device.specs.Effects.{WriteOutcome};
+ghost use Rattle.sector_device.specs.Effects.{WriteOutcome, MadeExactly, MadeIfOk};
 ghost use Rattle.common_types.specs.CrashStates.{AddsNone, AddsOnly};
 ghost use Rattle.page_store.specs.Sectors.{sector, page_of};
 ghost use Rattle.page_store.specs.Switch.{IsSlotPage, IsAbove, IsSwitching, IsSwitched};
@@ -29,6 +29,7 @@ pub fn read_sector<D: Device>(
     requires { n < (D.state device.old).size }
     ensures sector { ReadsDevice D.state (crash_states_of D.moment D.possible_since) device.old device.new result (λ view _. sector view n ≡ buffer.new) }
     ensures untouched { IfErr result (λ e. buffer.new ≡ buffer.old) }
+    ensures work { MadeExactly 1 0 0 (D.state device.old) (D.state device.new) }
 {
     device.read(n, buffer)
 }
@@ -41,6 +42,7 @@ pub fn fill_page<D: Device>(
 ) -> Result<(), DeviceFault>
     requires { 8 * page + 8 ≤ (D.state device.old).size }
     ensures page { ReadsDevice D.state (crash_states_of D.moment D.possible_since) device.old device.new result (λ view _. page_of view page ≡ bytes.new) }
+    ensures work { MadeIfOk result 8 0 0 (D.state device.old) (D.state device.new) }
 {
     let first = 8 * page as u64;
     let mut sector = [0; 512];
@@ -60,6 +62,7 @@ pub fn read_page<D: Device>(
     requires { 8 * page + 8 ≤ (D.state device.old).size }
     ensures page { ReadsDevice D.state (crash_states_of D.moment D.possible_since) device.old device.new result (λ view _. page_of view page ≡ bytes.new) }
     ensures untouched { IfErr result (λ e. bytes.new ≡ bytes.old) }
+    ensures work { MadeIfOk result 8 0 0 (D.state device.old) (D.state device.new) }
 {
     let mut read = [0; 4096];
     fill_page(device, page, &mut read)?;
@@ -71,6 +74,7 @@ pub fn read_page<D: Device>(
 pub fn write_sector<D: Device>(device: &mut D, n: u64, bytes: &[u8; 512]) -> Result<(), DeviceFault>
     requires { n < (D.state device.old).size }
     ensures sector { WritesDevice D.state (crash_states_of D.moment D.possible_since) device.old device.new result (IsWritten n bytes.now) (MayBeWritten n bytes.now) }
+    ensures work { MadeExactly 0 1 0 (D.state device.old) (D.state device.new) }
 {
     device.write(n, bytes)
 }
@@ -81,6 +85,7 @@ pub fn sync_all<D: Device>(device: &mut D) -> Result<(), DeviceFault>
     ensures sure { IsTrue (D.state device.old).honest → OnOk result (AllAre (crash_states_of D.moment D.possible_since device.new) (D.state device.new).disk.view) }
     ensures outcome { WriteOutcome result (D.state device.old) (D.state device.new) }
     ensures at_crash { IsTrue (D.state device.old).honest → AddsNone (crash_states_of D.moment D.possible_since device.old) (crash_states_of D.moment D.possible_since device.new) }
+    ensures work { MadeExactly 0 0 1 (D.state device.old) (D.state device.new) }
 {
     device.sync()
 }
@@ -94,6 +99,7 @@ pub fn write_page<D: Device>(
     requires { 8 * page + 8 ≤ (D.state device.old).size }
     ensures sectors { WritesDevice D.state (crash_states_of D.moment D.possible_since) device.old device.new result (AreWritten (8 * page) 8 bytes.now) (MayBeAllWritten (8 * page) 8 bytes.now) }
     ensures page { IsTrue (D.state device.old).honest → OnOk result (page_of (D.state device.new).disk.view page ≡ bytes.now) }
+    ensures work { MadeIfOk result 0 8 0 (D.state device.old) (D.state device.new) }
 {
     let first = 8 * page as u64;
     for k in 0..8 {
@@ -116,6 +122,7 @@ pub fn switch_root<D: Device>(
     ensures done { IsTrue (D.state device.old).honest → OnOk result (IsSwitched slot.now (D.state device.old).disk.view (D.state device.new).disk.view × AllAre (crash_states_of D.moment D.possible_since device.new) (D.state device.new).disk.view) }
     ensures at_crash { IsTrue (D.state device.old).honest → AddsOnly (crash_states_of D.moment D.possible_since device.old) (crash_states_of D.moment D.possible_since device.new) (IsSwitching slot.now (D.state device.old).disk.view) }
     ensures outcome { WriteOutcome result (D.state device.old) (D.state device.new) }
+    ensures work { MadeIfOk result 0 8 1 (D.state device.old) (D.state device.new) }
 {
     write_page(device, slot.number, bytes)?;
     sync_all(device)

@@ -2,6 +2,7 @@
 ghost use Rattle.std.specs.Prelude.{◌⊎◌, IfSome, ◌≡◌, ◌+◌, ◌*◌, ◌<◌, ◌≤◌, ℕ, IfOk, length, drop, ◌++◌};
 ghost use Rattle.page_store.specs.Sectors.{sector};
 ghost use Rattle.page_store.specs.Roots.{IsFoundSlot, shared_seal, record_from, slot_in, newer, current, greater, seal_or_zero, greatest_seal};
+ghost use Rattle.sector_device.specs.Effects.{MadeIfOk};
 ghost use Rattle.page_store.specs.Steps.{crash_states_of};
 ghost use Rattle.page_store.specs.DeviceEffects.{ReadsDevice};
 
@@ -114,6 +115,7 @@ fn greatest_seal(sectors: &[[u8; 512]; 16]) -> u64
 fn read_slots<D: Device>(device: &mut D, sectors: &mut [[u8; 512]; 16]) -> Result<(), DeviceFault>
     requires { 16 ≤ (D.state device.old).size }
     ensures sectors { ReadsDevice D.state (crash_states_of D.moment D.possible_since) device.old device.new result (λ view _. (n : ℕ) → n < 16 → sector view n ≡ sector sectors.new n) }
+    ensures work { MadeIfOk result 16 0 0 (D.state device.old) (D.state device.new) }
 {
     let mut sector = [0; 512];
     for n in 0..16 {
@@ -128,6 +130,7 @@ pub fn open_roots<D: Device>(device: &mut D) -> Result<Roots, DeviceFault>
     requires { 16 ≤ (D.state device.old).size }
     ensures roots { ReadsDevice D.state (crash_states_of D.moment D.possible_since) device.old device.new result (λ view roots. (roots.current ≡ current view) × (roots.greatest ≡ greatest_seal view 16)) }
     ensures fits { IfOk result (λ roots. IfSome roots.current (IsFoundSlot (D.state device.old).size)) }
+    ensures work { MadeIfOk result 16 0 0 (D.state device.old) (D.state device.new) }
 {
     let mut sectors = [[0; 512]; 16];
     read_slots(device, &mut sectors)?;

@@ -4,3 +4,4 @@ pub mod OneFails
 pub mod ReadBack
 pub mod Picks
 pub mod Time
+pub mod Works

@@ -3,14 +3,16 @@ use Rattle.std.specs.Prelude.{◌≡◌, ◌⊎◌, ℕ, Bool, Result, Ok, Err}
 use Rattle.common_types.specs.Counts.{counted}
 use Rattle.common_types.specs.CrashStates.{AddsOnly}
 use Rattle.sector_device.specs.Disk.{Disk}
+use Rattle.sector_device.specs.CallsMade.{CallsMade}
 
--- What a device is, but for what a crash may leave of it. `honest`: it keeps its written meaning. The counts are of failed reads, and of failed writes and syncs.
+-- What a device is, but for what a crash may leave of it. `honest`: it keeps its written meaning. The counts are of failed reads, and of failed writes and syncs. `made`: how many calls were made, those that failed too, without a limit.
 pub record State : Type 0 where
   pub disk : Disk
   pub size : ℕ
   pub honest : Bool
   pub failed_reads : ℕ
   pub failed_writes : ℕ
+  pub made : CallsMade
 
 -- no call failed
 pub record NothingCounted (old new : State) : Type 0 where

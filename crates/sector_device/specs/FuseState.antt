@@ -20,6 +20,6 @@ refused_reads fuse = fuse.failed_reads
 abbrev pub refused_writes : {D : Type 0} → FuseDisk D → ℕ
 refused_writes fuse = fuse.failed_writes
 
--- the device inside, which has failed so often besides
+-- the device inside, which has failed so often besides; its calls are those of the fuse itself
 abbrev pub fuse_state : {D : Type 0} → (D → State) → FuseDisk D → State
-fuse_state state fuse = with_failures (state fuse.inner) fuse.failed_reads fuse.failed_writes
+fuse_state state fuse = with_failures (state fuse.inner) fuse.failed_reads fuse.failed_writes fuse.made.made

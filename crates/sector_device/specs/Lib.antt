@@ -1,5 +1,6 @@
 pub mod AfterStop
 pub mod Calls
+pub mod CallsMade
 pub mod Device
 pub mod Disk
 pub mod Effects

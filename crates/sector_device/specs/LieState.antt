@@ -29,6 +29,6 @@ pub record SameLie {D : Type 0} (old new : LieDisk D) : Type 0 where
   pub sector : sector new ≡ sector old
   pub told : told new ≡ told old
 
--- the device inside, but not honest
+-- the device inside, but not honest; its calls are those that were made of this one
 abbrev pub lie_state : {D : Type 0} → (D → State) → LieDisk D → State
-lie_state state lie = lying (state lie.inner)
+lie_state state lie = lying (state lie.inner) lie.made.made

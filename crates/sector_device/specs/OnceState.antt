@@ -1,5 +1,6 @@
 -- What callers see of a device of which one call fails.
-use Rattle.std.specs.Prelude.{ℕ, Option}
+use Rattle.std.specs.Prelude.{◌≡◌, ℕ, Option}
+use Rattle.common_types.specs.Counts.{counted}
 use Rattle.sector_device.specs.Device.{State}
 use Rattle.sector_device.specs.Fuse.{with_failures}
 use Rattle.sector_device.specs.declared.once_disk.OnceDisk.{OnceDisk}
@@ -20,6 +21,21 @@ refused_reads once = once.failed_reads
 abbrev pub refused_writes : {D : Type 0} → OnceDisk D → ℕ
 refused_writes once = once.failed_writes
 
--- the device inside, which has failed so often besides
+-- the device inside, which has failed so often besides; its calls are those that were made of this one
 abbrev pub once_state : {D : Type 0} → (D → State) → OnceDisk D → State
-once_state state once = with_failures (state once.inner) once.failed_reads once.failed_writes
+once_state state once = with_failures (state once.inner) once.failed_reads once.failed_writes once.made.made
+
+-- it failed no call itself
+pub record RefusesNone {D : Type 0} (old new : OnceDisk D) : Type 0 where
+  pub reads : refused_reads new ≡ refused_reads old
+  pub writes : refused_writes new ≡ refused_writes old
+
+-- it failed a read itself
+pub record RefusesRead {D : Type 0} (old new : OnceDisk D) : Type 0 where
+  pub reads : refused_reads new ≡ counted (refused_reads old)
+  pub writes : refused_writes new ≡ refused_writes old
+
+-- it failed a write or a sync itself
+pub record RefusesWrite {D : Type 0} (old new : OnceDisk D) : Type 0 where
+  pub reads : refused_reads new ≡ refused_reads old
+  pub writes : refused_writes new ≡ counted (refused_writes old)

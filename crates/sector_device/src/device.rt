@@ -5,7 +5,7 @@ ghost use Rattle.sector_device.specs.declared.device.DeviceFault.TheVariants.{De
 ghost use Rattle.sector_device.specs.Disk.{Sectors, Disk, IsImage, written, synced, WriteFailed, SyncFailed};
 ghost use Rattle.common_types.specs.Counts.{counted, Counts};
 ghost use Rattle.sector_device.specs.Device.{State, Elapses};
-ghost use Rattle.sector_device.specs.Effects.{ReadOutcome, WriteOutcome};
+ghost use Rattle.sector_device.specs.Effects.{ReadOutcome, WriteOutcome, MadeExactly};
 
 use thiserror::Error;
 
@@ -45,7 +45,7 @@ pub(crate) fn counted(failed: &mut u64) -> DeviceFault
 /// Whatever speaks of sectors, or of what a crash may leave, holds where the device is honest, that is, keeps its written meaning. No call
 /// makes an honest device dishonest, or the other way round. Sizes, counts and the kind of a fault hold on every device.
 pub trait Device {
-    /// The disk, its size in sectors, whether the device is honest, and the counts of failed calls.
+    /// The disk, its size in sectors, whether the device is honest, the counts of failed calls, and how many calls were made.
     ghost state: { Self → State };
 
     /// The moment, as a number that doesn't fall.
@@ -64,7 +64,8 @@ pub trait Device {
         ensures read { IsTrue (state self.old).honest → OnOk result (slice_get (state self.old).disk.view n ≡ Some buffer.new) }
         ensures untouched { IfErr result (λ e. buffer.new ≡ buffer.old) }
         ensures outcome { ReadOutcome result (state self.old) (state self.new) }
-        ensures time { IsTrue (state self.old).honest → Elapses (moment self.old) (moment self.new) (possible_since self.old) (possible_since self.new) };
+        ensures time { IsTrue (state self.old).honest → Elapses (moment self.old) (moment self.new) (possible_since self.old) (possible_since self.new) }
+        ensures work { MadeExactly 1 0 0 (state self.old) (state self.new) };
 
     /// Writes sector n. Reads show it at once; a crash may leave it or not until a sync succeeds.
     fn write(&mut self, n: u64, bytes: &[u8; 512]) -> Result<(), DeviceFault>
@@ -72,14 +73,16 @@ pub trait Device {
         ensures written { IsTrue (state self.old).honest → OnOk result ((state self.new).disk ≡ written n bytes.now (state self.old).disk) }
         ensures failed { IsTrue (state self.old).honest → OnErr result (WriteFailed n bytes.now (state self.old).disk (state self.new).disk) }
         ensures outcome { WriteOutcome result (state self.old) (state self.new) }
-        ensures time { IsTrue (state self.old).honest → Elapses (moment self.old) (moment self.new) (possible_since self.old) (possible_since self.new) };
+        ensures time { IsTrue (state self.old).honest → Elapses (moment self.old) (moment self.new) (possible_since self.old) (possible_since self.new) }
+        ensures work { MadeExactly 0 1 0 (state self.old) (state self.new) };
 
-    /// Makes sure of all that reads give.
+    /// MadeExactly sure of all that reads give.
     fn sync(&mut self) -> Result<(), DeviceFault>
         ensures synced { IsTrue (state self.old).honest → OnOk result ((state self.new).disk ≡ synced (state self.old).disk) }
         ensures failed { IsTrue (state self.old).honest → OnErr result (SyncFailed (state self.old).disk (state self.new).disk) }
         ensures outcome { WriteOutcome result (state self.old) (state self.new) }
-        ensures time { IsTrue (state self.old).honest → Elapses (moment self.old) (moment self.new) (possible_since self.old) (possible_since self.new) };
+        ensures time { IsTrue (state self.old).honest → Elapses (moment self.old) (moment self.new) (possible_since self.old) (possible_since self.new) }
+        ensures work { MadeExactly 0 0 1 (state self.old) (state self.new) };
 
     /// A crash at this moment leaves an image.
     ghost crash_states_are_images: { (d : Self) (c : Sectors) → IsTrue (state d).honest → possible_since d (moment d) c → IsImage (state d).disk c };

@@ -3,10 +3,10 @@ ghost use Rattle.std.specs.Prelude.{◌≡◌, ◌≤◌, ◌<◌, ◌-◌, ◌+
 ghost use Rattle.sector_device.specs.Disk.{Sectors, Disk, IsImage, written, synced, WriteFailed, SyncFailed};
 ghost use Rattle.common_types.specs.Counts.{counted, Counts};
 ghost use Rattle.sector_device.specs.Device.{State, Elapses};
-ghost use Rattle.sector_device.specs.Effects.{ReadOutcome, WriteOutcome};
+ghost use Rattle.sector_device.specs.Effects.{ReadOutcome, WriteOutcome, MadeExactly};
 
 use crate::device::counted;
-use crate::{Device, DeviceFault};
+use crate::{CallCounts, CallKind, Device, DeviceFault};
 
 /// A device around another: it passes so many reads, writes and syncs on, and then each fails. Its own failures count beside those inside.
 #[derive(Drop)]
@@ -15,6 +15,7 @@ pub struct FuseDisk<D: Device> {
     calls_left: u64,
     failed_reads: u64,
     failed_writes: u64,
+    made: CallCounts,
 }
 
 /// Takes one of the calls that are left, and says whether there was one.
@@ -44,6 +45,7 @@ impl<D: Device> FuseDisk<D> {
             calls_left: calls,
             failed_reads: 0,
             failed_writes: 0,
+            made: CallCounts::new(),
         }
     }
 
@@ -56,6 +58,7 @@ impl<D: Device> FuseDisk<D> {
             calls_left: _,
             failed_reads: _,
             failed_writes: _,
+            made: _,
         } = self;
         inner
     }
@@ -102,6 +105,7 @@ impl<D: Device> Device for FuseDisk<D> {
         ensures untouched { IfErr result (λ e. buffer.new ≡ buffer.old) }
         ensures outcome { ReadOutcome result (fuse_state D.state self.old) (fuse_state D.state self.new) }
         ensures time { IsTrue (fuse_state D.state self.old).honest → Elapses (D.moment (inside self.old)) (D.moment (inside self.new)) (D.possible_since (inside self.old)) (D.possible_since (inside self.new)) }
+        ensures work { MadeExactly 1 0 0 (fuse_state D.state self.old) (fuse_state D.state self.new) }
         ensures burns { calls_left self.new ≡ calls_left self.old - 1 }
         ensures blown { calls_left self.old ≡ 0 → IsErr result × (inside self.new ≡ inside self.old) }
         ensures refuses { calls_left self.old ≡ 0 → refused_reads self.new ≡ counted (refused_reads self.old) }
@@ -109,6 +113,7 @@ impl<D: Device> Device for FuseDisk<D> {
         ensures refuses_none { 0 < calls_left self.old → refused_reads self.new ≡ refused_reads self.old }
         ensures passes { 0 < calls_left self.old → Counts result (D.state (inside self.old)).failed_reads (D.state (inside self.new)).failed_reads }
     {
+        self.made.note(CallKind::Read);
         if !burns(&mut self.calls_left) {
             return Err(counted(&mut self.failed_reads));
         }
@@ -121,6 +126,7 @@ impl<D: Device> Device for FuseDisk<D> {
         ensures failed { IsTrue (fuse_state D.state self.old).honest → OnErr result (WriteFailed n bytes.now (fuse_state D.state self.old).disk (fuse_state D.state self.new).disk) }
         ensures outcome { WriteOutcome result (fuse_state D.state self.old) (fuse_state D.state self.new) }
         ensures time { IsTrue (fuse_state D.state self.old).honest → Elapses (D.moment (inside self.old)) (D.moment (inside self.new)) (D.possible_since (inside self.old)) (D.possible_since (inside self.new)) }
+        ensures work { MadeExactly 0 1 0 (fuse_state D.state self.old) (fuse_state D.state self.new) }
         ensures burns { calls_left self.new ≡ calls_left self.old - 1 }
         ensures blown { calls_left self.old ≡ 0 → IsErr result × (inside self.new ≡ inside self.old) }
         ensures refuses { calls_left self.old ≡ 0 → refused_writes self.new ≡ counted (refused_writes self.old) }
@@ -128,6 +134,7 @@ impl<D: Device> Device for FuseDisk<D> {
         ensures refuses_none { 0 < calls_left self.old → refused_writes self.new ≡ refused_writes self.old }
         ensures passes { 0 < calls_left self.old → Counts result (D.state (inside self.old)).failed_writes (D.state (inside self.new)).failed_writes }
     {
+        self.made.note(CallKind::Write);
         if !burns(&mut self.calls_left) {
             return Err(counted(&mut self.failed_writes));
         }
@@ -139,6 +146,7 @@ impl<D: Device> Device for FuseDisk<D> {
         ensures failed { IsTrue (fuse_state D.state self.old).honest → OnErr result (SyncFailed (fuse_state D.state self.old).disk (fuse_state D.state self.new).disk) }
         ensures outcome { WriteOutcome result (fuse_state D.state self.old) (fuse_state D.state self.new) }
         ensures time { IsTrue (fuse_state D.state self.old).honest → Elapses (D.moment (inside self.old)) (D.moment (inside self.new)) (D.possible_since (inside self.old)) (D.possible_since (inside self.new)) }
+        ensures work { MadeExactly 0 0 1 (fuse_state D.state self.old) (fuse_state D.state self.new) }
         ensures burns { calls_left self.new ≡ calls_left self.old - 1 }
         ensures blown { calls_left self.old ≡ 0 → IsErr result × (inside self.new ≡ inside self.old) }
         ensures refuses { calls_left self.old ≡ 0 → refused_writes self.new ≡ counted (refused_writes self.old) }
@@ -146,6 +154,7 @@ impl<D: Device> Device for FuseDisk<D> {
         ensures refuses_none { 0 < calls_left self.old → refused_writes self.new ≡ refused_writes self.old }
         ensures passes { 0 < calls_left self.old → Counts result (D.state (inside self.old)).failed_writes (D.state (inside self.new)).failed_writes }
     {
+        self.made.note(CallKind::Sync);
         if !burns(&mut self.calls_left) {
             return Err(counted(&mut self.failed_writes));
         }

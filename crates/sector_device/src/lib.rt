@@ -2,6 +2,7 @@
 #![tactic(auto)]
 
 mod call;
+mod call_counts;
 mod device;
 mod fuse_disk;
 mod laws;
@@ -10,6 +11,7 @@ mod mem_disk;
 mod once_disk;
 
 pub use call::Call;
+pub use call_counts::{CallCounts, CallKind};
 pub use device::{Device, DeviceFault};
 pub use fuse_disk::FuseDisk;
 pub use laws::{

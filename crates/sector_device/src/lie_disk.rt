@@ -2,11 +2,11 @@
 ghost use Rattle.std.specs.Prelude.{◌≡◌, ◌≤◌, ◌<◌, ◌-◌, ◌+◌, ℕ, OnOk, OnErr, IfErr, IsTrue, length, slice_get, Some};
 ghost use Rattle.sector_device.specs.Disk.{IsImage, written, synced, WriteFailed, SyncFailed};
 ghost use Rattle.sector_device.specs.Device.{State, Elapses};
-ghost use Rattle.sector_device.specs.Effects.{ReadOutcome, WriteOutcome};
+ghost use Rattle.sector_device.specs.Effects.{ReadOutcome, WriteOutcome, MadeExactly};
 ghost use Rattle.sector_device.specs.Lying.{lies};
 
 use crate::fuse_disk::burns;
-use crate::{Device, DeviceFault};
+use crate::{CallCounts, CallKind, Device, DeviceFault};
 
 /// A device around another: once so many reads, writes and syncs were made, reads of one sector give the same bytes, whatever stands there. All else is as the device inside does it. From the first call on
 /// it is not honest, since no call may change whether a device is.
@@ -17,6 +17,7 @@ pub struct LieDisk<D: Device> {
     calls_left: u64,
     sector: u64,
     told: [u8; 512],
+    made: CallCounts,
 }
 
 impl<D: Device> LieDisk<D> {
@@ -34,6 +35,7 @@ impl<D: Device> LieDisk<D> {
             calls_left: calls,
             sector: n,
             told: bytes,
+            made: CallCounts::new(),
         }
     }
 
@@ -46,6 +48,7 @@ impl<D: Device> LieDisk<D> {
             calls_left: _,
             sector: _,
             told: _,
+            made: _,
         } = self;
         inner
     }
@@ -77,11 +80,13 @@ impl<D: Device> Device for LieDisk<D> {
         ensures untouched { IfErr result (λ e. buffer.new ≡ buffer.old) }
         ensures outcome { ReadOutcome result (D.state (inside self.old)) (D.state (inside self.new)) }
         ensures time { IsTrue (D.state (inside self.old)).honest → Elapses (D.moment (inside self.old)) (D.moment (inside self.new)) (D.possible_since (inside self.old)) (D.possible_since (inside self.new)) }
+        ensures work { MadeExactly 1 0 0 (lie_state D.state self.old) (lie_state D.state self.new) }
         ensures burns { calls_left self.new ≡ calls_left self.old - 1 }
         ensures same_lie { SameLie self.old self.new }
         ensures lies { Lies self.old n → OnOk result (buffer.new ≡ told self.old) }
         ensures passes { (Lies self.old n → ⊥) → IsTrue (D.state (inside self.old)).honest → OnOk result (slice_get (D.state (inside self.old)).disk.view n ≡ Some buffer.new) }
     {
+        self.made.note(CallKind::Read);
         let passes = burns(&mut self.calls_left);
         self.inner.read(n, buffer)?;
         if !passes && n == self.sector {
@@ -96,9 +101,11 @@ impl<D: Device> Device for LieDisk<D> {
         ensures failed { IsTrue (D.state (inside self.old)).honest → OnErr result (WriteFailed n bytes.now (D.state (inside self.old)).disk (D.state (inside self.new)).disk) }
         ensures outcome { WriteOutcome result (D.state (inside self.old)) (D.state (inside self.new)) }
         ensures time { IsTrue (D.state (inside self.old)).honest → Elapses (D.moment (inside self.old)) (D.moment (inside self.new)) (D.possible_since (inside self.old)) (D.possible_since (inside self.new)) }
+        ensures work { MadeExactly 0 1 0 (lie_state D.state self.old) (lie_state D.state self.new) }
         ensures burns { calls_left self.new ≡ calls_left self.old - 1 }
         ensures same_lie { SameLie self.old self.new }
     {
+        self.made.note(CallKind::Write);
         burns(&mut self.calls_left);
         self.inner.write(n, bytes)
     }
@@ -108,9 +115,11 @@ impl<D: Device> Device for LieDisk<D> {
         ensures failed { IsTrue (D.state (inside self.old)).honest → OnErr result (SyncFailed (D.state (inside self.old)).disk (D.state (inside self.new)).disk) }
         ensures outcome { WriteOutcome result (D.state (inside self.old)) (D.state (inside self.new)) }
         ensures time { IsTrue (D.state (inside self.old)).honest → Elapses (D.moment (inside self.old)) (D.moment (inside self.new)) (D.possible_since (inside self.old)) (D.possible_since (inside self.new)) }
+        ensures work { MadeExactly 0 0 1 (lie_state D.state self.old) (lie_state D.state self.new) }
         ensures burns { calls_left self.new ≡ calls_left self.old - 1 }
         ensures same_lie { SameLie self.old self.new }
     {
+        self.made.note(CallKind::Sync);
         burns(&mut self.calls_left);
         self.inner.sync()
     }

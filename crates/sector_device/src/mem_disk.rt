@@ -4,13 +4,13 @@ ghost use Rattle.sector_device.specs.Disk.{IsImage, written, synced, WriteFailed
 ghost use Rattle.sector_device.specs.AfterStop.{done, done_where, after_stop};
 ghost use Rattle.sector_device.specs.Calls.{fresh, replay, disk_of, mem_state, writes_of, unused, asked, took, refused, zeros, PossibleSince};
 ghost use Rattle.sector_device.specs.Device.{Elapses};
-ghost use Rattle.sector_device.specs.Effects.{ReadOutcome, WriteOutcome};
+ghost use Rattle.sector_device.specs.Effects.{ReadOutcome, WriteOutcome, MadeExactly};
 ghost use Rattle.sector_device.specs.Images.{good, only_images, all_images};
 ghost use Rattle.sector_device.specs.declared.call.Call.TheVariants.{Write, Sync};
 
 use crate::call::Call;
 use crate::device::{count, counted};
-use crate::{Device, DeviceFault};
+use crate::{CallCounts, CallKind, Device, DeviceFault};
 use std::alloc::{AllocError, Global};
 use std::marker::Model;
 
@@ -24,6 +24,7 @@ pub struct MemDisk {
     view: Vec<[u8; 512]>,
     failed_writes: u64,
     calls: u64,
+    made: CallCounts,
 }
 
 impl Model for MemDisk {
@@ -32,7 +33,7 @@ impl Model for MemDisk {
 
     ghost Value = { History };
 
-    ghost view = { λ m. record { first = m.first.items; writes_and_syncs = m.writes_and_syncs.items; failed_writes = m.failed_writes; calls = m.calls } };
+    ghost view = { λ m. record { first = m.first.items; writes_and_syncs = m.writes_and_syncs.items; failed_writes = m.failed_writes; calls = m.calls; made = m.made.made } };
 
     ghost invariant = { λ m. IsReadBack m.first.items m.writes_and_syncs.items m.synced m.view.items };
 }
@@ -59,7 +60,7 @@ fn zeros(alloc: Global, sectors: usize) -> Result<Vec<[u8; 512]>, AllocError>
     Ok(made)
 }
 
-/// Makes a write again. A sector that isn't there is passed over.
+/// MadeExactly a write again. A sector that isn't there is passed over.
 fn put(sectors: &mut [[u8; 512]], n: u64, bytes: &[u8; 512])
     ensures { sectors.new ≡ slice_set sectors.old n bytes.now }
 {
@@ -68,7 +69,7 @@ fn put(sectors: &mut [[u8; 512]], n: u64, bytes: &[u8; 512])
     }
 }
 
-/// Makes the writes among these calls again.
+/// MadeExactly the writes among these calls again.
 fn redo(sectors: &mut [[u8; 512]], calls: &[Call])
     ensures { sectors.new ≡ done (writes_of calls.now) sectors.old }
 {
@@ -79,7 +80,7 @@ fn redo(sectors: &mut [[u8; 512]], calls: &[Call])
     }
 }
 
-/// Makes those of the writes among these calls again whose places are picked.
+/// MadeExactly those of the writes among these calls again whose places are picked.
 fn redo_picked(sectors: &mut [[u8; 512]], calls: &[Call], picks: &[usize])
     ensures { sectors.new ≡ done_where picks.now 0 (writes_of calls.now) sectors.old }
 {
@@ -115,6 +116,7 @@ impl MemDisk {
             view,
             failed_writes: 0,
             calls: 0,
+            made: CallCounts::new(),
         })
     }
 
@@ -185,9 +187,11 @@ impl Device for MemDisk {
         ensures read { IsTrue (mem_state self.old).honest → OnOk result (slice_get (mem_state self.old).disk.view n ≡ Some buffer.new) }
         ensures outcome { ReadOutcome result (mem_state self.old) (mem_state self.new) }
         ensures time { IsTrue (mem_state self.old).honest → Elapses (length self.old.writes_and_syncs) (length self.new.writes_and_syncs) (PossibleSince self.old.first self.old.writes_and_syncs) (PossibleSince self.new.first self.new.writes_and_syncs) }
+        ensures work { MadeExactly 1 0 0 (mem_state self.old) (mem_state self.new) }
         ensures never_fails { IsOk result }
         ensures asked { self.new ≡ asked self.old }
     {
+        self.made.note(CallKind::Read);
         count(&mut self.calls);
         *buffer = self.view[n as usize];
         Ok(())
@@ -200,9 +204,11 @@ impl Device for MemDisk {
         ensures failed { IsTrue (mem_state self.old).honest → OnErr result (WriteFailed n bytes.now (mem_state self.old).disk (mem_state self.new).disk) }
         ensures outcome { WriteOutcome result (mem_state self.old) (mem_state self.new) }
         ensures time { IsTrue (mem_state self.old).honest → Elapses (length self.old.writes_and_syncs) (length self.new.writes_and_syncs) (PossibleSince self.old.first self.old.writes_and_syncs) (PossibleSince self.new.first self.new.writes_and_syncs) }
+        ensures work { MadeExactly 0 1 0 (mem_state self.old) (mem_state self.new) }
         ensures took { OnOk result (self.new ≡ took (Write n bytes.now) self.old) }
-        ensures refused { OnErr result (self.new ≡ refused self.old) }
+        ensures refused { OnErr result (self.new ≡ refused (Write n bytes.now) self.old) }
     {
+        self.made.note(CallKind::Write);
         count(&mut self.calls);
         match self.writes_and_syncs.push(Call::Write(n, *bytes)) {
             Ok(()) => {
@@ -219,9 +225,11 @@ impl Device for MemDisk {
         ensures failed { IsTrue (mem_state self.old).honest → OnErr result (SyncFailed (mem_state self.old).disk (mem_state self.new).disk) }
         ensures outcome { WriteOutcome result (mem_state self.old) (mem_state self.new) }
         ensures time { IsTrue (mem_state self.old).honest → Elapses (length self.old.writes_and_syncs) (length self.new.writes_and_syncs) (PossibleSince self.old.first self.old.writes_and_syncs) (PossibleSince self.new.first self.new.writes_and_syncs) }
+        ensures work { MadeExactly 0 0 1 (mem_state self.old) (mem_state self.new) }
         ensures took { OnOk result (self.new ≡ took Sync self.old) }
-        ensures refused { OnErr result (self.new ≡ refused self.old) }
+        ensures refused { OnErr result (self.new ≡ refused Sync self.old) }
     {
+        self.made.note(CallKind::Sync);
         count(&mut self.calls);
         match self.writes_and_syncs.push(Call::Sync) {
             Ok(()) => {

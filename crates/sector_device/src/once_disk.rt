@@ -1,13 +1,12 @@
 // A device of which one call fails.
 ghost use Rattle.std.specs.Prelude.{◌≡◌, ◌≤◌, ◌<◌, ◌+◌, ◌^◌, ◌↔◌, ℕ, OnOk, OnErr, IfErr, IsErr, IsTrue, length, slice_get, Some};
 ghost use Rattle.sector_device.specs.Disk.{IsImage, written, synced, WriteFailed, SyncFailed};
-ghost use Rattle.common_types.specs.Counts.{counted};
 ghost use Rattle.sector_device.specs.Device.{State, Elapses};
-ghost use Rattle.sector_device.specs.Effects.{ReadOutcome, WriteOutcome};
+ghost use Rattle.sector_device.specs.Effects.{ReadOutcome, WriteOutcome, MadeExactly};
 ghost use Rattle.sector_device.specs.Once.{Fails, after_call};
 
 use crate::device::counted;
-use crate::{Device, DeviceFault};
+use crate::{CallCounts, CallKind, Device, DeviceFault};
 
 /// A device around another, of whose reads, writes and syncs one fails, without reaching the device inside. All others pass. Its own failure counts beside those inside.
 #[derive(Drop)]
@@ -17,6 +16,7 @@ pub struct OnceDisk<D: Device> {
     calls_before: Option<u64>,
     failed_reads: u64,
     failed_writes: u64,
+    made: CallCounts,
 }
 
 /// Counts a call, and says whether it is the one that fails.
@@ -52,6 +52,7 @@ impl<D: Device> OnceDisk<D> {
             calls_before: Some(call),
             failed_reads: 0,
             failed_writes: 0,
+            made: CallCounts::new(),
         }
     }
 
@@ -64,6 +65,7 @@ impl<D: Device> OnceDisk<D> {
             calls_before: _,
             failed_reads: _,
             failed_writes: _,
+            made: _,
         } = self;
         inner
     }
@@ -84,7 +86,7 @@ impl<D: Device> OnceDisk<D> {
 }
 
 impl<D: Device> Device for OnceDisk<D> {
-    ghost use Rattle.sector_device.specs.OnceState.{inside, calls_before, refused_reads, refused_writes, once_state};
+    ghost use Rattle.sector_device.specs.OnceState.{inside, calls_before, once_state, RefusesNone, RefusesRead, RefusesWrite};
 
     ghost state = { λ d. once_state D.state d };
 
@@ -110,11 +112,12 @@ impl<D: Device> Device for OnceDisk<D> {
         ensures untouched { IfErr result (λ e. buffer.new ≡ buffer.old) }
         ensures outcome { ReadOutcome result (once_state D.state self.old) (once_state D.state self.new) }
         ensures time { IsTrue (once_state D.state self.old).honest → Elapses (D.moment (inside self.old)) (D.moment (inside self.new)) (D.possible_since (inside self.old)) (D.possible_since (inside self.new)) }
+        ensures work { MadeExactly 1 0 0 (once_state D.state self.old) (once_state D.state self.new) }
         ensures next { calls_before self.new ≡ after_call (calls_before self.old) }
-        ensures fails { Fails (calls_before self.old) → IsErr result × (inside self.new ≡ inside self.old) × (refused_reads self.new ≡ counted (refused_reads self.old)) }
-        ensures passes { (Fails (calls_before self.old) → ⊥) → ReadOutcome result (D.state (inside self.old)) (D.state (inside self.new)) × (refused_reads self.new ≡ refused_reads self.old) }
-        ensures refuses_no_other { refused_writes self.new ≡ refused_writes self.old }
+        ensures fails { Fails (calls_before self.old) → IsErr result × (inside self.new ≡ inside self.old) × RefusesRead self.old self.new }
+        ensures passes { (Fails (calls_before self.old) → ⊥) → ReadOutcome result (D.state (inside self.old)) (D.state (inside self.new)) × RefusesNone self.old self.new }
     {
+        self.made.note(CallKind::Read);
         if is_the_one(&mut self.calls_before) {
             return Err(counted(&mut self.failed_reads));
         }
@@ -127,11 +130,12 @@ impl<D: Device> Device for OnceDisk<D> {
         ensures failed { IsTrue (once_state D.state self.old).honest → OnErr result (WriteFailed n bytes.now (once_state D.state self.old).disk (once_state D.state self.new).disk) }
         ensures outcome { WriteOutcome result (once_state D.state self.old) (once_state D.state self.new) }
         ensures time { IsTrue (once_state D.state self.old).honest → Elapses (D.moment (inside self.old)) (D.moment (inside self.new)) (D.possible_since (inside self.old)) (D.possible_since (inside self.new)) }
+        ensures work { MadeExactly 0 1 0 (once_state D.state self.old) (once_state D.state self.new) }
         ensures next { calls_before self.new ≡ after_call (calls_before self.old) }
-        ensures fails { Fails (calls_before self.old) → IsErr result × (inside self.new ≡ inside self.old) × (refused_writes self.new ≡ counted (refused_writes self.old)) }
-        ensures passes { (Fails (calls_before self.old) → ⊥) → WriteOutcome result (D.state (inside self.old)) (D.state (inside self.new)) × (refused_writes self.new ≡ refused_writes self.old) }
-        ensures refuses_no_other { refused_reads self.new ≡ refused_reads self.old }
+        ensures fails { Fails (calls_before self.old) → IsErr result × (inside self.new ≡ inside self.old) × RefusesWrite self.old self.new }
+        ensures passes { (Fails (calls_before self.old) → ⊥) → WriteOutcome result (D.state (inside self.old)) (D.state (inside self.new)) × RefusesNone self.old self.new }
     {
+        self.made.note(CallKind::Write);
         if is_the_one(&mut self.calls_before) {
             return Err(counted(&mut self.failed_writes));
         }
@@ -143,11 +147,12 @@ impl<D: Device> Device for OnceDisk<D> {
         ensures failed { IsTrue (once_state D.state self.old).honest → OnErr result (SyncFailed (once_state D.state self.old).disk (once_state D.state self.new).disk) }
         ensures outcome { WriteOutcome result (once_state D.state self.old) (once_state D.state self.new) }
         ensures time { IsTrue (once_state D.state self.old).honest → Elapses (D.moment (inside self.old)) (D.moment (inside self.new)) (D.possible_since (inside self.old)) (D.possible_since (inside self.new)) }
+        ensures work { MadeExactly 0 0 1 (once_state D.state self.old) (once_state D.state self.new) }
         ensures next { calls_before self.new ≡ after_call (calls_before self.old) }
-        ensures fails { Fails (calls_before self.old) → IsErr result × (inside self.new ≡ inside self.old) × (refused_writes self.new ≡ counted (refused_writes self.old)) }
-        ensures passes { (Fails (calls_before self.old) → ⊥) → WriteOutcome result (D.state (inside self.old)) (D.state (inside self.new)) × (refused_writes self.new ≡ refused_writes self.old) }
-        ensures refuses_no_other { refused_reads self.new ≡ refused_reads self.old }
+        ensures fails { Fails (calls_before self.old) → IsErr result × (inside self.new ≡ inside self.old) × RefusesWrite self.old self.new }
+        ensures passes { (Fails (calls_before self.old) → ⊥) → WriteOutcome result (D.state (inside self.old)) (D.state (inside self.new)) × RefusesNone self.old self.new }
     {
+        self.made.note(CallKind::Sync);
         if is_the_one(&mut self.calls_before) {
             return Err(counted(&mut self.failed_writes));
         }

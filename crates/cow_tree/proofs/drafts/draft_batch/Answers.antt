@@ -4,6 +4,7 @@ use Rattle.std.proofs.lemmas.List.{take_all}
 use Rattle.std.proofs.lemmas.Result.{err_from_is_err_and}
 use Rattle.common_types.specs.CrashStates.{no_new_crash_state}
 use Rattle.sector_device.specs.Disk.{Disk}
+use Rattle.sector_device.proofs.Works.{none_made_of}
 use Rattle.page_store.specs.Sectors.{Image}
 use Rattle.page_store.specs.Pages.{Pair, key_of}
 use Rattle.page_store.specs.Keys.{rises}
@@ -65,7 +66,7 @@ loop-edit-init g c =
       low = subst (λ (s : RootState). s.height ≤ most_levels) (sym tree) (first_low slot c.requires.rooted);
       ledger = retires_none c.args.ledger.now;
       device = record {
-        only = record { same = record { size = refl; honest = refl }; disk = λ keeps. refl; writes = refl };
+        only = record { same = record { size = refl; honest = refl }; disk = λ keeps. refl; writes = refl; made = none_made_of _ };
         no_new_crash_state = λ keeps. no_new_crash_state (states c.args.device.now);
       };
       reads = refl;

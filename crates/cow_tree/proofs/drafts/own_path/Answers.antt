@@ -1,5 +1,6 @@
 use Rattle.std.proofs.Common.{◌≡◌, ◌+◌, refl, sym, ap, subst, ◌∙◌, IsTrue}
 use Rattle.common_types.specs.CrashStates.{no_new_crash_state}
+use Rattle.sector_device.proofs.Works.{none_made_of}
 use Rattle.page_store.specs.Steps.{crash_states_of}
 use Rattle.tree_nodes.specs.OwnedTrees.{state_of}
 use Rattle.std.proofs.lemmas.Result.{err_from_is_err_and}
@@ -18,7 +19,7 @@ loop-page-init g c = record {
   height = refl;
   ledger = retires_none c.args.ledger.now;
   device = record {
-    only = record { same = record { size = refl; honest = refl }; disk = λ keeps. refl; writes = refl };
+    only = record { same = record { size = refl; honest = refl }; disk = λ keeps. refl; writes = refl; made = none_made_of _ };
     no_new_crash_state = λ keeps. no_new_crash_state (crash_states_of g.D.Device.moment g.D.Device.possible_since c.args.device.now);
   };
   reads = refl;

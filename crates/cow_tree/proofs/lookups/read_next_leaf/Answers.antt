@@ -1,8 +1,11 @@
-use Rattle.std.proofs.Common.{◌≡◌, ◌-◌, ◌<◌, List, [], Some, None, Err, refl, sym, ap, ◌∙◌, subst, arith, inr, inl, rules}
+use Rattle.std.proofs.Common.{◌≡◌, ℕ, ◌+◌, ◌*◌, ◌-◌, ◌<◌, List, [], Some, None, Err, refl, sym, ap, ◌∙◌, subst, arith, inr, inl, rules}
+use Rattle.sector_device.specs.Effects.{MadeAtMost}
+use Rattle.sector_device.proofs.Works.{no_calls, at_most, no_more_than}
 use Rattle.page_store.specs.Sectors.{page_of}
 use Rattle.page_store.specs.Pages.{Pair}
 use Rattle.page_store.specs.Batch.{pair_after}
 use Rattle.page_store.specs.Content.{Bounds, walk}
+use Rattle.cow_tree.specs.Work.{pages_tried}
 use Rattle.cow_tree.specs.KeptLeaves.{IsNextLeaf}
 use Rattle.cow_tree.proofs.AnswersGiven.{answer_err}
 use Rattle.cow_tree.proofs.RootWalks.{walk_at, no_pair_after}
@@ -16,6 +19,7 @@ returns-then-tree-eq0 g c = record {
     kept = λ keeps found is. ∣ inl c.clear.ensures ∣₁;
     reads = search rules;
   };
+  work = no_more_than (at_most (no_calls _)) (omega arith) (omega arith) (omega arith);
   some = λ level. let none = c.if-tree-eq0.true in absurd (omega (arith, none, level));
 }
 
@@ -35,6 +39,7 @@ returns-in-Ok g c =
         reads = record { device = under.reads.device; reads = under.reads.reads };
       };
       some = λ level. under.some;
+      work = subst (λ (n : ℕ). MadeAtMost (8 * pages_tried n) 0 0 (g.D.Device.state c.args.device.now) (g.D.Device.state c.leaf_after.new.device)) (let e : tree.height - 1 + 1 ≡ tree.height = omega (arith, ne) in e) c.leaf_after.ensures.work;
     }
 
 pub returns-in-Err : goal.returns-in-Err
@@ -53,4 +58,5 @@ returns-in-Err g c =
         reads = search rules;
       };
       some = tt;
+      work = subst (λ (n : ℕ). MadeAtMost (8 * pages_tried n) 0 0 (g.D.Device.state c.args.device.now) (g.D.Device.state c.leaf_after.new.device)) (let e : tree.height - 1 + 1 ≡ tree.height = omega (arith, ne) in e) c.leaf_after.ensures.work;
     }

@@ -1,5 +1,6 @@
-use Rattle.std.proofs.Common.{IsTrue, sym, subst, ap, ◌∙◌}
+use Rattle.std.proofs.Common.{IsTrue, sym, subst, ap, ◌∙◌, arith}
 use Rattle.sector_device.specs.Disk.{Disk}
+use Rattle.sector_device.proofs.Works.{no_more_than}
 use Rattle.page_store.specs.Sectors.{Image, page_of}
 use Rattle.page_store.specs.Content.{tree_found}
 use Rattle.page_store.specs.Counting.{CountsRefusal}
@@ -7,6 +8,7 @@ use Rattle.page_store.specs.declared.fault.KeeperFault.{KeeperFault}
 use Rattle.page_store.proofs.DeviceSequences.{still_honest, keeps_then_reads}
 use Rattle.cow_tree.specs.Opening.{IsReached, AreWhole, IsOpenFault}
 use Rattle.cow_tree.proofs.Openings.{holds_now, walk_counts, walk_not_small, walk_fault}
+use Rattle.cow_tree.proofs.WorkDone.{opened_once}
 use Rattle.cow_tree.proofs.opening.open_parts.Goals as goal
 
 pub returns-in-Ok-clause-opened : goal.returns-in-Ok-clause-opened
@@ -44,3 +46,11 @@ returns-in-Err-clause-opens g c =
           subst (λ (e : KeeperFault). IsOpenFault old new e) (sym c.from.ensures)
           (walk_fault (Unit {0}) old mid new c.in_ok-slot.slot c.walk_slot.new.ledger c.in-Err.fault c.in_ok-slot.ensures.large (still_honest old mid opens.device.same) opened.view opened.slot_is c.in_ok-slot.ensures.version opens.counts walks.reads.reads reads.only.writes walks.named c.in-Err.ensures.found c.in-Err.ensures.named);
     }
+
+pub returns-in-Ok-clause-work : goal.returns-in-Ok-clause-work
+returns-in-Ok-clause-work g c = opened_once _ _ _ c.in_ok-ledger.ledger c.walk_slot.new.ledger c.in_ok-slot.slot.root.pages c.in_ok-slot.slot.seal c.in_ok-slot.ensures.work c.walk_slot.ensures.work c.in_ok-ledger.ensures.fresh
+
+pub returns-in-Err-clause-work_on_fault : goal.returns-in-Err-clause-work_on_fault
+returns-in-Err-clause-work_on_fault g c =
+    let fits = c.in_ok-slot.ensures.fits.2 in
+    no_more_than (opened_once _ _ _ c.in_ok-ledger.ledger c.walk_slot.new.ledger c.in_ok-slot.slot.root.pages c.in_ok-slot.slot.seal c.in_ok-slot.ensures.work c.walk_slot.ensures.work c.in_ok-ledger.ensures.fresh).most (omega (arith, fits.0, fits.2)) (omega arith) (omega arith)

@@ -1,10 +1,11 @@
-use Rattle.std.proofs.Common.{length, ◌≡◌, ◌∙◌, ◌-◌, ap, sym, subst, List, ℕ, Bool, true, false, None, IsTrue, refl, rules}
+use Rattle.std.proofs.Common.{length, ◌≡◌, ◌∙◌, ◌-◌, ap, sym, subst, arith, List, ℕ, Bool, true, false, None, IsTrue, refl, rules}
 use Rattle.std.specs.Prelude.{not, option_copied, if◌then◌else◌, Result, Ok, Err, OnOk}
 use Rattle.std.specs.List.{list_all}
 use Rattle.std.proofs.lemmas.Result.{err_from_is_err_and}
 use Rattle.sector_device.specs.Disk.{Disk}
 use Rattle.page_alloc.specs.LedgerState.{LedgerState, is_free}
 use Rattle.page_alloc.specs.Calls.{holding}
+use Rattle.sector_device.proofs.Works.{at_most, most_of}
 use Rattle.page_store.specs.Sectors.{Image, page_of}
 use Rattle.page_store.specs.Pages.{Child, is_inside, branch_of}
 use Rattle.page_store.specs.Heads.{seen_child}
@@ -19,6 +20,7 @@ use Rattle.cow_tree.proofs.Reaching.{holds_again, holds_none, holds_read, wholes
 use Rattle.cow_tree.proofs.ReadsInTurn.{reads_again}
 use Rattle.cow_tree.proofs.DamageNamed.{no_branch_named, child_names, others_name, names_again, under_names, at_named_child}
 use Rattle.cow_tree.proofs.Walking.{start, go_on, breaks_off, tells_branch, no_branch, at_child}
+use Rattle.cow_tree.proofs.WorkDone.{no_pages, one_page, pages_then, one_less}
 use Rattle.cow_tree.proofs.opening_walk.+walks.Goals as goal
 
 not_true : (b : Bool) → not b ≡ true → b ≡ false
@@ -39,6 +41,7 @@ walk_children-loop-key-init g t c =
       inside = c.requires.inside;
       device = search rules;
       reads = refl;
+      work = no_pages _ _ _ (omega arith);
       whole = λ keeps. holds_none (d.state c.args.device.now).disk.view c.args.ledger.now;
       so_far = λ keeps. start (walk (page_of (d.state c.args.device.now).disk.view) (bounds_of c.args.bounds) c.args.level) c.args.low.now (option_copied c.args.high) children c.args.ledger.now;
       names = λ keeps wrong h. h;
@@ -79,6 +82,7 @@ walk_children-loop-key-preserved g t c =
       inside = (both_true (is_inside c.args.bounds.pages child) (list_all (is_inside c.args.bounds.pages) others) inside).1;
       device = reads_again i.device c.in_ok-more.ensures.walks.reads.device;
       reads = c.in_ok-more.ensures.walks.reads.reads ∙ i.reads;
+      work = pages_then i.work c.in_ok-more.ensures.work;
       whole = λ keeps.
           let keeps1 = still_honest (d.state c.args.device.now) (d.state c.loop-key.device) i.device.only.same keeps in
           let more = subst (λ (x : Disk). HoldsWhole x.view c.loop-key.ledger c.walk_tree.new.ledger) (i.device.only.disk keeps) (c.in_ok-more.ensures.walks.whole keeps1) in
@@ -189,3 +193,10 @@ walk_tree-returns-clause-named g t c =
     let children = children_in c.in_ok-branch.branch.count c.in_ok-branch.branch.entries.now in
     under_names old (d.state c.load_page.new.device) bounds c.args.level c.args.page low high c.args.ledger.now c.reach.new.ledger children c.walk_children.result (still_honest old (d.state c.load_page.new.device) loaded.same) loaded.disk c.if-level-eq0.false r.0 r.1
     (λ keeps. ap (branch_of (place_in bounds c.args.level c.args.page) low high) (c.in_ok-load_page.ensures.page keeps) ∙ c.in_ok-branch.ensures.children) c.walk_children.ensures.named
+
+pub walk_children-returns-in_err-more-clause-work : goal.walk_children-returns-in_err-more-clause-work
+walk_children-returns-in_err-more-clause-work g t c = pages_then c.loop-key.invariant.work c.walk_tree.ensures.work
+
+pub walk_tree-returns-clause-work : goal.walk_tree-returns-clause-work
+walk_tree-returns-clause-work g t c =
+    pages_then (one_page c.args.ledger.now c.reach.new.ledger (at_most c.in_ok-load_page.ensures.work) (one_less c.reach.result _ _ c.reach.ensures.count c.if-not-reach.false)) c.walk_children.ensures.work

@@ -1,6 +1,7 @@
-use Rattle.std.proofs.Common.{◌≡◌, ◌-◌, ℕ, Bool, [], Option, Some, None, sym, subst, ◌∙◌, rules}
+use Rattle.std.proofs.Common.{◌≡◌, ◌-◌, ℕ, Bool, [], Option, Some, None, sym, subst, ◌∙◌, arith, rules}
 use Rattle.std.proofs.lemmas.Result.{err_from_is_err_and}
 use Rattle.sector_device.specs.Disk.{Disk}
+use Rattle.sector_device.proofs.Works.{most_of, at_most, most_then, no_more_than}
 use Rattle.page_store.specs.Sectors.{page_of}
 use Rattle.page_store.specs.Content.{walk}
 use Rattle.page_store.proofs.DeviceSequences.{still_honest}
@@ -9,6 +10,7 @@ use Rattle.cow_tree.specs.KeptLeaves.{IsNextLeaf}
 use Rattle.cow_tree.specs.Ways.{IsNext}
 use Rattle.cow_tree.proofs.AnswersGiven.{answer_err, answer_then}
 use Rattle.cow_tree.proofs.KeptLeavesRead.{next_here, next_nowhere, next_there}
+use Rattle.cow_tree.proofs.WorkDone.{tried_under}
 use Rattle.cow_tree.proofs.page_reads.+next.Goals as goal
 
 pub leaf_after-returns-in_err-child : goal.leaf_after-returns-in_err-child
@@ -21,6 +23,7 @@ leaf_after-returns-in_err-child g t c =
         some = search rules;
         reads = search rules;
       };
+      work = let ne = c.if-level-eq0.false in let tried = tried_under c.args.level ne in no_more_than (most_of c.children_around.result c.children_around.ensures.work) (omega (arith, tried)) (omega arith) (omega arith);
     }
 
 pub leaf_after-returns-in_err-leaf_after : goal.leaf_after-returns-in_err-leaf_after
@@ -40,6 +43,7 @@ leaf_after-returns-in_err-leaf_after g t c =
         some = search rules;
         reads = search rules;
       };
+      work = let ne = c.if-level-eq0.false in let tried = tried_under c.args.level ne in no_more_than (most_then (at_most c.in_ok-child.ensures.work) c.leaf_after.ensures.work) (omega (arith, tried)) (omega arith) (omega arith);
     }
 
 pub leaf_after-returns-then-branch : goal.leaf_after-returns-then-branch
@@ -62,6 +66,7 @@ leaf_after-returns-then-branch g t c =
         some = under.some;
         reads = search rules;
       };
+      work = let ne = c.if-level-eq0.false in let tried = tried_under c.args.level ne in no_more_than (most_then (at_most c.in_ok-child.ensures.work) c.leaf_after.ensures.work) (omega (arith, tried)) (omega arith) (omega arith);
     }
 
 pub leaf_after-returns-in-Some : goal.leaf_after-returns-in-Some
@@ -94,6 +99,7 @@ leaf_after-returns-in-Some g t c =
         some = beside.some;
         reads = search rules;
       };
+      work = let ne = c.if-level-eq0.false in let tried = tried_under c.args.level ne in no_more_than (most_then (most_then (at_most c.in_ok-child.ensures.work) c.leaf_after.ensures.work) c.leaf_in_sibling.ensures.work) (omega (arith, tried)) (omega arith) (omega arith);
     }
 
 pub leaf_after-returns-in-None : goal.leaf_after-returns-in-None
@@ -118,4 +124,5 @@ leaf_after-returns-in-None g t c =
         some = under.some;
         reads = search rules;
       };
+      work = let ne = c.if-level-eq0.false in let tried = tried_under c.args.level ne in no_more_than (most_then (at_most c.in_ok-child.ensures.work) c.leaf_after.ensures.work) (omega (arith, tried)) (omega arith) (omega arith);
     }

@@ -3,6 +3,7 @@ use Rattle.std.specs.Prelude.{option_map, take}
 use Rattle.page_store.specs.Sectors.{page_of}
 use Rattle.tree_nodes.specs.PageViews.{bounds_of}
 use Rattle.cow_tree.proofs.PagesTold.{value_answered}
+use Rattle.cow_tree.proofs.WorkDone.{whatever}
 use Rattle.cow_tree.proofs.page_reads.get_in_leaf.Goals as goal
 
 pub returns : goal.returns
@@ -17,4 +18,5 @@ returns g c =
         buffer = c.copy_value.ensures.buffer;
         reads = search rules;
       };
+      work = whatever c.copy_value.result c.in_ok-load_page.ensures.work;
     }

@@ -1,5 +1,6 @@
 use Rattle.std.proofs.Common.{rules}
 use Rattle.std.proofs.lemmas.Result.{err_from_is_err_and}
+use Rattle.sector_device.proofs.Works.{most_of, if_err}
 use Rattle.page_store.specs.Sectors.{page_of}
 use Rattle.tree_nodes.specs.PageViews.{bounds_of}
 use Rattle.cow_tree.proofs.AnswersGiven.{answer_err}
@@ -21,6 +22,7 @@ returns g c =
         some = read.some;
         reads = record { device = read.reads.device; reads = read.reads.reads };
       };
+      work = read.work;
     }
 
 pub returns-in_err-read : goal.returns-in_err-read
@@ -35,4 +37,5 @@ returns-in_err-read g c =
         some = search rules;
         reads = search rules;
       };
+      work = if_err c.from_residual.result c.from_residual.ensures.0 (most_of c.read.result c.read.ensures.work);
     }

@@ -1,11 +1,12 @@
 use Rattle.std.proofs.Common.{◌≡◌, ◌+◌, ◌-◌, ℕ, List, suc, sym, subst, ap, ◌∙◌, arith, IsTrue, Some, None, inr}
 use Rattle.sector_device.specs.Disk.{Disk}
 use Rattle.common_types.specs.Counts.{counted}
+use Rattle.sector_device.proofs.Works.{exactly_then, at_most, most_of, most_then, no_more_than}
 use Rattle.page_store.specs.Sectors.{Image, page_of}
 use Rattle.page_store.specs.Flat.{flat_next, flat_walk, half_size, with_pairs, HasNext}
 use Rattle.page_store.proofs.DeviceSequences.{then_read}
 use Rattle.page_store.proofs.Parsing.{pages_more, none_more, no_more}
-use Rattle.page_store.proofs.Outcomes.{on_ok, counts_ok, counts_err}
+use Rattle.page_store.proofs.Outcomes.{on_ok, counts_ok, counts_err, made_ok}
 use Rattle.page_store.proofs.flat_reading.read_half.Goals as goal
 
 pub returns-then-keys-eq0-clause-pairs : goal.returns-then-keys-eq0-clause-pairs
@@ -40,6 +41,10 @@ loop-page-preserved g c =
     record {
       device = then_read c.loop-page.invariant.device c.read_page.ensures.page;
       reads = counts_ok c.read_page.result c.is_err.result _ _ c.is_err.ensures.value c.if-is_err.false c.read_page.ensures.page.outcome.reads ∙ c.loop-page.invariant.reads;
+      work =
+          let low = c.loop-page.auto.page in
+          let both = exactly_then c.loop-page.invariant.work (made_ok c.read_page.result c.is_err.result c.is_err.ensures.value c.if-is_err.false c.read_page.ensures.work) in
+          record { reads = omega (arith, both.reads, low); writes = both.writes; syncs = both.syncs };
       walk = λ keeps.
           let low = c.loop-page.auto.page in
           let lt = c.loop-page-test.true in
@@ -57,3 +62,9 @@ returns-then-is_err-clause-fault g c = counts_err c.read_page.result c.is_err.re
 
 pub returns-then-is_err-clause-reads : goal.returns-then-is_err-clause-reads
 returns-then-is_err-clause-reads g c = counts_err c.read_page.result c.is_err.result _ _ c.is_err.ensures.value c.if-is_err.true c.read_page.ensures.page.outcome.reads ∙ ap counted c.loop-page.invariant.reads
+
+pub returns-then-is_err-clause-work : goal.returns-then-is_err-clause-work
+returns-then-is_err-clause-work g c =
+    let low = c.loop-page.auto.page in
+    let lt = c.loop-page-test.true in
+    no_more_than (most_then (at_most c.loop-page.invariant.work) (most_of c.read_page.result c.read_page.ensures.work)) (omega (arith, low, lt)) (omega arith) (omega arith)

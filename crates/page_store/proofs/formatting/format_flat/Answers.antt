@@ -1,13 +1,15 @@
 use Rattle.std.proofs.Common.{◌≡◌, ◌≤◌, ◌<◌, ◌+◌, ◌*◌, ℕ, List, IsTrue, length, replicate, get_or, sym, subst, ap, ◌∙◌, arith, refl}
+use Rattle.sector_device.proofs.Works.{exactly_then}
 use Rattle.page_store.specs.Sectors.{Image}
 use Rattle.page_store.specs.Steps.{AreWritten}
 use Rattle.page_store.specs.Switch.{IsSlotPage, IsSwitched}
-use Rattle.page_store.specs.Encoding.{flat_pages, by_pages}
+use Rattle.page_store.specs.Encoding.{flat_pages, by_pages, pages_needed}
 use Rattle.page_store.specs.Commit.{ArePatched}
 use Rattle.page_store.specs.declared.commit.NewPage.{NewPage}
 use Rattle.page_store.specs.declared.slot.Slot.{Slot as SlotValue}
-use Rattle.page_store.proofs.Outcomes.{on_ok}
+use Rattle.page_store.proofs.Outcomes.{on_ok, counts_ok, made_ok}
 use Rattle.page_store.proofs.Flats.{page_number}
+use Rattle.page_store.proofs.PairsByPage.{flat_pages_length}
 use Rattle.page_store.proofs.FreshImages.{fresh_current, fresh_greatest, fresh_content}
 use Rattle.page_store.proofs.Switches.{switched}
 use Rattle.page_store.proofs.formatting.format_flat.Goals as goal
@@ -90,3 +92,21 @@ returns-clause-sure g c = λ keeps.
     let keeps2 : IsTrue (g.D.Device.state c.write_pages.new.device).honest = subst IsTrue (sym c.write_pages.ensures.pages.outcome.same.honest) keeps1 in
     let keeps3 : IsTrue (g.D.Device.state c.write_page-2.new.device).honest = subst IsTrue (sym c.write_page-2.ensures.sectors.outcome.same.honest) keeps2 in
     on_ok c.sync_all.result c.is_err-4.result _ c.is_err-4.ensures.value c.if-is_err-4.false (c.sync_all.ensures.sure keeps3)
+
+pub returns-clause-work : goal.returns-clause-work
+returns-clause-work g c =
+    let count : length c.deref.result.now ≡ pages_needed c.args.pairs.now = ap length (c.deref.ensures.value ∙ c.in_ok-tree.ensures) ∙ flat_pages_length 1 2 (by_pages c.args.pairs.now) in
+    let cleared = made_ok c.write_page.result c.is_err.result c.is_err.ensures.value c.if-is_err.false c.write_page.ensures.work in
+    let tree = made_ok c.write_pages.result c.is_err-2.result c.is_err-2.ensures.value c.if-is_err-2.false c.write_pages.ensures.work in
+    let root = made_ok c.write_page-2.result c.is_err-3.result c.is_err-3.ensures.value c.if-is_err-3.false c.write_page-2.ensures.work in
+    let all = exactly_then (exactly_then (exactly_then cleared tree) root) c.sync_all.ensures.work in
+    record {
+      counts = record {
+        reads = c.sync_all.ensures.outcome.reads ∙ c.write_page-2.ensures.sectors.outcome.reads ∙ c.write_pages.ensures.pages.outcome.reads ∙ c.write_page.ensures.sectors.outcome.reads;
+        writes = counts_ok c.sync_all.result c.is_err-4.result _ _ c.is_err-4.ensures.value c.if-is_err-4.false c.sync_all.ensures.outcome.writes
+            ∙ counts_ok c.write_page-2.result c.is_err-3.result _ _ c.is_err-3.ensures.value c.if-is_err-3.false c.write_page-2.ensures.sectors.outcome.writes
+            ∙ counts_ok c.write_pages.result c.is_err-2.result _ _ c.is_err-2.ensures.value c.if-is_err-2.false c.write_pages.ensures.pages.outcome.writes
+            ∙ counts_ok c.write_page.result c.is_err.result _ _ c.is_err.ensures.value c.if-is_err.false c.write_page.ensures.sectors.outcome.writes;
+      };
+      made = record { reads = all.reads; writes = omega (arith, all.writes, count); syncs = all.syncs };
+    }

@@ -1,6 +1,8 @@
 use Rattle.std.proofs.Common.{◌≡◌, ◌+◌, ◌*◌, ◌++◌, ℕ, List, IsTrue, length, take, sym, subst, ap, ◌∙◌, arith}
 use Rattle.std.proofs.lemmas.List.{take_all}
 use Rattle.std.proofs.lemmas.Slice.{take-put_mid}
+use Rattle.sector_device.proofs.Works.{exactly_then, at_most, no_more_than, if_err}
+use Rattle.sector_device.specs.Effects.{MadeExactly}
 use Rattle.page_store.specs.Sectors.{Image, sector, sectors_from, page_of}
 use Rattle.page_store.proofs.DeviceSequences.{then_read}
 use Rattle.page_store.proofs.SectorRows.{sectors_from_push, length-over}
@@ -12,6 +14,7 @@ loop-part-preserved g c =
     record {
       device = then_read c.loop-part.invariant.device c.read_sector.ensures.sector;
       reads = c.in_ok-read_sector.ensures.sector.outcome.reads ∙ c.loop-part.invariant.reads;
+      work = exactly_then c.loop-part.invariant.work c.read_sector.ensures.work;
       front = λ keeps.
           let same : (g.D.Device.state c.loop-part.device).disk ≡ (g.D.Device.state c.args.device.now).disk = c.loop-part.invariant.device.only.disk keeps in
           let read = c.in_ok-read_sector.ensures.sector.gives (subst IsTrue (sym c.loop-part.invariant.device.only.same.honest) keeps) in
@@ -35,4 +38,9 @@ returns g c =
         outcome = record { only = c.loop-part.invariant.device.only; reads = c.loop-part.invariant.reads; fault = tt };
         no_new_crash_state = c.loop-part.invariant.device.no_new_crash_state;
       };
+      work = subst (λ (n : ℕ). MadeExactly n 0 0 (g.D.Device.state c.args.device.now) (g.D.Device.state c.loop-part.device)) is c.loop-part.invariant.work;
     }
+
+pub returns-in_err-read_sector-clause-work : goal.returns-in_err-read_sector-clause-work
+returns-in_err-read_sector-clause-work g c =
+    if_err c.from_residual.result c.from_residual.ensures.0 (no_more_than (at_most (exactly_then c.loop-part.invariant.work c.read_sector.ensures.work)) (omega (arith, c.loop-part-test.true)) (omega arith) (omega arith))

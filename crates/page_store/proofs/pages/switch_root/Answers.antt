@@ -1,4 +1,5 @@
-use Rattle.std.proofs.Common.{◌≡◌, IsTrue, OnOk, length, ℕ, sym, subst, ◌∙◌, Result, Ok, Err}
+use Rattle.std.proofs.Common.{◌≡◌, IsTrue, OnOk, length, ℕ, sym, subst, ◌∙◌, arith, Result, Ok, Err}
+use Rattle.sector_device.proofs.Works.{at_most, most_of, most_then, if_err, ok_then, no_more_than, exactly_then}
 use Rattle.page_store.specs.Sectors.{Image}
 use Rattle.page_store.specs.declared.slot.Slot.{Slot}
 use Rattle.page_store.specs.Switch.{IsSlotPage, IsSwitching, IsSwitched}
@@ -50,3 +51,7 @@ returns-clause-done g c =
     let keeps1 : IsTrue (g.D.Device.state c.write_page.new.device).honest = subst IsTrue (sym c.write_page.ensures.sectors.outcome.same.honest) keeps in
     let h : IsSwitched slot a b = switched slot c.args.bytes.now a b (subst (λ (n : ℕ). IsSlotPage n slot c.args.bytes.now) (sym size) (c.requires.page keeps)) (c.in_ok-write_page.ensures.sectors.shows keeps) in
     both c.sync_all.result slot a b (g.D.Device.state c.sync_all.new.device).disk.view (AllAre (now c.sync_all.new.device)) h (c.sync_all.ensures.shows keeps1) (c.sync_all.ensures.sure keeps1)
+
+pub returns-in_err-write_page-clause-work : goal.returns-in_err-write_page-clause-work
+returns-in_err-write_page-clause-work g c =
+    if_err c.from_residual.result c.from_residual.ensures.0 (no_more_than (most_of c.write_page.result c.write_page.ensures.work) (omega arith) (omega arith) (omega arith))

@@ -14,4 +14,4 @@ invariant_of-result c =
 pub returns-clause-unused : goal.returns-clause-unused
 returns-clause-unused c =
     let at = there _ c.sync_and_measure.new.file.made.calls c.read_all.new.file.made.calls (still_unread c.in-Ok-sync_and_measure.length c.args.file.made.calls c.sync_and_measure.new.file.made.calls c.requires c.in-Ok-sync_and_measure.ensures) c.in_ok-view.ensures.read in
-    subst (λ (calls : List FileCall). IsUnused (record { path = string_bytes c.in-Ok.path; calls = calls; failed_writes = 0 })) (sym c.in-Ok-renew_cache.ensures) (record { writes = at.writes; view = at.view; sound = at.sound; failures = refl })
+    subst (λ (calls : List FileCall). IsUnused (record { path = string_bytes c.in-Ok.path; calls = calls; failed_writes = 0; made = c.new.result.made })) (sym c.in-Ok-renew_cache.ensures) (record { writes = at.writes; view = at.view; sound = at.sound; failures = refl; made = c.new.ensures })

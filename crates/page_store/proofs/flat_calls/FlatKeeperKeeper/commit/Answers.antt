@@ -1,7 +1,10 @@
-use Rattle.std.proofs.Common.{List, ap, ◌∙◌, arith}
+use Rattle.std.proofs.Common.{◌≡◌, ◌+◌, ◌*◌, List, length, ap, ◌∙◌, arith}
 use Rattle.common_types.specs.Counts.{counted_rises}
+use Rattle.sector_device.proofs.Works.{no_more_than}
 use Rattle.page_store.specs.Pages.{Pair}
 use Rattle.page_store.specs.Batch.{updated}
+use Rattle.page_store.specs.Encoding.{by_pages, pages_needed}
+use Rattle.page_store.proofs.PairsByPage.{flat_pages_length}
 use Rattle.page_store.proofs.Flats.{now_map}
 use Rattle.page_store.proofs.flat_calls.FlatKeeperKeeper.commit.Goals as goal
 
@@ -17,3 +20,18 @@ returns-in-Err-clause-tried g c = record {
   writes = omega (arith, c.in-Err.ensures.writes, counted_rises (g.D.Device.state c.args.self.now.device).failed_writes);
   top = omega (arith, c.write_plan.ensures.top);
 }
+
+pub returns-in-Ok-clause-work : goal.returns-in-Ok-clause-work
+returns-in-Ok-clause-work g c =
+    let k = c.args.self.now in
+    let count : length c.in_ok-plan.plan.pages.items ≡ pages_needed (updated k.pairs.items c.args.batch.now) =
+    ap length c.in_ok-plan.ensures.plan.pages_are ∙ flat_pages_length _ _ (by_pages _) ∙ ap (λ (l : List Pair). pages_needed (updated l c.args.batch.now)) c.deref.ensures.value in
+    let made = c.in-Ok.ensures.work in
+    record { reads = made.reads; writes = omega (arith, made.writes, count); syncs = made.syncs }
+
+pub returns-in-Err-clause-work : goal.returns-in-Err-clause-work
+returns-in-Err-clause-work g c =
+    let k = c.args.self.now in
+    let count : length c.in_ok-plan.plan.pages.items ≡ pages_needed (updated k.pairs.items c.args.batch.now) =
+    ap length c.in_ok-plan.ensures.plan.pages_are ∙ flat_pages_length _ _ (by_pages _) ∙ ap (λ (l : List Pair). pages_needed (updated l c.args.batch.now)) c.deref.ensures.value in
+    no_more_than c.in-Err.ensures.work (omega arith) (omega (arith, count)) (omega arith)
