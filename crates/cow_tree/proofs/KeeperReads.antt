@@ -38,6 +38,7 @@ module _ (old new : State) (slot : Slot) (ledger : LedgerState) (top : ℕ) (usa
       top = refl;
       free = refl;
       height = refl;
+      keys = refl;
       out = same_numbers new.disk.view old.disk.view 0 trees;
       pins = λ keeps. ap (λ (d : Disk). pins_from d.view 0 trees) (only.disk keeps);
     };
@@ -72,12 +73,3 @@ fills_again old new slot only = record {
 pub counts_rise : (T : Type 0) (e : PageFault) (before now : ℕ) → CountsPages {T = T} (Err e) before now → before ≤ now
 counts_rise T Device before now h = subst (λ (n : ℕ). before ≤ n) (sym h) (counted_rises before)
 counts_rise T (Damaged page) before now h = omega (arith, h)
-
--- a slot whose tree is there tells how many pairs it has
-pub keys_told : (slot : Slot) (a : ℕ → List ℕ) (found : Found) → tree_found slot a ≡ Some found → slot.root.keys ≡ length found.pairs
-unfolding tree_found
-keys_told slot a found e =
-    let f = bind_some (tree_of a (bounds_under slot) slot.root.height slot.root.tree) (λ x. where_true (are_distinct x.pages && (length x.pairs == slot.root.keys)) (Some x)) found e in
-    let t = test_passed (are_distinct f.0.pages && (length f.0.pairs == slot.root.keys)) (Some f.0) found f.2 in
-    let keys = eqb-true (length f.0.pairs) slot.root.keys (both_true (are_distinct f.0.pages) (length f.0.pairs == slot.root.keys) t.0).1 in
-    sym keys ∙ ap (λ (x : Found). length x.pairs) (some_is f.0 found t.1)

@@ -30,7 +30,7 @@ use Rattle.cow_tree.specs.Compacting.{IsFillFault}
 use Rattle.cow_tree.specs.Committed.{is_tree_version, MayBeWritten}
 use Rattle.cow_tree.specs.declared.plans.Plan.{Plan}
 use Rattle.cow_tree.proofs.Openings.{content_is}
-use Rattle.cow_tree.proofs.KeeperReads.{keys_told}
+use Rattle.cow_tree.specs.KeysCounted.{keys_told}
 use Rattle.cow_tree.proofs.Taken.{untaken_at_rest}
 use Rattle.cow_tree.proofs.PlansMade.{held_still}
 use Rattle.cow_tree.proofs.DraftsBegin.{begins, keys_bounded}

@@ -17,5 +17,6 @@ pub mod Compacting
 pub mod Drafts
 pub mod Taken
 pub mod Committed
+pub mod KeysCounted
 pub mod KeeperLaws
 pub mod Formatting

@@ -75,5 +75,6 @@ tree_holding state slot ledger top usable trees = record {
   top = top;
   free = free_count ledger;
   height = slot.root.height;
+  keys = slot.root.keys;
   pins = pins_from state.disk.view 0 trees;
 }

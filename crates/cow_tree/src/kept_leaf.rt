@@ -214,7 +214,8 @@ fn place_after<'a>(
 
 /// The one of two places whose pair isn't above a key, the second only where the first is none.
 fn place_by(bytes: &[u8; 4096], one: Place, other: Place, key: &[u8]) -> Option<Place>
-    ensures { MatchOption result (begins_by key.now (pairs_from bytes.now other.at other.left) ≡ false) (λ place. IsTrue (begins_by key.now (pairs_from bytes.now place.at place.left)) × ((place ≡ one) ⊎ (place ≡ other))) }
+    ensures first { IsTrue (begins_by key.now (pairs_from bytes.now one.at one.left)) → result ≡ Some one }
+    ensures place { MatchOption result (begins_by key.now (pairs_from bytes.now other.at other.left) ≡ false) (λ place. IsTrue (begins_by key.now (pairs_from bytes.now place.at place.left)) × ((place ≡ one) ⊎ (place ≡ other))) }
 {
     if begins_by(bytes, one, key) {
         return Some(one);

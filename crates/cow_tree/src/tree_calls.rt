@@ -3,8 +3,8 @@ ghost use Rattle.std.specs.Prelude.{◌≡◌, ◌≤◌, ◌<◌, ◌+◌, ◌�
 ghost use Rattle.cow_tree.specs.Work.{pages_tried, WritesPages, WritesAtMost};
 ghost use Rattle.sector_device.specs.Effects.{MadeAtMost, MadeIfOk};
 ghost use Rattle.common_types.specs.CrashStates.{AddsOnly, AddsNone};
-ghost use Rattle.page_store.specs.Sectors.{Image};
-ghost use Rattle.page_store.specs.Batch.{is_batch, updated, pair_after, value_at};
+ghost use Rattle.page_store.specs.Sectors.{Image, page_of};
+ghost use Rattle.page_store.specs.Batch.{is_batch, updated, value_at, pair_after};
 ghost use Rattle.page_store.specs.Counting.{CountsReads, CountsWrites};
 ghost use Rattle.page_store.specs.StoreState.{SoManyPages, HasRead, HasTried, NeedsTheSame, IsFilled, IsReadFault, IsCommitFault, numbers_out, last_generation};
 ghost use Rattle.page_store.specs.declared.fault.KeeperFault.TheVariants.{Failed, Spent};
@@ -13,6 +13,8 @@ ghost use Rattle.cow_tree.specs.Needs.{MayNeed};
 ghost use Rattle.cow_tree.specs.Committed.{is_tree_version, TreeHas, WritesOnePlan, WritesNoPinnedPage};
 ghost use Rattle.cow_tree.specs.TreeSeen.{held, device_of, slot_of, top_of, kept_by, pinned_by};
 ghost use Rattle.cow_tree.specs.KeptLeaves.{has_next};
+ghost use Rattle.cow_tree.specs.TreeState.{found_under};
+ghost use Rattle.cow_tree.specs.KeysCounted.{keys_told};
 ghost use Rattle.cow_tree.specs.KeeperLaws.{opens_trees, few_levels, needs_one, crash_states_have_the_tree};
 
 use crate::TreeKeeper;
@@ -43,6 +45,8 @@ impl<D: Device> Keeper for TreeKeeper<D> {
     ghost ordered = { λ k honest. (k.there honest).map };
 
     ghost one_need = { λ k batch a b honest first second. needs_one (slot_of k) (D.state (device_of k)) batch a b honest first second };
+
+    ghost counts = { λ k honest. keys_told k.slot (page_of (D.state k.device).disk.view) (found_under k.slot (D.state k.device).disk.view) (k.there honest).found_is };
 
     ghost crash_states_represent = { λ k c honest usable left. crash_states_have_the_tree (D.state k.device).disk k.slot k.ledger k.top k.fitted.version (k.there honest) (k.durable honest usable) c (D.crash_states_are_images k.device c honest left) };
 
@@ -76,6 +80,9 @@ impl<D: Device> Keeper for TreeKeeper<D> {
 
         // One page of each level is read.
         ensures work { MadeIfOk result (8 * (slot_of self.old).root.height) 0 0 (D.state (device_of self.old)) (D.state (device_of self.new)) }
+
+        // The leaf that a walk has kept stays, so that the walk goes on from it.
+        ensures leaf { kept_by self.new ≡ kept_by self.old }
     {
         if !self.usable {
             return Err(KeeperFault::Failed);

@@ -4,11 +4,12 @@ use crate::line::{Line, copy, number};
 use crate::lying::{stored_and_told, switched};
 use crate::tested::{TestedDisk, disk_under, failing_once, fused, lying, plain};
 use crate::trouble::Trouble;
+use crate::upgrades::in_version_1;
 use crate::{devices, disks, events, keepers, records, sites, texts};
 use cow_tree::TreeKeeper;
 use group_hub::OutcomeList;
 use group_world::{Event, HubFault, Outcome};
-use host_on_disk::{open_site, run_on};
+use host_on_disk::{open_site, run_on, upgrade_on};
 use host_types::{Bytes, Change, Stamp};
 use mem_site::MemSite;
 use page_store::FlatKeeper;
@@ -220,6 +221,28 @@ impl Bench {
         Ok(())
     }
 
+    /// `first`: a disk with the site of the image in version 1.
+    fn hold_first(&mut self) -> Result<(), Trouble> {
+        let pages = u32::try_from(self.image.len() / 8).or(Err(Trouble::Line))?;
+        let first = in_version_1(self.alloc, &self.image, pages)?;
+        self.held = Held::Disk(MemDisk::of(self.alloc, first)?);
+        Ok(())
+    }
+
+    /// `upgrade`: the image on the device is written in version 2, and so many records are told.
+    fn upgrade(&mut self, line: &mut Line) -> Result<(), Trouble> {
+        match upgrade_on(self.alloc, self.take_device()?) {
+            Ok((count, device)) => {
+                self.held = Held::Device(device);
+                line.number(count)
+            }
+            Err((fault, device)) => {
+                self.held = Held::Device(device);
+                Err(Trouble::from(fault))
+            }
+        }
+    }
+
     /// `memory`: a site in memory.
     fn hold_memory(&mut self) -> Result<(), Trouble> {
         self.held = Held::Memory(in_memory(self.alloc)?);
@@ -279,6 +302,8 @@ fn of_held(bench: &mut Bench, line: &mut Line, word: &str) -> Result<(), Trouble
         "close" => bench.close(),
         "again" => bench.again(),
         "memory" => bench.hold_memory(),
+        "first" => bench.hold_first(),
+        "upgrade" => bench.upgrade(line),
         "save" => bench.save(false),
         "same" => bench.save(true),
         _ => events::call(bench, line, word, &[]),

@@ -33,7 +33,7 @@ not_read old new faults.Memory usable is honest = absurd is
 
 pub stays : (h : StoreState) → HasRead h h
 stays h = record {
-  same = record { pairs = λ honest. refl; banner = refl; usable = refl; generation = refl; top = refl; free = refl; height = refl; out = refl; pins = λ honest. refl };
+  same = record { pairs = λ honest. refl; banner = refl; usable = refl; generation = refl; top = refl; free = refl; height = refl; keys = refl; out = refl; pins = λ honest. refl };
   honest = refl;
   reads = omega arith;
   writes = refl;
@@ -49,6 +49,7 @@ read_again a b c p q = record {
     top = q.same.top ∙ p.same.top;
     free = q.same.free ∙ p.same.free;
     height = q.same.height ∙ p.same.height;
+    keys = q.same.keys ∙ p.same.keys;
     out = q.same.out ∙ p.same.out;
     pins = λ honest. q.same.pins (subst IsTrue (sym p.honest) honest) ∙ p.same.pins honest;
   };

@@ -1,5 +1,5 @@
 // All pairs of a keeper of a tree.
-ghost use Rattle.std.specs.Prelude.{◌≡◌, ◌≤◌, true, IsTrue, IfOk, OnOk, IfErr, IfSome, length};
+ghost use Rattle.std.specs.Prelude.{◌↔◌, ◌≡◌, ◌≤◌, true, IsTrue, IfOk, OnOk, IfErr, IfSome, length};
 ghost use Rattle.common_types.specs.CrashStates.{AddsNone};
 ghost use Rattle.page_store.specs.Batch.{is_map, pair_after};
 ghost use Rattle.page_store.specs.PairsInOrder.{last_key};
@@ -58,7 +58,14 @@ fn pair_behind<D: Device>(
     }
 }
 
-/// All pairs of a keeper.
+/// Whether these are as many pairs as a keeper counts.
+fn are_all<D: Device>(keeper: &TreeKeeper<D>, pairs: &[Pair]) -> bool
+    ensures { IsTrue result ↔ (length pairs.now ≡ (held D.state keeper.now).keys) }
+{
+    pairs.len() as u64 == keeper.figures().keys
+}
+
+/// All pairs of a keeper. Where they aren't as many as it counts they are not read, which can come of a lying device alone.
 pub(crate) fn all_pairs<D: Device>(
     alloc: Global,
     keeper: &mut TreeKeeper<D>,
@@ -67,6 +74,7 @@ pub(crate) fn all_pairs<D: Device>(
     ensures pairs { IsTrue (held D.state keeper.old).honest → IfOk result (λ pairs. pairs.items ≡ (held D.state keeper.old).pairs) }
     ensures map { IfOk result (λ pairs. is_map pairs.items ≡ true) }
     ensures few { IfOk result (λ pairs. length pairs.items ≤ most_pairs) }
+    ensures counted { IfOk result (λ pairs. length pairs.items ≡ (held D.state keeper.old).keys) }
     ensures kept { HasRead (held D.state keeper.old) (held D.state keeper.new) }
     ensures counts { OnOk result ((held D.state keeper.new).failed_reads ≡ (held D.state keeper.old).failed_reads) }
     ensures fault { IfErr result (IsNotRead (held D.state keeper.old) (held D.state keeper.new)) }
@@ -76,7 +84,8 @@ pub(crate) fn all_pairs<D: Device>(
     for _ in 0..MOST_PAIRS + 1 {
         match pair_behind(alloc, keeper, &pairs) {
             Ok(Some(pair)) => pairs.push(pair)?,
-            Ok(None) => return Ok(pairs),
+            Ok(None) if are_all(keeper, &pairs) => return Ok(pairs),
+            Ok(None) => return Err(NOT_READ),
             Err(fault) => return Err(fault),
         }
     }

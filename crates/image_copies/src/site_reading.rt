@@ -33,6 +33,7 @@ fn read_keeper<D: Device>(
 ) -> Result<SiteRead, ImageFault>
     requires usable { is_open keeper.old ≡ true }
     ensures pairs { IsTrue (held D.state keeper.old).honest → IfOk result (λ read. read.pairs.items ≡ (held D.state keeper.old).pairs) }
+    ensures counted { IfOk result (λ read. length read.pairs.items ≡ (held D.state keeper.old).keys) }
     ensures banner { IfOk result (λ read. read.banner ≡ (held D.state keeper.old).banner) }
     ensures items { IfOk result (λ read. read.items ≡ items) }
     ensures kept { HasRead (held D.state keeper.old) (held D.state keeper.new) }

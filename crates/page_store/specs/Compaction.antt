@@ -4,13 +4,14 @@ use Rattle.page_store.specs.StoreState.{StoreState, OnlyPages, IsCommitFault, nu
 use Rattle.page_store.specs.declared.fault.KeeperFault.{KeeperFault}
 use Rattle.page_store.specs.declared.fault.KeeperFault.TheVariants as faults
 
--- The same pairs and the same banner stand in the next generation.
+-- The same pairs and the same banner stand in the next generation, and as many are counted.
 pub record IsCompacted (old new : StoreState) : Type 0 where
   pub pairs : IsTrue old.honest → new.pairs ≡ old.pairs
   pub banner : new.banner ≡ old.banner
   pub usable : new.usable ≡ true
   pub generation : new.generation ≡ old.top + 1
   pub top : new.top ≡ old.top + 1
+  pub keys : new.keys ≡ old.keys
   pub out : numbers_out new ≡ numbers_out old
   pub pins : IsTrue old.honest → new.pins ≡ old.pins
 

@@ -82,6 +82,7 @@ flat_holding state slot pairs top usable = record {
   top = top;
   free = half_size slot.root.pages;
   height = 0;
+  keys = length pairs;
   pins = [];
 }
 

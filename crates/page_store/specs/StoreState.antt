@@ -8,7 +8,7 @@ use Rattle.page_store.specs.declared.figures.Figures.{Figures}
 use Rattle.page_store.specs.declared.fault.KeeperFault.{KeeperFault}
 use Rattle.page_store.specs.declared.fault.KeeperFault.TheVariants as faults
 
--- The pairs stand in byte order of their keys. `honest`: the device keeps its written meaning. `usable`: no write or sync has failed. `generation`: that of the current root slot. `top`: the greatest generation that was found at opening or tried since. `free`: how many pages a commit may write. `height`: how many levels the tree of pages has, none where the pages are flat. `pins`: the number of each pin that is out, and the pairs that it keeps.
+-- The pairs stand in byte order of their keys. `honest`: the device keeps its written meaning. `usable`: no write or sync has failed. `generation`: that of the current root slot. `top`: the greatest generation that was found at opening or tried since. `free`: how many pages a commit may write. `height`: how many levels the tree of pages has, none where the pages are flat. `keys`: how many pairs it counts, on every device: so many were found when it was opened, and a commit counts them on. `pins`: the number of each pin that is out, and the pairs that it keeps.
 pub record StoreState : Type 0 where
   pub pairs : List Pair
   pub banner : Banner
@@ -20,6 +20,7 @@ pub record StoreState : Type 0 where
   pub top : ℕ
   pub free : ℕ
   pub height : ℕ
+  pub keys : ℕ
   pub pins : List (ℕ × List Pair)
 
 -- the numbers of the pins that are out
@@ -45,6 +46,7 @@ MayBeDeep h edits = (0 < h.banner.version) × (edits_to_be_deep h.height ≤ edi
 -- What a store says of its size.
 pub record IsFigures (h : StoreState) (figures : Figures) : Type 0 where
   pub keys : IsTrue h.honest → figures.keys ≡ length h.pairs
+  pub counted : figures.keys ≡ h.keys
   pub free : figures.free ≡ h.free
   pub generation : figures.generation ≡ h.generation
 
@@ -57,6 +59,7 @@ pub record HasStayed (old new : StoreState) : Type 0 where
   pub top : new.top ≡ old.top
   pub free : new.free ≡ old.free
   pub height : new.height ≡ old.height
+  pub keys : new.keys ≡ old.keys
   pub out : numbers_out new ≡ numbers_out old
   pub pins : IsTrue old.honest → new.pins ≡ old.pins
 
@@ -109,6 +112,7 @@ pub record HasFailed (old new : StoreState) : Type 0 where
   pub generation : new.generation ≡ old.generation
   pub free : new.free ≡ old.free
   pub height : new.height ≡ old.height
+  pub keys : new.keys ≡ old.keys
   pub out : numbers_out new ≡ numbers_out old
   pub pins : IsTrue old.honest → new.pins ≡ old.pins
   pub cause : IsTrue old.usable → new.failed_writes ≡ counted old.failed_writes

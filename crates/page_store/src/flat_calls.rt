@@ -1,5 +1,5 @@
 // The calls of a keeper of flat pages.
-ghost use Rattle.std.specs.Prelude.{◌≡◌, ◌⊎◌, ◌≤◌, ◌<◌, ◌+◌, ◌*◌, ◌==◌, ℕ, true, false, length, IsTrue, OnOk, OnErr, IfErr, IsErrOf};
+ghost use Rattle.std.specs.Prelude.{refl, ◌≡◌, ◌⊎◌, ◌≤◌, ◌<◌, ◌+◌, ◌*◌, ◌==◌, ℕ, true, false, length, IsTrue, OnOk, OnErr, IfErr, IsErrOf};
 ghost use Rattle.sector_device.specs.Effects.{MadeIfOk};
 ghost use Rattle.common_types.specs.CrashStates.{AddsOnly, AddsNone, may_crash_to};
 ghost use Rattle.page_store.specs.Batch.{is_batch, is_map, updated};
@@ -81,6 +81,8 @@ impl<D: Device> Keeper for FlatKeeper<D> {
     ghost ordered = { λ k honest. k.fitted.map };
 
     ghost one_need = { λ k batch a b honest first second. one_flat_need (pairs_of k) batch a b first second };
+
+    ghost counts = { λ k honest. refl };
 
     ghost crash_states_represent = { λ k c honest usable left. crash_states_represent_content (D.state k.device).disk k.slot k.pairs.items k.top (k.crash_states_represent honest usable) k.fitted.version c (D.crash_states_are_images k.device c honest left) };
 

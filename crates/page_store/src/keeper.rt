@@ -124,6 +124,9 @@ pub trait Keeper {
     /// A batch needs one thing: where it needs so many pages, it needs no other number, and not too many levels.
     ghost one_need: { (k : Self) (batch : List EditValue) (a b : CommitNeed) → IsTrue (store_state k).honest → may_need k batch a → may_need k batch b → a ≡ b };
 
+    /// It counts as many pairs as there are.
+    ghost counts: { (k : Self) → IsTrue (store_state k).honest → (store_state k).keys ≡ length (store_state k).pairs };
+
     /// Between two calls each crash state has the pairs and the banner.
     ghost crash_states_represent: { (k : Self) (c : CrashState) → IsTrue (store_state k).honest → (store_state k).usable ≡ true → may_crash_to (crash_states k) c → has_content c (store_state k).pairs (store_state k).banner };
 }

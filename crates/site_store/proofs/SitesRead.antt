@@ -1,5 +1,5 @@
 -- What a site that was read whole says of what is kept.
-use Rattle.std.proofs.Common.{◌≡◌, Bool, true, false, List, map, Result, Ok, Err, refl, ap, sym, subst, ◌∙◌, arith}
+use Rattle.std.proofs.Common.{◌≡◌, Bool, true, false, List, length, map, Result, Ok, Err, refl, ap, sym, subst, ◌∙◌, arith}
 use Rattle.std.specs.Prelude.{IsTrue, IsErrOf, IfOk, IfErr, OnOk, []}
 use Rattle.common_types.specs.Counts.{counted, counted_below}
 use Rattle.host_types.specs.Site.{Site}
@@ -14,10 +14,16 @@ use Rattle.page_store.specs.declared.fault.KeeperFault.TheVariants as kinds
 use Rattle.site_store.specs.StoreReads.{IsSiteReadFault, IsCountedFault, NoneFailed}
 use Rattle.site_store.specs.declared.fault.SiteOpenFault.{SiteOpenFault}
 use Rattle.site_store.specs.declared.fault.SiteOpenFault.TheVariants.{BadRecord, Keeper, Memory}
-use Rattle.site_store.specs.Opening.{IsOpenFault, IsPairsFault, site_under, with_all_named, pairs_state, HasAddress, IsLayoutOf}
+use Rattle.site_store.specs.Opening.{IsOpenFault, IsReadWhole, IsPairsFault, site_under, with_all_named, pairs_state, HasAddress, IsLayoutOf}
 use Rattle.site_store.proofs.LayoutsCounted.{not_rising}
 use Rattle.site_store.proofs.NamedItems.{not_kept}
 use Rattle.site_store.proofs.PinsKept.{none_have}
+
+-- ---- as many pairs as are counted
+
+pub read_whole : {T : Type 0} (result : Result T SiteOpenFault) (h : StoreState) (pairs : List Pair) (banner : Banner) → banner ≡ h.banner → length pairs ≡ h.keys → OnOk result ((s : Site) × Shows pairs banner s) → OnOk result (IsReadWhole h)
+read_whole (Ok x) h pairs banner is counted shown = record { pairs = pairs; site = shown.0; shows = subst (λ (b : Banner). Shows pairs b shown.0) is shown.1; counted = counted }
+read_whole (Err fault) h pairs banner is counted shown = tt
 
 -- ---- pairs in memory
 

@@ -1,6 +1,6 @@
 -- What an upgrade answers, and what it leaves.
 use Rattle.std.proofs.Common.{◌≤◌, ◌≡◌, ◌⊎◌, ◌<◌, ◌+◌, ◌/◌, ℕ, Bool, true, false, List, length, inl, inr, ⊎_elim, refl, sym, ap, subst, ◌∙◌}
-use Rattle.std.specs.Prelude.{IsTrue}
+use Rattle.std.specs.Prelude.{IsTrue, Vec, Result, Ok, Err, IfOk}
 use mathlib.Core.Logic.{∥∥₁_elim}
 use Rattle.common_types.specs.Counts.{counted}
 use Rattle.common_types.specs.CrashStates.{CrashStates, AddsOnly, AddsNone, adds_both, may_crash_to}
@@ -19,7 +19,7 @@ use Rattle.site_store.proofs.StoreAsSite.{none_added_crashes}
 use Rattle.site_store.proofs.Upgrades.{shown_raised, makes_layout, one_for_each}
 use Rattle.site_store.specs.Represented.{Shows, Represents, RepresentedBy, same_site, site_set}
 use Rattle.site_store.specs.StoreReads.{NoneFailed, IsCountedFault}
-use Rattle.site_store.specs.Upgrading.{AreRaised, ShowsFirst, FirstBy, RepresentsFirst, RepresentsEither, raised_banner, upgrade_batch, IsUpgradeOf, IsFirstReadFault, IsUpgradeFault, IsUpgraded, IsNotUpgraded, commit_fault, reads_counted, writes_counted}
+use Rattle.site_store.specs.Upgrading.{AreRaised, ShowsFirst, FirstBy, RepresentsFirst, RepresentsEither, raised_banner, upgrade_batch, IsUpgradeOf, IsFirstReadFault, IsFirstWhole, IsUpgradeFault, IsUpgraded, IsNotUpgraded, commit_fault, reads_counted, writes_counted}
 use Rattle.site_store.specs.declared.fault.SiteOpenFault.{SiteOpenFault}
 use Rattle.site_store.specs.declared.fault.SiteOpenFault.TheVariants.{BadRecord, Keeper, Memory}
 
@@ -29,6 +29,20 @@ same_first pairs banner s t first other =
     ∥∥₁_elim first.valid (site_set s t) (λ site.
     let are : AreRaised pairs (layout s) = subst (λ (ps : Pairs). AreRaised ps (layout s)) (sym first.all) (raises s site first.known) in
     same_site (layout s) (raised_banner banner) s t (shown_raised pairs (layout s) banner s are first) (shown_raised pairs (layout s) banner t are other))
+
+-- what a site of version 1 was read of, where as many pairs were read as are counted
+pub first_whole : (h : StoreState) (pairs : List Pair) (banner : Banner) (batch : List Edit) → banner ≡ h.banner → length pairs ≡ h.keys → IsUpgradeOf pairs banner batch → IsFirstWhole h (length batch)
+first_whole h pairs banner batch is counted u = record {
+  pairs = pairs;
+  site = u.0;
+  shows = subst (λ (b : Banner). ShowsFirst pairs b u.0) is u.1;
+  counted = counted;
+  items = ap length u.2 ∙ one_for_each u.0 u.1.valid;
+}
+
+pub upgrade_whole : {A : Type 0} (result : Result (Vec Edit A) SiteOpenFault) (h : StoreState) (pairs : List Pair) (banner : Banner) → banner ≡ h.banner → length pairs ≡ h.keys → IfOk result (λ batch. IsUpgradeOf pairs banner batch.items) → IfOk result (λ batch. IsFirstWhole h (length batch.items))
+upgrade_whole (Ok batch) h pairs banner is counted u = first_whole h pairs banner batch.items is counted u
+upgrade_whole (Err fault) h pairs banner is counted u = tt
 
 -- ---- refused before the commit
 
@@ -77,6 +91,7 @@ stay_on a b c x y = record {
   top = y.top ∙ x.same.top;
   free = y.free ∙ x.same.free;
   height = y.height ∙ x.same.height;
+  keys = y.keys ∙ x.same.keys;
   out = y.out ∙ x.same.out;
   pins = λ honest. y.pins (x.honest ∙ honest) ∙ x.same.pins honest;
 }
@@ -89,6 +104,7 @@ fail_on a b c x y = record {
   generation = y.generation ∙ x.same.generation;
   free = y.free ∙ x.same.free;
   height = y.height ∙ x.same.height;
+  keys = y.keys ∙ x.same.keys;
   out = y.out ∙ x.same.out;
   pins = λ honest. y.pins (x.honest ∙ honest) ∙ x.same.pins honest;
   cause = λ up. y.cause (x.same.usable ∙ up) ∙ ap counted x.writes;
@@ -172,8 +188,8 @@ module _ (a b c : StoreState) (need_a need_b : List Edit → CommitNeed → Type
         version = ap (λ (x : Banner). x.version) under;
       }
 
-  pub is_upgraded : (banner : Banner) (count : ℕ) → banner ≡ raised_banner b.banner → (IsTrue b.honest → c.pairs ≡ updated b.pairs batch) → c.banner ≡ banner → c.usable ≡ true → c.top ≡ b.top + 1 → c.generation ≡ b.top + 1 → HasTried b c → c.failed_reads ≡ b.failed_reads → c.failed_writes ≡ b.failed_writes → count ≡ length batch → IsUpgraded a c count
-  is_upgraded banner count is pairs named usable top generation tried reads writes counted_is = record {
+  pub is_upgraded : (banner : Banner) (count : ℕ) → banner ≡ raised_banner b.banner → (IsTrue b.honest → c.pairs ≡ updated b.pairs batch) → c.banner ≡ banner → c.usable ≡ true → c.top ≡ b.top + 1 → c.generation ≡ b.top + 1 → HasTried b c → c.failed_reads ≡ b.failed_reads → c.failed_writes ≡ b.failed_writes → count ≡ length batch → IsFirstWhole a count → IsUpgraded a c count
+  is_upgraded banner count is pairs named usable top generation tried reads writes counted_is whole = record {
     site = λ honest.
         let u = upgrade honest in
         let shown = made banner u.0 is honest u.1 u.2 in (
@@ -189,6 +205,7 @@ module _ (a b c : StoreState) (need_a need_b : List Edit → CommitNeed → Type
           },
           counted_is ∙ ap length u.2 ∙ one_for_each u.0 u.1.valid,
         );
+    whole = whole;
     banner = named ∙ is ∙ ap raised_banner read.same.banner;
     once = top ∙ ap (λ (n : ℕ). n + 1) read.same.top;
     generation = generation ∙ ap (λ (n : ℕ). n + 1) read.same.top;

@@ -56,6 +56,13 @@ IsOpenFault old new (Keeper kinds.Memory) = ⊥
 IsOpenFault old new BadRecord = (old.usable ≡ true) × NoneFailed old new × (old.banner.version ≡ 2) × (IsTrue old.honest → (s : Site) → RepresentedBy old s → ⊥)
 IsOpenFault old new Memory = (old.usable ≡ true) × NoneFailed old new × (old.banner.version ≡ 2)
 
+-- What was read is the layout of a valid site under the banner that is kept, and of as many pairs as are counted: so on every device, whatever it gave.
+pub record IsReadWhole (h : StoreState) : Type 0 where
+  pub pairs : List Pair
+  pub site : Site
+  pub shows : Shows pairs h.banner site
+  pub counted : length pairs ≡ h.keys
+
 -- Why some pairs under a banner are no site: `BadRecord` says that they represent no valid one.
 abbrev pub IsPairsFault : List Pair → Banner → SiteOpenFault → Type 0
 IsPairsFault pairs banner (Keeper fault) = ⊥
@@ -72,7 +79,7 @@ KeysFit pairs = All (λ p. length p.0 ≤ 300) pairs
 
 -- Pairs in memory under a banner, as a store that holds them: no read of it fails, and it is never written.
 abbrev pub pairs_state : List Pair → Banner → StoreState
-pairs_state pairs banner = record { pairs = pairs; banner = banner; honest = true; usable = true; failed_reads = 0; failed_writes = 0; generation = 0; top = 0; free = 0; height = 0; pins = [] }
+pairs_state pairs banner = record { pairs = pairs; banner = banner; honest = true; usable = true; failed_reads = 0; failed_writes = 0; generation = 0; top = 0; free = 0; height = 0; keys = length pairs; pins = [] }
 
 -- no item is too long
 abbrev pub AreShort : List (List ℕ × Item) → Type 0

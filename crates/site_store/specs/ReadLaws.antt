@@ -21,6 +21,7 @@ read_later a b c x y =
         usable = y.same.usable ∙ x.same.usable;
         generation = y.same.generation ∙ x.same.generation;
         height = y.same.height ∙ x.same.height;
+        keys = y.same.keys ∙ x.same.keys;
         out = y.same.out ∙ x.same.out;
         pins = λ honest. y.same.pins (x.honest ∙ honest) ∙ x.same.pins honest;
         top = y.same.top ∙ x.same.top;
@@ -50,7 +51,7 @@ reads_later store_state may_need crash_states a b c x y = record {
 pub not_yet : {K L : Type 0} → (store_state : K → StoreState) (may_need : K → List Edit → CommitNeed → Type 0) (crash_states : K → CrashStates L) (a : K) → ReadsOnly store_state may_need crash_states a a
 not_yet store_state may_need crash_states a = record {
   read = record {
-    same = record { pairs = λ honest. refl; banner = refl; usable = refl; generation = refl; height = refl; out = refl; pins = λ honest. refl; top = refl; free = refl };
+    same = record { pairs = λ honest. refl; banner = refl; usable = refl; generation = refl; height = refl; keys = refl; out = refl; pins = λ honest. refl; top = refl; free = refl };
     honest = refl;
     reads = omega arith;
     writes = refl;

@@ -99,9 +99,18 @@ IsFirstReadFault old new fault = IsFaultUnless ((s : Site) × FirstBy old s) old
 abbrev pub IsUpgradeOf : List Pair → Banner → List Edit → Type 0
 IsUpgradeOf pairs banner batch = (s : Site) × ShowsFirst pairs banner s × (batch ≡ upgrade_batch s)
 
+-- What was read is the layout of a valid site of version 1, with so many items, and of as many pairs as are counted: so on every device, whatever it gave.
+pub record IsFirstWhole (h : StoreState) (count : ℕ) : Type 0 where
+  pub pairs : List Pair
+  pub site : Site
+  pub shows : ShowsFirst pairs h.banner site
+  pub counted : length pairs ≡ h.keys
+  pub items : count ≡ length site.items
+
 -- A site of version 1 was written as one of version 2, in one commit: so many records, one for each item.
 pub record IsUpgraded (old new : StoreState) (count : ℕ) : Type 0 where
   pub site : IsTrue old.honest → (s : Site) × FirstBy old s × RepresentedBy new s × (count ≡ length s.items)
+  pub whole : IsFirstWhole old count
   pub banner : new.banner ≡ raised_banner old.banner
   pub once : new.top ≡ old.top + 1
   pub generation : new.generation ≡ old.top + 1

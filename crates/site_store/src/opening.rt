@@ -1,12 +1,12 @@
 // Opening a site: all of it is read, and what is kept must be its layout.
-ghost use Rattle.std.specs.Prelude.{◌≡◌, ◌<◌, ◌≤◌, true, false, [], length, IfOk, IfErr, IfSome, OnOk, IsErrAnd, IsTrue};
+ghost use Rattle.std.specs.Prelude.{◌↔◌, ◌≡◌, ◌<◌, ◌≤◌, true, false, [], length, IfOk, IfErr, IfSome, OnOk, IsErrAnd, IsTrue};
 ghost use Rattle.host_types.specs.Site.{Site};
 ghost use Rattle.page_store.specs.Batch.{pair_after};
 ghost use Rattle.page_store.specs.declared.fault.KeeperFault.TheVariants.{Failed};
 ghost use Rattle.site_store.specs.Represented.{RepresentedBy, Shows};
 ghost use Rattle.site_store.specs.StoreReads.{ReadsOnly, NoneFailed, IsSiteReadFault, IsReadOrMemory};
 ghost use Rattle.site_store.specs.Reads.{AlwaysReads, ReadsKnown};
-ghost use Rattle.site_store.specs.Opening.{IsOpenFault, IsPairsFault, ValuesFit, KeysFit, last_key, site_under, with_named, with_all_named, HasAddress};
+ghost use Rattle.site_store.specs.Opening.{IsOpenFault, IsReadWhole, IsPairsFault, ValuesFit, KeysFit, last_key, site_under, with_named, with_all_named, HasAddress};
 ghost use Rattle.site_store.specs.Seen.{keeper_of, seen_site};
 ghost use Rattle.site_store.specs.declared.fault.SiteOpenFault.TheVariants.{Keeper as StoreFault};
 
@@ -22,6 +22,16 @@ use std::alloc::Global;
 
 /// The version of images that sites are opened from.
 pub const VERSION: u16 = 2;
+
+/// A walk has not found as many pairs as the keeper counts. The count stands in a root slot, which are the first pages.
+const NOT_COUNTED: SiteOpenFault = SiteOpenFault::Keeper(KeeperFault::Damaged { page: 0 });
+
+/// Whether these are as many pairs as a keeper counts.
+fn are_all<K: Keeper>(keeper: &K, pairs: &[Pair]) -> bool
+    ensures { IsTrue result ↔ (length pairs.now ≡ (K.store_state keeper.now).keys) }
+{
+    pairs.len() as u64 == keeper.figures().keys
+}
 
 /// The pair behind these, the first ones of the keeper.
 fn pair_behind<K: Keeper>(
@@ -48,17 +58,19 @@ fn pair_behind<K: Keeper>(
     }
 }
 
-/// All pairs of a keeper.
+/// All pairs of a keeper. Where they aren't as many as it counts it is `Damaged`, which can come of a lying device alone.
 pub(crate) fn pairs_of<K: Keeper>(alloc: Global, keeper: &mut K) -> Result<Vec<Pair>, SiteOpenFault>
     ensures pairs { AlwaysReads K.store_state K.may_need K.crash_states keeper.old keeper.new result IsReadOrMemory (λ h all. all.items ≡ h.pairs) }
     ensures fit { IfOk result (λ all. ValuesFit all.items) }
     ensures keys { IfOk result (λ all. KeysFit all.items) }
+    ensures counted { IfOk result (λ all. length all.items ≡ (K.store_state keeper.old).keys) }
 {
     let mut pairs = Vec::new(alloc);
     for _ in 0..u64::MAX {
         match pair_behind(alloc, keeper, &pairs) {
             Ok(Some(pair)) => pairs.push(pair)?,
-            Ok(None) => return Ok(pairs),
+            Ok(None) if are_all(keeper, &pairs) => return Ok(pairs),
+            Ok(None) => return Err(NOT_COUNTED),
             Err(fault) => return Err(fault),
         }
     }
@@ -144,6 +156,7 @@ pub(crate) fn check_pairs(
 fn check<K: Keeper>(alloc: Global, keeper: &mut K) -> Result<(), SiteOpenFault>
     requires version { (K.store_state keeper.old).banner.version ≡ 2 }
     ensures kept { AlwaysReads K.store_state K.may_need K.crash_states keeper.old keeper.new result IsSiteReadFault (λ h _. (s : Site) × RepresentedBy h s) }
+    ensures whole { OnOk result (IsReadWhole (K.store_state keeper.old)) }
     ensures port { OnOk result (0 < (K.store_state keeper.old).banner.port) }
 {
     let pairs = pairs_of(alloc, keeper)?;
@@ -153,10 +166,12 @@ fn check<K: Keeper>(alloc: Global, keeper: &mut K) -> Result<(), SiteOpenFault>
 impl<K: Keeper> DiskSite<K> {
     /// Opens the site whose layout a keeper holds, of which no pin is out, and reads all of it. A refusal hands the keeper back; nothing is written.
     ///
-    /// A keeper that isn't usable is `Failed`, and gets no other answer. `Version` where what is kept is of another version than 2, which is not read. `BadRecord` where what is kept is no valid site's layout, else the keeper's fault. `Memory` may stand in place of `BadRecord` and of success.
+    /// A keeper that isn't usable is `Failed`, and gets no other answer. `Version` where what is kept is of another version than 2, which is not read. `BadRecord` where what is kept is no valid site's layout, else the keeper's fault; `Damaged` of page 0 where as many pairs as it counts are not found. `Memory` may stand in place of `BadRecord` and of success.
     pub fn open(alloc: Global, keeper: K) -> Result<DiskSite<K>, (SiteOpenFault, K)>
         requires unpinned { (K.store_state keeper).pins ≡ [] }
         ensures site { IsTrue (K.store_state keeper).honest → IfOk result (λ d. RepresentedBy (K.store_state keeper) (seen_site d)) }
+        // On every device: what was read is a valid site's layout, of as many pairs as the keeper counts.
+        ensures whole { OnOk result (IsReadWhole (K.store_state keeper)) }
         ensures reads_only { IfOk result (λ d. ReadsOnly K.store_state K.may_need K.crash_states keeper (keeper_of d)) }
         ensures reads { IfOk result (λ d. NoneFailed (K.store_state keeper) (K.store_state (keeper_of d))) }
         ensures usable { IfOk result (λ d. (K.store_state (keeper_of d)).usable ≡ true) }

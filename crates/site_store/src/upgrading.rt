@@ -9,7 +9,7 @@ ghost use Rattle.site_pairs.specs.Edits.{batch_of};
 ghost use Rattle.site_records.specs.Layout as layouts;
 ghost use Rattle.site_store.specs.Opening.{ValuesFit, KeysFit};
 ghost use Rattle.site_store.specs.Reads.{AlwaysReads};
-ghost use Rattle.site_store.specs.Upgrading.{IsRaised, IsRaisedPair, AreRaised, IsNotRaised, ShowsFirst, FirstBy, RepresentsEither, IsUpgradeOf, IsFirstReadFault, IsUpgraded, IsNotUpgraded, handed_back};
+ghost use Rattle.site_store.specs.Upgrading.{IsRaised, IsRaisedPair, AreRaised, IsNotRaised, ShowsFirst, FirstBy, RepresentsEither, IsUpgradeOf, IsFirstReadFault, IsFirstWhole, IsUpgraded, IsNotUpgraded, handed_back};
 ghost use Rattle.site_store.specs.Upgrading as spec;
 ghost use Rattle.site_store.specs.declared.fault.SiteOpenFault.TheVariants.{Keeper as StoreFault};
 
@@ -159,6 +159,7 @@ fn batch_for(alloc: Global, banner: &Banner, pairs: Vec<Pair>) -> Result<Vec<Edi
 fn upgrade_batch<K: Keeper>(alloc: Global, keeper: &mut K) -> Result<Vec<Edit>, SiteOpenFault>
     requires version { (K.store_state keeper.old).banner.version ≡ 1 }
     ensures batch { AlwaysReads K.store_state K.may_need K.crash_states keeper.old keeper.new result IsFirstReadFault (λ h batch. IsUpgradeOf h.pairs h.banner batch.items) }
+    ensures whole { IfOk result (λ batch. IsFirstWhole (K.store_state keeper.old) (length batch.items)) }
     ensures sizes { IfOk result (λ batch. IsTrue (is_batch batch.items)) }
     ensures port { IfOk result (λ _. 0 < (K.store_state keeper.old).banner.port) }
 {
@@ -198,7 +199,7 @@ fn raise<K: Keeper>(alloc: Global, keeper: &mut K) -> Result<u64, SiteOpenFault>
 impl<K: Keeper> DiskSite<K> {
     /// Writes the site of version 1 that a keeper holds as one of version 2, in one commit, and hands the keeper back with how many records were written: one for each item, or none where it is of version 2 already, of which nothing is read.
     ///
-    /// A keeper that isn't usable is `Failed`. `BadRecord` where what is kept is no valid site's layout in version 1, else the keeper's fault, of a read and then of a commit. `Memory` may stand in place of `BadRecord`, of a fault of the commit, and of success. A refusal hands the keeper back, with nothing written unless it is `Failed`.
+    /// A keeper that isn't usable is `Failed`. `BadRecord` where what is kept is no valid site's layout in version 1, else the keeper's fault, of a read and then of a commit; `Damaged` of page 0 where as many pairs as it counts are not found. `Memory` may stand in place of `BadRecord`, of a fault of the commit, and of success. A refusal hands the keeper back, with nothing written unless it is `Failed`.
     pub fn upgrade(alloc: Global, keeper: K) -> Result<(K, u64), (SiteOpenFault, K)>
         requires holds { IsTrue (K.holds_version 2) }
         ensures already { (K.store_state keeper).usable ≡ true → (K.store_state keeper).banner.version ≡ 2 → result ≡ Ok (keeper, 0) }

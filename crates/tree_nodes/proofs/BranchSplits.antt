@@ -6,8 +6,11 @@ use Rattle.page_store.specs.Keys.{is_below}
 use Rattle.page_store.specs.Pages.{Pair}
 use Rattle.tree_nodes.specs.Tree.{Tree, Others, branch, none, other, OldPages, pairs_of, row_pairs, pages_of, row_pages, row_owned_at, other_bytes, other_count, entry_room}
 use Rattle.tree_nodes.specs.Growth.{AreRowBranches, row_edits_in}
-use Rattle.tree_nodes.specs.Put.{front_of_branch, one, front_others, back_others, branches, split_branch}
+use Rattle.tree_nodes.specs.Splits.{branch_place}
+use Rattle.tree_nodes.specs.declared.splitting.TheConstants.{FRONT_OF_BRANCH}
+use Rattle.tree_nodes.specs.Put.{one, front_others, back_others, take_others, drop_others, branches, split_branch}
 use Rattle.tree_nodes.specs.Valid.{IsValid, IsValidRow, IsGrown, grown_pairs, others_high}
+use Rattle.tree_nodes.proofs.SplitPlaces.{branch_front, branch_back}
 use Rattle.tree_nodes.proofs.KeyOrder.{not_back, is_below_less}
 use Rattle.tree_nodes.proofs.KeysWithinBounds.{row_lower}
 
@@ -114,6 +117,12 @@ is_split room (other key tree others) = go (nat_le (6 + length key) room) refl (
     go true is more = split_later room key tree others (front_others (room - (6 + length key)) others) (back_others (room - (6 + length key)) others) (leb-true (6 + length key) room is) more
     go false is more = split_here room key tree others (leb-false (6 + length key) room is)
 
+-- the parts that are made
+pub is_parted : (others : Others) → IsSplit FRONT_OF_BRANCH others (take_others (branch_place others) others) (drop_others (branch_place others) others)
+is_parted others =
+    subst (λ (l : Others). IsSplit FRONT_OF_BRANCH others l (drop_others (branch_place others) others)) (sym (branch_front others))
+    (subst (λ (l : Others). IsSplit FRONT_OF_BRANCH others (front_others FRONT_OF_BRANCH others) l) (sym (branch_back others)) (is_split FRONT_OF_BRANCH others))
+
 -- ---- a split branch
 
 branches_valid : (old : OldPages) (level room : ℕ) (first : Tree) (others front back : Others) (low : List ℕ) (high : Option (List ℕ)) → IsSplit room others front back
@@ -134,11 +143,11 @@ pub split_branch_valid : (old : OldPages) (level : ℕ) (first : Tree) (others :
 split_branch_valid old level first others low high f r size = go (nat_le (6 + other_bytes others) entry_room) refl
   where
     go : (b : Bool) → nat_le (6 + other_bytes others) entry_room ≡ b
-        → IsGrown old (suc level) (if b then one (branch first others) else branches first (front_others front_of_branch others) (back_others front_of_branch others)) low high
+        → IsGrown old (suc level) (if b then one (branch first others) else branches first (take_others (branch_place others) others) (drop_others (branch_place others) others)) low high
     go true is = (f, r, leb-true (6 + other_bytes others) entry_room is)
     go false is =
         let large = leb-false (6 + other_bytes others) entry_room is in
-        branches_valid old level front_of_branch first others (front_others front_of_branch others) (back_others front_of_branch others) low high (is_split front_of_branch others) f r
+        branches_valid old level FRONT_OF_BRANCH first others (take_others (branch_place others) others) (drop_others (branch_place others) others) low high (is_parted others) f r
         (omega arith) (omega (arith, size)) (omega (arith, large))
 
 branches_pairs : (old : OldPages) (first : Tree) (front back : Others) → grown_pairs old (branches first front back) ≡ pairs_of old first ++ (row_pairs old front ++ row_pairs old back)
@@ -148,7 +157,7 @@ branches_pairs old first front (other key tree others) = append_assoc (pairs_of 
 pub split_branch_pairs : (old : OldPages) (first : Tree) (others : Others) → grown_pairs old (split_branch first others) ≡ pairs_of old first ++ row_pairs old others
 split_branch_pairs old first others = go (nat_le (6 + other_bytes others) entry_room)
   where
-    go : (b : Bool) → grown_pairs old (if b then one (branch first others) else branches first (front_others front_of_branch others) (back_others front_of_branch others)) ≡ pairs_of old first ++ row_pairs old others
+    go : (b : Bool) → grown_pairs old (if b then one (branch first others) else branches first (take_others (branch_place others) others) (drop_others (branch_place others) others)) ≡ pairs_of old first ++ row_pairs old others
     go true = refl
-    go false = branches_pairs old first (front_others front_of_branch others) (back_others front_of_branch others)
-        ∙ ap (λ (l : List Pair). pairs_of old first ++ l) ((is_split front_of_branch others).pairs old)
+    go false = branches_pairs old first (take_others (branch_place others) others) (drop_others (branch_place others) others)
+        ∙ ap (λ (l : List Pair). pairs_of old first ++ l) ((is_parted others).pairs old)

@@ -5,7 +5,9 @@ use Rattle.std.proofs.lemmas.Bool.{leb-false}
 use Rattle.page_store.specs.Keys.{is_below, is_between}
 use Rattle.page_store.specs.Batch.{is_pair}
 use Rattle.tree_nodes.specs.Tree.{Tree, Others, page, leaf, branch, none, other, OldPages, goes_first, other_bytes, other_count, entry_room}
-use Rattle.tree_nodes.specs.Put.{front_of_branch, Grown, one, two, put, put_row, front_others, back_others, branches, split_branch, grown_first, grown_other}
+use Rattle.tree_nodes.specs.Splits.{branch_place}
+use Rattle.tree_nodes.specs.declared.splitting.TheConstants.{FRONT_OF_BRANCH}
+use Rattle.tree_nodes.specs.Put.{Grown, one, two, put, put_row, take_others, drop_others, branches, split_branch, grown_first, grown_other}
 use Rattle.tree_nodes.specs.Delete.{delete, delete_row, first_left, other_left}
 use Rattle.tree_nodes.specs.Supply.{supplied, row_supplied}
 use Rattle.tree_nodes.specs.Valid.{IsValid, IsValidRow, IsGrown, others_high}
@@ -13,7 +15,7 @@ use Rattle.tree_nodes.specs.Growth.{AreBranches, AreRowBranches, edits_in, row_e
 use Rattle.tree_nodes.proofs.KeyOrder.{between_parts, between_from, not_both}
 use Rattle.tree_nodes.proofs.KeysWithinBounds.{below_first}
 use Rattle.tree_nodes.proofs.LeafSplits.{key_size}
-use Rattle.tree_nodes.proofs.BranchSplits.{KeysFit, IsSplit, is_split}
+use Rattle.tree_nodes.proofs.BranchSplits.{KeysFit, IsSplit, is_parted}
 use Rattle.tree_nodes.proofs.PutChangesOneKey.{put_tree_valid}
 
 -- ---- products
@@ -36,7 +38,7 @@ row_keys_fit : (old : OldPages) (level : ℕ) (others : Others) (low : List ℕ)
 row_keys_fit old level none low high h = tt
 row_keys_fit old level (other key tree others) low high h = ((let size = key_size key h.2 in omega (arith, size)), row_keys_fit old level others key high h.4)
 
-keys_bytes : (others : Others) → KeysFit others → other_bytes others ≤ 306 * other_count others
+pub keys_bytes : (others : Others) → KeysFit others → other_bytes others ≤ 306 * other_count others
 keys_bytes none fit = omega arith
 keys_bytes (other key tree others) fit = let rest = keys_bytes others fit.1 in let size = fit.0 in omega (arith, rest, size)
 
@@ -50,7 +52,7 @@ AreGrownBranches n (one tree) = AreBranches n tree
 AreGrownBranches n (two tree key next) = AreBranches n tree × AreBranches n next
 
 -- each half has seven children at least, so that seven edits fewer stand in them than in the whole
-halves_edits : (n : ℕ) (first : Tree) (others front back : Others) → IsSplit front_of_branch others front back → KeysFit others → entry_room < 6 + other_bytes others → grown_edits_in (suc n) (branches first front back) ≤ 7 ^ n * (other_count others - 6) + (edits_in n first + row_edits_in n others)
+halves_edits : (n : ℕ) (first : Tree) (others front back : Others) → IsSplit FRONT_OF_BRANCH others front back → KeysFit others → entry_room < 6 + other_bytes others → grown_edits_in (suc n) (branches first front back) ≤ 7 ^ n * (other_count others - 6) + (edits_in n first + row_edits_in n others)
 halves_edits n first others front none c fit large = let bytes = c.bytes in let small = c.small in absurd (omega (arith, bytes, small, large))
 halves_edits n first others front (other key tree rest) c fit large =
     let bytes = c.bytes in
@@ -72,9 +74,9 @@ split_edits : (n : ℕ) (first : Tree) (others : Others) → KeysFit others → 
 split_edits n first others fit = go (nat_le (6 + other_bytes others) entry_room) refl
   where
     go : (b : Bool) → nat_le (6 + other_bytes others) entry_room ≡ b
-        → grown_edits_in (suc n) (if b then one (branch first others) else branches first (front_others front_of_branch others) (back_others front_of_branch others)) ≤ 7 ^ n * (other_count others - 6) + (edits_in n first + row_edits_in n others)
+        → grown_edits_in (suc n) (if b then one (branch first others) else branches first (take_others (branch_place others) others) (drop_others (branch_place others) others)) ≤ 7 ^ n * (other_count others - 6) + (edits_in n first + row_edits_in n others)
     go true is = omega arith
-    go false is = halves_edits n first others (front_others front_of_branch others) (back_others front_of_branch others) (is_split front_of_branch others) fit (leb-false (6 + other_bytes others) entry_room is)
+    go false is = halves_edits n first others (take_others (branch_place others) others) (drop_others (branch_place others) others) (is_parted others) fit (leb-false (6 + other_bytes others) entry_room is)
 
 halves_branches : (n : ℕ) (first : Tree) (front back : Others) → AreBranches n first → AreRowBranches n front → AreRowBranches n back → AreGrownBranches (suc n) (branches first front back)
 halves_branches n first front none f a b = (f, a)
@@ -83,11 +85,11 @@ halves_branches n first front (other key tree rest) f a b = ((f, a), b)
 split_branches : (n : ℕ) (first : Tree) (others : Others) → AreBranches n first → AreRowBranches n others → AreGrownBranches (suc n) (split_branch first others)
 split_branches n first others f rows = go (nat_le (6 + other_bytes others) entry_room)
   where
-    go : (b : Bool) → AreGrownBranches (suc n) (if b then one (branch first others) else branches first (front_others front_of_branch others) (back_others front_of_branch others))
+    go : (b : Bool) → AreGrownBranches (suc n) (if b then one (branch first others) else branches first (take_others (branch_place others) others) (drop_others (branch_place others) others))
     go true = (f, rows)
     go false =
-        let c = is_split front_of_branch others in
-        halves_branches n first (front_others front_of_branch others) (back_others front_of_branch others) f (c.branches_front n rows) (c.branches_back n rows)
+        let c = is_parted others in
+        halves_branches n first (take_others (branch_place others) others) (drop_others (branch_place others) others) f (c.branches_front n rows) (c.branches_back n rows)
 
 -- ---- a put
 

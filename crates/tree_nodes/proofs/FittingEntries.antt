@@ -6,11 +6,13 @@ use Rattle.std.proofs.lemmas.Bool.{leb-true, le-leb, eqb-true}
 use Rattle.page_store.specs.Pages.{Pair}
 use Rattle.page_store.specs.Flat.{entry_size}
 use Rattle.page_store.specs.Encoding.{fitting}
-use Rattle.tree_nodes.specs.Tree.{Tree, Others, leaf, branch, none, other, leaf_bytes, other_bytes}
-use Rattle.tree_nodes.specs.Put.{one, two, front_pairs, back_pairs, leaves, split_leaf, front_others, back_others, branches, split_branch, fitting_others}
+use Rattle.tree_nodes.specs.Tree.{Tree, Others, leaf, branch, leaf_bytes, other_bytes}
+use Rattle.tree_nodes.specs.Splits.{fitting_others, leaf_place, branch_place}
+use Rattle.tree_nodes.specs.Put.{one, two, leaves, split_leaf, branches, split_branch}
 use Rattle.tree_nodes.specs.NodeView.{tree_of, others_view}
 use Rattle.tree_nodes.specs.declared.node.Node.{Node, Leaf, Branch, the_lemmas}
 use Rattle.tree_nodes.proofs.NodesAsTrees.{Children, tree_branch}
+use Rattle.tree_nodes.proofs.SplitPlaces.{taken_view, dropped_view}
 
 -- ---- pairs
 
@@ -26,24 +28,6 @@ pub fit_all : (room : ℕ) (pairs : List Pair) → leaf_bytes pairs ≤ room →
 fit_all room [] h = refl
 fit_all room (p ∷ ps) h = rw (le-leb (entry_size p) room (omega (arith, h))) (ap suc (fit_all (room - entry_size p) ps (omega (arith, h))))
 
-pub front_fits : (room : ℕ) (pairs : List Pair) → take (fitting room pairs) pairs ≡ front_pairs room pairs
-front_fits room [] = refl
-front_fits room (p ∷ ps) = go (nat_le (entry_size p) room) (front_fits (room - entry_size p) ps)
-  where
-    go : (b : Bool) → take (fitting (room - entry_size p) ps) ps ≡ front_pairs (room - entry_size p) ps
-        → take (if b then suc (fitting (room - entry_size p) ps) else 0) (p ∷ ps) ≡ (if b then p ∷ front_pairs (room - entry_size p) ps else [])
-    go true more = ap (λ (l : List Pair). p ∷ l) more
-    go false more = refl
-
-pub back_fits : (room : ℕ) (pairs : List Pair) → drop (fitting room pairs) pairs ≡ back_pairs room pairs
-back_fits room [] = refl
-back_fits room (p ∷ ps) = go (nat_le (entry_size p) room) (back_fits (room - entry_size p) ps)
-  where
-    go : (b : Bool) → drop (fitting (room - entry_size p) ps) ps ≡ back_pairs (room - entry_size p) ps
-        → drop (if b then suc (fitting (room - entry_size p) ps) else 0) (p ∷ ps) ≡ (if b then back_pairs (room - entry_size p) ps else p ∷ ps)
-    go true more = more
-    go false more = refl
-
 -- ---- children
 
 pub all_others_fit : (room : ℕ) (cs : Children) → fitting_others room (others_view cs) ≡ length cs → other_bytes (others_view cs) ≤ room
@@ -58,26 +42,6 @@ all_others_fit room (c ∷ cs) e = go (nat_le (6 + length c.0) room) refl e (λ 
 pub fit_all_others : (room : ℕ) (cs : Children) → other_bytes (others_view cs) ≤ room → fitting_others room (others_view cs) ≡ length cs
 fit_all_others room [] h = refl
 fit_all_others room (c ∷ cs) h = rw (le-leb (6 + length c.0) room (omega (arith, h))) (ap suc (fit_all_others (room - (6 + length c.0)) cs (omega (arith, h))))
-
-pub front_others_fit : (room : ℕ) (cs : Children) → others_view (take (fitting_others room (others_view cs)) cs) ≡ front_others room (others_view cs)
-front_others_fit room [] = refl
-front_others_fit room (c ∷ cs) = go (nat_le (6 + length c.0) room) (front_others_fit (room - (6 + length c.0)) cs)
-  where
-    go : (b : Bool) → others_view (take (fitting_others (room - (6 + length c.0)) (others_view cs)) cs) ≡ front_others (room - (6 + length c.0)) (others_view cs)
-        → others_view (take (if b then suc (fitting_others (room - (6 + length c.0)) (others_view cs)) else 0) (c ∷ cs))
-        ≡ (if b then other c.0 (tree_of c.1) (front_others (room - (6 + length c.0)) (others_view cs)) else none)
-    go true more = ap (other c.0 (tree_of c.1)) more
-    go false more = refl
-
-pub back_others_fit : (room : ℕ) (cs : Children) → others_view (drop (fitting_others room (others_view cs)) cs) ≡ back_others room (others_view cs)
-back_others_fit room [] = refl
-back_others_fit room (c ∷ cs) = go (nat_le (6 + length c.0) room) (back_others_fit (room - (6 + length c.0)) cs)
-  where
-    go : (b : Bool) → others_view (drop (fitting_others (room - (6 + length c.0)) (others_view cs)) cs) ≡ back_others (room - (6 + length c.0)) (others_view cs)
-        → others_view (drop (if b then suc (fitting_others (room - (6 + length c.0)) (others_view cs)) else 0) (c ∷ cs))
-        ≡ (if b then back_others (room - (6 + length c.0)) (others_view cs) else other c.0 (tree_of c.1) (others_view cs))
-    go true more = more
-    go false more = refl
 
 -- ---- what `is_empty` answers
 
@@ -103,9 +67,9 @@ large room bytes n = go (nat_le bytes room) refl
     go true is = absurd (n (leb-true bytes room is))
     go false is = refl
 
-leaf_parts : (items front back : List Pair) → (fitting 4072 items ≡ length items → ⊥) → front ≡ take (fitting 2700 items) items → back ≡ drop (fitting 2700 items) items → split_leaf items ≡ leaves front back
+leaf_parts : (items front back : List Pair) → (fitting 4072 items ≡ length items → ⊥) → front ≡ take (leaf_place items) items → back ≡ drop (leaf_place items) items → split_leaf items ≡ leaves front back
 leaf_parts items front back n f b =
-    rw (large 4072 (leaf_bytes items) (λ h. n (fit_all 4072 items h)), f, b, front_fits 2700 items, back_fits 2700 items) refl
+    rw (large 4072 (leaf_bytes items) (λ h. n (fit_all 4072 items h)), f, b) refl
 
 leaves_none : (front back : List Pair) → length back ≡ 0 → leaves front back ≡ one (leaf front)
 leaves_none front [] e = refl
@@ -115,11 +79,11 @@ leaves_some : (front back : List Pair) (x : Pair) → 0 < length back → x ≡ 
 leaves_some front [] x lt e = absurd (omega (arith, lt))
 leaves_some front (p ∷ ps) x lt e = ap (λ (y : Pair). two (leaf front) y.0 (leaf (p ∷ ps))) (sym e)
 
-pub leaf_front_alone : (items : List Pair) (front back : Vec Pair Global) → (fitting 4072 items ≡ length items → ⊥) → front.items ≡ take (fitting 2700 items) items → back.items ≡ drop (fitting 2700 items) items → length back.items ≡ 0
+pub leaf_front_alone : (items : List Pair) (front back : Vec Pair Global) → (fitting 4072 items ≡ length items → ⊥) → front.items ≡ take (leaf_place items) items → back.items ≡ drop (leaf_place items) items → length back.items ≡ 0
     → one (tree_of (Leaf front)) ≡ split_leaf items
 leaf_front_alone items front back n f b e = ap one (tree_leaf front) ∙ sym (leaf_parts items front.items back.items n f b ∙ leaves_none front.items back.items e)
 
-pub leaf_in_two : (items : List Pair) (front back : Vec Pair Global) (key : List ℕ) (x : Pair) → (fitting 4072 items ≡ length items → ⊥) → front.items ≡ take (fitting 2700 items) items → back.items ≡ drop (fitting 2700 items) items
+pub leaf_in_two : (items : List Pair) (front back : Vec Pair Global) (key : List ℕ) (x : Pair) → (fitting 4072 items ≡ length items → ⊥) → front.items ≡ take (leaf_place items) items → back.items ≡ drop (leaf_place items) items
     → 0 < length back.items → x ≡ get_or back.items 0 x → key ≡ x.0 → two (tree_of (Leaf front)) key (tree_of (Leaf back)) ≡ split_leaf items
 leaf_in_two items front back key x n f b lt e k =
     rw (tree_leaf front, tree_leaf back, k) (sym (leaf_parts items front.items back.items n f b ∙ leaves_some front.items back.items x lt e))
@@ -131,10 +95,10 @@ branch_whole first v e =
     let size = all_others_fit 4066 v.items e in
     rw (le-leb (6 + other_bytes (others_view v.items)) 4072 (omega (arith, size))) (ap one (tree_branch first v))
 
-branch_parts : (tree : Tree) (items front back : Children) → (fitting_others 4066 (others_view items) ≡ length items → ⊥) → front ≡ take (fitting_others 2200 (others_view items)) items → back ≡ drop (fitting_others 2200 (others_view items)) items
+branch_parts : (tree : Tree) (items front back : Children) → (fitting_others 4066 (others_view items) ≡ length items → ⊥) → front ≡ take (branch_place (others_view items)) items → back ≡ drop (branch_place (others_view items)) items
     → split_branch tree (others_view items) ≡ branches tree (others_view front) (others_view back)
 branch_parts tree items front back n f b =
-    rw (large 4072 (6 + other_bytes (others_view items)) (λ h. n (fit_all_others 4066 items (omega (arith, h)))), f, b, front_others_fit 2200 items, back_others_fit 2200 items) refl
+    rw (large 4072 (6 + other_bytes (others_view items)) (λ h. n (fit_all_others 4066 items (omega (arith, h)))), f, b, taken_view (branch_place (others_view items)) items, dropped_view (branch_place (others_view items)) items) refl
 
 branches_none : (tree : Tree) (front : Others) (back : Children) → length back ≡ 0 → branches tree front (others_view back) ≡ one (branch tree front)
 branches_none tree front [] e = refl
@@ -144,13 +108,13 @@ branches_some : (tree : Tree) (front : Others) (back : Children) (x : List ℕ �
 branches_some tree front [] x lt e = absurd (omega (arith, lt))
 branches_some tree front (c ∷ cs) x lt e = ap (λ (y : List ℕ × Node). two (branch tree front) y.0 (branch (tree_of y.1) (others_view cs))) (sym e)
 
-pub branch_front_alone : (first : Box Node Global) (items : Children) (front back : Vec (List ℕ × Node) Global) → (fitting_others 4066 (others_view items) ≡ length items → ⊥) → front.items ≡ take (fitting_others 2200 (others_view items)) items
-    → back.items ≡ drop (fitting_others 2200 (others_view items)) items → length back.items ≡ 0 → one (tree_of (Branch first front)) ≡ split_branch (tree_of first.value) (others_view items)
+pub branch_front_alone : (first : Box Node Global) (items : Children) (front back : Vec (List ℕ × Node) Global) → (fitting_others 4066 (others_view items) ≡ length items → ⊥) → front.items ≡ take (branch_place (others_view items)) items
+    → back.items ≡ drop (branch_place (others_view items)) items → length back.items ≡ 0 → one (tree_of (Branch first front)) ≡ split_branch (tree_of first.value) (others_view items)
 branch_front_alone first items front back n f b e =
     ap one (tree_branch first front) ∙ sym (branch_parts (tree_of first.value) items front.items back.items n f b ∙ branches_none (tree_of first.value) (others_view front.items) back.items e)
 
 pub branch_in_two : (first next : Box Node Global) (items : Children) (front back rest : Vec (List ℕ × Node) Global) (x : List ℕ × Node) → (fitting_others 4066 (others_view items) ≡ length items → ⊥)
-    → front.items ≡ take (fitting_others 2200 (others_view items)) items → back.items ≡ drop (fitting_others 2200 (others_view items)) items → 0 < length back.items → x ≡ get_or back.items 0 x → next.value ≡ x.1 → rest.items ≡ remove back.items 0
+    → front.items ≡ take (branch_place (others_view items)) items → back.items ≡ drop (branch_place (others_view items)) items → 0 < length back.items → x ≡ get_or back.items 0 x → next.value ≡ x.1 → rest.items ≡ remove back.items 0
     → two (tree_of (Branch first front)) x.0 (tree_of (Branch next rest)) ≡ split_branch (tree_of first.value) (others_view items)
 branch_in_two first next items front back rest x n f b lt e v r =
     rw (tree_branch first front, tree_branch next rest, v, r)

@@ -1,20 +1,24 @@
 -- A leaf after a pair is put or taken, and split in two.
-use Rattle.std.proofs.Common.{◌≡◌, ℕ, ◌+◌, ◌-◌, ◌<◌, ◌≤◌, Bool, true, false, List, [], ◌∷◌, ◌++◌, map, length, cond, Option, Some, Ordering, refl, sym, ap, subst, ◌∙◌, arith, append-nil}
+use Rattle.std.proofs.Common.{◌≡◌, ℕ, ◌+◌, ◌-◌, ◌<◌, ◌≤◌, Bool, true, false, List, [], ◌∷◌, ◌++◌, map, length, take, drop, cond, Option, Some, Ordering, refl, sym, ap, subst, ◌∙◌, arith, append-nil}
 use Rattle.std.specs.Prelude.{nat_le, if◌then◌else◌}
 use Rattle.std.specs.List.{list_all}
 use Rattle.std.specs.Ordering.{match_ordering}
 use Rattle.std.specs.declared.cmp.Ordering.TheVariants.{Less, Equal, Greater}
 use Rattle.std.specs.BTreeMap.{insert_entry, is_at}
 use Rattle.std.proofs.lemmas.Bool.{leb-true, leb-false}
+use Rattle.std.proofs.lemmas.List.{take-append-drop}
 use Rattle.common_types.specs.ByteOrder.{byte_cmp}
 use Rattle.page_store.specs.Keys.{precedes, rises, is_between}
 use Rattle.page_store.specs.Pages.{Pair, key_of, are_leaf}
 use Rattle.page_store.specs.Batch.{is_pair, is_key, is_value}
 use Rattle.page_store.specs.Flat.{entry_size}
 use Rattle.tree_nodes.specs.Tree.{leaf, OldPages, leaf_bytes, entry_room}
-use Rattle.tree_nodes.specs.Put.{front_of_leaf, one, front_pairs, back_pairs, leaves, split_leaf}
+use Rattle.tree_nodes.specs.Splits.{leaf_place}
+use Rattle.tree_nodes.specs.declared.splitting.TheConstants.{FRONT_OF_LEAF}
+use Rattle.tree_nodes.specs.Put.{one, front_pairs, back_pairs, leaves, split_leaf}
 use Rattle.tree_nodes.specs.Delete.{leaf_left}
 use Rattle.tree_nodes.specs.Valid.{IsFilled, IsValidLeaf, IsGrown, grown_pairs, IsLeft, left_pairs}
+use Rattle.tree_nodes.proofs.SplitPlaces.{leaf_front, leaf_back}
 use Rattle.tree_nodes.proofs.KeyOrder.{both_true, not_back, upto_below, itself, between_parts, between_from}
 use Rattle.tree_nodes.proofs.JoinedPairs.{AllKeys, keys_all, all_keys, taken}
 use Rattle.tree_nodes.proofs.RisingPairs.{Rises, above_all, keys_front, keys_back, rises_front, rises_back, precedes_it, front_below, all_front, all_back, put_keys, put_rises, put_pairs, take_keys, take_rises, take_pairs}
@@ -73,6 +77,15 @@ back_over room (e ∷ es) = go (nat_le (entry_size e) room) refl (back_over (roo
     go true is more = over_more room e (front_pairs (room - entry_size e) es) (back_pairs (room - entry_size e) es) (leb-true (entry_size e) room is) more
     go false is more = omega (arith, leb-false (entry_size e) room is)
 
+-- of the parts that are made
+pub front_small : (pairs : List Pair) → leaf_bytes (take (leaf_place pairs) pairs) ≤ FRONT_OF_LEAF
+front_small pairs = subst (λ (l : List Pair). leaf_bytes l ≤ FRONT_OF_LEAF) (sym (leaf_front pairs)) (front_bytes FRONT_OF_LEAF pairs)
+
+pub back_large : (pairs : List Pair) → IsOver FRONT_OF_LEAF (take (leaf_place pairs) pairs) (drop (leaf_place pairs) pairs)
+back_large pairs =
+    subst (λ (l : List Pair). IsOver FRONT_OF_LEAF l (drop (leaf_place pairs) pairs)) (sym (leaf_front pairs))
+    (subst (λ (l : List Pair). IsOver FRONT_OF_LEAF (front_pairs FRONT_OF_LEAF pairs) l) (sym (leaf_back pairs)) (back_over FRONT_OF_LEAF pairs))
+
 pub bytes_joined : (xs ys : List Pair) → leaf_bytes (xs ++ ys) ≡ leaf_bytes xs + leaf_bytes ys
 bytes_joined [] ys = omega arith
 bytes_joined (x ∷ xs) ys = let more = bytes_joined xs ys in omega (arith, more)
@@ -102,7 +115,7 @@ above_low : (low : List ℕ) (high : Option (List ℕ)) (front : List Pair) (e :
 above_low low high [] e f b h = absurd f
 above_low low high (x ∷ xs) e f b h = upto_below low x.0 e.0 (between_parts low high x.0 b.0).0 h.0
 
-filled : (room : ℕ) (front : List Pair) (e : Pair) → entry_size e ≤ room → room < leaf_bytes front + entry_size e → IsFilled front
+pub filled : (room : ℕ) (front : List Pair) (e : Pair) → entry_size e ≤ room → room < leaf_bytes front + entry_size e → IsFilled front
 filled room [] e small over = absurd (omega (arith, small, over))
 filled room (x ∷ xs) e small over = tt
 
@@ -114,7 +127,7 @@ split_high : (low : List ℕ) (high : Option (List ℕ)) (key : List ℕ) (xs : 
 split_high low high key [] h b = tt
 split_high low high key (x ∷ xs) h b = (between_from key high x.0 (not_back key x.0 h.0) (between_parts low high x.0 b.0).1, split_high low high key xs h.1 b.1)
 
-leaves_valid : (old : OldPages) (room : ℕ) (front back : List Pair) (low : List ℕ) (high : Option (List ℕ)) → IsLoose (front ++ back) low high → 2000 ≤ room → room ≤ 2700 → leaf_bytes front ≤ room → leaf_bytes (front ++ back) ≤ room + room + 1
+leaves_valid : (old : OldPages) (room : ℕ) (front back : List Pair) (low : List ℕ) (high : Option (List ℕ)) → IsLoose (front ++ back) low high → 2000 ≤ room → room ≤ 2744 → leaf_bytes front ≤ room → leaf_bytes (front ++ back) ≤ room + room + 1
     → room < leaf_bytes (front ++ back) → IsOver room front back → IsGrown old 0 (leaves front back) low high
 leaves_valid old room front [] low high l from to small total large over = absurd (omega (arith, small, large, ap leaf_bytes (append-nil front)))
 leaves_valid old room front (e ∷ es) low high l from to small total large over =
@@ -137,16 +150,16 @@ leaves_valid old room front (e ∷ es) low high l from to small total large over
 pub split_leaf_valid : (old : OldPages) (pairs : List Pair) (low : List ℕ) (high : Option (List ℕ)) → IsLoose pairs low high → leaf_bytes pairs ≤ entry_room + 1328 → IsGrown old 0 (split_leaf pairs) low high
 split_leaf_valid old pairs low high l size = go (nat_le (leaf_bytes pairs) entry_room) refl
   where
-    joined : front_pairs front_of_leaf pairs ++ back_pairs front_of_leaf pairs ≡ pairs
-    joined = split_joins front_of_leaf pairs
+    joined : take (leaf_place pairs) pairs ++ drop (leaf_place pairs) pairs ≡ pairs
+    joined = take-append-drop (leaf_place pairs) pairs
 
-    go : (b : Bool) → nat_le (leaf_bytes pairs) entry_room ≡ b → IsGrown old 0 (if b then one (leaf pairs) else leaves (front_pairs front_of_leaf pairs) (back_pairs front_of_leaf pairs)) low high
+    go : (b : Bool) → nat_le (leaf_bytes pairs) entry_room ≡ b → IsGrown old 0 (if b then one (leaf pairs) else leaves (take (leaf_place pairs) pairs) (drop (leaf_place pairs) pairs)) low high
     go true is = valid_leaf pairs low high l (leb-true (leaf_bytes pairs) entry_room is)
     go false is =
         let large = leb-false (leaf_bytes pairs) entry_room is in
         let bytes = ap leaf_bytes joined in
-        leaves_valid old front_of_leaf (front_pairs front_of_leaf pairs) (back_pairs front_of_leaf pairs) low high (subst (λ (x : List Pair). IsLoose x low high) (sym joined) l)
-        (omega arith) (omega arith) (front_bytes front_of_leaf pairs) (omega (arith, bytes, size)) (omega (arith, bytes, large)) (back_over front_of_leaf pairs)
+        leaves_valid old FRONT_OF_LEAF (take (leaf_place pairs) pairs) (drop (leaf_place pairs) pairs) low high (subst (λ (x : List Pair). IsLoose x low high) (sym joined) l)
+        (omega arith) (omega arith) (front_small pairs) (omega (arith, bytes, size)) (omega (arith, bytes, large)) (back_large pairs)
 
 pub leaves_pairs : (old : OldPages) (front back : List Pair) → grown_pairs old (leaves front back) ≡ front ++ back
 leaves_pairs old front [] = sym (append-nil front)
@@ -155,9 +168,9 @@ leaves_pairs old front (e ∷ es) = refl
 pub split_leaf_pairs : (old : OldPages) (pairs : List Pair) → grown_pairs old (split_leaf pairs) ≡ pairs
 split_leaf_pairs old pairs = go (nat_le (leaf_bytes pairs) entry_room)
   where
-    go : (b : Bool) → grown_pairs old (if b then one (leaf pairs) else leaves (front_pairs front_of_leaf pairs) (back_pairs front_of_leaf pairs)) ≡ pairs
+    go : (b : Bool) → grown_pairs old (if b then one (leaf pairs) else leaves (take (leaf_place pairs) pairs) (drop (leaf_place pairs) pairs)) ≡ pairs
     go true = refl
-    go false = leaves_pairs old (front_pairs front_of_leaf pairs) (back_pairs front_of_leaf pairs) ∙ split_joins front_of_leaf pairs
+    go false = leaves_pairs old (take (leaf_place pairs) pairs) (drop (leaf_place pairs) pairs) ∙ take-append-drop (leaf_place pairs) pairs
 
 -- ---- a pair put into a leaf
 

@@ -1,6 +1,7 @@
 pub mod KeyOrder
 pub mod JoinedPairs
 pub mod RisingPairs
+pub mod SplitPlaces
 pub mod LeafSplits
 pub mod KeysWithinBounds
 pub mod BranchSplits
@@ -23,6 +24,7 @@ pub mod BoundedPages
 pub mod OwnedCounts
 pub mod PathsDown
 pub mod EditsStand
+pub mod SplitsInTwo
 pub mod LevelsCome
 pub mod KeysKnown
 pub mod PageHeads

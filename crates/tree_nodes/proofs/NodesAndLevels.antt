@@ -1,5 +1,5 @@
 -- How many nodes, levels and entries come with a put and a delete, and which pages stay.
-use Rattle.std.proofs.Common.{◌≡◌, ℕ, zero, suc, ◌+◌, ◌*◌, ◌≤◌, Bool, true, false, List, [], ◌∷◌, ◌++◌, Option, Some, None, refl, sym, ap, ◌∙◌, arith, append_assoc, append-nil}
+use Rattle.std.proofs.Common.{◌≡◌, ℕ, zero, suc, ◌+◌, ◌*◌, ◌≤◌, Bool, true, false, List, [], ◌∷◌, ◌++◌, take, drop, Option, Some, None, refl, sym, ap, ◌∙◌, arith, append_assoc, append-nil}
 use Rattle.std.specs.Prelude.{nat_le, if◌then◌else◌}
 use Rattle.std.specs.BTreeMap.{insert_entry}
 use Rattle.std.proofs.lemmas.Bool.{le-leb}
@@ -8,14 +8,15 @@ use Rattle.page_store.specs.Keys.{precedes, is_below, is_between}
 use Rattle.page_store.specs.Pages.{Pair}
 use Rattle.page_store.specs.Batch.{is_pair}
 use Rattle.tree_nodes.specs.Tree.{Tree, Others, page, leaf, branch, none, other, OldPages, pages_of, row_pages, owned_at, row_owned_at, goes_first, other_bytes, other_count, leaf_bytes, entry_room}
-use Rattle.tree_nodes.specs.Put.{front_of_leaf, front_of_branch, Grown, one, two, put, put_row, split_leaf, leaves, front_pairs, back_pairs, front_others, back_others, branches, split_branch, grown_first, grown_other, rooted}
+use Rattle.tree_nodes.specs.Splits.{leaf_place, branch_place}
+use Rattle.tree_nodes.specs.Put.{Grown, one, two, put, put_row, split_leaf, leaves, take_others, drop_others, branches, split_branch, grown_first, grown_other, rooted}
 use Rattle.tree_nodes.specs.Delete.{delete, delete_row, leaf_left, first_left, other_left}
 use Rattle.tree_nodes.specs.Valid.{IsValid, IsValidRow, IsGrown, others_high, grown_pages, grown_owned_at, left_pages, left_owned_at, rooted_level, GainsOneEntry, GainsNoEntry}
 use Rattle.tree_nodes.proofs.KeyOrder.{between_parts, between_from}
 use Rattle.tree_nodes.proofs.JoinedPairs.{taken}
 use Rattle.tree_nodes.proofs.KeysWithinBounds.{below_first}
 use Rattle.tree_nodes.proofs.LeafSplits.{key_size}
-use Rattle.tree_nodes.proofs.BranchSplits.{is_split}
+use Rattle.tree_nodes.proofs.BranchSplits.{is_parted}
 use Rattle.tree_nodes.proofs.PutChangesOneKey.{put_row_valid, put_tree_valid}
 
 -- ---- pages that a put keeps
@@ -27,9 +28,9 @@ leaves_pages front (e ∷ es) = refl
 split_leaf_pages : (pairs : List Pair) → grown_pages (split_leaf pairs) ≡ []
 split_leaf_pages pairs = go (nat_le (leaf_bytes pairs) entry_room)
   where
-    go : (b : Bool) → grown_pages (if b then one (leaf pairs) else leaves (front_pairs front_of_leaf pairs) (back_pairs front_of_leaf pairs)) ≡ []
+    go : (b : Bool) → grown_pages (if b then one (leaf pairs) else leaves (take (leaf_place pairs) pairs) (drop (leaf_place pairs) pairs)) ≡ []
     go true = refl
-    go false = leaves_pages (front_pairs front_of_leaf pairs) (back_pairs front_of_leaf pairs)
+    go false = leaves_pages (take (leaf_place pairs) pairs) (drop (leaf_place pairs) pairs)
 
 branches_pages : (first : Tree) (front back : Others) → grown_pages (branches first front back) ≡ pages_of first ++ (row_pages front ++ row_pages back)
 branches_pages first front none = ap (λ (l : List ℕ). pages_of first ++ l) (sym (append-nil (row_pages front)))
@@ -38,9 +39,9 @@ branches_pages first front (other key tree others) = append_assoc (pages_of firs
 split_branch_pages : (first : Tree) (others : Others) → grown_pages (split_branch first others) ≡ pages_of first ++ row_pages others
 split_branch_pages first others = go (nat_le (6 + other_bytes others) entry_room)
   where
-    go : (b : Bool) → grown_pages (if b then one (branch first others) else branches first (front_others front_of_branch others) (back_others front_of_branch others)) ≡ pages_of first ++ row_pages others
+    go : (b : Bool) → grown_pages (if b then one (branch first others) else branches first (take_others (branch_place others) others) (drop_others (branch_place others) others)) ≡ pages_of first ++ row_pages others
     go true = refl
-    go false = branches_pages first (front_others front_of_branch others) (back_others front_of_branch others) ∙ ap (λ (l : List ℕ). pages_of first ++ l) (is_split front_of_branch others).pages
+    go false = branches_pages first (take_others (branch_place others) others) (drop_others (branch_place others) others) ∙ ap (λ (l : List ℕ). pages_of first ++ l) (is_parted others).pages
 
 grown_first_pages : (g : Grown) (others : Others) → grown_pages (grown_first g others) ≡ grown_pages g ++ row_pages others
 grown_first_pages (one tree) others = split_branch_pages tree others
@@ -84,11 +85,11 @@ leaf_alike a b (suc depth) = refl
 split_leaf_owned : (before pairs : List Pair) (depth : ℕ) → grown_owned_at depth (split_leaf pairs) ≤ owned_at depth (leaf before) + 1
 split_leaf_owned before pairs depth = go (nat_le (leaf_bytes pairs) entry_room)
   where
-    go : (b : Bool) → grown_owned_at depth (if b then one (leaf pairs) else leaves (front_pairs front_of_leaf pairs) (back_pairs front_of_leaf pairs)) ≤ owned_at depth (leaf before) + 1
+    go : (b : Bool) → grown_owned_at depth (if b then one (leaf pairs) else leaves (take (leaf_place pairs) pairs) (drop (leaf_place pairs) pairs)) ≤ owned_at depth (leaf before) + 1
     go true = let e = leaf_alike pairs before depth in omega (arith, e)
     go false =
-        let e = leaf_alike (front_pairs front_of_leaf pairs) before depth in
-        omega (arith, e, leaves_owned (front_pairs front_of_leaf pairs) (back_pairs front_of_leaf pairs) depth)
+        let e = leaf_alike (take (leaf_place pairs) pairs) before depth in
+        omega (arith, e, leaves_owned (take (leaf_place pairs) pairs) (drop (leaf_place pairs) pairs) depth)
 
 branches_owned : (first : Tree) (front back : Others) (depth : ℕ) → grown_owned_at (suc depth) (branches first front back) ≡ owned_at depth first + (row_owned_at depth front + row_owned_at depth back)
 branches_owned first front none depth = omega arith
@@ -101,16 +102,16 @@ branches_owned_here first front (other key tree others) = omega arith
 split_branch_owned : (first : Tree) (others : Others) (depth : ℕ) → grown_owned_at (suc depth) (split_branch first others) ≡ owned_at depth first + row_owned_at depth others
 split_branch_owned first others depth = go (nat_le (6 + other_bytes others) entry_room)
   where
-    go : (b : Bool) → grown_owned_at (suc depth) (if b then one (branch first others) else branches first (front_others front_of_branch others) (back_others front_of_branch others)) ≡ owned_at depth first + row_owned_at depth others
+    go : (b : Bool) → grown_owned_at (suc depth) (if b then one (branch first others) else branches first (take_others (branch_place others) others) (drop_others (branch_place others) others)) ≡ owned_at depth first + row_owned_at depth others
     go true = refl
-    go false = omega (arith, branches_owned first (front_others front_of_branch others) (back_others front_of_branch others) depth, (is_split front_of_branch others).owned depth)
+    go false = omega (arith, branches_owned first (take_others (branch_place others) others) (drop_others (branch_place others) others) depth, (is_parted others).owned depth)
 
 split_branch_owned_here : (first : Tree) (others : Others) → grown_owned_at 0 (split_branch first others) ≤ 2
 split_branch_owned_here first others = go (nat_le (6 + other_bytes others) entry_room)
   where
-    go : (b : Bool) → grown_owned_at 0 (if b then one (branch first others) else branches first (front_others front_of_branch others) (back_others front_of_branch others)) ≤ 2
+    go : (b : Bool) → grown_owned_at 0 (if b then one (branch first others) else branches first (take_others (branch_place others) others) (drop_others (branch_place others) others)) ≤ 2
     go true = omega arith
-    go false = branches_owned_here first (front_others front_of_branch others) (back_others front_of_branch others)
+    go false = branches_owned_here first (take_others (branch_place others) others) (drop_others (branch_place others) others)
 
 grown_first_owned : (g : Grown) (others : Others) (depth : ℕ) → grown_owned_at (suc depth) (grown_first g others) ≡ grown_owned_at depth g + row_owned_at depth others
 grown_first_owned (one tree) others depth = split_branch_owned tree others depth

@@ -1,11 +1,12 @@
 -- How many nodes of a tree are owned, after a put, a delete and a supply.
-use Rattle.std.proofs.Common.{◌≡◌, ℕ, zero, suc, ◌+◌, ◌-◌, ◌≤◌, Bool, true, false, List, [], ◌∷◌, length, Option, Some, None, refl, sym, ap, subst, ◌∙◌, arith}
+use Rattle.std.proofs.Common.{◌≡◌, ℕ, zero, suc, ◌+◌, ◌-◌, ◌≤◌, Bool, true, false, List, [], ◌∷◌, take, drop, Option, Some, None, refl, sym, ap, subst, ◌∙◌, arith}
 use Rattle.std.specs.Prelude.{nat_le, if◌then◌else◌}
 use Rattle.std.specs.BTreeMap.{insert_entry}
 use Rattle.common_types.specs.ByteOrder.{byte_cmp}
 use Rattle.page_store.specs.Pages.{Pair}
 use Rattle.tree_nodes.specs.Tree.{Tree, Others, page, leaf, branch, none, other, OldPages, goes_first, way, row_way, owned_at, row_owned_at, owned_nodes, row_owned_nodes, other_bytes, leaf_bytes, entry_room}
-use Rattle.tree_nodes.specs.Put.{front_of_leaf, front_of_branch, Grown, one, two, put, put_row, split_leaf, leaves, front_pairs, back_pairs, front_others, back_others, branches, split_branch, grown_first, grown_other, rooted}
+use Rattle.tree_nodes.specs.Splits.{leaf_place, branch_place}
+use Rattle.tree_nodes.specs.Put.{Grown, one, two, put, put_row, split_leaf, leaves, take_others, drop_others, branches, split_branch, grown_first, grown_other, rooted}
 use Rattle.tree_nodes.specs.Delete.{delete, delete_row, leaf_left, first_left, other_left}
 use Rattle.tree_nodes.specs.Supply.{path_depth, row_depth, supplied, row_supplied}
 use Rattle.tree_nodes.specs.Valid.{IsValid, IsValidRow, IsOld, IsOneNode, others_high}
@@ -27,19 +28,14 @@ leaves_nodes front (e ∷ es) = omega arith
 split_leaf_nodes : (pairs : List Pair) → grown_nodes (split_leaf pairs) ≤ 2
 split_leaf_nodes pairs = go (nat_le (leaf_bytes pairs) entry_room)
   where
-    go : (b : Bool) → grown_nodes (if b then one (leaf pairs) else leaves (front_pairs front_of_leaf pairs) (back_pairs front_of_leaf pairs)) ≤ 2
+    go : (b : Bool) → grown_nodes (if b then one (leaf pairs) else leaves (take (leaf_place pairs) pairs) (drop (leaf_place pairs) pairs)) ≤ 2
     go true = omega arith
-    go false = leaves_nodes (front_pairs front_of_leaf pairs) (back_pairs front_of_leaf pairs)
+    go false = leaves_nodes (take (leaf_place pairs) pairs) (drop (leaf_place pairs) pairs)
 
-parts_nodes : (room : ℕ) (others : Others) → row_owned_nodes (front_others room others) + row_owned_nodes (back_others room others) ≡ row_owned_nodes others
-parts_nodes room none = refl
-parts_nodes room (other key tree others) = go (nat_le (6 + length key) room) (parts_nodes (room - (6 + length key)) others)
-  where
-    go : (b : Bool) → row_owned_nodes (front_others (room - (6 + length key)) others) + row_owned_nodes (back_others (room - (6 + length key)) others) ≡ row_owned_nodes others
-        → row_owned_nodes (if b then other key tree (front_others (room - (6 + length key)) others) else none)
-        + row_owned_nodes (if b then back_others (room - (6 + length key)) others else other key tree others) ≡ owned_nodes tree + row_owned_nodes others
-    go true more = omega (arith, more)
-    go false more = omega arith
+parts_nodes : (n : ℕ) (others : Others) → row_owned_nodes (take_others n others) + row_owned_nodes (drop_others n others) ≡ row_owned_nodes others
+parts_nodes zero others = omega arith
+parts_nodes (suc n) none = refl
+parts_nodes (suc n) (other key tree others) = omega (arith, parts_nodes n others)
 
 branches_nodes : (first : Tree) (front back : Others) → grown_nodes (branches first front back) ≤ owned_nodes first + (row_owned_nodes front + row_owned_nodes back) + 2
 branches_nodes first front none = omega arith
@@ -48,9 +44,9 @@ branches_nodes first front (other key tree others) = omega arith
 split_branch_nodes : (first : Tree) (others : Others) → grown_nodes (split_branch first others) ≤ owned_nodes first + row_owned_nodes others + 2
 split_branch_nodes first others = go (nat_le (6 + other_bytes others) entry_room)
   where
-    go : (b : Bool) → grown_nodes (if b then one (branch first others) else branches first (front_others front_of_branch others) (back_others front_of_branch others)) ≤ owned_nodes first + row_owned_nodes others + 2
+    go : (b : Bool) → grown_nodes (if b then one (branch first others) else branches first (take_others (branch_place others) others) (drop_others (branch_place others) others)) ≤ owned_nodes first + row_owned_nodes others + 2
     go true = omega arith
-    go false = omega (arith, branches_nodes first (front_others front_of_branch others) (back_others front_of_branch others), parts_nodes front_of_branch others)
+    go false = omega (arith, branches_nodes first (take_others (branch_place others) others) (drop_others (branch_place others) others), parts_nodes (branch_place others) others)
 
 grown_first_nodes : (g : Grown) (others : Others) → grown_nodes (grown_first g others) ≤ grown_nodes g + row_owned_nodes others + 2
 grown_first_nodes (one tree) others = split_branch_nodes tree others

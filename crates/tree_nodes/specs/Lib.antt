@@ -1,7 +1,9 @@
 pub mod Tree
+pub mod Splits
 pub mod Put
 pub mod Delete
 pub mod Valid
+pub mod InTwo
 pub mod NodeView
 pub mod Image
 pub mod Supply

@@ -1,23 +1,16 @@
 -- A pair put into a tree.
-use Rattle.std.specs.Prelude.{ℕ, zero, suc, ◌+◌, ◌-◌, List, [], ◌∷◌, length, nat_le, if◌then◌else◌}
+use Rattle.std.specs.Prelude.{ℕ, zero, suc, ◌+◌, ◌-◌, List, [], ◌∷◌, length, take, drop, nat_le, if◌then◌else◌}
 use Rattle.std.specs.BTreeMap.{insert_entry}
 use Rattle.common_types.specs.ByteOrder.{byte_cmp}
 use Rattle.page_store.specs.Pages.{Pair}
 use Rattle.page_store.specs.Flat.{entry_size}
+use Rattle.tree_nodes.specs.Splits.{leaf_place, branch_place}
 use Rattle.tree_nodes.specs.Tree.{Tree, Others, page, leaf, branch, none, other, goes_first, entry_room, leaf_bytes, other_bytes}
 
 -- one tree, or two and the key from which on the second begins
 pub data Grown : Type 0 where
   one : Tree → Grown
   two : Tree → List ℕ → Tree → Grown
-
--- how many bytes the first of two leaves has at most: then both fit a page, since an entry has at most 1,328
-abbrev pub front_of_leaf : ℕ
-front_of_leaf = 2700
-
--- how many bytes the entries of the first of two branches have at most, its first entry left out
-abbrev pub front_of_branch : ℕ
-front_of_branch = 2200
 
 -- the longest front of so many bytes, and what is left
 abbrev pub front_pairs : ℕ → List Pair → List Pair
@@ -32,9 +25,9 @@ abbrev pub leaves : List Pair → List Pair → Grown
 leaves front [] = one (leaf front)
 leaves front (pair ∷ pairs) = two (leaf front) pair.0 (leaf (pair ∷ pairs))
 
--- in two where they don't fit a page
+-- in two where they don't fit a page, and only there
 abbrev pub split_leaf : List Pair → Grown
-split_leaf pairs = if nat_le (leaf_bytes pairs) entry_room then one (leaf pairs) else leaves (front_pairs front_of_leaf pairs) (back_pairs front_of_leaf pairs)
+split_leaf pairs = if nat_le (leaf_bytes pairs) entry_room then one (leaf pairs) else leaves (take (leaf_place pairs) pairs) (drop (leaf_place pairs) pairs)
 
 abbrev pub front_others : ℕ → Others → Others
 front_others room none = none
@@ -44,17 +37,23 @@ abbrev pub back_others : ℕ → Others → Others
 back_others room none = none
 back_others room (other key tree others) = if nat_le (6 + length key) room then back_others (room - (6 + length key)) others else other key tree others
 
--- how many of these children, from the first on, fit into so many bytes
-abbrev pub fitting_others : ℕ → Others → ℕ
-fitting_others room none = 0
-fitting_others room (other key tree others) = if nat_le (6 + length key) room then suc (fitting_others (room - (6 + length key)) others) else 0
+-- the first so many children, and those after them
+abbrev pub take_others : ℕ → Others → Others
+take_others zero others = none
+take_others (suc n) none = none
+take_others (suc n) (other key tree others) = other key tree (take_others n others)
+
+abbrev pub drop_others : ℕ → Others → Others
+drop_others zero others = others
+drop_others (suc n) none = none
+drop_others (suc n) (other key tree others) = drop_others n others
 
 abbrev pub branches : Tree → Others → Others → Grown
 branches first front none = one (branch first front)
 branches first front (other key tree others) = two (branch first front) key (branch tree others)
 
 abbrev pub split_branch : Tree → Others → Grown
-split_branch first others = if nat_le (6 + other_bytes others) entry_room then one (branch first others) else branches first (front_others front_of_branch others) (back_others front_of_branch others)
+split_branch first others = if nat_le (6 + other_bytes others) entry_room then one (branch first others) else branches first (take_others (branch_place others) others) (drop_others (branch_place others) others)
 
 -- a branch whose first child is replaced
 abbrev pub grown_first : Grown → Others → Grown

@@ -13,8 +13,9 @@ ghost use Rattle.tree_nodes.specs.PageBytes.{leaf_page, branch_page, branch_entr
 ghost use Rattle.tree_nodes.specs.PageViews.{has_head};
 ghost use Rattle.tree_nodes.specs.Supplied.{Supplies};
 ghost use Rattle.tree_nodes.specs.Steps.{Step, RootState, AreSteps, IsValidRoot, after_steps, after_changes, root_pairs, no_tree};
-ghost use Rattle.tree_nodes.specs.Tree.{Tree, Others, branch, OldPages, pairs_of, pages_of, owned_at, other_count, way};
-ghost use Rattle.tree_nodes.specs.Put.{Grown, split_leaf, put, rooted};
+ghost use Rattle.tree_nodes.specs.Tree.{Tree, Others, leaf, branch, OldPages, pairs_of, pages_of, owned_at, other_count, way, entry_room, leaf_bytes, other_bytes};
+ghost use Rattle.tree_nodes.specs.Put.{Grown, one, split_leaf, split_branch, put, rooted};
+ghost use Rattle.tree_nodes.specs.InTwo.{AreKeys, IsLeafInTwo, IsBranchInTwo, greatest_pair, greatest_child};
 ghost use Rattle.tree_nodes.specs.Delete.{delete};
 ghost use Rattle.tree_nodes.specs.Valid.{IsValid, IsValidLeaf, IsGrown, IsLeft, IsOld, grown_pairs, grown_pages, grown_owned_at, left_pairs, left_pages, left_owned_at, rooted_level, GainsOneEntry, GainsNoEntry};
 
@@ -23,6 +24,14 @@ pub fn a_leaf_grows()
     ensures valid { (old : OldPages) (pairs : List Pair) (low : List ℕ) (high : Option (List ℕ)) (key value : List ℕ) → IsValidLeaf pairs low high → is_between low high key ≡ true → is_pair (key, value) ≡ true →
         IsGrown old 0 (split_leaf (insert_entry byte_cmp pairs key value)) low high }
     ensures pairs { (old : OldPages) (pairs : List Pair) → grown_pairs old (split_leaf pairs) ≡ pairs }
+{}
+
+/// A page is split in two that fit, only where its entries don't; between which entries is left open.
+pub fn a_split_fits_two_pages()
+    ensures whole_leaf { (pairs : List Pair) → leaf_bytes pairs ≤ entry_room → split_leaf pairs ≡ one (leaf pairs) }
+    ensures leaf { (pairs : List Pair) → list_all is_pair pairs ≡ true → entry_room < leaf_bytes pairs → leaf_bytes pairs ≤ entry_room + greatest_pair → IsLeafInTwo pairs (split_leaf pairs) }
+    ensures whole_branch { (first : Tree) (others : Others) → 6 + other_bytes others ≤ entry_room → split_branch first others ≡ one (branch first others) }
+    ensures branch { (first : Tree) (others : Others) → AreKeys others → entry_room < 6 + other_bytes others → 6 + other_bytes others ≤ entry_room + greatest_child → IsBranchInTwo first others (split_branch first others) }
 {}
 
 /// A put changes one key, where the way to it is owned.

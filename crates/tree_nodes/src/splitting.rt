@@ -2,7 +2,8 @@
 ghost use Rattle.std.specs.Prelude.{◌≡◌, ◌↔◌, ◌≤◌, ◌+◌, IsTrue, IfOk, length};
 ghost use Rattle.page_store.specs.Encoding.{fitting};
 ghost use Rattle.tree_nodes.specs.Tree.{entry_room, leaf_bytes, other_bytes};
-ghost use Rattle.tree_nodes.specs.Put.{split_leaf, split_branch, fitting_others};
+ghost use Rattle.tree_nodes.specs.Splits.{fitting_others, leaf_place, branch_place};
+ghost use Rattle.tree_nodes.specs.Put.{split_leaf, split_branch};
 ghost use Rattle.tree_nodes.specs.NodeView.{tree_of, others_view, grown_of};
 
 use crate::{Node, NodeGrown};
@@ -58,6 +59,22 @@ fn fitting_others(room: usize, others: &[(Bytes, Node)]) -> usize
     count
 }
 
+/// How many of these pairs stand in the first of two leaves.
+fn leaf_place(pairs: &[Pair]) -> usize
+    ensures count { result ≡ leaf_place pairs.now }
+    ensures bound { result ≤ length pairs.now }
+{
+    fitting(FRONT_OF_LEAF, pairs)
+}
+
+/// How many of these children stand in the first of two branches, beside its first one.
+fn branch_place(others: &[(Bytes, Node)]) -> usize
+    ensures count { result ≡ branch_place (others_view others.now) }
+    ensures bound { result ≤ length others.now }
+{
+    fitting_others(FRONT_OF_BRANCH, others)
+}
+
 /// Whether these pairs fit one page.
 pub(crate) fn leaf_fits(pairs: &[Pair]) -> bool
     ensures { IsTrue result ↔ (leaf_bytes pairs.now ≤ entry_room) }
@@ -80,7 +97,7 @@ pub(crate) fn split_leaf(alloc: Global, pairs: Vec<Pair>) -> Result<NodeGrown, A
     if fitting(ENTRY_ROOM, &pairs) == pairs.len() {
         return Ok(NodeGrown::One(Node::Leaf(pairs)));
     }
-    let back = pairs.split_off(fitting(FRONT_OF_LEAF, &pairs))?;
+    let back = pairs.split_off(leaf_place(&pairs))?;
     if back.is_empty() {
         return Ok(NodeGrown::One(Node::Leaf(pairs)));
     }
@@ -100,7 +117,7 @@ pub(crate) fn split_branch(
     if fitting_others(ENTRY_ROOM - FIRST_ENTRY, &others) == others.len() {
         return Ok(NodeGrown::One(Node::Branch(first, others)));
     }
-    let mut back = others.split_off(fitting_others(FRONT_OF_BRANCH, &others))?;
+    let mut back = others.split_off(branch_place(&others))?;
     if back.is_empty() {
         return Ok(NodeGrown::One(Node::Branch(first, others)));
     }

@@ -12,7 +12,7 @@ use Rattle.page_store.proofs.PairsInOrder.{first_more, first_all}
 use Rattle.cow_tree.specs.Opening.{bounds_under}
 use Rattle.cow_tree.specs.KeptLeaves.{IsKeptLeaf}
 use Rattle.cow_tree.specs.Compacting.{most_pairs}
-use Rattle.cow_tree.proofs.KeeperReads.{keys_told}
+use Rattle.cow_tree.specs.KeysCounted.{keys_told}
 use Rattle.cow_tree.proofs.PathReads.{tells_fault}
 use Rattle.cow_tree.proofs.PairsRead.{map_more, one_too_many}
 use Rattle.cow_tree.proofs.ReadsInTurn.{reads_again}

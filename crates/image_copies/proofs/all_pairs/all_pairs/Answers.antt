@@ -6,6 +6,9 @@ use Rattle.page_store.specs.Pages.{Pair}
 use Rattle.page_store.specs.Batch.{pair_after}
 use Rattle.page_store.specs.PairsInOrder.{last_key}
 use Rattle.page_store.proofs.PairsInOrder.{first_more, first_all}
+use Rattle.page_store.specs.Sectors.{page_of}
+use Rattle.cow_tree.specs.KeysCounted.{keys_told}
+use Rattle.cow_tree.specs.TreeState.{found_under}
 use Rattle.cow_tree.specs.TreeSeen.{held, kept_by}
 use Rattle.cow_tree.proofs.DraftsBegin.{keys_bounded}
 use Rattle.cow_tree.proofs.PairsRead.{map_more, first_few}
@@ -26,6 +29,35 @@ returns-in-Ok-None-clause-pairs g c = λ honest.
 
 pub returns-in-Ok-None-clause-kept : goal.returns-in-Ok-None-clause-kept
 returns-in-Ok-None-clause-kept g c = read_again (held g.D.Device.state c.args.keeper.now) (held g.D.Device.state c.loop.keeper) (held g.D.Device.state c.pair_behind.new.keeper) c.loop.invariant.only c.in-Ok-None.ensures.kept
+
+pub returns-in-Ok-None-clause-counted : goal.returns-in-Ok-None-clause-counted
+returns-in-Ok-None-clause-counted g c =
+    let told = c.are_all.ensures.0 c.if-are_all.true in
+    let same = (read_again (held g.D.Device.state c.args.keeper.now) (held g.D.Device.state c.loop.keeper) (held g.D.Device.state c.pair_behind.new.keeper) c.loop.invariant.only c.in-Ok-None.ensures.kept).same.keys in
+    cc (told, same)
+
+pub returns-in-Ok-None-2-clause-kept : goal.returns-in-Ok-None-2-clause-kept
+returns-in-Ok-None-2-clause-kept g c = read_again (held g.D.Device.state c.args.keeper.now) (held g.D.Device.state c.loop.keeper) (held g.D.Device.state c.pair_behind.new.keeper) c.loop.invariant.only c.in-Ok-None.ensures.kept
+
+pub returns-in-Ok-None-2-clause-fault : goal.returns-in-Ok-None-2-clause-fault
+returns-in-Ok-None-2-clause-fault g c = (
+  refl,
+  λ honest.
+      let state = g.D.Device.state in
+      let inv = c.loop.invariant in
+      let old = held state c.args.keeper.now in
+      let mid = held state c.loop.keeper in
+      let keeper = c.args.keeper.now in
+      let view = (state keeper.device).disk.view in
+      let all =
+      first_all c.loop.pairs.items old.pairs ((c.args.keeper.now.there honest).map) (inv.first honest)
+      (sym c.in-Ok-None.field-0-is ∙ c.in-Ok-None.ensures.pair (inv.only.honest ∙ honest) ∙ ap (λ (l : List Pair). pair_after mid.pairs (last_key l)) c.deref.ensures.value ∙ ap (λ (l : List Pair). pair_after l (last_key c.loop.pairs.items)) (inv.only.same.pairs honest)) in
+      let counted = keys_told keeper.slot (page_of view) (found_under keeper.slot view) (keeper.there honest).found_is in
+      let same = (read_again old mid (held state c.pair_behind.new.keeper) inv.only c.in-Ok-None.ensures.kept).same.keys in
+      let found : c.are_all.result ≡ true = c.are_all.ensures.1 (cc (all, counted, same)) in
+      let not_found = c.if-are_all.false in
+      absurd (cc (found, not_found)),
+)
 
 pub returns-in-Err-clause-kept : goal.returns-in-Err-clause-kept
 returns-in-Err-clause-kept g c = read_again (held g.D.Device.state c.args.keeper.now) (held g.D.Device.state c.loop.keeper) (held g.D.Device.state c.pair_behind.new.keeper) c.loop.invariant.only c.in-Err.ensures.kept

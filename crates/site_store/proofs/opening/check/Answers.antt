@@ -1,6 +1,7 @@
-use Rattle.std.proofs.Common.{◌∙◌}
+use Rattle.std.proofs.Common.{List, length, ap, ◌∙◌}
+use Rattle.page_store.specs.Pages.{Pair}
 use Rattle.site_store.proofs.AfterReads.{begins, on_any}
-use Rattle.site_store.proofs.SitesRead.{site_answered, site_refused}
+use Rattle.site_store.proofs.SitesRead.{site_answered, site_refused, read_whole}
 use Rattle.site_store.proofs.opening.check.Goals as goal
 
 pub returns-clause-kept : goal.returns-clause-kept
@@ -18,3 +19,10 @@ returns-clause-kept g c =
       none = on_any answer first.reads.none;
       fault = site_refused answer h k pairs banner first.reads.only.read first.reads.none c.banner.ensures (λ honest. c.deref.ensures.value ∙ first.reads.gives honest) c.check_pairs.ensures.fault;
     })
+
+pub returns-clause-whole : goal.returns-clause-whole
+returns-clause-whole g c =
+    let store_state = g.K.Keeper.store_state in
+    let first = c.in_ok-pairs.ensures in
+    read_whole c.check_pairs.result (store_state c.args.keeper.now) c.deref.result.now c.banner.result.now (c.banner.ensures ∙ first.pairs.reads.only.read.same.banner)
+    (ap (λ (l : List Pair). length l) c.deref.ensures.value ∙ first.counted) c.check_pairs.ensures.site

@@ -1,4 +1,4 @@
-use Rattle.std.proofs.Common.{◌≡◌, ◌≤◌, List, Option, Some, length, sym, ap, subst, ◌∙◌, arith}
+use Rattle.std.proofs.Common.{◌≡◌, ◌≤◌, true, List, Option, Some, length, sym, ap, subst, ◌∙◌, arith}
 use Rattle.std.specs.Prelude.{IfSome}
 use Rattle.std.proofs.lemmas.List.Elements.{All-push}
 use Rattle.page_store.specs.Batch.{pair_after}
@@ -7,6 +7,7 @@ use Rattle.site_store.specs.ReadLaws.{none_later}
 use Rattle.site_store.specs.Opening.{last_key}
 use Rattle.site_store.proofs.AfterReads.{done, fails, read_on}
 use Rattle.page_store.proofs.PairsInOrder.{first_more, first_all}
+use Rattle.std.proofs.lemmas.Bool.{false_from_ne_true}
 use Rattle.site_store.proofs.opening.pairs_of.Goals as goal
 
 pub returns-in-Ok-None : goal.returns-in-Ok-None
@@ -24,6 +25,39 @@ returns-in-Ok-None g c =
       };
       fit = inv.fit;
       keys = inv.keys;
+      counted =
+          let told = c.are_all.ensures.0 c.if-are_all.true in
+          let same = (read_on inv.only last.reads.only).read.same.keys in
+          cc (told, same);
+    }
+
+pub returns-in-Ok-None-2-clause-pairs : goal.returns-in-Ok-None-2-clause-pairs
+returns-in-Ok-None-2-clause-pairs g c =
+    let store_state = g.K.Keeper.store_state in
+    let inv = c.loop.invariant in
+    let read = inv.only.read in
+    let last = c.in-Ok-None.ensures.pair in
+    let only = read_on inv.only last.reads.only in
+    record {
+      reads = record {
+        gives = λ honest. tt;
+        only = only;
+        none = tt;
+        fault = (
+          false_from_ne_true (store_state c.args.keeper.now).honest (λ honest.
+              let all =
+              first_all c.loop.pairs.items (store_state c.args.keeper.now).pairs (g.met.K.Keeper.ordered c.args.keeper.now honest) (inv.first honest)
+              (sym c.in-Ok-None.field-0-is ∙ last.reads.gives (read.honest ∙ honest) ∙ ap (λ (l : List Pair). pair_after (store_state c.loop.keeper).pairs (last_key l)) c.deref.ensures.value ∙ ap (λ (l : List Pair). pair_after l (last_key c.loop.pairs.items)) (read.same.pairs honest)) in
+              let many = ap (λ (l : List Pair). length l) all in
+              let counted = g.met.K.Keeper.counts c.args.keeper.now honest in
+              let same = only.read.same.keys in
+              let found : c.are_all.result ≡ true = c.are_all.ensures.1 (cc (many, counted, same)) in
+              let not_found = c.if-are_all.false in
+              absurd (cc (found, not_found))),
+          none_later (store_state c.args.keeper.now) (store_state c.loop.keeper) (store_state c.pair_behind.new.keeper) inv.none last.reads.none,
+        );
+      };
+      closed = λ shut. let clash = last.closed (read.same.usable ∙ shut) in absurd (cc clash);
     }
 
 pub loop-preserved : goal.loop-preserved
@@ -53,4 +87,5 @@ returns g c = record {
   };
   fit = tt;
   keys = tt;
+  counted = tt;
 }

@@ -1,7 +1,7 @@
 use Rattle.std.proofs.Common.{rules, ◌≡◌, List, length, sym, ap, subst, ◌∙◌}
 use Rattle.page_store.specs.declared.banner.Banner.{Banner}
 use Rattle.page_store.specs.declared.edit.Edit.{Edit}
-use Rattle.site_store.specs.Upgrading.{raised_banner, IsUpgradeOf, IsNotUpgraded}
+use Rattle.site_store.specs.Upgrading.{raised_banner, IsUpgradeOf, IsFirstWhole, IsNotUpgraded}
 use Rattle.site_store.proofs.UpgradesCommitted.{is_upgraded, not_committed, crashes_either}
 use Rattle.site_store.proofs.upgrading.raise.Goals as goal
 
@@ -17,6 +17,7 @@ returns-in-Ok-clause-done g c =
     is_upgraded (state old) (state mid) (state new) (need old) (need mid) c.deref.result.now read.only.read read.none read.only.need
     (λ honest. subst (λ (b : List Edit). IsUpgradeOf (state old).pairs (state old).banner b) (sym c.deref.ensures.value) (read.gives honest))
     c.in_ok-banner.banner c.len.result (c.in_ok-banner.ensures ∙ ap raised_banner c.banner.ensures) given.done given.banner given.still_usable given.rises given.generation given.tried given.reads given.writes (search (rules, c.len.ensures, c.deref.ensures))
+    (let same : length c.in_ok-batch.batch.items ≡ c.len.result = search (rules, c.len.ensures, c.deref.ensures) in subst (IsFirstWhole (state old)) same c.in_ok-batch.ensures.whole)
 
 pub returns-in-Ok-clause-at_crash : goal.returns-in-Ok-clause-at_crash
 returns-in-Ok-clause-at_crash g c = λ honest s first.

@@ -1,5 +1,5 @@
 use Rattle.std.proofs.Common.{◌≡◌, ◌+◌, drop}
-use Rattle.tree_nodes.specs.Put.{fitting_others}
+use Rattle.tree_nodes.specs.Splits.{fitting_others}
 use Rattle.tree_nodes.specs.NodeView.{others_view}
 use Rattle.tree_nodes.proofs.splitting.fitting_others.Given as goal
 

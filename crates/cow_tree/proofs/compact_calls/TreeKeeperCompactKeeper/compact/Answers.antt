@@ -173,6 +173,7 @@ returns-in-Ok-write_plan-clause-done g c =
       usable = refl;
       generation = c.in-Ok.ensures.made.seal_is;
       top = refl;
+      keys = c.in-Ok.ensures.keys;
       out = same_numbers (state c.write_plan.new.device).disk.view old.disk.view 0 k.pinned;
       pins = λ keeps. pins_stay old.disk.view mid.disk.view (state c.write_plan.new.device).disk.view k.slot.root.pages k.ledger c.plan_compaction.new.ledger k.pinned k.pins c.plan_compaction.ensures.marks (same keeps) (c.write_plan.ensures.held (keeps1 keeps) (ready keeps)) (k.pins_there keeps);
     }
@@ -301,6 +302,7 @@ returns-clause-fault g c =
       generation = refl;
       free = ap free_count (c.in-Err-write_plan.ensures.abandoned ∙ abandoned_again k.ledger c.plan_compaction.new.ledger c.plan_compaction.ensures.marks k.fitted.rest.unmarked);
       height = refl;
+      keys = refl;
       out = same_numbers (state c.write_plan.new.device).disk.view old.disk.view 0 k.pinned;
       pins = λ keeps. pins_stay old.disk.view mid.disk.view (state c.write_plan.new.device).disk.view k.slot.root.pages k.ledger c.plan_compaction.new.ledger k.pinned k.pins c.plan_compaction.ensures.marks (same keeps) (c.write_plan.ensures.held (keeps1 keeps) (ready keeps)) (k.pins_there keeps);
       cause = λ usable. c.in-Err-write_plan.ensures.outcome.writes ∙ ap counted only.writes;

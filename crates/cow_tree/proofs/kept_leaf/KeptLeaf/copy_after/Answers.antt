@@ -12,7 +12,7 @@ invariant_of-self c =
     let bytes = c.self.inside.bytes in
     let all = pairs_in c.self.inside.count (drop 24 bytes) in
     let first = first_is bytes c.first_place-first.result.at c.first_place-first.result.left c.self.inside.count c.first_place-first.ensures.at c.first_place-first.ensures.left in
-    let from = place_tells (λ (p : Place). pairs_from bytes p.at p.left) c.self.inside.last c.first_place-first.result all c.self.invariant first c.args.after.now c.place_by.result c.unwrap_or-from.result c.place_by.ensures c.unwrap_or-from.ensures in
+    let from = place_tells (λ (p : Place). pairs_from bytes p.at p.left) c.self.inside.last c.first_place-first.result all c.self.invariant first c.args.after.now c.place_by.result c.unwrap_or-from.result c.place_by.ensures.place c.unwrap_or-from.ensures in
     reached_tells c.args.after.now (take c.in_ok-place.sizes.0 c.copy_from.new.key, take c.in_ok-place.sizes.1 c.copy_from.new.value) (pairs_from bytes c.in_ok-place.place.at c.in_ok-place.place.left)
     (pairs_from bytes c.unwrap_or-from.result.at c.unwrap_or-from.result.left) all c.in_ok-place.ensures.reached from.0
 
@@ -21,7 +21,7 @@ returns-clause-copied c =
     let bytes = c.self.inside.bytes in
     let all = pairs_in c.self.inside.count (drop 24 bytes) in
     let first = first_is bytes c.first_place-first.result.at c.first_place-first.result.left c.self.inside.count c.first_place-first.ensures.at c.first_place-first.ensures.left in
-    let from = place_tells (λ (p : Place). pairs_from bytes p.at p.left) c.self.inside.last c.first_place-first.result all c.self.invariant first c.args.after.now c.place_by.result c.unwrap_or-from.result c.place_by.ensures c.unwrap_or-from.ensures in
+    let from = place_tells (λ (p : Place). pairs_from bytes p.at p.left) c.self.inside.last c.first_place-first.result all c.self.invariant first c.args.after.now c.place_by.result c.unwrap_or-from.result c.place_by.ensures.place c.unwrap_or-from.ensures in
     record {
       within = search rules;
       is =

@@ -11,7 +11,7 @@ invariant_of-self c =
     let bytes = c.self.inside.bytes in
     let all = pairs_in c.self.inside.count (drop 24 bytes) in
     let first = first_is bytes c.first_place.result.at c.first_place.result.left c.self.inside.count c.first_place.ensures.at c.first_place.ensures.left in
-    let from = either_tells (λ (p : Place). pairs_from bytes p.at p.left) c.self.inside.last c.first_place.result all c.self.invariant first c.in_ok-from.from c.in_ok-from.ensures.1 in
+    let from = either_tells (λ (p : Place). pairs_from bytes p.at p.left) c.self.inside.last c.first_place.result all c.self.invariant first c.in_ok-from.from c.in_ok-from.ensures.place.1 in
     reached_tells c.args.after.now (take c.in_ok-place.sizes.0 c.copy_from.new.key, take c.in_ok-place.sizes.1 c.copy_from.new.value) (pairs_from bytes c.in_ok-place.place.at c.in_ok-place.place.left)
     (pairs_from bytes c.in_ok-from.from.at c.in_ok-from.from.left) all c.in_ok-place.ensures.reached from
 
@@ -20,7 +20,7 @@ returns-clause-copied c =
     let bytes = c.self.inside.bytes in
     let all = pairs_in c.self.inside.count (drop 24 bytes) in
     let first = first_is bytes c.first_place.result.at c.first_place.result.left c.self.inside.count c.first_place.ensures.at c.first_place.ensures.left in
-    let from = either_tells (λ (p : Place). pairs_from bytes p.at p.left) c.self.inside.last c.first_place.result all c.self.invariant first c.in_ok-from.from c.in_ok-from.ensures.1 c.args.after.now c.in_ok-from.ensures.0 in
+    let from = either_tells (λ (p : Place). pairs_from bytes p.at p.left) c.self.inside.last c.first_place.result all c.self.invariant first c.in_ok-from.from c.in_ok-from.ensures.place.1 c.args.after.now c.in_ok-from.ensures.place.0 in
     record {
       within = search rules;
       is =

@@ -308,6 +308,7 @@ returns-clause-fault g c =
       generation = refl;
       free = ap free_count (c.in-Err-write_plan.ensures.abandoned ∙ abandoned_again k.ledger c.plan_commit.new.ledger c.plan_commit.ensures.marks k.fitted.rest.unmarked);
       height = refl;
+      keys = refl;
       out = same_numbers (state c.write_plan.new.device).disk.view old.disk.view 0 k.pinned;
       pins = λ keeps. pins_stay old.disk.view mid.disk.view (state c.write_plan.new.device).disk.view k.slot.root.pages k.ledger c.plan_commit.new.ledger k.pinned k.pins c.plan_commit.ensures.marks (same keeps) (c.write_plan.ensures.held (keeps1 keeps) (ready keeps)) (k.pins_there keeps);
       cause = λ usable. c.in-Err-write_plan.ensures.outcome.writes ∙ ap counted only.writes;

@@ -15,3 +15,8 @@ pub returns-in-Err-clause-at_crash : goal.returns-in-Err-clause-at_crash
 returns-in-Err-clause-at_crash g c = λ honest up.
     let d = c.args.self.now in
     alone_at_crash g.K.Keeper.has_content (site_of (g.K.Keeper.store_state d.keeper) d.kept) c.args.change c.args.now c.in_ok-changes.changes.items (g.K.Keeper.crash_states d.keeper) (g.K.Keeper.crash_states c.change_all.new.self.keeper) c.in_ok-changes.ensures (c.change_all.ensures.at_crash honest up)
+
+pub returns-in-Ok-clause-at_crash : goal.returns-in-Ok-clause-at_crash
+returns-in-Ok-clause-at_crash g c = λ honest up.
+    let d = c.args.self.now in
+    alone_at_crash g.K.Keeper.has_content (site_of (g.K.Keeper.store_state d.keeper) d.kept) c.args.change c.args.now c.in_ok-changes.changes.items (g.K.Keeper.crash_states d.keeper) (g.K.Keeper.crash_states c.change_all.new.self.keeper) c.in_ok-changes.ensures (c.change_all.ensures.at_crash honest up)
