@@ -13,6 +13,8 @@ TOP = os.path.dirname(os.path.dirname(os.path.realpath(__file__)))
 PATIENCE = 120
 # words by which a server for daily use lets in as many clients of one address as it has places
 ALL_PLACES = ("--per-address", "32")
+# sockets of such a server that has no client: where clients come, and where administrators do
+IDLE_SOCKETS = 2
 
 
 @functools.cache
@@ -145,10 +147,10 @@ def wait_until(holds, what, patience=PATIENCE):
 
 def found_together(held, server, port, requests):
     """The clients of requests that a server for daily use finds whole, all of them when it looks next: it has let these clients in, and stands still while they send. It has no others."""
-    wait_until(lambda: sockets(server.pid) == 1, "the server has no client")
+    wait_until(lambda: sockets(server.pid) == IDLE_SOCKETS, "the server has no client")
     clients = [held.enter_context(connected(port)) for _ in requests]
     # whoever waits has nothing left to do
-    wait_until(lambda: sockets(server.pid) == 1 + len(clients) and process_state(server.pid) == "S", "the server has let all clients in")
+    wait_until(lambda: sockets(server.pid) == IDLE_SOCKETS + len(clients) and process_state(server.pid) == "S", "the server has let all clients in")
     server.send_signal(signal.SIGSTOP)
     try:
         wait_until(lambda: process_state(server.pid) == "T", "the server stands still")

@@ -176,6 +176,7 @@ class Edit:
 
     def __init__(self, crate, path):
         self.label = f"{crate.name}/{os.path.basename(path)[: -len('.edit')]}"
+        self.path, self.control = path, f"{crate.folder}/controls/{os.path.basename(path)}"
         self.crate, self.pairs, self.functions, self.why = crate, [], [], None
         file, old = None, None
         for line in read(path).split("\n"):
@@ -190,6 +191,8 @@ class Edit:
             self.why = "it has no 'old:' and 'new:' pair"
         if not self.functions and not self.why:
             self.why = "it changes no function's body"
+        if not self.why and self.apply(crate.texts) is None:
+            self.why = "behind one of its pairs the 'old:' text of another one does not stand once"
 
     def add(self, file, old, new):
         text = self.crate.texts.get(file or "")

@@ -1,4 +1,5 @@
 """What is known to have been refused: on this machine, and by the ledger."""
+import functools
 import hashlib
 import os
 import subprocess
@@ -7,13 +8,15 @@ import time
 from crate_list import CRATES, KIT, PARTS, TOP, below, read
 from edits import bare
 
-# what tries wrong bodies
-SCRIPTS = ("wrong_bodies", "crate_list.py", "edits.py", "refused.py")
+# what decides of a wrong body how it is tried, and what its verdict is
+SCRIPTS = ("judging.py", "edits.py", "crate_list.py")
 LEDGER = f"{TOP}/tests/refused.txt"
-LEDGER_HEAD = """# The crates whose wrong bodies were all refused, each with the checksum of all that the run could see. `tests/wrong_bodies --anew` and `--record` write these lines, and nobody else.
+LEDGER_HEAD = """# The wrong bodies that were refused, each with the checksum of all that decides it. `tests/wrong_bodies --anew` and `--record` write these lines, and nobody else.
 """
-# one crate in so many of the ledger is tried all the same
+# one wrong body in so many of the ledger is tried all the same
 LOT = 8
+# so many digits of a checksum stand in the ledger
+DIGITS = 16
 
 
 def at_head():
@@ -22,33 +25,32 @@ def at_head():
     return ran.stdout.strip() or None
 
 
+def hashed(lines):
+    return hashlib.sha256("\n".join(lines).encode()).hexdigest()[:DIGITS]
+
+
 class Ledger:
-    """The crates whose wrong bodies were all refused, on whatever machine, each with the checksum of what that run could see."""
+    """The wrong bodies that were refused, on whatever machine, each with the checksum of what decides it."""
 
     def __init__(self):
         text = read(LEDGER) if os.path.exists(LEDGER) else ""
         self.sums = dict(it.split() for it in text.splitlines() if it and not it.startswith("#"))
 
-    def has(self, name, file):
-        return self.sums.get(name) == checksum_in(file)
+    def has(self, label, checksum):
+        return self.sums.get(label) == checksum
 
-    def write(self, sums):
-        """Puts these checksums into the lines of their crates, and takes the lines of those away that have none."""
+    def write(self, sums, labels):
+        """Puts these checksums into the lines of their wrong bodies, and takes the lines of those away that have none. Lines stay for these labels alone."""
         self.sums.update(sums)
-        lines = [f"{name} {self.sums[name]}\n" for name in CRATES if self.sums.get(name)]
+        lines = [f"{label} {self.sums[label]}\n" for label in labels if self.sums.get(label)]
         with open(f"{LEDGER}.new", "w", encoding="utf-8") as it:
             it.write("".join([LEDGER_HEAD, *lines]))
         os.replace(f"{LEDGER}.new", LEDGER)
 
 
-def falls(name, commit):
-    """Whether a crate of the ledger is tried in a run of the gate all the same."""
-    return commit is None or int(hashlib.sha256(f"{commit} {name}".encode()).hexdigest(), 16) % LOT == 0
-
-
-def checksum_in(file):
-    """The checksum by which a file is named in which it is kept that a crate's edits were refused."""
-    return file.rpartition("-")[2]
+def falls(label, commit):
+    """Whether a wrong body of the ledger is tried in a run of the gate all the same."""
+    return commit is None or int(hashlib.sha256(f"{commit} {label}".encode()).hexdigest(), 16) % LOT == 0
 
 
 def files_in(folder):
@@ -61,12 +63,12 @@ def files_in(folder):
 
 
 def is_own_proof(path):
-    """Whether a file is part of the proof of one function. Another crate goes by that function's contract, and can't open its proof."""
+    """Whether a file is part of the proof of one function. Another function goes by that function's contract, and can't open its proof."""
     return os.path.basename(path) in ("Answers.antt", "Invariants.antt", "Proof.antt")
 
 
-def seen_above(path, content):
-    """What a crate above can see of a file: of a source all but comments and the bodies of functions, of any other file all."""
+def seen_outside(path, content):
+    """What another function can see of a file: of a source all but comments and the bodies of functions, of any other file all."""
     return bare(content.decode()).encode() if path.endswith(".rt") else content
 
 
@@ -77,9 +79,48 @@ def sum_of(path, seen=lambda _, content: content):
     return f"{os.path.relpath(path, TOP) if path.startswith(f'{TOP}/') else os.path.basename(path)} {hashlib.sha256(content).hexdigest()}"
 
 
+@functools.lru_cache(maxsize=None)
+def outside_of(name):
+    """Of a crate's files what is seen outside of the functions: definitions, lemmas, and sources without comments and bodies."""
+    return [sum_of(it, seen_outside) for part in PARTS for it in files_in(f"{TOP}/crates/{name}/{part}") if not is_own_proof(it)]
+
+
+@functools.lru_cache(maxsize=None)
+def around(name):
+    """The checksum of all that each function of a crate can see: the kit, the scripts, and what is seen outside of the functions of this crate and of those below."""
+    crates = [*below(name), name]
+    lines = [f"{it}: {' '.join(CRATES[it])}" for it in crates]
+    lines += [sum_of(it) for it in [f"{KIT}/KIT-ID", *(f"{TOP}/tests/{it}" for it in SCRIPTS)]]
+    return hashed([*lines, *(it for crate in crates for it in outside_of(crate))])
+
+
+def forget():
+    """Forgets what was read of the files, since they may have changed."""
+    outside_of.cache_clear()
+    around.cache_clear()
+
+
+def proof_of(crate, proof):
+    """The files of one proof: of a function, or of a cycle of functions."""
+    folder, _, short = f"{crate.folder}/proofs/{proof.replace('::', '/')}".rpartition("/")
+    return [it for at in (f"{folder}/{short}", f"{folder}/+{short}") for it in files_in(at)]
+
+
+def inside_of(crate, functions):
+    """The bodies and the proofs of these functions, and of those that are in a cycle with them."""
+    proofs = sorted({it.proof for it in functions})
+    lines = []
+    for it in crate.functions:
+        if it.proof in proofs:
+            first, end = it.body
+            lines.append(f"{it.file} {it.name} {hashed([crate.texts[it.file][first:end]])}")
+    return [*lines, *(sum_of(it) for proof in proofs for it in proof_of(crate, proof))]
+
+
 class Kept:
-    """What was refused on this machine before: for each crate a file that is named by the checksum of all that its run could see: its own files, and of the crates below it
-    their definitions, their lemmas, and their sources without comments and bodies."""
+    """What was refused on this machine before: for each wrong body a file that is named by the checksum of all that decides it. That is the wrong body and its control,
+    the bodies and proofs of the functions that it changes, and what these functions see: of their crate and of those below the definitions, the lemmas, and the
+    sources without comments and bodies."""
 
     FOLDER = os.path.join(os.environ.get("XDG_CACHE_HOME") or os.path.expanduser("~/.cache"), "zigdular", "wrong-bodies")
 
@@ -90,20 +131,21 @@ class Kept:
         """The ledger speaks of wrong-bodies alone."""
         return self.kinds == ["wrong-bodies"]
 
-    def file(self, name):
-        lines = [f"{it}: {' '.join(CRATES[it])}" for it in [*below(name), name]]
-        lines += [sum_of(it) for it in [f"{KIT}/KIT-ID", *(f"{TOP}/tests/{it}" for it in SCRIPTS)]]
-        lines += [sum_of(it, seen_above) for crate in below(name) for part in PARTS for it in files_in(f"{TOP}/crates/{crate}/{part}") if not is_own_proof(it)]
-        lines += [sum_of(it) for part in [*PARTS, *self.kinds, "controls"] for it in files_in(f"{TOP}/crates/{name}/{part}")]
-        return f"{self.FOLDER}/{name}-{hashlib.sha256(chr(10).join(lines).encode()).hexdigest()}"
+    def checksum(self, edit):
+        lines = [around(edit.crate.name), *inside_of(edit.crate, edit.functions)]
+        return hashed([*lines, *(sum_of(it) for it in (edit.path, edit.control) if os.path.isfile(it))])
 
-    def keep(self, name, file):
-        """Notes that all edits of a crate were refused, where its files are still those of this checksum. A folder that can't be written keeps nothing."""
-        if self.file(name) != file:
-            return
+    def file(self, edit, checksum):
+        return f"{self.FOLDER}/{edit.label.replace('/', '-')}-{checksum}"
+
+    def has(self, edit, checksum):
+        return os.path.exists(self.file(edit, checksum))
+
+    def keep(self, edit, checksum):
+        """Notes that a wrong body was refused. A folder that can't be written keeps nothing."""
         try:
             os.makedirs(self.FOLDER, exist_ok=True)
-            with open(file, "w", encoding="utf-8") as it:
+            with open(self.file(edit, checksum), "w", encoding="utf-8") as it:
                 it.write(time.strftime("%Y-%m-%d %H:%M UTC\n", time.gmtime()))
         except OSError as error:
-            print(f"{name}: not kept: {error}", flush=True)
+            print(f"{edit.label}: not kept: {error}", flush=True)

@@ -12,13 +12,13 @@ use Rattle.group_world.specs.declared.event.Event.{Event}
 use Rattle.group_world.specs.declared.event.Outcome.{Outcome}
 use Rattle.group_world.proofs.TakenMore.{all_are_applied}
 use Rattle.host_on_disk.specs.ImageSites.{ImageRepresents}
-use Rattle.host_on_disk.specs.Headline.{IsRun}
+use Rattle.host_on_disk.specs.Headline.{IsRunFrom}
 use Rattle.accepted_changes.specs.Accepted.{changes_of, HoldsAcknowledged}
 use Rattle.accepted_changes.specs.Laws.{CrashesLeaveAPrefix, ImagesHoldTheAcknowledged, NextOpeningsFindThem, file_crash_states}
 use Rattle.accepted_changes.proofs.Commits.{first_commits_are_right, with_all}
 use Rattle.accepted_changes.proofs.Runs.{accepted_right}
 
-holds : {L D : Type 0} (stands : L → Site → Type 0) (w : World) (es : List Event) (os : List Outcome) (ls : List (Link D)) (least : ℕ) (left : L) → IsRun w es os ls → HoldsCommits stands w.site (accepted ls) least left → HoldsAcknowledged stands w.site (accepted ls) least left
+holds : {L D : Type 0} (stands : L → Site → Type 0) (w : World) (es : List Event) (os : List Outcome) (ls : List (Link D)) (least : ℕ) (left : L) → IsRunFrom w es os ls → HoldsCommits stands w.site (accepted ls) least left → HoldsAcknowledged stands w.site (accepted ls) least left
 holds stands w es os ls least left run h =
     let all = accepted_right w es os ls run in
     let first = take h.count (accepted ls) in
@@ -33,7 +33,7 @@ holds stands w es os ls least left run h =
     }
 
 -- each event of a run is one call
-as_many : {D : Type 0} (w : World) (es : List Event) (os : List Outcome) (ls : List (Link D)) → IsRun w es os ls → length ls ≡ length es
+as_many : {D : Type 0} (w : World) (es : List Event) (os : List Outcome) (ls : List (Link D)) → IsRunFrom w es os ls → length ls ≡ length es
 as_many w [] [] [] run = refl
 as_many w (e ∷ es) (o ∷ os) (l ∷ ls) run = ap suc (as_many l.world es os ls run.1)
 as_many w [] [] (l ∷ ls) run = absurd run

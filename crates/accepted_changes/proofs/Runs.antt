@@ -12,7 +12,7 @@ use Rattle.group_world.specs.declared.event.Event.{Event}
 use Rattle.group_world.specs.declared.event.Outcome.{Outcome}
 use Rattle.group_world.proofs.Stored.{what_is_stored_is_right}
 use Rattle.group_world.proofs.TakenMore.{all_are_applied}
-use Rattle.host_on_disk.specs.Headline.{IsLink, IsRun}
+use Rattle.host_on_disk.specs.Headline.{IsLink, IsRunFrom}
 use Rattle.accepted_changes.specs.Accepted.{changes_of, world_behind}
 use Rattle.accepted_changes.specs.Laws.{AcceptedAreValid, AcceptedAreInOrder}
 use Rattle.accepted_changes.proofs.Commits.{AreRight, first_are_right, both_are_right, changes_of_both, with_all}
@@ -31,7 +31,7 @@ module _ {D : Type 0} where
 
   -- ---- what a run acknowledges
 
-  pub acknowledged_right : (w : World) (es : List Event) (os : List Outcome) (ls : List (Link D)) → IsRun w es os ls → all_made w.site (changes_of (acknowledged ls)) ≡ Some (world_behind w ls).site
+  pub acknowledged_right : (w : World) (es : List Event) (os : List Outcome) (ls : List (Link D)) → IsRunFrom w es os ls → all_made w.site (changes_of (acknowledged ls)) ≡ Some (world_behind w ls).site
   acknowledged_right w [] [] [] run = refl
   acknowledged_right w (e ∷ es) (o ∷ os) (l ∷ ls) run =
       ap (all_made w.site) (changes_of_both l.stored.commits (acknowledged ls)) ∙ both_are_right w.site l.world.site (world_behind l.world ls).site (changes_of l.stored.commits) (changes_of (acknowledged ls)) (sure w e o l run.0) (acknowledged_right l.world es os ls run.1)
@@ -44,7 +44,7 @@ module _ {D : Type 0} where
 
   -- ---- with what was in flight
 
-  none_later : (w : World) (es : List Event) (os : List Outcome) (ls : List (Link D)) → IsRun w es os ls → w.failed ≡ true → (acknowledged ls ≡ []) × (in_flight ls ≡ [])
+  none_later : (w : World) (es : List Event) (os : List Outcome) (ls : List (Link D)) → IsRunFrom w es os ls → w.failed ≡ true → (acknowledged ls ≡ []) × (in_flight ls ≡ [])
   none_later w [] [] [] run failed = (refl, refl)
   none_later w (e ∷ es) (o ∷ os) (l ∷ ls) run failed =
       let none = (right w e o l run.0).none failed in
@@ -58,13 +58,13 @@ module _ {D : Type 0} where
   none_later w (e ∷ es) (o ∷ os) [] run failed = absurd run
 
   -- the accepted commits are those of the first call, with what was in flight in it, and those of the others
-  accepted_are : (w : World) (es : List Event) (os : List Outcome) (l : Link D) (ls : List (Link D)) → (l.stored.flying ≡ []) ⊎ (l.world.failed ≡ true) → IsRun l.world es os ls → accepted (l ∷ ls) ≡ (l.stored.commits ++ l.stored.flying) ++ accepted ls
+  accepted_are : (w : World) (es : List Event) (os : List Outcome) (l : Link D) (ls : List (Link D)) → (l.stored.flying ≡ []) ⊎ (l.world.failed ≡ true) → IsRunFrom l.world es os ls → accepted (l ∷ ls) ≡ (l.stored.commits ++ l.stored.flying) ++ accepted ls
   accepted_are w es os l ls (inl none) run = rw none (append_assoc l.stored.commits (acknowledged ls) (in_flight ls) ∙ ap (λ (x : List Commit). x ++ (acknowledged ls ++ in_flight ls)) (sym (append-nil l.stored.commits)))
   accepted_are w es os l ls (inr failed) run =
       let later = none_later l.world es os ls run failed in
       rw (later.0, later.1) (ap (λ (x : List Commit). x ++ (l.stored.flying ++ [])) (append-nil l.stored.commits) ∙ sym (append_assoc l.stored.commits l.stored.flying []))
 
-  pub accepted_right : (w : World) (es : List Event) (os : List Outcome) (ls : List (Link D)) → IsRun w es os ls → (t : Site) × (all_made w.site (changes_of (accepted ls)) ≡ Some t)
+  pub accepted_right : (w : World) (es : List Event) (os : List Outcome) (ls : List (Link D)) → IsRunFrom w es os ls → (t : Site) × (all_made w.site (changes_of (accepted ls)) ≡ Some t)
   accepted_right w [] [] [] run = (w.site, refl)
   accepted_right w (e ∷ es) (o ∷ os) (l ∷ ls) run = by (right w e o l run.0).one (accepted_right l.world es os ls run.1)
     where
@@ -107,7 +107,7 @@ module _ {D : Type 0} where
       let f = front ls k in
       ap (take (length before)) (ap (λ (x : List Commit). x ++ in_flight ls) f.1 ∙ append_assoc before f.0 (in_flight ls)) ∙ take-append_seam before (f.0 ++ in_flight ls)
 
-  one_at_most : (w : World) (es : List Event) (os : List Outcome) (ls : List (Link D)) → IsRun w es os ls → length (in_flight ls) ≤ 1
+  one_at_most : (w : World) (es : List Event) (os : List Outcome) (ls : List (Link D)) → IsRunFrom w es os ls → length (in_flight ls) ≤ 1
   one_at_most w [] [] [] run = omega arith
   one_at_most w (e ∷ es) (o ∷ os) (l ∷ ls) run = by (right w e o l run.0).one (one_at_most l.world es os ls run.1)
     where

@@ -14,7 +14,7 @@ use Rattle.group_world.specs.declared.event.Outcome.TheVariants.{Joined, More, R
 use Rattle.group_world.specs.declared.fault.HubFault.TheVariants as hub
 use Rattle.group_world.proofs.PlainHubs.{plain_hubs_stay}
 use Rattle.group_world.proofs.Stored.{whole_of, whole_is}
-use Rattle.host_on_disk.specs.Headline.{IsRun}
+use Rattle.host_on_disk.specs.Headline.{IsRunFrom}
 use Rattle.accepted_changes.specs.Laws.{EachIsOneChange}
 
 abbrev Single : Commit → Type 0
@@ -77,7 +77,7 @@ stored_single split w e o v stored few (inl (how, same)) = rw (same, whole_is w 
 stored_single split w e o v stored few (inr (usable, why, (choices, how, same))) = rw same (singly_single w choices o)
 
 module _ {D : Type 0} where
-  run_single : (w : World) (es : List Event) (os : List Outcome) (ls : List (Link D)) → IsPlain w → IsRun w es os ls → Singles (acknowledged ls) × Singles (in_flight ls)
+  run_single : (w : World) (es : List Event) (os : List Outcome) (ls : List (Link D)) → IsPlain w → IsRunFrom w es os ls → Singles (acknowledged ls) × Singles (in_flight ls)
   run_single w [] [] [] plain run = (All-nil Single, All-nil Single)
   run_single w (e ∷ es) (o ∷ os) (l ∷ ls) plain run =
       let stays = plain_hubs_stay w l.world e o plain run.0.step in

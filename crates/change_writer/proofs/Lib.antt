@@ -4,3 +4,4 @@ pub mod MemberLaws
 pub mod SmallTables
 pub mod Puts
 pub mod Files
+pub mod CommentLines

@@ -2,3 +2,4 @@ pub mod Members
 pub mod Said
 pub mod Bodies
 pub mod Writer
+pub mod Comments

@@ -3,7 +3,8 @@ ghost use Rattle.std.specs.Prelude.{◌≡◌, ◌≤◌, ◌<◌, ℕ, List, []
 ghost use Rattle.host_types.specs.declared.change.Change.TheVariants as changes;
 ghost use Rattle.toml.specs.Data.{string, table, member, no_members, members_depth};
 ghost use Rattle.toml.specs.View.{table_view};
-ghost use Rattle.change_file.specs.Changes.{change_of};
+ghost use Rattle.change_file.specs.Changes.{change_of, file_change, remove as removed};
+ghost use Rattle.change_file.specs.Named.{selector_named};
 ghost use Rattle.change_file.specs.declared.fault.FileChange.TheVariants.{Change as FileChange};
 ghost use Rattle.change_writer.specs.Bodies.{BeginsPut, deepest};
 ghost use Rattle.change_writer.specs.Said.{IsSaid, read_back};
@@ -84,6 +85,16 @@ fn remove(alloc: Global, selector: &Selector) -> Result<Table, WriteFault>
 {
     let selector = text(alloc, selector.as_bytes())?;
     Ok(with(alloc, that_does(alloc, "remove")?, "selector", selector)?)
+}
+
+/// The table that removes the item of this name, be it a selector or not.
+pub fn remove_named(alloc: Global, name: &str) -> Result<Table, WriteFault>
+    ensures read { IfOk result (λ t. change_of (table (table_view t)) ≡ Some (file_change (removed (selector_named name.now)))) }
+    ensures depth { IfOk result (λ t. members_depth (table_view t) ≤ deepest) }
+    ensures unsaid { ¬ (result ≡ Err Unsaid) }
+{
+    let name = Value::String(String::from_str(alloc, name)?);
+    Ok(with(alloc, that_does(alloc, "remove")?, "selector", name)?)
 }
 
 fn moved(alloc: Global, from: &Selector, to: &Selector) -> Result<Table, WriteFault>

@@ -3,6 +3,7 @@
 
 mod bodies;
 mod changes;
+mod comments;
 mod entries;
 mod fault;
 mod questions;
@@ -10,5 +11,6 @@ mod tables;
 mod views;
 mod writer;
 
+pub use comments::add_comment;
 pub use fault::WriteFault;
 pub use writer::ChangeWriter;

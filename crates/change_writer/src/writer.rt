@@ -1,12 +1,14 @@
 // A file of changes, made change by change.
-ghost use Rattle.std.specs.Prelude.{◌≡◌, [], ◌∷◌, ◌++◌, Some, Ok, Err, IfOk, OnOk, OnErr, string_bytes};
+ghost use Rattle.std.specs.Prelude.{◌≡◌, ℕ, List, [], ◌∷◌, ◌++◌, Some, Ok, Err, IfOk, OnOk, OnErr, string_bytes};
 ghost use Rattle.change_file.specs.Changes as file;
+ghost use Rattle.change_file.specs.Named.{selector_named};
 ghost use Rattle.change_file.specs.declared.fault.FileChange.TheVariants.{Change as FileChange};
+ghost use Rattle.change_writer.specs.Comments.{comments};
 ghost use Rattle.change_writer.specs.Said.{IsSaid, read_back};
 ghost use Rattle.change_writer.specs.declared.fault.WriteFault.TheVariants.{Unsaid};
 
 use crate::WriteFault;
-use crate::changes::change as table_of;
+use crate::changes::{change as table_of, remove_named};
 use crate::tables::{no_table, with};
 use host_types::Change;
 use std::alloc::{AllocError, Global};
@@ -55,9 +57,20 @@ impl ChangeWriter {
         Ok(())
     }
 
-    /// The text of the file, which is read back as its changes.
+    /// Writes behind the others that the item of this name is removed. One that is no selector is refused in its turn.
+    pub fn remove(&mut self, name: &str) -> Result<(), WriteFault>
+        ensures added { OnOk result (self.new ≡ self.old ++ file.file_change (file.remove (selector_named name.now)) ∷ []) }
+        ensures same { OnErr result (self.new ≡ self.old) }
+        ensures unsaid { ¬ (result ≡ Err Unsaid) }
+    {
+        let table = remove_named(self.alloc, name)?;
+        self.tables.push(Value::Table(table))?;
+        Ok(())
+    }
+
+    /// The text of the file, which is read back as its changes, whatever comments stand in front of it.
     pub fn text(self) -> Result<String, AllocError>
-        ensures { IfOk result (λ t. file.read (string_bytes t) ≡ Some (Ok self)) }
+        ensures { IfOk result (λ t. (texts : List (List ℕ)) → file.read (comments texts ++ string_bytes t) ≡ Some (Ok self)) }
     {
         let ChangeWriter { alloc, tables } = self;
         let document = with(alloc, no_table(alloc), "change", Value::Array(tables))?;

@@ -7,7 +7,8 @@ use crate::trouble::Trouble;
 use host_on_disk::open_site;
 use host_types::{SiteKeeper, Stamp};
 use image_commands::{
-    ImageFault, SiteNames, check_image, format_image, formatted_line, sectors_of, show_image,
+    ImageFault, ListForm, SiteNames, check_image, format_image, formatted_line, sectors_of,
+    show_image,
 };
 use page_store::{Banner, format_flat};
 use sector_device::{Device, MemDisk};
@@ -108,7 +109,7 @@ impl Bench {
 
     fn show(&mut self) -> Result<String, Trouble> {
         let disk = self.taken()?;
-        match show_image(self.alloc, disk) {
+        match show_image(self.alloc, disk, ListForm::Short) {
             Ok((text, disk)) => {
                 self.disk = disk;
                 let text = std::str::from_utf8(&text).unwrap_or("no text");

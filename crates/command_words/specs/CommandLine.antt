@@ -41,12 +41,25 @@ free_rule rule = record rule { required = false }
 abbrev pub now_rule : Rule
 now_rule = free_rule (number_rule (codes "now") 0 253402300799)
 
+-- the name of the administrators' socket, which may be left out
+abbrev pub socket_rule : Rule
+socket_rule = free_rule (text_rule (codes "admin"))
+
 -- a word that is there or not
 abbrev pub flag_rule : Text → Rule
 flag_rule name = record (new_rule name) { long = Some name; action = Some SetTrue }
 
 abbrev pub quiet_rule : Rule
 quiet_rule = record (flag_rule (codes "quiet")) { is_free = false }
+
+abbrev pub old_clients_rule : Rule
+old_clients_rule = record (flag_rule (codes "old-clients")) { is_free = false }
+
+abbrev pub common_log_rule : Rule
+common_log_rule = record (flag_rule (codes "common-log")) { is_free = false }
+
+abbrev pub no_socket_rule : Rule
+no_socket_rule = record (flag_rule (codes "no-admin")) { is_free = false }
 
 abbrev pub command : Text → List Rule → Shape
 command name rules = record (new_shape name) { rules = rules }
@@ -76,15 +89,19 @@ abbrev pub get_command : Shape
 get_command = command (codes "get")
     (image_rule ∷ required_path (codes "SELECTOR") ∷ free_rule (text_rule (codes "view")) ∷ [])
 
+abbrev pub import_command : Shape
+import_command = command (codes "import")
+    (required_path (codes "FOLDER") ∷ free_rule (text_rule (codes "under")) ∷ [])
+
 -- one value or more
 abbrev pub some_values : Rule → Rule
 some_values rule = record rule { range = Some (record { start_inclusive = 1; end_inclusive = usize_max }) }
 
 abbrev pub drop_command : Shape
-drop_command = command (codes "drop") (image_rule ∷ some_values (required_path (codes "SELECTOR")) ∷ [])
+drop_command = command (codes "drop") (image_rule ∷ some_values (required_path (codes "SELECTOR")) ∷ socket_rule ∷ [])
 
 abbrev pub apply_command : Shape
-apply_command = command (codes "apply") (image_rule ∷ required_path (codes "FILE") ∷ now_rule ∷ [])
+apply_command = command (codes "apply") (image_rule ∷ required_path (codes "FILE") ∷ now_rule ∷ socket_rule ∷ [])
 
 abbrev pub posts_command : Shape
 posts_command = command (codes "posts") (image_rule ∷ required_path (codes "BOARD") ∷ [])
@@ -92,6 +109,9 @@ posts_command = command (codes "posts") (image_rule ∷ required_path (codes "BO
 -- a command that takes an image alone
 abbrev pub image_command : Text → Shape
 image_command name = command name (image_rule ∷ [])
+
+abbrev pub show_command : Shape
+show_command = command (codes "show") (image_rule ∷ flag_rule (codes "long") ∷ [])
 
 abbrev pub copy_command : Shape
 copy_command = command (codes "copy")
@@ -105,11 +125,12 @@ serve_command = command (codes "serve")
     (image_rule ∷ bound_rule (number_rule (codes "together") 1 32)
     ∷ bound_rule (number_rule (codes "rounds") 0 4294967295)
     ∷ bound_rule (text_rule (codes "listen")) ∷ quiet_rule
-    ∷ bound_rule (number_rule (codes "per-address") 1 32) ∷ [])
+    ∷ bound_rule (number_rule (codes "per-address") 1 32) ∷ bound_rule (number_rule (codes "posts-per-minute") 1 1000) ∷ old_clients_rule
+    ∷ common_log_rule ∷ bound_rule socket_rule ∷ no_socket_rule ∷ [])
 
 abbrev pub commands : List Shape
-commands = format_command ∷ init_command ∷ apply_command ∷ drop_command ∷ get_command ∷ posts_command ∷ image_command (codes "show")
-    ∷ image_command (codes "check") ∷ image_command (codes "compact")
+commands = format_command ∷ init_command ∷ apply_command ∷ drop_command ∷ get_command ∷ posts_command ∷ show_command
+    ∷ image_command (codes "export") ∷ import_command ∷ image_command (codes "check") ∷ image_command (codes "compact")
     ∷ image_command (codes "upgrade") ∷ copy_command ∷ replay_command ∷ serve_command ∷ []
 
 -- the whole of it

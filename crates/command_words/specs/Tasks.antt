@@ -6,6 +6,8 @@ use Rattle.std.specs.Str.Parse.{IsNumeral, digits_value, without_leading_plus}
 use Rattle.std.specs.declared.net.SocketAddr.{SocketAddr}
 use Rattle.clap.specs.Words.{Row, Text, all_of, first_of, one_of}
 use Rattle.command_words.specs.declared.words.NewSite.{NewSite}
+use Rattle.command_words.specs.declared.words.SocketPlace.{SocketPlace}
+use Rattle.command_words.specs.declared.words.SocketPlace.TheVariants.{Beside, Named, Nowhere}
 use Rattle.command_words.specs.declared.words.Task.{Task}
 use Rattle.command_words.specs.declared.words.Task.TheVariants as task
 
@@ -59,6 +61,17 @@ HasFlag rows id flag =
     (one_of id rows ≡ None → flag ≡ false) × (one_of id rows ≡ Some (codes "true") → flag ≡ true)
     × (one_of id rows ≡ Some (codes "false") → flag ≡ false)
 
+-- by the flag: nowhere; else at the name that is found, or beside the image where there is none
+abbrev pub HasPlaceBy : Bool → List Row → SocketPlace → Type 0
+HasPlaceBy true rows place = place ≡ Nowhere
+HasPlaceBy false rows (Named name) = HasText rows (codes "admin") name
+HasPlaceBy false rows Beside = first_of (codes "admin") rows ≡ None
+HasPlaceBy false rows Nowhere = ⊥
+
+-- where administrators come
+abbrev pub HasPlace : List Row → SocketPlace → Type 0
+HasPlace rows place = (flag : Bool) × HasFlag rows (codes "no-admin") flag × HasPlaceBy flag rows place
+
 -- what a new site is given
 pub record IsSiteIn (rows : List Row) (site : NewSite) : Type 0 where
   pub host : HasText rows (codes "host") site.host
@@ -71,10 +84,12 @@ abbrev pub AsksToServe : Text → List Row → Task → Type 0
 AsksToServe image rows (task.ServeRounds i together rounds) =
     (i.now ≡ image) × HasNumber rows (codes "together") 32 together
     × HasNumber rows (codes "rounds") 32 rounds
-AsksToServe image rows (task.ServeClients i listen quiet per_address) =
+AsksToServe image rows (task.ServeClients i listen quiet per_address posts old_clients common_log place) =
     (i.now ≡ image) × ((n : ℕ) → ¬ (HasNumber rows (codes "rounds") 32 n))
     × HasAddress rows (codes "listen") listen × HasFlag rows (codes "quiet") quiet
-    × HasNumberOr 8 rows (codes "per-address") 32 per_address
+    × HasNumberOr 8 rows (codes "per-address") 32 per_address × HasNumberOrNone rows (codes "posts-per-minute") 32 posts
+    × HasFlag rows (codes "old-clients") old_clients
+    × HasFlag rows (codes "common-log") common_log × HasPlace rows place
 AsksToServe image rows _ = ⊥
 
 -- the command of this name, with what was found behind it, asks for the task
@@ -82,21 +97,25 @@ abbrev pub AsksFor : Text → List Row → Task → Type 0
 AsksFor name rows (task.Format image site pages now) =
     (name ≡ codes "format") × HasText rows (codes "IMAGE") image × IsSiteIn rows site
     × HasNumber rows (codes "pages") 32 pages × HasNumberIfAny rows (codes "now") 64 now
-AsksFor name rows (task.Apply image file now) =
+AsksFor name rows (task.Apply image file now socket) =
     (name ≡ codes "apply") × HasText rows (codes "IMAGE") image
-    × HasText rows (codes "FILE") file × HasNumberIfAny rows (codes "now") 64 now
+    × HasText rows (codes "FILE") file × HasNumberIfAny rows (codes "now") 64 now × HasTextIfAny rows (codes "admin") socket
 AsksFor name rows (task.Init image site pages now) =
     (name ≡ codes "init") × HasText rows (codes "IMAGE") image × IsSiteIn rows site
     × HasNumber rows (codes "pages") 32 pages × HasNumberIfAny rows (codes "now") 64 now
-AsksFor name rows (task.Remove image selectors) =
+AsksFor name rows (task.Remove image selectors socket) =
     (name ≡ codes "drop") × HasText rows (codes "IMAGE") image
-    × HasTexts rows (codes "SELECTOR") (map (λ selector. selector.now) selectors.items)
+    × HasTexts rows (codes "SELECTOR") (map (λ selector. selector.now) selectors.items) × HasTextIfAny rows (codes "admin") socket
 AsksFor name rows (task.Get image selector view) =
     (name ≡ codes "get") × HasText rows (codes "IMAGE") image
     × HasText rows (codes "SELECTOR") selector × HasTextIfAny rows (codes "view") view
 AsksFor name rows (task.Posts image board) =
     (name ≡ codes "posts") × HasText rows (codes "IMAGE") image × HasText rows (codes "BOARD") board
-AsksFor name rows (task.Show image) = (name ≡ codes "show") × HasText rows (codes "IMAGE") image
+AsksFor name rows (task.Show image long) =
+    (name ≡ codes "show") × HasText rows (codes "IMAGE") image × HasFlag rows (codes "long") long
+AsksFor name rows (task.Export image) = (name ≡ codes "export") × HasText rows (codes "IMAGE") image
+AsksFor name rows (task.Import folder under) =
+    (name ≡ codes "import") × HasText rows (codes "FOLDER") folder × HasTextIfAny rows (codes "under") under
 AsksFor name rows (task.Check image) = (name ≡ codes "check") × HasText rows (codes "IMAGE") image
 AsksFor name rows (task.Compact image) =
     (name ≡ codes "compact") × HasText rows (codes "IMAGE") image

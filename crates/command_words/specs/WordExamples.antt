@@ -32,16 +32,30 @@ abbrev pub rounds_words : List Text
 rounds_words = codes "serve" ∷ codes "site.img" ∷ codes "--together" ∷ codes "2"
     ∷ codes "--rounds" ∷ codes "100" ∷ []
 
+abbrev pub old_client_words : List Text
+old_client_words = codes "serve" ∷ codes "--old-clients" ∷ codes "site.img" ∷ []
+
 abbrev pub quiet_words : List Text
 quiet_words = codes "serve" ∷ codes "--quiet" ∷ codes "site.img" ∷ []
 
 abbrev pub places_words : Text → List Text
 places_words n = codes "serve" ∷ codes "site.img" ∷ codes "--per-address" ∷ n ∷ []
 
+abbrev pub posts_words : Text → List Text
+posts_words n = codes "serve" ∷ codes "site.img" ∷ codes "--posts-per-minute" ∷ n ∷ []
+
 pub record WordExamples : Type 0 where
   pub shows : named show_words ≡ Some (codes "show")
   pub its_image : value_of (codes "IMAGE") show_words ≡ Some (codes "site.img")
   pub it_is_taken : is_taken show_words ≡ true
+  pub shortly : value_of (codes "long") show_words ≡ Some (codes "false")
+  pub at_length : value_of (codes "long") (codes "show" ∷ codes "--long" ∷ codes "site.img" ∷ []) ≡ Some (codes "true")
+  pub exports : named (codes "export" ∷ codes "site.img" ∷ []) ≡ Some (codes "export")
+  pub imports : named (codes "import" ∷ codes "site" ∷ []) ≡ Some (codes "import")
+  pub its_folder : value_of (codes "FOLDER") (codes "import" ∷ codes "site" ∷ []) ≡ Some (codes "site")
+  pub under_the_top : value_of (codes "under") (codes "import" ∷ codes "site" ∷ []) ≡ None
+  pub under_another : value_of (codes "under") (codes "import" ∷ codes "site" ∷ codes "--under" ∷ codes "/phlog" ∷ []) ≡ Some (codes "/phlog")
+  pub no_folder : is_taken (codes "import" ∷ []) ≡ false
   pub upgrades : named (codes "upgrade" ∷ codes "site.img" ∷ []) ≡ Some (codes "upgrade")
   pub copies : named (codes "copy" ∷ codes "site.img" ∷ codes "new.img" ∷ []) ≡ Some (codes "copy")
   pub as_many_pages : value_of (codes "pages") (codes "copy" ∷ codes "site.img" ∷ codes "new.img" ∷ []) ≡ None
@@ -77,7 +91,15 @@ pub record WordExamples : Type 0 where
   pub rounds : value_of (codes "rounds") rounds_words ≡ Some (codes "100")
   pub together : value_of (codes "together") rounds_words ≡ Some (codes "2")
   pub loud_rounds : value_of (codes "quiet") rounds_words ≡ Some (codes "false")
+  pub no_old_clients : value_of (codes "old-clients") quiet_words ≡ Some (codes "false")
+  pub old_clients : value_of (codes "old-clients") old_client_words ≡ Some (codes "true")
   pub is_quiet : value_of (codes "quiet") quiet_words ≡ Some (codes "true")
   pub two_places : value_of (codes "per-address") (places_words (codes "2")) ≡ Some (codes "2")
   pub as_many_as_else : value_of (codes "per-address") quiet_words ≡ None
+  pub three_posts : value_of (codes "posts-per-minute") (posts_words (codes "3")) ≡ Some (codes "3")
+  pub no_post_at_all : is_taken (posts_words (codes "0")) ≡ false
+  pub all_posts : value_of (codes "posts-per-minute") quiet_words ≡ None
+  pub its_socket : value_of (codes "admin") (codes "apply" ∷ codes "site.img" ∷ codes "changes.toml" ∷ codes "--admin" ∷ codes "site.admin" ∷ []) ≡ Some (codes "site.admin")
+  pub nobody_comes : value_of (codes "no-admin") (codes "serve" ∷ codes "site.img" ∷ codes "--no-admin" ∷ []) ≡ Some (codes "true")
+  pub somebody_comes : value_of (codes "no-admin") quiet_words ≡ Some (codes "false")
   pub anywhere : value_of (codes "listen") quiet_words ≡ None

@@ -65,6 +65,15 @@ fn now<'a>(alloc: Global) -> Arg<'a>
     number(alloc, "now", "SECONDS", help, 0, GREATEST_MOMENT).required(false)
 }
 
+/// The name of the administrators' socket, which may be left out.
+fn socket<'a>(alloc: Global) -> Arg<'a>
+    ensures { IsArg spec.socket_rule result }
+{
+    let help =
+        "The socket on which administrators come while the image is served; if left out, beside the image";
+    text(alloc, "admin", "PATH", help).required(false)
+}
+
 fn format<'a>(alloc: Global) -> Result<Command<'a>, AllocError>
     ensures { IfOk result (IsCommand spec.format_command) }
 {
@@ -132,7 +141,8 @@ fn apply<'a>(alloc: Global) -> Result<Command<'a>, AllocError>
         .after_help("Example: gopher_host apply site.img changes.toml")
         .arg(image(alloc))?
         .arg(file)?
-        .arg(now(alloc))
+        .arg(now(alloc))?
+        .arg(socket(alloc))
 }
 
 /// The same with one value or more.
@@ -152,7 +162,8 @@ fn drop<'a>(alloc: Global) -> Result<Command<'a>, AllocError>
         )
         .after_help("Example: gopher_host drop site.img post//book/3 /old")
         .arg(image(alloc))?
-        .arg(some_values(selector))
+        .arg(some_values(selector))?
+        .arg(socket(alloc))
 }
 
 fn get<'a>(alloc: Global) -> Result<Command<'a>, AllocError>
@@ -181,14 +192,47 @@ fn posts<'a>(alloc: Global) -> Result<Command<'a>, AllocError>
 }
 
 fn show<'a>(alloc: Global) -> Result<Command<'a>, AllocError>
-    ensures { IfOk result (IsCommand (spec.image_command (codes "show"))) }
+    ensures { IfOk result (IsCommand spec.show_command) }
 {
+    let long =
+        "Behind the type also the moment of its last change and its size: bytes of a document, entries of a menu, posts that a board has had, questions of a form";
     Command::new(alloc, "show")
         .about(
             "Prints a line for each item: its type, its selector and its title, with spaces in them as `\\x20`; `>` is a moved item",
         )
-        .after_help("Example: gopher_host show site.img")
+        .after_help("Example: gopher_host show site.img --long")
+        .arg(image(alloc))?
+        .arg(flag(alloc, "long", long))
+}
+
+fn export<'a>(alloc: Global) -> Result<Command<'a>, AllocError>
+    ensures { IfOk result (IsCommand (spec.image_command (codes "export"))) }
+{
+    Command::new(alloc, "export")
+        .about(
+            "Writes a file of changes to standard output, which puts the same items; what no change can put, as posts and notes of moved items, is named in its comments",
+        )
+        .after_help("Example: gopher_host export site.img >site.toml")
         .arg(image(alloc))
+}
+
+fn import<'a>(alloc: Global) -> Result<Command<'a>, AllocError>
+    ensures { IfOk result (IsCommand spec.import_command) }
+{
+    let folder = path(
+        alloc,
+        "FOLDER",
+        "The folder, which is read with all folders below it",
+    )
+    .required(true);
+    let under = "The selector below which all is put; if left out, the top menu";
+    Command::new(alloc, "import")
+        .about(
+            "Writes a file of changes to standard output, which puts the files of a folder as documents and its folders as menus; what it can't put is told on standard error",
+        )
+        .after_help("Example: gopher_host import ~/gopher >site.toml")
+        .arg(folder)?
+        .arg(text(alloc, "under", "SELECTOR", under).required(false))
 }
 
 fn check<'a>(alloc: Global) -> Result<Command<'a>, AllocError>
@@ -296,6 +340,11 @@ fn serve<'a>(alloc: Global) -> Result<Command<'a>, AllocError>
     let quiet = "Writes no log; if left out, a line for each request";
     let per_address =
         "How many clients of one address are let in at a time, 1 to 32; if left out, 8";
+    let posts = "How many posts of one address are taken in a minute, 1 to 1,000; if left out, all";
+    let old_clients =
+        "Serves the University of Minnesota's client, which writes `$` for `+`: its requests are rewritten, and the replies to those";
+    let common_log = "Writes the log in the common log format of web servers";
+    let no_socket = "Lets no administrators come; if left out, they may";
     Command::new(alloc, "serve")
         .about(
             "Serves the site of an image on 127.0.0.1, at the site's own port, until it is ended, which is harmless at any moment; or so many rounds of connections, and prints how many replies were written whole",
@@ -316,7 +365,16 @@ fn serve<'a>(alloc: Global) -> Result<Command<'a>, AllocError>
             number(alloc, "per-address", "N", per_address, 1, 32)
                 .required(false)
                 .conflicts_with("rounds")?,
-        )
+        )?
+        .arg(
+            number(alloc, "posts-per-minute", "N", posts, 1, 1000)
+                .required(false)
+                .conflicts_with("rounds")?,
+        )?
+        .arg(flag(alloc, "old-clients", old_clients).conflicts_with("rounds")?)?
+        .arg(flag(alloc, "common-log", common_log).conflicts_with("rounds")?)?
+        .arg(socket(alloc).conflicts_with("rounds")?)?
+        .arg(flag(alloc, "no-admin", no_socket).conflicts_with("rounds")?)
 }
 
 /// The whole command line.
@@ -334,6 +392,8 @@ pub fn command_line<'a>(alloc: Global) -> Result<Command<'a>, AllocError>
         .subcommand(get(alloc)?)?
         .subcommand(posts(alloc)?)?
         .subcommand(show(alloc)?)?
+        .subcommand(export(alloc)?)?
+        .subcommand(import(alloc)?)?
         .subcommand(check(alloc)?)?
         .subcommand(compact(alloc)?)?
         .subcommand(upgrade(alloc)?)?

@@ -6,4 +6,4 @@ mod laws;
 mod words;
 
 pub use laws::worked_examples;
-pub use words::{Misread, NewSite, Task, given, read};
+pub use words::{Misread, NewSite, SocketPlace, Task, given, read};

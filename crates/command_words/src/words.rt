@@ -5,7 +5,7 @@ ghost use Rattle.std.specs.Process.{exit_status};
 ghost use Rattle.clap.specs.Words.{found_of, rows_of};
 ghost use Rattle.command_words.specs.Misreads.{misread_of, status_of};
 ghost use Rattle.command_words.specs.Reading.{IsReadAs};
-ghost use Rattle.command_words.specs.Tasks.{AsksFor, AsksToServe, Gives, HasNumber, HasNumberIfAny, HasNumberOr, IsSiteIn};
+ghost use Rattle.command_words.specs.Tasks.{AsksFor, AsksToServe, Gives, HasNumber, HasNumberIfAny, HasNumberOr, HasPlace, IsSiteIn};
 ghost use Rattle.command_words.specs.declared.words.Misread.TheVariants.{Memory};
 
 use crate::command_line::command_line;
@@ -36,16 +36,18 @@ pub enum Task<'a> {
         pages: u32,
         now: Option<u64>,
     },
-    /// Makes the changes of a file.
+    /// Makes the changes of a file. Where the image is served, they are asked for on the administrators' socket, which has this name or else stands beside the image.
     Apply {
         image: &'a str,
         file: &'a str,
         now: Option<u64>,
+        socket: Option<&'a str>,
     },
-    /// Removes items, one after another.
+    /// Removes items, one after another, in the same way.
     Remove {
         image: &'a str,
         selectors: Vec<&'a str>,
+        socket: Option<&'a str>,
     },
     /// Prints the bytes of a document, of its first view or of the one that is named.
     Get {
@@ -58,9 +60,19 @@ pub enum Task<'a> {
         image: &'a str,
         board: &'a str,
     },
-    /// Lists the items of an image.
+    /// Lists the items of an image, at length or not.
     Show {
         image: &'a str,
+        long: bool,
+    },
+    /// Writes the items of an image as a file of changes.
+    Export {
+        image: &'a str,
+    },
+    /// Writes the files of a folder as a file of changes, which puts them below a selector.
+    Import {
+        folder: &'a str,
+        under: Option<&'a str>,
     },
     /// Counts what an image holds.
     Check {
@@ -91,13 +103,28 @@ pub enum Task<'a> {
         together: u32,
         rounds: u32,
     },
-    /// Serves whoever comes, at an address or else the site's own port on 127.0.0.1, with a log or without, so many clients of one address at a time.
+    /// Serves whoever comes, at an address or else the site's own port on 127.0.0.1, with a log or without, so many clients of one address at a time, and so many posts of one in a minute where that is limited. They are taken for old clients or not. The log may be in the common log format. Administrators come on a socket.
     ServeClients {
         image: &'a str,
         listen: Option<SocketAddr>,
         quiet: bool,
         per_address: u32,
+        posts: Option<u32>,
+        old_clients: bool,
+        common_log: bool,
+        place: SocketPlace<'a>,
     },
+}
+
+/// Where the socket stands on which administrators come to a served image.
+#[derive(Clone, Copy, Debug)]
+pub enum SocketPlace<'a> {
+    /// Beside the image.
+    Beside,
+    /// Under this name.
+    Named(&'a str),
+    /// There is none.
+    Nowhere,
 }
 
 /// What a new site is given.
@@ -203,6 +230,13 @@ fn per_address(matches: &ArgMatches<'_>) -> u32
     }
 }
 
+/// How many posts of one address are taken in a minute, where that is limited.
+fn posts_a_minute(matches: &ArgMatches<'_>) -> Option<u32>
+    ensures { Gives (HasNumber (rows_of (found_of matches.now)) (codes "posts-per-minute") 32) result }
+{
+    matches.get_one::<u32>("posts-per-minute")
+}
+
 /// How many pages an image is to have.
 fn pages(matches: &ArgMatches<'_>) -> Option<u32>
     ensures { Gives (HasNumber (rows_of (found_of matches.now)) (codes "pages") 32) result }
@@ -220,6 +254,19 @@ fn moment(matches: &ArgMatches<'_>) -> Option<Option<u64>>
     }
 }
 
+/// Where administrators are to come.
+fn socket_place<'a>(matches: &ArgMatches<'a>) -> SocketPlace<'a>
+    ensures { HasPlace (rows_of (found_of matches.now)) result }
+{
+    if matches.get_flag("no-admin") {
+        return SocketPlace::Nowhere;
+    }
+    match matches.get_str("admin") {
+        Some(name) => SocketPlace::Named(name),
+        None => SocketPlace::Beside,
+    }
+}
+
 /// How an image is to be served.
 fn serving<'a>(image: &'a str, matches: &ArgMatches<'a>) -> Option<Task<'a>>
     ensures { Gives (AsksToServe image.entry.now (rows_of (found_of matches.now))) result }
@@ -230,11 +277,16 @@ fn serving<'a>(image: &'a str, matches: &ArgMatches<'a>) -> Option<Task<'a>>
             None => None,
         };
         let quiet = matches.get_flag("quiet");
+        let common_log = matches.get_flag("common-log");
         return Some(Task::ServeClients {
             image,
             listen,
             quiet,
             per_address: per_address(matches),
+            posts: posts_a_minute(matches),
+            old_clients: matches.get_flag("old-clients"),
+            common_log,
+            place: socket_place(matches),
         });
     };
     Some(Task::ServeRounds {
@@ -256,7 +308,12 @@ fn removing<'a>(alloc: Global, matches: &ArgMatches<'a>) -> Result<Option<Task<'
     };
     let mut selectors = Vec::new(alloc);
     selectors.extend_from_slice(found)?;
-    Ok(Some(Task::Remove { image, selectors }))
+    let socket = matches.get_str("admin");
+    Ok(Some(Task::Remove {
+        image,
+        selectors,
+        socket,
+    }))
 }
 
 /// What the words behind a command ask for, but for the one that removes items.
@@ -281,6 +338,7 @@ fn other_task_of<'a>(name: &str, matches: &ArgMatches<'a>) -> Option<Task<'a>>
             image: image?,
             file: matches.get_str("FILE")?,
             now: moment(matches)?,
+            socket: matches.get_str("admin"),
         }),
         "get" => Some(Task::Get {
             image: image?,
@@ -291,7 +349,15 @@ fn other_task_of<'a>(name: &str, matches: &ArgMatches<'a>) -> Option<Task<'a>>
             image: image?,
             board: matches.get_str("BOARD")?,
         }),
-        "show" => Some(Task::Show { image: image? }),
+        "show" => Some(Task::Show {
+            image: image?,
+            long: matches.get_flag("long"),
+        }),
+        "export" => Some(Task::Export { image: image? }),
+        "import" => Some(Task::Import {
+            folder: matches.get_str("FOLDER")?,
+            under: matches.get_str("under"),
+        }),
         "check" => Some(Task::Check { image: image? }),
         "compact" => Some(Task::Compact { image: image? }),
         "upgrade" => Some(Task::Upgrade { image: image? }),

@@ -24,6 +24,7 @@ use Rattle.cow_tree.specs.PinnedTrees.{pins_from}
 use Rattle.cow_tree.specs.TreeState.{found_under, tree_holding}
 use Rattle.cow_tree.specs.declared.tree_root.TreeRoot.{TreeRoot}
 use Rattle.cow_tree.proofs.PinnedTrees.{same_numbers}
+use Rattle.cow_tree.proofs.WorkDone.{nothing_written}
 use Rattle.cow_tree.specs.declared.page_fault.PageFault.{PageFault}
 use Rattle.cow_tree.specs.declared.page_fault.PageFault.TheVariants.{Device, Damaged}
 
@@ -41,6 +42,7 @@ module _ (old new : State) (slot : Slot) (ledger : LedgerState) (top : ℕ) (usa
       keys = refl;
       out = same_numbers new.disk.view old.disk.view 0 trees;
       pins = λ keeps. ap (λ (d : Disk). pins_from d.view 0 trees) (only.disk keeps);
+      calls = nothing_written only.made;
     };
     honest = only.same.honest;
     reads = rises;

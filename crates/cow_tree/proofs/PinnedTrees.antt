@@ -1,6 +1,6 @@
 -- Trees that pins keep, and what is known of the pins.
 use Rattle.std.proofs.Common.{◌≡◌, ◌<◌, ◌≤◌, ◌+◌, inl, inr, ℕ, zero, suc, Bool, true, false, List, [], ◌∷◌, length, map, Option, Some, None, get_or, set, replicate, cond, is_some, refl, sym, ap, subst, ◌∙◌, arith, eq-eqb, ne_eqb}
-use Rattle.std.specs.Prelude.{◌||◌, ◌&&◌, ◌==◌, nat_le, nat_lt, option_map, IfSome}
+use Rattle.std.specs.Prelude.{is_none, ◌||◌, ◌&&◌, ◌==◌, nat_le, nat_lt, option_map, IfSome}
 use Rattle.std.specs.List.{list_any, list_all}
 use Rattle.std.specs.Map.{lookup}
 use Rattle.std.proofs.lemmas.Bool.{cases_lt}
@@ -210,3 +210,14 @@ held_again old new marks n =
     ap (λ (lives : List Life). list_any (λ g. lives_at g (get_or lives n Never)) (new.generation ∷ pinned new.pins)) marks.lives
     ∙ ap (λ (generation : ℕ). list_any (λ g. lives_at g (get_or old.lives n Never)) (generation ∷ pinned new.pins)) marks.generation
     ∙ ap (λ (pins : List (Option ℕ)). list_any (λ g. lives_at g (get_or old.lives n Never)) (old.generation ∷ pinned pins)) marks.pins
+
+-- no pin is out where no tree is pinned
+pub no_pins : (a : Image) (n : ℕ) (trees : List (Option TreeRoot)) → list_all is_none trees ≡ true → pins_from a n trees ≡ []
+no_pins a n [] all = refl
+no_pins a n (None ∷ trees) all = no_pins a (suc n) trees all
+no_pins a n (Some t ∷ trees) all = absurd (cc all)
+
+pub no_trees : (a : Image) (n : ℕ) (trees : List (Option TreeRoot)) → pins_from a n trees ≡ [] → list_all is_none trees ≡ true
+no_trees a n [] none = refl
+no_trees a n (None ∷ trees) none = no_trees a (suc n) trees none
+no_trees a n (Some t ∷ trees) none = absurd (cc none)

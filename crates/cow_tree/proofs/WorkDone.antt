@@ -1,7 +1,8 @@
 -- How many calls walks, searches and commits make.
-use Rattle.std.proofs.Common.{◌≡◌, ◌≤◌, ◌+◌, ◌-◌, ◌*◌, ◌^◌, ℕ, zero, suc, Bool, true, false, Result, Ok, Err, cond, ap, ◌∙◌, subst, arith, refl, sym, length, if◌then◌else◌}
+use Rattle.std.proofs.Common.{inl, inr, ◌<◌, ◌≡◌, ◌≤◌, ◌+◌, ◌-◌, ◌*◌, ◌^◌, ℕ, zero, suc, Bool, true, false, Option, Some, None, Result, Ok, Err, cond, ap, ◌∙◌, subst, arith, refl, sym, length, if◌then◌else◌}
+use Rattle.std.proofs.lemmas.Bool.{cases_lt}
 use Rattle.std.proofs.Math.Nat.{two-pow-succ}
-use Rattle.std.proofs.Math.Pow.{suc_ones}
+use Rattle.std.proofs.Math.Pow.{pow_mono, suc_ones}
 use Rattle.sector_device.specs.Device.{State}
 use Rattle.sector_device.specs.Effects.{MadeReads, MadeExactly, MadeAtMost, MadeIfOk}
 use Rattle.sector_device.proofs.Works.{at_most, no_more_than}
@@ -10,7 +11,11 @@ use Rattle.page_alloc.specs.Calls.{fresh}
 use Rattle.page_store.specs.Opening.{MadeToOpen}
 use Rattle.std.proofs.lemmas.List.{length-replicate}
 use Rattle.page_alloc.specs.declared.life.Life.TheVariants.{Never}
-use Rattle.cow_tree.specs.Work.{ReadsEachOnce, WritesPages, WritesAtMost, pages_tried}
+use Rattle.page_store.specs.Work.{WritesNothing, ReadsPages, WritesAtMost, CommitsWithin, pages_tried}
+use Rattle.cow_tree.specs.Work.{ReadsEachOnce, WritesPages}
+use Rattle.cow_tree.specs.PinnedTrees.{IsRootedAt}
+use Rattle.cow_tree.proofs.PathReads.{levels_left}
+use Rattle.cow_tree.specs.declared.tree_root.TreeRoot.{TreeRoot}
 
 pub whatever : {T E : Type 0} (result : Result T E) {r w s : ℕ} {a b : State} → MadeExactly r w s a b → MadeIfOk result r w s a b
 whatever (Ok _) is = is
@@ -80,14 +85,85 @@ opened_once old mid new before after pages seal first walk is =
 pub written : (n : ℕ) {old mid new : State} → MadeReads old mid → MadeExactly 0 (8 * n + 8) 2 mid new → WritesPages n old new
 written n reads made = record { writes = omega (arith, reads.writes, made.writes); syncs = omega (arith, reads.syncs, made.syncs) }
 
-pub written_less : (n free : ℕ) {old mid new : State} → n ≤ free → MadeReads old mid → MadeAtMost 0 (8 * n + 8) 2 mid new → WritesAtMost free old new
-written_less n free le reads made = record {
-  writes = (omega (arith, reads.writes, made.writes.0), omega (arith, reads.writes, made.writes.1, le));
-  syncs = (omega (arith, reads.syncs, made.syncs.0), omega (arith, reads.syncs, made.syncs.1));
+pub written_less : (read n free : ℕ) {old mid new : State} → n ≤ free → MadeAtMost (8 * read) 0 0 old mid → MadeAtMost 0 (8 * n + 8) 2 mid new → CommitsWithin read free old.made new.made
+written_less read n free le reads made = record {
+  reads = (omega (arith, reads.reads.0, made.reads.0), omega (arith, reads.reads.1, made.reads.1));
+  wrote = record {
+    writes = (omega (arith, reads.writes.0, made.writes.0), omega (arith, reads.writes.1, made.writes.1, le));
+    syncs = (omega (arith, reads.syncs.0, made.syncs.0), omega (arith, reads.syncs.1, made.syncs.1));
+  };
 }
 
-pub only_read : (free : ℕ) {old new : State} → MadeReads old new → WritesAtMost free old new
+pub read_less : (read free : ℕ) {old new : State} → MadeAtMost (8 * read) 0 0 old new → CommitsWithin read free old.made new.made
+read_less read free made = record {
+  reads = made.reads;
+  wrote = record { writes = (made.writes.0, omega (arith, made.writes.1)); syncs = (made.syncs.0, omega (arith, made.syncs.1)) };
+}
+
+-- so many pages are still to be read of so many
+pub record ReadsSoFar (left most : ℕ) (old new : State) : Type 0 where
+  pub rises : old.made.reads ≤ new.made.reads
+  pub reads : new.made.reads + 8 * left ≤ old.made.reads + 8 * most
+  pub writes : new.made.writes ≡ old.made.writes
+  pub syncs : new.made.syncs ≡ old.made.syncs
+
+pub first_left : (needed : Option ℕ) (height depth most : ℕ) → height ≤ most → 0 < most → levels_left needed (height - 1 - depth) ≤ most
+first_left None height depth most low some = omega arith
+first_left (Some page) height depth most low some = omega (arith, low, some)
+
+pub some_left : (needed : Option ℕ) (page level : ℕ) → needed ≡ Some page → 0 < levels_left needed level
+some_left None page level is = absurd (cc is)
+some_left (Some n) page level is = omega arith
+
+pub reads_begin : (left most : ℕ) (a : State) → left ≤ most → ReadsSoFar left most a a
+reads_begin left most a le = record { rises = omega arith; reads = omega (arith, le); writes = refl; syncs = refl }
+
+pub reads_on : (left less most : ℕ) {a b c : State} → less < left → ReadsSoFar left most a b → MadeAtMost 8 0 0 b c → ReadsSoFar less most a c
+reads_on left less most lt x y = record {
+  rises = omega (arith, x.rises, y.reads.0);
+  reads = omega (arith, lt, x.reads, y.reads.1);
+  writes = omega (arith, x.writes, y.writes.0, y.writes.1);
+  syncs = omega (arith, x.syncs, y.syncs.0, y.syncs.1);
+}
+
+pub reads_all : (left most : ℕ) {a b : State} → ReadsSoFar left most a b → MadeAtMost (8 * most) 0 0 a b
+reads_all left most x = record {
+  reads = (x.rises, omega (arith, x.reads));
+  writes = (omega (arith, x.writes), omega (arith, x.writes));
+  syncs = (omega (arith, x.syncs), omega (arith, x.syncs));
+}
+
+pub only_read : (free : ℕ) {old new : State} → MadeReads old new → WritesAtMost free old.made new.made
 only_read free reads = record { writes = (omega (arith, reads.writes), omega (arith, reads.writes)); syncs = (omega (arith, reads.syncs), omega (arith, reads.syncs)) }
+
+pub enough : (n free : ℕ) {old new : State} → n ≤ free → WritesPages n old new → WritesAtMost free old.made new.made
+enough n free le wrote = record {
+  writes = (omega (arith, wrote.writes), omega (arith, wrote.writes, le));
+  syncs = (omega (arith, wrote.syncs), omega (arith, wrote.syncs));
+}
+
+-- ---- look-ups
+
+pub nothing_written : {a b : State} → MadeReads a b → WritesNothing a.made b.made
+nothing_written made = record { reads = made.reads; writes = made.writes; syncs = made.syncs }
+
+pub pages_read : (n most : ℕ) {a b : State} → n ≤ most → MadeAtMost (8 * n) 0 0 a b → ReadsPages most a.made b.made
+pages_read n most le made = record {
+  reads = (made.reads.0, omega (arith, le, made.reads.1));
+  writes = omega (arith, made.writes.0, made.writes.1);
+  syncs = omega (arith, made.syncs.0, made.syncs.1);
+}
+
+-- a tree has at most 16 levels
+pub few_levels : (tree : TreeRoot) → IsRootedAt tree → tree.height ≤ 16
+few_levels tree rooted = elim (cases_lt 0 tree.height) [
+  | inl some ↦ (rooted some).0
+  | inr none ↦ omega (arith, none)
+]
+
+-- a search in a tree of more levels may take more pages
+pub tried_within : (levels most : ℕ) → levels ≤ most → pages_tried levels ≤ pages_tried most
+tried_within levels most le = let grows = pow_mono le in omega (arith, grows)
 
 pub one_less : (b : Bool) (before after : ℕ) → before ≡ after + (if b then 1 else 0) → b ≡ true → before ≡ after + 1
 one_less true before after is t = is

@@ -76,5 +76,6 @@ tree_holding state slot ledger top usable trees = record {
   free = free_count ledger;
   height = slot.root.height;
   keys = slot.root.keys;
+  made = state.made;
   pins = pins_from state.disk.view 0 trees;
 }

@@ -1,7 +1,6 @@
 -- How many calls a tree makes of its device.
-use Rattle.std.specs.Prelude.{◌≡◌, ◌≤◌, ◌+◌, ◌-◌, ◌*◌, ◌^◌, ℕ}
+use Rattle.std.specs.Prelude.{◌≡◌, ◌≤◌, ◌+◌, ◌*◌, ℕ}
 use Rattle.sector_device.specs.Device.{State}
-use Rattle.sector_device.specs.Effects.{RoseAtMost}
 use Rattle.page_alloc.specs.LedgerState.{LedgerState, free_count}
 
 -- Of each page that is newly held at most eight sectors were read, each once, and nothing was written or made sure of.
@@ -11,16 +10,7 @@ pub record ReadsEachOnce (old new : State) (before after : LedgerState) : Type 0
   pub writes : new.made.writes ≡ old.made.writes
   pub syncs : new.made.syncs ≡ old.made.syncs
 
--- How many pages a search for the next pair reads at most in a tree of so many levels: where it finds no greater key under a page, it tries the page beside that.
-abbrev pub pages_tried : ℕ → ℕ
-pages_tried levels = 2 ^ levels - 1
-
 -- So many new pages and the page of a root were written, and two syncs made sure of them.
 pub record WritesPages (n : ℕ) (old new : State) : Type 0 where
   pub writes : new.made.writes ≡ old.made.writes + (8 * n + 8)
   pub syncs : new.made.syncs ≡ old.made.syncs + 2
-
--- no more was written than so many new pages and the page of a root, with two syncs
-pub record WritesAtMost (n : ℕ) (old new : State) : Type 0 where
-  pub writes : RoseAtMost (8 * n + 8) old.made.writes new.made.writes
-  pub syncs : RoseAtMost 2 old.made.syncs new.made.syncs

@@ -1,6 +1,7 @@
 // A keeper of a tree is written anew.
 ghost use Rattle.std.specs.Prelude.{◌≡◌, ◌≤◌, ◌+◌, ℕ, true, false, IsTrue, OnOk, IfErr, IsErrOf};
-ghost use Rattle.cow_tree.specs.Work.{WritesPages, WritesAtMost};
+ghost use Rattle.page_store.specs.Work.{WritesAtMost};
+ghost use Rattle.cow_tree.specs.Work.{WritesPages};
 ghost use Rattle.common_types.specs.CrashStates.{AddsOnly, AddsNone};
 ghost use Rattle.page_store.specs.Compaction.{IsCompacted, IsCompactFault, CompactsTheSame};
 ghost use Rattle.page_store.specs.Counting.{CountsReads, CountsWrites};
@@ -54,9 +55,9 @@ impl<D: Device> CompactKeeper for TreeKeeper<D> {
         ensures unheld { IsTrue (held D.state self.old).honest → (held D.state self.old).usable ≡ true → WritesNoPinnedPage (pinned_by self.old) (D.state (device_of self.old)).disk.view (D.state (device_of self.new)).disk.view
             (crash_states_of D.moment D.possible_since (device_of self.old)) (crash_states_of D.moment D.possible_since (device_of self.new)) }
 
-        // So many pages as the filled tree needs and a root are written, with two syncs. A refusal has written no more.
-        ensures work { OnOk result ((n : ℕ) × (n ≤ (held D.state self.old).free) × (IsTrue (held D.state self.old).honest → MayNeedFilled (slot_of self.old) (D.state (device_of self.old)) n) × WritesPages n (D.state (device_of self.old)) (D.state (device_of self.new))) }
-        ensures work_on_fault { IfErr result (λ e. WritesAtMost (held D.state self.old).free (D.state (device_of self.old)) (D.state (device_of self.new))) }
+        // So many pages as the filled tree needs and a root are written, with two syncs.
+        ensures written { OnOk result ((n : ℕ) × (IsTrue (held D.state self.old).honest → MayNeedFilled (slot_of self.old) (D.state (device_of self.old)) n) × WritesPages n (D.state (device_of self.old)) (D.state (device_of self.new))) }
+        ensures work { WritesAtMost (held D.state self.old).free (held D.state self.old).made (held D.state self.new).made }
     {
         if !self.usable {
             return Err(KeeperFault::Failed);

@@ -1,5 +1,6 @@
 // A tree that a commit changes, before anything is written.
 ghost use Rattle.std.specs.Prelude.{◌≡◌, ◌≤◌, ◌<◌, ◌+◌, ◌-◌, ◌*◌, ◌^◌, ℕ, List, None, Some, true, IsTrue, OnOk, IfOk, IfErr, length};
+ghost use Rattle.sector_device.specs.Effects.{MadeAtMost};
 ghost use Rattle.page_store.specs.Pages.{Pair};
 ghost use Rattle.page_store.specs.Batch.{edited, updated, is_edit, is_batch, is_map};
 ghost use Rattle.page_store.specs.Steps.{crash_states_of};
@@ -50,6 +51,7 @@ fn read_needed<D: Device>(
     ensures down { OnOk result ((n : ℕ) → needed_under key.now (state_of tree.new).root ≡ Some n → needed_level key.now (state_of tree.new) < needed_level key.now (state_of tree.old)) }
     ensures height { OnOk result ((state_of tree.new).height ≡ (state_of tree.old).height) }
     ensures reads { ReadsToDraft D.state (crash_states_of D.moment D.possible_since) device.old device.new ledger.old ledger.new result }
+    ensures work { MadeAtMost 8 0 0 (D.state device.old) (D.state device.new) }
 {
     if !ledger.lives(page) {
         return Err(KeeperFault::Damaged { page });
@@ -79,6 +81,7 @@ fn own_path<D: Device>(
 ) -> Result<(), KeeperFault>
     requires fits { 8 * slot.now.root.pages ≤ (D.state device.old).size }
     requires pages { length ledger.old.lives ≡ slot.now.root.pages }
+    requires low { (state_of tree.old).height ≤ most_levels }
     ensures draft { IsTrue (D.state device.old).honest → (edits : ℕ) (pairs : List Pair) → IsDraft slot.now (D.state device.old).disk.view edits 0 pairs ledger.old (state_of tree.old) →
         Tells ⊥ result (λ done. IsDraft slot.now (D.state device.old).disk.view edits slot.now.root.height pairs ledger.new (state_of tree.new)) }
     ensures owned { OnOk result (needed_under key.now (state_of tree.new).root ≡ None) }
@@ -86,6 +89,7 @@ fn own_path<D: Device>(
         OnOk result (state_of tree.new ≡ path_read (old_under slot.now (D.state device.old).disk.view) key.now slot.now.root.height (state_of tree.old)) }
     ensures height { OnOk result ((state_of tree.new).height ≡ (state_of tree.old).height) }
     ensures reads { ReadsToDraft D.state (crash_states_of D.moment D.possible_since) device.old device.new ledger.old ledger.new result }
+    ensures work { MadeAtMost (8 * most_levels) 0 0 (D.state device.old) (D.state device.new) }
 {
     while let Some(page) = tree.needed(key) {
         read_needed(alloc, device, ledger, slot, tree, key, page)?;
@@ -179,6 +183,7 @@ impl Draft {
             IfOk result (λ draft. state_of draft.tree ≡ edit_made (old_under slot.now (D.state device.old).disk.view) slot.now.root.height (state_of self.tree) edit.now) }
         ensures low { IfOk result (λ draft. (state_of draft.tree).height ≤ most_levels) }
         ensures reads { ReadsToDraft D.state (crash_states_of D.moment D.possible_since) device.old device.new ledger.old ledger.new result }
+        ensures work { MadeAtMost (8 * most_levels) 0 0 (D.state device.old) (D.state device.new) }
     {
         let Draft { tree, keys } = self;
         let mut tree = tree;
@@ -211,6 +216,7 @@ pub(crate) fn draft_batch<D: Device>(
         length pairs + length batch.now < 2 ^ 64 → IfOk result (λ draft. (state_of draft.tree ≡ drafted slot.now (D.state device.old).disk.view batch.now) × StaysLow slot.now (D.state device.old).disk.view batch.now) }
     ensures low { IfOk result (λ draft. (state_of draft.tree).height ≤ most_levels) }
     ensures reads { ReadsToDraft D.state (crash_states_of D.moment D.possible_since) device.old device.new ledger.old ledger.new result }
+    ensures work { MadeAtMost (8 * (most_levels * length batch.now)) 0 0 (D.state device.old) (D.state device.new) }
 {
     let mut draft = Draft::of(slot);
     for edit in batch {

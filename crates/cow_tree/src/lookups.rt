@@ -5,7 +5,7 @@ ghost use Rattle.page_store.specs.Steps.{crash_states_of};
 ghost use Rattle.page_store.specs.Content.{tree_found};
 ghost use Rattle.page_store.specs.Batch.{pair_after};
 ghost use Rattle.page_store.specs.StoreState.{IsFilled};
-ghost use Rattle.cow_tree.specs.Work.{pages_tried};
+ghost use Rattle.page_store.specs.Work.{pages_tried};
 ghost use Rattle.cow_tree.specs.LookUps.{LooksUp, KeepsNext};
 ghost use Rattle.cow_tree.specs.KeptLeaves.{IsKeptLeaf, has_next};
 ghost use Rattle.cow_tree.specs.Opening.{IsRooted, bounds_under};

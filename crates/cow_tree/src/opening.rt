@@ -191,6 +191,7 @@ impl<D: Device> TreeKeeper<D> {
         ensures unpinned { IfOk result (λ k. (held D.state k).pins ≡ []) }
         ensures honest { IfOk result (λ k. (D.state (device_of k)).honest ≡ (D.state device).honest) }
         ensures large { IfOk result (λ k. 128 ≤ (D.state device).size) }
+        ensures fits { IfOk result (λ k. 8 * (slot_of k).root.pages ≤ (D.state device).size) }
         ensures counts { IfOk result (λ k. NothingCounted (D.state device) (D.state (device_of k))) }
         // One sync, and each page of the image is read once at most.
         ensures work { IfOk result (λ k. MadeToOpen (16 + 8 * ((slot_of k).root.pages - 2)) (D.state device) (D.state (device_of k))) }
@@ -221,8 +222,9 @@ impl<D: Device> TreeKeeper<D> {
         }
     }
 
-    /// The device, whether a write or a sync has failed or not.
+    /// The device, whether a write or a sync has failed or not. No pin is out.
     pub fn into_device(self) -> D
+        requires unpinned { (held D.state self).pins ≡ [] }
         ensures { result ≡ device_of self }
     {
         let TreeKeeper {

@@ -9,7 +9,7 @@ ghost use Rattle.page_store.specs.Content.{Found, place_in, walk};
 ghost use Rattle.page_store.specs.Pages.{pair_at};
 ghost use Rattle.tree_nodes.specs.PageViews.{bounds_of, pairs_in, children_in, entries_by_head, has_head};
 ghost use Rattle.cow_tree.specs.LookUps.{LooksUp, ReadsNextLeaf};
-ghost use Rattle.cow_tree.specs.Work.{pages_tried};
+ghost use Rattle.page_store.specs.Work.{pages_tried};
 ghost use Rattle.cow_tree.specs.Walks.{ReadsPages};
 ghost use Rattle.cow_tree.specs.Ways.{pages_around, are_inside, around_in, IsAnswer, IsOnWay};
 ghost use Rattle.cow_tree.specs.declared.page_fault.PageFault.TheVariants.{Damaged};

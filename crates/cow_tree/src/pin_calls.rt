@@ -1,10 +1,11 @@
 // Pins of a keeper of a tree.
-ghost use Rattle.std.specs.Prelude.{◌≡◌, Some, None, IsTrue, slice_index_or, ◌≤◌, ◌*◌, false, IfOk, IfErr, IsErrOf, IfSome, length, take, option_map};
-ghost use Rattle.cow_tree.specs.Work.{pages_tried};
+ghost use Rattle.std.specs.List.{list_all};
+ghost use Rattle.std.specs.Prelude.{◌≡◌, Some, None, is_none, IsTrue, slice_index_or, ◌≤◌, ◌*◌, false, IfOk, IfErr, IsErrOf, IfSome, length, take, option_map};
+ghost use Rattle.page_store.specs.Work.{ReadsPages, pages_tried};
 ghost use Rattle.cow_tree.specs.Needs.{MayNeed};
 ghost use Rattle.page_store.specs.Steps.{crash_states_of};
 ghost use Rattle.page_store.specs.declared.fault.KeeperFault.TheVariants.{Failed};
-ghost use Rattle.page_store.specs.StoreState.{HasRead, NeedsTheSame, IsFilled, IsReadFault};
+ghost use Rattle.page_store.specs.StoreState.{HasRead, NeedsTheSame, IsFilled, IsReadFault, most_levels};
 ghost use Rattle.page_store.specs.Counting.{CountsReads};
 ghost use Rattle.page_store.specs.Batch.{value_at, pair_after};
 ghost use Rattle.common_types.specs.CrashStates.{AddsNone};
@@ -20,6 +21,13 @@ use crate::tree_root::TreeRoot;
 use page_alloc::Pin;
 use page_store::{KeeperFault, PinFault, PinKeeper};
 use sector_device::Device;
+
+/// Whether none of these is a tree.
+fn are_none(trees: &[Option<TreeRoot>]) -> bool
+    ensures { result ≡ list_all is_none trees.now }
+{
+    trees.iter().all(|tree| tree.is_none())
+}
 
 impl<D: Device> TreeKeeper<D> {
     /// The tree that a pin keeps.
@@ -40,6 +48,10 @@ impl<D: Device> PinKeeper for TreeKeeper<D> {
     ghost number = { λ pin. pin };
 
     ghost few_pins = { λ k. few_out (D.state k.device).disk.view k.slot.root.pages k.ledger k.pinned k.pins };
+
+    fn is_unpinned(&self) -> bool {
+        are_none(&self.pinned)
+    }
 
     fn pin(&mut self) -> Result<Pin, PinFault> {
         if !self.usable {
@@ -77,8 +89,10 @@ impl<D: Device> PinKeeper for TreeKeeper<D> {
         ensures unchanged { (held D.state self.old).usable ≡ false → held D.state self.new ≡ held D.state self.old }
         ensures at_crash { IsTrue (held D.state self.old).honest → AddsNone (crash_states_of D.moment D.possible_since (device_of self.old)) (crash_states_of D.moment D.possible_since (device_of self.new)) }
 
-        // Of the pinned tree.
-        ensures work { IfSome (slice_index_or (pinned_by self.old) pin.now None) (λ tree. MadeIfOk result (8 * tree.height) 0 0 (D.state (device_of self.old)) (D.state (device_of self.new))) }
+        ensures work { ReadsPages most_levels (held D.state self.old).made (held D.state self.new).made }
+
+        // One page of each level of the pinned tree is read.
+        ensures each_level { IfSome (slice_index_or (pinned_by self.old) pin.now None) (λ tree. MadeIfOk result (8 * tree.height) 0 0 (D.state (device_of self.old)) (D.state (device_of self.new))) }
     {
         if !self.usable {
             return Err(KeeperFault::Failed);
@@ -110,8 +124,10 @@ impl<D: Device> PinKeeper for TreeKeeper<D> {
         ensures unchanged { (held D.state self.old).usable ≡ false → held D.state self.new ≡ held D.state self.old }
         ensures at_crash { IsTrue (held D.state self.old).honest → AddsNone (crash_states_of D.moment D.possible_since (device_of self.old)) (crash_states_of D.moment D.possible_since (device_of self.new)) }
 
-        // Of the pinned tree.
-        ensures work { IfSome (slice_index_or (pinned_by self.old) pin.now None) (λ tree. MadeAtMost (8 * pages_tried tree.height) 0 0 (D.state (device_of self.old)) (D.state (device_of self.new))) }
+        ensures work { ReadsPages (pages_tried most_levels) (held D.state self.old).made (held D.state self.new).made }
+
+        // By the levels of the pinned tree.
+        ensures by_levels { IfSome (slice_index_or (pinned_by self.old) pin.now None) (λ tree. MadeAtMost (8 * pages_tried tree.height) 0 0 (D.state (device_of self.old)) (D.state (device_of self.new))) }
     {
         if !self.usable {
             return Err(KeeperFault::Failed);

@@ -6,7 +6,7 @@ ghost use Rattle.page_store.specs.Steps.{crash_states_of};
 ghost use Rattle.page_store.specs.Content.{Found};
 ghost use Rattle.page_store.specs.Batch.{pair_after};
 ghost use Rattle.page_store.specs.StoreState.{IsFilled};
-ghost use Rattle.cow_tree.specs.Work.{pages_tried};
+ghost use Rattle.page_store.specs.Work.{pages_tried};
 ghost use Rattle.cow_tree.specs.Walks.{ReadsPages};
 ghost use Rattle.cow_tree.specs.Ways.{IsAnswer};
 ghost use Rattle.cow_tree.specs.PinnedTrees.{IsRootedAt, tree_at};

@@ -1,5 +1,6 @@
 // What a commit is to write, worked out whole before anything is written.
-ghost use Rattle.std.specs.Prelude.{◌≡◌, ◌≤◌, ◌<◌, ◌+◌, ◌-◌, ◌^◌, ℕ, List, IsTrue, OnErr, IfOk, IfErr, All, length, min};
+ghost use Rattle.std.specs.Prelude.{◌≡◌, ◌≤◌, ◌<◌, ◌+◌, ◌-◌, ◌*◌, ◌^◌, ℕ, List, IsTrue, OnErr, IfOk, IfErr, All, length, min};
+ghost use Rattle.sector_device.specs.Effects.{MadeAtMost};
 ghost use Rattle.page_store.specs.Content.{is_tree_version};
 ghost use Rattle.page_alloc.specs.LedgerState.{free_count, is_alive};
 ghost use Rattle.page_store.specs.Sectors.{Image};
@@ -138,6 +139,8 @@ pub(crate) fn plan_commit<D: Device>(
     ensures refused { OnErr result (ledger.new ≡ ledger.old) }
     ensures fault { IfErr result (IsPlanFault (free_count ledger.old) (λ need. IsTrue (D.state device.old).honest → (pairs : List Pair) → Starts slot.now (D.state device.old).disk.view pairs ledger.old → NeedsPages slot.now (D.state device.old).disk.view batch.now need)) }
     ensures reads { IsCountedRead D.state (crash_states_of D.moment D.possible_since) device.old device.new result }
+    // For each edit a page of each level is read at most.
+    ensures work { MadeAtMost (8 * (most_levels * length batch.now)) 0 0 (D.state device.old) (D.state device.new) }
 {
     let draft = match draft_batch(alloc, device, ledger, slot, batch) {
         Ok(draft) => draft,

@@ -1,12 +1,13 @@
 // The calls of a keeper of a tree.
 ghost use Rattle.std.specs.Prelude.{◌≡◌, ◌≤◌, ◌<◌, ◌+◌, ◌⊎◌, ℕ, [], true, false, IsTrue, OnOk, IfOk, IfErr, IfSome, IsErrOf, length, option_map, take, ◌*◌};
-ghost use Rattle.cow_tree.specs.Work.{pages_tried, WritesPages, WritesAtMost};
-ghost use Rattle.sector_device.specs.Effects.{MadeAtMost, MadeIfOk};
+ghost use Rattle.page_store.specs.Work.{ReadsPages, CommitsWithin, pages_tried};
+ghost use Rattle.cow_tree.specs.Work.{WritesPages};
+ghost use Rattle.sector_device.specs.Effects.{MadeIfOk};
 ghost use Rattle.common_types.specs.CrashStates.{AddsOnly, AddsNone};
 ghost use Rattle.page_store.specs.Sectors.{Image, page_of};
 ghost use Rattle.page_store.specs.Batch.{is_batch, updated, value_at, pair_after};
 ghost use Rattle.page_store.specs.Counting.{CountsReads, CountsWrites};
-ghost use Rattle.page_store.specs.StoreState.{SoManyPages, HasRead, HasTried, NeedsTheSame, IsFilled, IsReadFault, IsCommitFault, numbers_out, last_generation};
+ghost use Rattle.page_store.specs.StoreState.{SoManyPages, HasRead, HasTried, NeedsTheSame, IsFilled, IsReadFault, IsCommitFault, numbers_out, last_generation, most_levels};
 ghost use Rattle.page_store.specs.declared.fault.KeeperFault.TheVariants.{Failed, Spent};
 ghost use Rattle.page_store.specs.Steps.{crash_states_of};
 ghost use Rattle.cow_tree.specs.Needs.{MayNeed};
@@ -78,8 +79,10 @@ impl<D: Device> Keeper for TreeKeeper<D> {
         ensures unchanged { (held D.state self.old).usable ≡ false → held D.state self.new ≡ held D.state self.old }
         ensures at_crash { IsTrue (held D.state self.old).honest → AddsNone (crash_states_of D.moment D.possible_since (device_of self.old)) (crash_states_of D.moment D.possible_since (device_of self.new)) }
 
+        ensures work { ReadsPages (held D.state self.old).height (held D.state self.old).made (held D.state self.new).made }
+
         // One page of each level is read.
-        ensures work { MadeIfOk result (8 * (slot_of self.old).root.height) 0 0 (D.state (device_of self.old)) (D.state (device_of self.new)) }
+        ensures each_level { MadeIfOk result (8 * (slot_of self.old).root.height) 0 0 (D.state (device_of self.old)) (D.state (device_of self.new)) }
 
         // The leaf that a walk has kept stays, so that the walk goes on from it.
         ensures leaf { kept_by self.new ≡ kept_by self.old }
@@ -115,7 +118,7 @@ impl<D: Device> Keeper for TreeKeeper<D> {
         ensures from_kept { IfOk result (λ found. option_map (λ n. (take n.0 key.new, take n.1 value.new)) found ≡ pair_after (kept_by self.new) after.now) }
         // Where the tree has a level, that leaf has a pair: a walk doesn't end because a page gives none.
         ensures some { OnOk result (0 < (slot_of self.new).root.height → kept_by self.new ≡ [] → ⊥) }
-        ensures work { MadeAtMost (8 * pages_tried (slot_of self.old).root.height) 0 0 (D.state (device_of self.old)) (D.state (device_of self.new)) }
+        ensures work { ReadsPages (pages_tried (held D.state self.old).height) (held D.state self.old).made (held D.state self.new).made }
         ensures unread { IsTrue (has_next (kept_by self.old) after.now) → (device_of self.new ≡ device_of self.old) × (kept_by self.new ≡ kept_by self.old) }
     {
         if !self.usable {
@@ -168,9 +171,9 @@ impl<D: Device> Keeper for TreeKeeper<D> {
         ensures unheld { IsTrue (held D.state self.old).honest → (held D.state self.old).usable ≡ true → WritesNoPinnedPage (pinned_by self.old) (D.state (device_of self.old)).disk.view (D.state (device_of self.new)).disk.view
             (crash_states_of D.moment D.possible_since (device_of self.old)) (crash_states_of D.moment D.possible_since (device_of self.new)) }
 
-        // So many pages as the batch needs and a root are written, with two syncs. A refusal has written no more.
-        ensures work { OnOk result ((n : ℕ) × (n ≤ (held D.state self.old).free) × (IsTrue (held D.state self.old).honest → MayNeed (slot_of self.old) (D.state (device_of self.old)) batch.now (SoManyPages n)) × WritesPages n (D.state (device_of self.old)) (D.state (device_of self.new))) }
-        ensures work_on_fault { IfErr result (λ e. WritesAtMost (held D.state self.old).free (D.state (device_of self.old)) (D.state (device_of self.new))) }
+        // So many pages as the batch needs and a root are written, with two syncs.
+        ensures written { OnOk result ((n : ℕ) × (IsTrue (held D.state self.old).honest → MayNeed (slot_of self.old) (D.state (device_of self.old)) batch.now (SoManyPages n)) × WritesPages n (D.state (device_of self.old)) (D.state (device_of self.new))) }
+        ensures work { CommitsWithin (most_levels * length batch.now) (held D.state self.old).free (held D.state self.old).made (held D.state self.new).made }
     {
         if !self.usable {
             return Err(KeeperFault::Failed);

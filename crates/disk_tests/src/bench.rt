@@ -1,5 +1,5 @@
 // What the lines of a run share, and which call a word names.
-use crate::crashes::{disk_of, in_memory};
+use crate::crashes::{device_under, disk_of, in_memory, keeper_under};
 use crate::line::{Line, copy, number};
 use crate::lying::{stored_and_told, switched};
 use crate::tested::{TestedDisk, disk_under, failing_once, fused, lying, plain};
@@ -75,8 +75,8 @@ impl Held {
             Held::Disk(disk) => Ok(plain(disk)),
             Held::Device(device) => Ok(device),
             Held::Flat(keeper) => Ok(keeper.into_device()),
-            Held::Tree(keeper) => Ok(keeper.into_device()),
-            Held::Site(site) => Ok(site.into_keeper().into_device()),
+            Held::Tree(keeper) => device_under(keeper),
+            Held::Site(site) => device_under(keeper_under(site)?),
             _ => Err(Trouble::Line),
         }
     }
@@ -174,10 +174,10 @@ impl Bench {
     fn turn(&mut self) -> Result<(), Trouble> {
         match mem::replace(&mut self.held, Held::Nothing) {
             Held::Site(site) => {
-                self.held = Held::Tree(site.into_keeper());
+                self.held = Held::Tree(keeper_under(site)?);
                 Ok(())
             }
-            Held::Tree(keeper) => self.open_tree(keeper.into_device()),
+            Held::Tree(keeper) => self.open_tree(device_under(keeper)?),
             _ => Err(Trouble::Line),
         }
     }

@@ -13,7 +13,7 @@ use host_on_disk::{open_site, run_on, run_over};
 use host_types::{Admin, Bytes, Host, SiteKeeper, Stamp, Title};
 use image_commands::compact_image;
 use mem_site::MemSite;
-use page_store::Keeper;
+use page_store::{Keeper, PinKeeper};
 use sector_device::{Device, FuseDisk, MemDisk};
 use site_store::DiskSite;
 use std::alloc::Global;
@@ -34,6 +34,24 @@ pub fn kept<D: Device + Drop>(alloc: Global, device: D) -> Result<TreeKeeper<D>,
         Ok(keeper) => Ok(keeper),
         Err((fault, _)) => Err(Trouble::from(fault)),
     }
+}
+
+/// The keeper of a site, of which no pin is to be out.
+pub fn keeper_under<D: Device + Drop>(
+    site: DiskSite<TreeKeeper<D>>,
+) -> Result<TreeKeeper<D>, Trouble> {
+    if !site.is_unpinned() {
+        return Err(Trouble::Wrong("a pin is out"));
+    }
+    Ok(site.into_keeper())
+}
+
+/// The device of a keeper, of which no pin is to be out.
+pub fn device_under<D: Device + Drop>(keeper: TreeKeeper<D>) -> Result<D, Trouble> {
+    if !keeper.is_unpinned() {
+        return Err(Trouble::Wrong("a pin is out"));
+    }
+    Ok(keeper.into_device())
 }
 
 /// The site on a disk. No pin of it is out.
@@ -86,7 +104,7 @@ fn pairs_left(
 ) -> Result<(Vec<Bytes>, MemDisk), Trouble> {
     let mut keeper = keeper;
     let pairs = pairs_of(alloc, &mut keeper)?;
-    let left = keeper.into_device().after_stop(alloc, &[])?;
+    let left = device_under(keeper)?.after_stop(alloc, &[])?;
     Ok((pairs, MemDisk::of(alloc, left)?))
 }
 
@@ -97,7 +115,7 @@ fn outcomes_on_disk(
     events: &[Event],
 ) -> Result<OutcomeList, Trouble> {
     let (outcomes, site) = ran(alloc, opened(alloc, disk_of(alloc, image)?)?, events)?;
-    let (pairs, left) = pairs_left(alloc, site.into_keeper())?;
+    let (pairs, left) = pairs_left(alloc, keeper_under(site)?)?;
     let (again, _) = pairs_left(alloc, opened(alloc, left)?.into_keeper())?;
     match again.as_slice() == pairs.as_slice() {
         true => Ok(outcomes),
@@ -121,7 +139,7 @@ pub fn kept_and_used(alloc: Global, disk: MemDisk, used: &[Event]) -> Result<Vec
     let mut keeper = kept(alloc, disk)?;
     let mut pairs = pairs_of(alloc, &mut keeper)?;
     pairs.push(Bytes::from_slice(alloc, keeper.banner().host.as_bytes())?)?;
-    let (outcomes, _) = ran(alloc, opened(alloc, keeper.into_device())?, used)?;
+    let (outcomes, _) = ran(alloc, opened(alloc, device_under(keeper)?)?, used)?;
     for outcome in outcomes.as_slice() {
         if matches!(outcome, Outcome::Fault(_)) {
             return Err(Trouble::Wrong("the site is not used"));

@@ -39,7 +39,7 @@ mod upgrades;
 
 use bench::{Bench, call};
 use line::{Line, fields_of, number, text_of};
-use refused::{kept, noted, written_often};
+use refused::{disk_under, kept, noted, written_often};
 use std::alloc::{AllocError, Global};
 use std::io;
 use std::io::Write;
@@ -48,7 +48,7 @@ use std::io::Write;
 fn shown_at_last(alloc: Global) -> Result<(u8, usize, u8, u32, usize), &'static str> {
     let (shown, calls) = written_often(alloc)?;
     let (byte, keeper) = kept(alloc)?;
-    let (length, found) = noted(alloc, keeper.into_device())?;
+    let (length, found) = noted(alloc, disk_under(keeper)?)?;
     Ok((shown, calls, byte, length, found))
 }
 

@@ -5,7 +5,7 @@ use host_on_disk::{OpenFault, open_site};
 use host_types::{
     Bytes, Card, CardBody, Change, Item, Selector, SiteFault, SiteKeeper, Stamp, Title,
 };
-use page_store::{Keeper, KeeperFault};
+use page_store::{Keeper, KeeperFault, PinKeeper};
 use sector_device::{Device, MemDisk};
 use site_store::DiskSite;
 use std::alloc::Global;
@@ -90,6 +90,14 @@ fn keeper_on(alloc: Global, disk: MemDisk) -> Result<TreeKeeper<MemDisk>, &'stat
     }
 }
 
+/// The disk of a keeper, of which no pin is to be out.
+pub fn disk_under(keeper: TreeKeeper<MemDisk>) -> Result<MemDisk, &'static str> {
+    if !keeper.is_unpinned() {
+        return Err("a pin is out");
+    }
+    Ok(keeper.into_device())
+}
+
 /// Puts a byte at the key `k`, or takes it away. A commit that finds no memory changes nothing, or fails as the disk does, and then for good.
 fn put(
     alloc: Global,
@@ -102,7 +110,7 @@ fn put(
         Ok(()) => return Ok(keeper),
         Err(KeeperFault::Memory) if found(&mut keeper) == before => {}
         Err(KeeperFault::Failed) if found(&mut keeper) == Err(KeeperFault::Failed) => {
-            keeper = keeper_on(alloc, keeper.into_device())?;
+            keeper = keeper_on(alloc, disk_under(keeper)?)?;
         }
         Err(_) => return Err("another fault of a commit"),
     }
@@ -176,7 +184,7 @@ pub fn noted(alloc: Global, disk: MemDisk) -> Result<(u32, usize), &'static str>
     match put_note(alloc, &mut site) {
         Ok(()) => {}
         Err(fault) => {
-            if fault == SiteFault::Failed && !site.is_usable() {
+            if fault == SiteFault::Failed && !site.is_usable() && site.is_unpinned() {
                 site = site_on(alloc, site.into_keeper().into_device())?;
             } else if fault != SiteFault::Memory || note_length(&mut site).is_some() {
                 return Err("another fault of a change");

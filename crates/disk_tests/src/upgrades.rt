@@ -1,5 +1,5 @@
 // Images of version 1, and what becomes of them.
-use crate::crashes::{disk_of, kept, kept_after, kept_and_used, sets_of};
+use crate::crashes::{device_under, disk_of, kept, kept_after, kept_and_used, sets_of};
 use crate::disks::unsynced;
 use crate::keepers::pairs_of;
 use crate::made::change;
@@ -57,7 +57,7 @@ pub fn in_version_1(
     let pairs = pairs_of(alloc, &mut keeper)?;
     let mut first = kept(alloc, empty(alloc, pages, keeper.banner())?)?;
     put_lowered(alloc, &mut first, &pairs)?;
-    Ok(first.into_device().after_stop(alloc, &[])?)
+    Ok(device_under(first)?.after_stop(alloc, &[])?)
 }
 
 /// Whether the image on a disk was upgraded, and the disk.

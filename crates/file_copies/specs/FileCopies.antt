@@ -18,7 +18,7 @@ use Rattle.image_commands.specs.Faults.{of_device}
 use Rattle.image_commands.specs.declared.fault.ImageFault.{ImageFault}
 use Rattle.image_commands.specs.declared.fault.ImageFault.TheVariants as images
 use Rattle.image_copies.specs.Copies.{HasCount, IsCopied}
-use Rattle.image_copies.specs.CopyFaults.{IsNotPlanned, IsNotWritten}
+use Rattle.image_copies.specs.CopyFaults.{IsNotPlanned, IsNotCopiedWhole}
 use Rattle.image_copies.specs.declared.fault.CopyFault.{CopyFault}
 use Rattle.image_copies.specs.declared.fault.CopyFault.TheVariants as copies
 
@@ -43,7 +43,7 @@ of_new_file devices.Memory = copies.Image (of_device devices.Memory)
 -- ---- the new file
 
 -- The new image was written, got its name, and that was made sure of.
-pub record IsNamed (s : Site) (count : ℕ) (new : List ℕ) (written : FileHistory) (asked now : List NameCall) (line : List ℕ) : Type 0 where
+pub record IsNamedNew (s : Site) (count : ℕ) (new : List ℕ) (written : FileHistory) (asked now : List NameCall) (line : List ℕ) : Type 0 where
   pub copied : IsCopied s count line (file_state written).disk.view
   pub sure : AllAre (file_crash_states written) (file_state written).disk.view
   pub names : now ≡ asked ++ Renamed (part_of new) new true ∷ Synced new true ∷ []
@@ -51,14 +51,14 @@ pub record IsNamed (s : Site) (count : ℕ) (new : List ℕ) (written : FileHist
 -- It was not written, and no name was changed. Or it was, and could not be given its name, or not be made sure to have it.
 abbrev pub IsNotNamed : Site → ℕ → List ℕ → FileHistory → FileHistory → List NameCall → List NameCall → CopyFault → Type 0
 IsNotNamed s count new created written asked now fault =
-    (IsNotWritten count (file_state created) (file_state written) fault × (now ≡ asked))
+    (IsNotCopiedWhole count (file_state created) (file_state written) fault × (now ≡ asked))
     ⊎ ((fault ≡ copies.Failed) × ((line : List ℕ) × IsCopied s count line (file_state written).disk.view)
     × ((now ≡ asked ++ Renamed (part_of new) new false ∷ []) ⊎ (now ≡ asked ++ Renamed (part_of new) new true ∷ Synced new false ∷ [])))
 
 -- what came of the new image
-abbrev pub Names : Site → ℕ → List ℕ → FileHistory → FileHistory → List NameCall → List NameCall → Result (List ℕ) CopyFault → Type 0
-Names s count new created written asked now (Ok line) = IsNamed s count new written asked now line
-Names s count new created written asked now (Err fault) = IsNotNamed s count new created written asked now fault
+abbrev pub NamesOf : Site → ℕ → List ℕ → FileHistory → FileHistory → List NameCall → List NameCall → Result (List ℕ) CopyFault → Type 0
+NamesOf s count new created written asked now (Ok line) = IsNamedNew s count new written asked now line
+NamesOf s count new created written asked now (Err fault) = IsNotNamed s count new created written asked now fault
 
 -- A file was made beside the new one's name, with as many sectors as the pages have, let go of behind that as `written`, and this is what came of it. No other file was opened as a device.
 pub record OnNewFile (s : Site) (count : ℕ) (new : List ℕ) (before after : List FileUse) (asked now : List NameCall) (given : Result (List ℕ) CopyFault) : Type 0 where
@@ -68,7 +68,7 @@ pub record OnNewFile (s : Site) (count : ℕ) (new : List ℕ) (before after : L
   pub part : created.path ≡ part_of new
   pub calls : IsOpened (SetLength (512 * (8 * count)) ∷ Lock ∷ Create ∷ []) created
   pub unused : IsUnused created
-  pub names : Names s count new created written asked now given
+  pub names : NamesOf s count new created written asked now given
 
 -- No such file was had, and no name was changed.
 pub record NotOnNewFile (new : List ℕ) (before after : List FileUse) (asked now : List NameCall) (given : Result (List ℕ) CopyFault) : Type 0 where
@@ -92,7 +92,7 @@ pub record IsNotReady (pages : Option ℕ) (between after : List FileUse) (asked
   pub names : now ≡ asked
 
 -- Its one site is ready to be written in so many pages, and this is what came of the new file.
-pub record IsReady (pages : Option ℕ) (new : List ℕ) (between after : List FileUse) (asked now : List NameCall) (given : Result (List ℕ) CopyFault) (opened left : FileHistory) : Type 0 where
+pub record IsReadyToCopy (pages : Option ℕ) (new : List ℕ) (between after : List FileUse) (asked now : List NameCall) (given : Result (List ℕ) CopyFault) (opened left : FileHistory) : Type 0 where
   pub site : Site
   pub stands : ImageRepresents (file_state opened).disk.view site
   pub alone : (s : Site) → ImageRepresents (file_state opened).disk.view s → s ≡ site
@@ -106,34 +106,12 @@ pub record ComesOfOld (new : List ℕ) (pages : Option ℕ) (before after : List
   pub between : List FileUse
   pub used : after ≡ between ++ Left left ∷ []
   pub unwritten : AddsNone (file_crash_states opened) (file_crash_states left)
-  pub came : IsNotReady pages before between asked now given opened left ⊎ IsReady pages new before between asked now given opened left
+  pub came : IsNotReady pages before between asked now given opened left ⊎ IsReadyToCopy pages new before between asked now given opened left
 
--- The file of the old image was opened, and this is what came of it.
-pub record OnOldFile (image new : List ℕ) (pages : Option ℕ) (before after : List FileUse) (asked now : List NameCall) (given : Result (List ℕ) CopyFault) : Type 0 where
-  pub opened : FileHistory
-  pub named : opened.path ≡ image
-  pub calls : IsOpened (Lock ∷ Open ∷ []) opened
-  pub unused : IsUnused opened
-  pub came : ComesOfOld new pages (before ++ Opened opened ∷ []) after asked now given opened
-
--- There is no such file that can be had, or no memory for it; or none for the name beside the new one, and no file was asked for.
-pub record NotOnOldFile (image : List ℕ) (before after : List FileUse) (asked now : List NameCall) (given : Result (List ℕ) CopyFault) : Type 0 where
-  pub fault : ImageFault
-  pub there : (fault ≡ images.NoFile) ⊎ (fault ≡ images.Memory)
-  pub given_is : given ≡ Err (copies.Image fault)
-  pub used : (after ≡ before ++ NotOpened image ∷ []) ⊎ ((fault ≡ images.Memory) × (after ≡ before))
-  pub names : now ≡ asked
-
--- ---- the whole command
+-- ---- the new name
 
 -- what is said where there may be a file of the new name
 abbrev pub IsRefused : Look → CopyFault → Type 0
 IsRefused looks.There fault = fault ≡ copies.There
 IsRefused looks.Missing fault = ⊥
 IsRefused looks.Unknown fault = fault ≡ copies.NoFile
-
--- The new file was looked for. Where it may be there nothing else is asked of the system. Else the old image was opened or not had, and this is what came of it.
-abbrev pub CopiesFile : List ℕ → List ℕ → Option ℕ → List FileUse → List FileUse → List NameCall → List NameCall → Result (List ℕ) CopyFault → Type 0
-CopiesFile image new pages before after asked now given =
-    ((answer : Look) × (fault : CopyFault) × IsRefused answer fault × (given ≡ Err fault) × (after ≡ before) × (now ≡ asked ++ Looked new answer ∷ []))
-    ⊎ (OnOldFile image new pages before after (asked ++ Looked new looks.Missing ∷ []) now given ⊎ NotOnOldFile image before after (asked ++ Looked new looks.Missing ∷ []) now given)

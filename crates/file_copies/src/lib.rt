@@ -4,4 +4,5 @@
 mod copying;
 mod new_file;
 
-pub use copying::copy_file;
+pub use copying::copy_opened;
+pub use new_file::{expect_missing, part_name};

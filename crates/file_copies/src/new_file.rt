@@ -8,7 +8,7 @@ ghost use Rattle.file_names.specs.declared.names.Look.TheVariants.{Missing};
 ghost use Rattle.image_copies.specs.Copies.{IsCopyOf};
 ghost use Rattle.image_copies.specs.declared.fault.CopyFault.TheVariants.{Failed};
 ghost use Rattle.file_copies.specs.FileCopies as spec;
-ghost use Rattle.file_copies.specs.FileCopies.{part_of, text_of, IsRefused, Names, MakesNew};
+ghost use Rattle.file_copies.specs.FileCopies.{part_of, text_of, IsRefused, NamesOf, MakesNew};
 
 use file_device::{FileDevice, UsedFiles};
 use file_names::{Look, NameLog, look_for, rename, sync_folder};
@@ -19,18 +19,14 @@ use std::alloc::{AllocError, Global};
 use std::fs::{File, Files};
 
 /// The name under which a new image is written.
-pub(crate) fn part_name(alloc: Global, new: &str) -> Result<String, AllocError>
+pub fn part_name(alloc: Global, new: &str) -> Result<String, AllocError>
     ensures { IfOk result (λ part. string_bytes part ≡ part_of new.now) }
 {
     format!(in alloc; "{new}.part")
 }
 
 /// Refuses where there may be a file of this name.
-pub(crate) fn expect_missing<R: Files>(
-    files: &R,
-    names: &mut NameLog,
-    new: &str,
-) -> Result<(), CopyFault>
+pub fn expect_missing<R: Files>(files: &R, names: &mut NameLog, new: &str) -> Result<(), CopyFault>
     ensures missing { OnOk result (names.new.calls ≡ names.old.calls ++ Looked new.now Missing ∷ []) }
     ensures refused { IfErr result (λ e. (answer : Answer) × IsRefused answer e × (names.new.calls ≡ names.old.calls ++ Looked new.now answer ∷ [])) }
 {
@@ -79,7 +75,7 @@ fn write_new<R: Files + AllocGlobal>(
     part: &str,
     new: &str,
 ) -> Result<String, CopyFault>
-    ensures { (s : Site) (count : ℕ) → IsCopyOf s count copy.now → part.now ≡ part_of new.now → Names s count new.now device.old device.new names.old.calls names.new.calls (text_of string_bytes result) }
+    ensures { (s : Site) (count : ℕ) → IsCopyOf s count copy.now → part.now ≡ part_of new.now → NamesOf s count new.now device.old device.new names.old.calls names.new.calls (text_of string_bytes result) }
 {
     let line = match copy.write(rt.alloc(), device) {
         Ok(line) => line,

@@ -4,7 +4,7 @@ use Rattle.sector_device.specs.Disk.{Disk}
 use Rattle.file_device.specs.FileCalls.{is_sound, disk_of}
 use Rattle.file_device.specs.Opening.{AreRead, IsUnread}
 use Rattle.file_device.specs.declared.file_call.FileCall.{FileCall}
-use Rattle.file_device.specs.declared.file_call.FileCall.TheVariants.{Sync, DropCache, Length, Read}
+use Rattle.file_device.specs.declared.file_call.FileCall.TheVariants.{OpenToRead, Sync, DropCache, Length, Read}
 
 -- so many sectors, nothing is listed, and nothing has failed
 pub record AreThere (n : ℕ) (calls : List FileCall) : Type 0 where
@@ -33,3 +33,7 @@ there (suc n) before calls unread read = rw read.2 (one_more n read.0 read.1 (th
 -- the calls before the first read leave it so
 pub still_unread : (bytes : ℕ) (before calls : List FileCall) → IsUnread before → calls ≡ Length bytes ∷ DropCache ∷ Sync ∷ before → IsUnread calls
 still_unread bytes before calls unread is = rw is (record { disk = rw unread.sound (rw unread.disk refl); sound = unread.sound })
+
+-- nothing was read of a file that was opened for reads alone, and whose length was asked for
+pub unread_yet : (bytes : ℕ) (opened calls : List FileCall) → opened ≡ OpenToRead ∷ [] → calls ≡ Length bytes ∷ opened → IsUnread calls
+unread_yet bytes opened calls o is = rw is (rw o (record { disk = refl; sound = refl }))

@@ -6,7 +6,7 @@ use Rattle.sector_device.specs.Device.{Elapses}
 use Rattle.sector_device.specs.Images.{image_listed, image_written}
 use Rattle.file_device.specs.FileCalls.{grown, after, is_sound, disk_of, PossibleSince}
 use Rattle.file_device.specs.declared.file_call.FileCall.{FileCall}
-use Rattle.file_device.specs.declared.file_call.FileCall.TheVariants.{Open, Create, Lock, SetLength, Sync, DropCache, ReadAhead, Length, Read, Write, FailedWrite, FailedSync}
+use Rattle.file_device.specs.declared.file_call.FileCall.TheVariants.{Open, OpenToRead, Create, Lock, SetLength, Sync, DropCache, ReadAhead, Length, Read, Write, FailedWrite, FailedSync}
 
 get_grown : (xs : List (List ℕ)) (n : ℕ) (x b : List ℕ) → slice_get xs n ≡ Some x → slice_get (xs ++ b ∷ []) n ≡ Some x
 get_grown [] n x b h = absurd cc
@@ -38,6 +38,7 @@ good_grown b d g = record {
 
 good_after : (sound : Bool) (call : FileCall) (d : Disk) → IsGood d → IsGood (after sound call d)
 good_after sound Open d g = g
+good_after sound OpenToRead d g = g
 good_after sound Create d g = g
 good_after sound Lock d g = g
 good_after sound (SetLength bytes) d g = g

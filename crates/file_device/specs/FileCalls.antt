@@ -5,7 +5,7 @@ use Rattle.sector_device.specs.CallsMade.{CallsMade, with_call}
 use Rattle.sector_device.specs.Device.{State}
 use Rattle.sector_device.specs.declared.call_counts.CallKind.TheVariants as kinds
 use Rattle.file_device.specs.declared.file_call.FileCall.{FileCall}
-use Rattle.file_device.specs.declared.file_call.FileCall.TheVariants.{Open, Create, Lock, SetLength, Sync, DropCache, ReadAhead, Length, Read, Write, FailedWrite, FailedSync}
+use Rattle.file_device.specs.declared.file_call.FileCall.TheVariants.{Open, OpenToRead, Create, Lock, SetLength, Sync, DropCache, ReadAhead, Length, Read, Write, FailedWrite, FailedSync}
 
 -- how a call is noted, by its answer
 abbrev pub noted : {T E : Type 0} → Result T E → FileCall → FileCall → FileCall
@@ -15,6 +15,7 @@ noted (Err _) done failed = failed
 -- a write or a sync that failed
 abbrev pub is_failure : FileCall → Bool
 is_failure Open = false
+is_failure OpenToRead = false
 is_failure Create = false
 is_failure Lock = false
 is_failure (SetLength bytes) = false
@@ -40,6 +41,7 @@ grown bytes d = record { base = d.base ++ bytes ∷ []; writes = d.writes; view 
 -- nothing: a system may have dropped what was written, and answer that all is well.
 abbrev pub after : Bool → FileCall → Disk → Disk
 after sound Open d = d
+after sound OpenToRead d = d
 after sound Create d = d
 after sound Lock d = d
 after sound (SetLength bytes) d = d

@@ -3,7 +3,7 @@ use Rattle.std.specs.Prelude.{◌≡◌, ℕ, zero, suc, ◌/◌, true, false, I
 use Rattle.sector_device.specs.CallsMade.{none_made}
 use Rattle.file_device.specs.FileCalls.{FileHistory, is_sound, no_sectors, disk_of, noted}
 use Rattle.file_device.specs.declared.file_call.FileCall.{FileCall}
-use Rattle.file_device.specs.declared.file_call.FileCall.TheVariants.{Sync, DropCache, ReadAhead, Length, Read}
+use Rattle.file_device.specs.declared.file_call.FileCall.TheVariants.{OpenToRead, Sync, DropCache, ReadAhead, Length, Read}
 
 -- no sector was read or written yet, and nothing has failed
 pub record IsUnread (calls : List FileCall) : Type 0 where
@@ -21,6 +21,11 @@ pub record IsOpened (before : List FileCall) (d : FileHistory) : Type 0 where
   pub until_read : List FileCall
   pub read : AreRead (bytes / 512) (Length bytes ∷ DropCache ∷ Sync ∷ before) until_read
   pub renewed : d.calls ≡ ReadAhead ∷ DropCache ∷ until_read
+
+-- The file was opened for reads alone, its length was asked for, and each whole sector of that length was read. It was not locked.
+pub record IsOpenedToRead (d : FileHistory) : Type 0 where
+  pub bytes : ℕ
+  pub read : AreRead (bytes / 512) (Length bytes ∷ OpenToRead ∷ []) d.calls
 
 -- A device over a file of which nothing was asked yet: nothing is listed, reads give the base, and nothing has failed.
 pub record IsUnused (d : FileHistory) : Type 0 where

@@ -4,6 +4,8 @@
 pub enum FileCall {
     /// A file that was there was opened.
     Open,
+    /// A file that was there was opened for reads alone.
+    OpenToRead,
     /// A file was opened that was there, or else was made.
     Create,
     /// An exclusive lock was taken.

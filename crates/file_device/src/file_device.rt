@@ -7,7 +7,7 @@ ghost use Rattle.sector_device.specs.declared.device.DeviceFault.TheVariants.{De
 ghost use Rattle.common_types.specs.Counts.{counted};
 ghost use Rattle.file_device.specs.FileCalls.{disk_of, file_state, asked, PossibleSince};
 ghost use Rattle.file_device.specs.FileCallLaws.{good, only_images, all_images};
-ghost use Rattle.file_device.specs.Opening.{AreRead, IsUnread, IsOpened, IsUnused, Asks};
+ghost use Rattle.file_device.specs.Opening.{AreRead, IsUnread, IsOpened, IsOpenedToRead, IsUnused, Asks};
 ghost use Rattle.file_device.specs.declared.file_call.FileCall.{FileCall as CallValue};
 ghost use Rattle.file_device.specs.declared.file_call.FileCall.TheVariants.{Open, Create, Lock, SetLength, Sync, DropCache, ReadAhead, Length, Write, FailedWrite, FailedSync};
 
@@ -17,6 +17,9 @@ use std::alloc::Global;
 use std::fs::{File, Files};
 use std::io;
 use std::marker::Model;
+
+/// How many bytes a sector has.
+const SECTOR: u64 = 512;
 
 /// How many sectors an opening reads by one call: 1 MB.
 const PIECE: usize = 2048;
@@ -58,7 +61,7 @@ fn gives_up(is_sound: &mut bool, failed_writes: &mut u64) -> DeviceFault
     DeviceFault::Device
 }
 
-/// MadeExactly sure of a file, has the system let go of what it keeps of it, and gives its length in bytes.
+/// Makes sure of a file, has the system let go of what it keeps of it, and gives its length in bytes.
 fn sync_and_measure(file: &mut ImageFile) -> io::Result<u64>
     ensures { IfOk result (λ bytes. file.new.made.calls ≡ Length bytes ∷ DropCache ∷ Sync ∷ file.old.made.calls) }
 {
@@ -147,6 +150,37 @@ impl FileDevice {
         FileDevice::over(rt.alloc(), path, file)
     }
 
+    /// Opens a file for reads alone, also where another device has it open, and reads all of it. Where nobody writes to it meanwhile, its sectors are as they were at one moment. The system refuses each write of such a device. It is `NoFile` where any call of the file
+    /// fails, and `Memory` where there is none for the file's bytes.
+    pub(crate) fn open_to_read<R: Files<File = File> + AllocGlobal>(
+        rt: &R,
+        path: &str,
+    ) -> Result<FileDevice, DeviceFault>
+        ensures opened { IfOk result (λ d. IsOpenedToRead d) }
+        ensures named { IfOk result (λ d. d.path ≡ path.now) }
+        ensures unused { IfOk result (λ d. IsUnused d) }
+        ensures fault { IfErr result (λ e. (e ≡ NoFile) ⊎ (e ≡ Memory)) }
+    {
+        let Ok(path) = String::from_str(rt.alloc(), path) else {
+            return Err(DeviceFault::Memory);
+        };
+        let Ok(mut file) = ImageFile::open_to_read(rt, &path) else {
+            return Err(DeviceFault::NoFile);
+        };
+        let Ok(length) = file.length() else {
+            return Err(DeviceFault::NoFile);
+        };
+        let view = read_all(rt.alloc(), &mut file, length / SECTOR)?;
+        Ok(FileDevice {
+            path,
+            file,
+            view,
+            is_sound: true,
+            failed_writes: 0,
+            made: CallCounts::new(),
+        })
+    }
+
     /// Opens a file, as `open` does, which is made where it isn't there, and has this many sectors from then on: what it had within them stays, and what is
     /// new is zeros.
     pub(crate) fn create<R: Files<File = File> + AllocGlobal>(
@@ -160,7 +194,7 @@ impl FileDevice {
         ensures size { IfOk result (λ d. length (disk_of d.calls).base ≡ sectors) }
         ensures fault { IfErr result (λ e. (e ≡ NoFile) ⊎ (e ≡ Memory)) }
     {
-        let Some(length) = sectors.checked_mul(512) else {
+        let Some(length) = sectors.checked_mul(SECTOR) else {
             return Err(DeviceFault::NoFile);
         };
         let Ok(mut file) = ImageFile::create(rt, path) else {
@@ -176,7 +210,7 @@ impl FileDevice {
         Ok(device)
     }
 
-    /// MadeExactly sure of a file of which no sector was read yet, reads all of it, and has the system keep it by small pieces.
+    /// Makes sure of a file of which no sector was read yet, reads all of it, and has the system keep it by small pieces.
     fn over(alloc: Global, path: &str, file: ImageFile) -> Result<FileDevice, DeviceFault>
         requires { IsUnread file.made.calls }
         ensures opened { IfOk result (λ d. IsOpened file.made.calls d) }
@@ -191,7 +225,7 @@ impl FileDevice {
         let Ok(length) = sync_and_measure(&mut file) else {
             return Err(DeviceFault::NoFile);
         };
-        let view = read_all(alloc, &mut file, length / 512)?;
+        let view = read_all(alloc, &mut file, length / SECTOR)?;
         let Ok(()) = renew_cache(&mut file) else {
             return Err(DeviceFault::NoFile);
         };

@@ -2,7 +2,7 @@
 // a file that grows as its length. That it makes the call which it notes, no clause can say: so each is short, and tests on a real file hold it.
 ghost use Rattle.std.specs.Prelude.{◌≡◌, ◌*◌, ◌+◌, ◌<◌, ◌^◌, [], ◌∷◌, IfOk, OnOk, length};
 ghost use Rattle.file_device.specs.FileCalls.{noted, read_calls};
-ghost use Rattle.file_device.specs.declared.file_call.FileCall.TheVariants.{Open, Create, Lock, SetLength, Sync, DropCache, ReadAhead, Length, Write, FailedWrite, FailedSync};
+ghost use Rattle.file_device.specs.declared.file_call.FileCall.TheVariants.{Open, OpenToRead, Create, Lock, SetLength, Sync, DropCache, ReadAhead, Length, Write, FailedWrite, FailedSync};
 
 use crate::FileCall;
 use crate::record::Record;
@@ -51,7 +51,17 @@ impl ImageFile {
         Ok(ImageFile { file, made })
     }
 
-    /// The same of a file that is made where it isn't there.
+    /// Opens a file for reads alone.
+    pub(crate) fn open_to_read<R: Files<File = File>>(rt: &R, path: &str) -> io::Result<ImageFile>
+        ensures { IfOk result (λ file. file.made.calls ≡ OpenToRead ∷ []) }
+    {
+        let file = File::options().read(true).open(rt, path)?;
+        let mut made = Record::new();
+        made.note(FileCall::OpenToRead);
+        Ok(ImageFile { file, made })
+    }
+
+    /// The same as `open` of a file that is made where it isn't there.
     pub(crate) fn create<R: Files<File = File>>(rt: &R, path: &str) -> io::Result<ImageFile>
         ensures { IfOk result (λ file. file.made.calls ≡ Create ∷ []) }
     {

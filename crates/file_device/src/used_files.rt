@@ -5,7 +5,7 @@ ghost use Rattle.sector_device.specs.declared.device.DeviceFault.TheVariants.{No
 ghost use Rattle.file_device.specs.FileCalls.{disk_of};
 ghost use Rattle.file_device.specs.FileUses as spec;
 ghost use Rattle.file_device.specs.FileUses.{FileUse, use_of, NotOpened, Left};
-ghost use Rattle.file_device.specs.Opening.{IsOpened, IsUnused};
+ghost use Rattle.file_device.specs.Opening.{IsOpened, IsOpenedToRead, IsUnused};
 ghost use Rattle.file_device.specs.declared.file_call.FileCall.TheVariants.{Open, Create, Lock, SetLength};
 
 use crate::FileDevice;
@@ -99,6 +99,19 @@ impl<'a, R: Files<File = File> + AllocGlobal> UsedFiles<'a, R> {
         ensures fault { IfErr result (λ e. (e ≡ NoFile) ⊎ (e ≡ Memory)) }
     {
         let given = FileDevice::open(self.rt, path);
+        self.log.note_asked(path, &given);
+        given
+    }
+
+    /// Opens a file as a device for reads alone, also where another device has it open: `FileDevice::open_to_read`.
+    pub fn open_to_read(&mut self, path: &str) -> Result<FileDevice, DeviceFault>
+        ensures noted { self.new.log.uses ≡ self.old.log.uses ++ spec.asked_for path.now result ∷ [] }
+        ensures opened { IfOk result (λ d. IsOpenedToRead d) }
+        ensures named { IfOk result (λ d. d.path ≡ path.now) }
+        ensures unused { IfOk result (λ d. IsUnused d) }
+        ensures fault { IfErr result (λ e. (e ≡ NoFile) ⊎ (e ≡ Memory)) }
+    {
+        let given = FileDevice::open_to_read(self.rt, path);
         self.log.note_asked(path, &given);
         given
     }

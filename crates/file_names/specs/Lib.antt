@@ -1,1 +1,2 @@
 pub mod NameCalls
+pub mod Lacks

@@ -5,6 +5,7 @@ ghost use Rattle.std.specs.Borrow.{ftrue};
 ghost use Rattle.file_names.specs.NameCalls as spec;
 ghost use Rattle.file_names.specs.NameCalls.{NameCall, call_of};
 
+use crate::Lack;
 use std::fs::{File, Files, OpenFile};
 use std::io::ErrorKind;
 use std::marker::Model;
@@ -27,6 +28,8 @@ pub enum Look {
 pub(crate) enum NameKind {
     /// Whether a file is there.
     Looked(Look),
+    /// Why a file can't be had.
+    Lacked(Lack),
     /// A file got another name, or didn't.
     Renamed(bool),
     /// The names in the folder of a file were made sure of, or weren't.
@@ -59,7 +62,7 @@ impl NameLog {
     }
 
     /// Notes a call that was made.
-    fn note(&mut self, kind: NameKind, name: &str, other: &str)
+    pub(crate) fn note(&mut self, kind: NameKind, name: &str, other: &str)
         ensures { self.new.calls ≡ self.old.calls ++ call_of kind name.now other.now ∷ [] }
     {
         *self = NameLog::with(self, &kind, name.as_bytes(), other.as_bytes());

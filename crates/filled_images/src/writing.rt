@@ -1,7 +1,7 @@
 // Writing an image in filled pages.
 ghost use Rattle.std.specs.Prelude.{◌≡◌, ◌≢◌, ◌≤◌, ◌+◌, ◌*◌, ℕ, List, true, IsTrue, OnOk, IfErr, length};
 ghost use Rattle.sector_device.specs.Device.{NothingCounted};
-ghost use Rattle.sector_device.specs.Effects.{IsSameDevice, WriteOutcome};
+ghost use Rattle.sector_device.specs.Effects.{IsSameDevice, WriteOutcome, MadeIfOk};
 ghost use Rattle.page_store.specs.Pages.{Pair};
 ghost use Rattle.page_store.specs.Batch.{is_map};
 ghost use Rattle.page_store.specs.Content.{is_tree_version};
@@ -22,6 +22,7 @@ impl FilledImage {
         requires fits { 8 * self.now.slot.root.pages ≤ (D.state device.old).size }
         ensures written { IsTrue (D.state device.old).honest → OnOk result (IsFirstWritten self.now.pages.items self.now.root (D.state device.old).disk.view (D.state device.new).disk.view × AllAre (crash_states_of D.moment D.possible_since device.new) (D.state device.new).disk.view) }
         ensures outcome { WriteOutcome result (D.state device.old) (D.state device.new) }
+        ensures work { MadeIfOk result 0 (16 + 8 * length self.now.pages.items) 1 (D.state device.old) (D.state device.new) }
     {
         let cleared = [0; 4096];
         write_page(device, 1, &cleared)?;
@@ -41,6 +42,8 @@ impl FilledImage {
         ensures counts { OnOk result (NothingCounted (D.state device.old) (D.state device.new)) }
         ensures unwritten { IfErr result (λ e. e ≢ Failed → device.new ≡ device.old) }
         ensures same { IsSameDevice (D.state device.old) (D.state device.new) }
+        // Each page of the tree is written once, and both root slots, with one sync.
+        ensures work { (count : ℕ) (banner : Banner) (pairs : List Pair) → IsImageOf count banner pairs self.now → MadeIfOk result 0 (16 + 8 * pages_for pairs) 1 (D.state device.old) (D.state device.new) }
     {
         if 8 * u64::from(self.slot.root.pages) > device.sectors() {
             return Err(KeeperFault::Small);

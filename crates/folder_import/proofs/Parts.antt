@@ -65,3 +65,19 @@ made_more f g old new k so_far =
     let further : map g (map f (range_with_len 0 (k + 1))) ≡ map g (map f (range_with_len 0 k)) ++ g (f k) ∷ []
     = ap (λ ns. map g (map f ns)) (range_next k) ∙ ap (map g) (map-append f (range_with_len 0 k) (k ∷ [])) ∙ map-append g (map f (range_with_len 0 k)) (f k ∷ []) in
     ap (λ xs. xs ++ g (f k) ∷ []) so_far ∙ append_assoc old (map g (map f (range_with_len 0 k))) (g (f k) ∷ []) ∙ ap (λ xs. old ++ xs) (sym further)
+
+take_range : (a k n : ℕ) → k ≤ n → take k (range_with_len a n) ≡ range_with_len a k
+take_range a zero n few = refl
+take_range a (suc k) zero few = absurd (omega (arith, few))
+take_range a (suc k) (suc n) few = ap (λ ns. a ∷ ns) (take_range (a + 1) k n (omega (arith, few)))
+
+take_map : {A B : Type 0} (f : A → B) (k : ℕ) (xs : List A) → take k (map f xs) ≡ map f (take k xs)
+take_map f zero xs = refl
+take_map f (suc k) [] = refl
+take_map f (suc k) (x ∷ xs) = ap (λ ys. f x ∷ ys) (take_map f k xs)
+
+-- what is made of the first numbers is the front of all
+pub front_of : {A B : Type 0} (f : ℕ → A) (g : A → B) (old new : List B) (k n : ℕ) → k ≤ n → new ≡ old ++ map g (map f (range_with_len 0 k)) → (m : ℕ) × (new ≡ old ++ map g (take m (map f (range_with_len 0 n))))
+front_of f g old new k n few so_far =
+    let front : take k (map f (range_with_len 0 n)) ≡ map f (range_with_len 0 k) = take_map f k (range_with_len 0 n) ∙ ap (map f) (take_range 0 k n few) in
+    (k, so_far ∙ ap (λ xs. old ++ map g xs) (sym front))

@@ -1,11 +1,11 @@
 -- The entry of a menu that a line of a gophermap says.
-use Rattle.std.specs.Prelude.{ℕ, Bool, List, Option, Some, None, Result, Ok, Err}
+use Rattle.std.specs.Prelude.{ℕ, List, Option, Some, None, Result, Ok, Err}
 use Rattle.common_types.specs.Names.{name_of, is_field, is_word, is_url}
 use Rattle.common_types.specs.declared.refused.Refused.{Refused}
 use Rattle.host_types.specs.declared.menu.Entry.{Entry}
 use Rattle.host_types.specs.declared.menu.Entry.TheVariants as entries
 use Rattle.host_types.specs.declared.menu.LinkKind.{LinkKind}
-use Rattle.gophermap.specs.Line.{Place, Line, Info, Title, Link, Entry as Item, Comment, Listing, End}
+use Rattle.gophermap.specs.Line.{Line, Info, Title, Link, Entry as Item, Comment, Listing, End}
 use Rattle.folder_import.specs.Selectors.{resolved}
 use Rattle.folder_import.specs.declared.fault.ImportFault.{ImportFault}
 use Rattle.folder_import.specs.declared.fault.ImportFault.TheVariants as faults

@@ -1,13 +1,13 @@
 -- Worked examples of sorts of files, selectors, entries and pages.
-use Rattle.std.specs.Prelude.{◌≡◌, ℕ, List, [], ◌∷◌, codes, replicate, length, map, Some, None, Ok, Err}
+use Rattle.std.specs.Prelude.{◌≡◌, [], codes, replicate, length, Some, None, Ok, Err}
 use Rattle.common_types.specs.declared.refused.Refused.TheVariants.{BadName}
 use Rattle.host_types.specs.declared.menu.Entry.TheVariants.{Local, Info, Remote}
 use Rattle.host_types.specs.declared.menu.LinkKind.TheVariants as links
-use Rattle.gophermap.specs.Line.{Place, Entry as Item, Comment}
+use Rattle.gophermap.specs.Line.{Entry as Item, Comment}
 use Rattle.folder_import.specs.Formats.{ending, endings, known_in}
 use Rattle.folder_import.specs.Selectors.{child, resolved}
 use Rattle.folder_import.specs.Entries.{entry_of}
-use Rattle.folder_import.specs.Pages.{page_count, page, page_name, linked}
+use Rattle.folder_import.specs.Pages.{page_count, page_name, linked}
 use Rattle.folder_import.specs.declared.documents.Sort.TheVariants as sorts
 use Rattle.folder_import.specs.declared.fault.ImportFault.TheVariants as faults
 

@@ -2,4 +2,10 @@ pub mod Formats
 pub mod Selectors
 pub mod Entries
 pub mod Pages
+pub mod Found
+pub mod LeftOut
+pub mod Parts
+pub mod Menus
+pub mod Folders
+pub mod Taken
 pub mod ImportExamples

@@ -4,13 +4,20 @@
 mod documents;
 mod entries;
 mod fault;
+mod found;
+mod found_parts;
+mod importing;
 mod laws;
+mod left_out;
+mod menus;
 mod pages;
 mod selectors;
 
 pub use documents::{Sort, document, sort_of};
 pub use entries::entry_of;
 pub use fault::ImportFault;
-pub use laws::worked_examples;
+pub use found::{Content, Folder, Found, Reason, newest_first};
+pub use importing::{Import, import_folder};
+pub use laws::{documents_are_taken, worked_examples};
 pub use pages::put_menu;
 pub use selectors::{child, resolved};

@@ -1,5 +1,5 @@
 // A menu of any length, as pages that a site takes.
-ghost use Rattle.std.specs.Prelude.{◌≡◌, ◌++◌, ◌<◌, ◌^◌, Ok, Err, IfOk, OnOk, length, map};
+ghost use Rattle.std.specs.Prelude.{◌≡◌, ◌++◌, ◌<◌, ◌^◌, ℕ, Ok, Err, IfOk, OnOk, length, map, take};
 ghost use Rattle.change_file.specs.declared.fault.FileChange.TheVariants.{Change as FileChange};
 ghost use Rattle.common_types.specs.Names.{name_of, is_field};
 ghost use Rattle.folder_import.specs.Pages as spec;
@@ -96,7 +96,8 @@ pub fn put_menu(
     title: &Title,
     entries: &[Entry],
 ) -> Result<(), ImportFault>
-    ensures { OnOk result (writer.new ≡ writer.old ++ map (λ c. FileChange c) (spec.menu_changes at.now title.now entries.now)) }
+    ensures put { OnOk result (writer.new ≡ writer.old ++ map (λ c. FileChange c) (spec.menu_changes at.now title.now entries.now)) }
+    ensures front { (n : ℕ) × (writer.new ≡ writer.old ++ map (λ c. FileChange c) (take n (spec.menu_changes at.now title.now entries.now))) }
 {
     for number in 0..page_count(entries.len()) {
         let item = menu_item(alloc, title.clone()?, linked(alloc, at, entries, number)?);

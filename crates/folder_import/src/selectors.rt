@@ -19,6 +19,13 @@ fn joined(alloc: Global, front: &[u8], behind: &[u8]) -> Result<Vec<u8>, AllocEr
     Ok(all)
 }
 
+/// The path of a file below that of its folder, whatever its name is.
+pub fn path_of(alloc: Global, folder: &Selector, name: &[u8]) -> Result<Vec<u8>, AllocError>
+    ensures { IfOk result (λ v. v.items ≡ folder.now ++ 47 ∷ name.now) }
+{
+    joined(alloc, folder.as_bytes(), name)
+}
+
 /// The bytes without the slash at their end, where they have one.
 fn without_slash(bytes: &[u8]) -> &[u8]
     ensures { result.now ≡ spec.without_slash bytes.now }

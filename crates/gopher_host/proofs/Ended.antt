@@ -9,6 +9,8 @@ use Rattle.file_device.specs.declared.file_call.FileCall.TheVariants.{Open, Lock
 use Rattle.host_on_disk.specs.OpenFaults.{HandsBack}
 use Rattle.image_commands.specs.declared.fault.ImageFault.{ImageFault}
 use Rattle.gopher_host.specs.Endings.{GivesAs, text_of, given_beside, device_beside}
+use Rattle.admin_socket.specs.SocketCalls.{SocketCall}
+use Rattle.gopher_host.specs.Held.{HasImage, ReadsImage}
 use Rattle.gopher_host.specs.ImageFiles.{OpensThen, AnswersAs, IsUnwritten, file_crash_states}
 use Rattle.gopher_host.specs.declared.fault.Fault.{Fault}
 
@@ -61,3 +63,8 @@ pub opened_then : {X Untouched : Type 0} (image : List ℕ) (before between now 
     between ≡ before ++ Opened opened ∷ [] → now ≡ between ++ Left left ∷ [] → opened.path ≡ image → IsOpened (Lock ∷ Open ∷ []) opened → IsUnused opened → Holds opened left → OpensThen image before now result Untouched Holds
 opened_then image before between now opened left result Holds first second named calls unused holds =
     inr (record { opened = opened; left = left; used = two_more before between now (Opened opened) (Left left) first second; named = named; calls = calls; unused = unused; holds = holds })
+
+-- an image that was read was had and let go of
+pub read_then : {X Untouched : Type 0} (image : List ℕ) (before between now : List FileUse) (none sockets : List SocketCall) (opened left : FileHistory) (result : Result X Fault) (Holds : FileHistory → FileHistory → Type 0) →
+    HasImage image before between none sockets (Ok opened) → now ≡ between ++ Left left ∷ [] → Holds opened left → ReadsImage image before now none sockets result Untouched Holds
+read_then image before between now none sockets opened left result Holds had used holds = inr (record { opened = opened; left = left; between = between; had = had; used = used; holds = holds })

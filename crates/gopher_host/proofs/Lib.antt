@@ -1,5 +1,6 @@
 pub mod Ended
 pub mod Applied
+pub mod AskedInstead
 pub mod Moments
 pub mod Readings
 pub mod Written
@@ -8,3 +9,6 @@ pub mod Formatted
 pub mod Scripts
 pub mod ItemsRead
 pub mod Clocks
+pub mod Advised
+pub mod HeldImages
+pub mod Named

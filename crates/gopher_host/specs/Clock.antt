@@ -21,7 +21,7 @@ IsMoment None before after now = TellsMoment before after now
 -- this holds where the task makes no change at a moment
 abbrev pub IfNoMoment : Task → Type 0 → Type 0
 IfNoMoment (task.Format image site pages now) Holds = Unit {0}
-IfNoMoment (task.Apply image file now) Holds = Unit {0}
+IfNoMoment (task.Apply image file now socket) Holds = Unit {0}
 IfNoMoment (task.Init image site pages now) Holds = Unit {0}
-IfNoMoment (task.Remove image selectors) Holds = Unit {0}
+IfNoMoment (task.Remove image selectors socket) Holds = Unit {0}
 IfNoMoment other Holds = Holds

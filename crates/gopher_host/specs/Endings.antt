@@ -34,8 +34,8 @@ GivesAs as_fault (Ok text) contents old new (Err fault) = fault ≡ output_fault
 GivesAs as_fault (Err refused) contents old new (Ok _) = ⊥
 GivesAs as_fault (Err refused) contents old new (Err fault) = (fault ≡ as_fault refused) × (new ≡ old)
 
-abbrev pub Gives : {W X : Type 0} → Result (List ℕ) ImageFault → (W → Option (List ℕ)) → W → W → Result X Fault → Type 0
-Gives given contents old new result = GivesAs (λ fault. Image fault) given contents old new result
+abbrev pub PrintsGiven : {W X : Type 0} → Result (List ℕ) ImageFault → (W → Option (List ℕ)) → W → W → Result X Fault → Type 0
+PrintsGiven given contents old new result = GivesAs (λ fault. Image fault) given contents old new result
 
 -- The line of a count is printed and nothing else, or standard output took no more, or there was no memory for the line; or a fault is answered, and nothing is printed.
 abbrev pub GivesCount : {I E W X : Type 0} → Result (Result ℕ I) E → (ℕ → List ℕ) → (I → Fault) → (E → Fault) → (W → Option (List ℕ)) → W → W → Result X Fault → Type 0

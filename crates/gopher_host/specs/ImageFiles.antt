@@ -1,5 +1,5 @@
 -- What commands do with the image in a file, and what they print.
-use Rattle.std.specs.Prelude.{◌≡◌, ◌⊎◌, ◌++◌, ℕ, List, [], ◌∷◌, Option, Result, Ok, Err, IfOk, IfErr}
+use Rattle.std.specs.Prelude.{◌≡◌, ◌⊎◌, ◌++◌, ℕ, Bool, true, false, List, [], ◌∷◌, Option, Result, Ok, Err, IfOk, IfErr}
 use Rattle.common_types.specs.CrashStates.{CrashStates, AddsNone}
 use Rattle.page_store.specs.Sectors.{Image}
 use Rattle.page_store.specs.Steps.{crash_states_of}
@@ -7,14 +7,17 @@ use Rattle.file_device.specs.FileCalls.{FileHistory, file_state, PossibleSince}
 use Rattle.file_device.specs.FileUses.{FileUse, Opened, NotOpened, Left}
 use Rattle.file_device.specs.Opening.{IsOpened, IsUnused}
 use Rattle.file_device.specs.declared.file_call.FileCall.TheVariants.{Open, Lock}
-use Rattle.image_commands.specs.Compacted.{KeepsSite, IsWrittenAnew, IsCompactingFault, MayHaveWritten}
+use Rattle.image_commands.specs.Compacted.{KeepsOneSite, IsWrittenAnew, IsCompactingFault, MayHaveWritten}
 use Rattle.image_commands.specs.Faults.{IsReadingFault}
 use Rattle.image_commands.specs.Lines.{IsChecked}
-use Rattle.image_commands.specs.Listing.{IsShown}
+use Rattle.image_commands.specs.Listing.{IsListing}
+use Rattle.image_commands.specs.declared.listing.ListForm.{ListForm}
+use Rattle.image_commands.specs.declared.listing.ListForm.TheVariants.{Short, Long}
 use Rattle.image_commands.specs.Upgraded.{IsUpgradedImage, IsUpgradingFault}
 use Rattle.image_commands.specs.declared.fault.ImageFault.{ImageFault}
 use Rattle.image_commands.specs.declared.fault.ImageFault.TheVariants.{NoFile, Memory}
 use Rattle.host_on_disk.specs.Upgrades.{KeepsEither}
+use Rattle.image_exports.specs.Exports.{IsExported}
 use Rattle.std.specs.Prelude.{length}
 use Rattle.gopher_host.specs.Endings.{GivesAs}
 use Rattle.gopher_host.specs.Faults.{ended}
@@ -55,37 +58,48 @@ pub record AnswersAs {W X : Type 0} (as_fault : ImageFault → Fault) (Is : List
   pub is : IfOk given Is
   pub caused : IfErr given IsCause
 
-abbrev pub Answers : {W X : Type 0} → (List ℕ → Type 0) → (ImageFault → Type 0) → (W → Option (List ℕ)) → W → W → Result X Fault → Type 0
-Answers Is IsCause contents old new result = AnswersAs (λ fault. faults.Image fault) Is IsCause contents old new result
+abbrev pub AnswersWith : {W X : Type 0} → (List ℕ → Type 0) → (ImageFault → Type 0) → (W → Option (List ℕ)) → W → W → Result X Fault → Type 0
+AnswersWith Is IsCause contents old new result = AnswersAs (λ fault. faults.Image fault) Is IsCause contents old new result
 
 -- nothing was written
 abbrev pub IsUnwritten : FileHistory → FileHistory → Type 0
 IsUnwritten opened left = AddsNone (file_crash_states opened) (file_crash_states left)
 
--- the listing of its site
-abbrev pub Shows : {W X : Type 0} → (W → Option (List ℕ)) → W → W → Result X Fault → FileHistory → FileHistory → Type 0
-Shows contents old new result opened left =
-    Answers (λ text. IsShown (file_state opened).disk.view text) (λ fault. IsReadingFault (file_state opened) (file_state left) fault) contents old new result
+-- at length or not
+abbrev pub form_of : Bool → ListForm
+form_of true = Long
+form_of false = Short
+
+-- the listing of its site, in a form
+abbrev pub ListsImage : {W X : Type 0} → ListForm → (W → Option (List ℕ)) → W → W → Result X Fault → FileHistory → FileHistory → Type 0
+ListsImage form contents old new result opened left =
+    AnswersWith (λ text. IsListing form (file_state opened).disk.view text) (λ fault. IsReadingFault (file_state opened) (file_state left) fault) contents old new result
+    × IsUnwritten opened left
+
+-- the file of changes of its site
+abbrev pub Exports : {W X : Type 0} → (W → Option (List ℕ)) → W → W → Result X Fault → FileHistory → FileHistory → Type 0
+Exports contents old new result opened left =
+    AnswersWith (λ text. IsExported (file_state opened).disk.view text) (λ fault. IsReadingFault (file_state opened) (file_state left) fault) contents old new result
     × IsUnwritten opened left
 
 -- the line of its figures
 abbrev pub Checks : {W X : Type 0} → (W → Option (List ℕ)) → W → W → Result X Fault → FileHistory → FileHistory → Type 0
 Checks contents old new result opened left =
-    Answers (λ text. (line : List ℕ) × (text ≡ ended line) × IsChecked file_state file_crash_states opened line) (λ fault. IsReadingFault (file_state opened) (file_state left) fault) contents old new result
+    AnswersWith (λ text. (line : List ℕ) × (text ≡ ended line) × IsChecked file_state file_crash_states opened line) (λ fault. IsReadingFault (file_state opened) (file_state left) fault) contents old new result
     × IsUnwritten opened left
 
 -- The line of its free pages, once its site is written anew. Where a fault comes nothing was written; or it may have been, and a crash leaves the same site.
 abbrev pub Compacts : {W X : Type 0} → (W → Option (List ℕ)) → W → W → Result X Fault → FileHistory → FileHistory → Type 0
 Compacts contents old new result opened left =
     AnswersAs (λ fault. faults.Compact fault)
-    (λ text. (line : List ℕ) × (text ≡ ended line) × KeepsSite file_state file_crash_states opened left × IsWrittenAnew (file_state left).disk.view line)
-    (λ fault. IsCompactingFault (file_state opened) (file_state left) fault × (IsUnwritten opened left ⊎ (MayHaveWritten fault × KeepsSite file_state file_crash_states opened left)))
+    (λ text. (line : List ℕ) × (text ≡ ended line) × KeepsOneSite file_state file_crash_states opened left × IsWrittenAnew (file_state left).disk.view line)
+    (λ fault. IsCompactingFault (file_state opened) (file_state left) fault × (IsUnwritten opened left ⊎ (MayHaveWritten fault × KeepsOneSite file_state file_crash_states opened left)))
     contents old new result
 
 -- The line of how many records an upgrade wrote. A fault as above: the same site, in version 1 or 2.
-abbrev pub Upgrades : {W X : Type 0} → (W → Option (List ℕ)) → W → W → Result X Fault → FileHistory → FileHistory → Type 0
-Upgrades contents old new result opened left =
-    Answers
+abbrev pub UpgradesImage : {W X : Type 0} → (W → Option (List ℕ)) → W → W → Result X Fault → FileHistory → FileHistory → Type 0
+UpgradesImage contents old new result opened left =
+    AnswersWith
     (λ text. (line : List ℕ) × (text ≡ ended line) × IsUpgradedImage file_state file_crash_states opened left line)
     (λ fault. IsUpgradingFault (file_state opened) (file_state left) fault × (IsUnwritten opened left ⊎ (MayHaveWritten fault × KeepsEither file_state file_crash_states opened left)))
     contents old new result

@@ -1,3 +1,6 @@
+pub mod Advice
+pub mod Asked
+pub mod Held
 pub mod Faults
 pub mod Endings
 pub mod NewImages
@@ -6,6 +9,10 @@ pub mod CopiedFiles
 pub mod Tasks
 pub mod ProgressTexts
 pub mod Served
+pub mod Unread
 pub mod Kept
 pub mod Clock
 pub mod Items
+pub mod Imports
+pub mod Lacking
+pub mod Naming

@@ -61,7 +61,7 @@ asked_at site pages now = behind (moment_of now) (asked_for site pages)
 -- ---- what is made
 
 -- A file of this name was created with as many sectors as the pages have, and let go of behind that. Reads of what was left give the first image of just this site, and so does a crash at any moment from then on. No other file was opened as a device.
-pub record IsMade (image : List ℕ) (site : NewSite) (pages now : ℕ) (before after : List FileUse) : Type 0 where
+pub record IsNewImage (image : List ℕ) (site : NewSite) (pages now : ℕ) (before after : List FileUse) : Type 0 where
   pub names : SiteNames
   pub sectors : ℕ
   pub asked : asked_for site pages ≡ Ok (names, sectors)
@@ -89,28 +89,28 @@ pub record IsNotFormatted (image : List ℕ) (pages : ℕ) (before after : List 
   pub caused : IsFormatFault pages (file_state created) (file_state left) cause
 
 -- Why no image was made: what is asked for is wrong, or there is no memory, and no file was asked for; there is no such file, or no memory for it; or the file was had, and an image could not be made there.
-abbrev pub IsNotMade : {A : Type 0} → Result A ImageFault → List ℕ → ℕ → List FileUse → List FileUse → ImageFault → Type 0
-IsNotMade asked image pages before after fault =
+abbrev pub IsNoNewImage : {A : Type 0} → Result A ImageFault → List ℕ → ℕ → List FileUse → List FileUse → ImageFault → Type 0
+IsNoNewImage asked image pages before after fault =
     (((asked ≡ Err fault) ⊎ (fault ≡ Memory)) × (after ≡ before))
     ⊎ ((IsNotThere fault × (after ≡ before ++ NotOpened image ∷ [])) ⊎ IsNotFormatted image pages before after fault)
 
 -- Nothing is done where what is asked for is wrong. Else an image was made, and the line of its pages is printed or standard output took no more; or it was not, for its cause, and nothing is printed.
 pub record Formats {W X : Type 0} (contents : W → Option (List ℕ)) (image : List ℕ) (site : NewSite) (pages now : ℕ) (before after : List FileUse) (old new : W) (result : Result X Fault) : Type 0 where
   pub asked : (e : ImageFault) → asked_at site pages now ≡ Err e → (result ≡ Err (faults.Image e)) × (new ≡ old) × (after ≡ before)
-  pub made : OnOk result (IsMade image site pages now before after)
+  pub made : OnOk result (IsNewImage image site pages now before after)
   pub printed : OnOk result (Appends (contents old) (contents new) (ended (formatted_line pages)))
-  pub fault : IfErr result (λ e. ((e ≡ output_fault) × IsMade image site pages now before after) ⊎ ((new ≡ old) × (cause : ImageFault) × (e ≡ faults.Image cause) × IsNotMade (asked_at site pages now) image pages before after cause))
+  pub fault : IfErr result (λ e. ((e ≡ output_fault) × IsNewImage image site pages now before after) ⊎ ((new ≡ old) × (cause : ImageFault) × (e ≡ faults.Image cause) × IsNoNewImage (asked_at site pages now) image pages before after cause))
 
 -- ---- a file that must not be there
 
 -- what is answered where there may be a file of the name
-abbrev pub IsTaken : Look → Fault → Type 0
-IsTaken looks.There fault = fault ≡ faults.There
-IsTaken looks.Missing fault = ⊥
-IsTaken looks.Unknown fault = fault ≡ faults.Image NoFile
+abbrev pub IsTakenFile : Look → Fault → Type 0
+IsTakenFile looks.There fault = fault ≡ faults.There
+IsTakenFile looks.Missing fault = ⊥
+IsTakenFile looks.Unknown fault = fault ≡ faults.Image NoFile
 
 -- The file was looked for, of which `asked` and `told` are what the system was asked about names. Where it may be there that is answered, and nothing else is done. Else an image is made, as `format` does.
 abbrev pub Inits : {W X : Type 0} → (W → Option (List ℕ)) → List ℕ → NewSite → ℕ → ℕ → List FileUse → List FileUse → List NameCall → List NameCall → W → W → Result X Fault → Type 0
 Inits contents image site pages now before after asked told old new result =
-    ((answer : Look) × (fault : Fault) × IsTaken answer fault × (result ≡ Err fault) × (told ≡ asked ++ Looked image answer ∷ []) × (after ≡ before) × (new ≡ old))
+    ((answer : Look) × (fault : Fault) × IsTakenFile answer fault × (result ≡ Err fault) × (told ≡ asked ++ Looked image answer ∷ []) × (after ≡ before) × (new ≡ old))
     ⊎ ((told ≡ asked ++ Looked image looks.Missing ∷ []) × Formats contents image site pages now before after old new result)

@@ -14,43 +14,59 @@ use Rattle.image_commands.specs.declared.fault.ImageFault.{ImageFault}
 use Rattle.socket_wires.specs.declared.system_clock.ClockReading.{ClockReading}
 use Rattle.image_server.specs.declared.listening.ListenCall.{ListenCall}
 use Rattle.ready_sockets.specs.DoorCalls.{DoorCall}
+use Rattle.ready_sockets.specs.declared.terms.LogForm.{LogForm}
+use Rattle.ready_sockets.specs.declared.terms.LogForm.TheVariants.{Own, Common}
+use Rattle.ready_sockets.specs.declared.terms.Terms.{Terms}
+use Rattle.admin_socket.specs.SocketCalls.{SocketCall}
+use Rattle.command_words.specs.declared.words.SocketPlace.{SocketPlace}
 use Rattle.command_words.specs.declared.words.Task.{Task}
 use Rattle.command_words.specs.declared.words.Task.TheVariants as task
+use Rattle.gopher_host.specs.Asked.{socket_name}
 use Rattle.gopher_host.specs.Clock.{IsMoment, TellsMoment}
 use Rattle.gopher_host.specs.CopiedFiles.{CopiesTo}
-use Rattle.gopher_host.specs.ImageFiles.{OpensThen, Shows, Checks, Compacts, Upgrades}
+use Rattle.gopher_host.specs.Held.{ReadsImage}
+use Rattle.gopher_host.specs.ImageFiles.{OpensThen, Exports, ListsImage, form_of, Checks, Compacts, UpgradesImage}
+use Rattle.gopher_host.specs.Imports.{Imports}
 use Rattle.gopher_host.specs.Items.{NamesItem, Gets, ListsPosts}
-use Rattle.gopher_host.specs.Kept.{ReadsThen, Applies, Drops}
+use Rattle.gopher_host.specs.Kept.{ReadsThen, AppliesOrAsks, Drops}
+use Rattle.gopher_host.specs.Naming.{EndsNamed, file_line, names_line}
 use Rattle.gopher_host.specs.NewImages.{moment_of, Formats, Inits}
-use Rattle.gopher_host.specs.Served.{Visits, ServesRounds, ReplaysFile, RepliesToAll}
+use Rattle.gopher_host.specs.Served.{VisitsOrNoGate, RunsRounds, ReplaysFile, RepliesToAll}
 use Rattle.gopher_host.specs.declared.fault.Fault.{Fault}
 use Rattle.gopher_host.specs.declared.fault.Fault.TheVariants as faults
 
--- changes are made at a moment
-abbrev pub AppliesAt : {W X : Type 0} → (W → Option (List ℕ)) → List ℕ → ℕ → List FileUse → List FileUse → W → W → Result X Fault → Type 0
-AppliesAt contents image now before after old new result =
-    ((e : ImageFault) → moment_of now ≡ Err e → (result ≡ Err (faults.Image e)) × (new ≡ old) × (after ≡ before))
-    × OnOk (moment_of now) (ReadsThen result ((new ≡ old) × (after ≡ before)) (λ changes. OpensThen image before after result (new ≡ old) (Applies contents now old new result changes)))
+-- changes are made at a moment, or a server is asked for them
+abbrev pub AppliesAt : {W X : Type 0} → (W → Option (List ℕ)) → List ℕ → List ℕ → ℕ → List FileUse → List FileUse → List SocketCall → List SocketCall → W → W → Result X Fault → Type 0
+AppliesAt contents image name now before after none sockets old new result =
+    ((e : ImageFault) → moment_of now ≡ Err e → (result ≡ Err (faults.Image e)) × (new ≡ old) × (after ≡ before) × (sockets ≡ none))
+    × OnOk (moment_of now) (ReadsThen result ((new ≡ old) × (after ≡ before) × (sockets ≡ none)) (λ file changes. EndsNamed (file_line file) (AppliesOrAsks contents image name now before after none sockets old new file changes) result))
 
 -- What a command on an image did with files and printed, whatever it answers; `first` and `read` are the clock's readings before it and behind it. Of sessions it stands below.
 abbrev pub RunsCommand : {W X : Type 0} → (W → Option (List ℕ)) → Task → List ClockReading → List ClockReading → List FileUse → List FileUse → W → W → Result X Fault → Type 0
 RunsCommand contents (task.Format image site pages given) first read before after old new result = (now : ℕ) × IsMoment given first read now × Formats contents image.now site pages now before after old new result
-RunsCommand contents (task.Apply image file given) first read before after old new result = (now : ℕ) × IsMoment given first read now × AppliesAt contents image.now now before after old new result
+RunsCommand contents (task.Apply image file given socket) first read before after old new result = (now : ℕ) × IsMoment given first read now × (none : List SocketCall) × (sockets : List SocketCall) × (none ≡ []) × AppliesAt contents image.now (socket_name (option_copied socket) image.now) now before after none sockets old new result
 RunsCommand contents (task.Init image site pages given) first read before after old new result = (now : ℕ) × IsMoment given first read now × (asked : List NameCall) × (told : List NameCall) × (asked ≡ []) × Inits contents image.now site pages now before after asked told old new result
-RunsCommand contents (task.Get image selector view) first read before after old new result = NamesItem selector.now result ((new ≡ old) × (after ≡ before)) (OpensThen image.now before after result (new ≡ old) (Gets selector.now (option_copied view) contents old new result))
-RunsCommand contents (task.Posts image board) first read before after old new result = NamesItem board.now result ((new ≡ old) × (after ≡ before)) (OpensThen image.now before after result (new ≡ old) (ListsPosts board.now contents old new result))
-RunsCommand contents (task.Remove image selectors) first read before after old new result = (now : ℕ) × TellsMoment first read now × Drops contents image.now (map (λ name. name.now) selectors.items) now before after old new result
-RunsCommand contents (task.Show image) first read before after old new result = OpensThen image.now before after result (new ≡ old) (Shows contents old new result)
-RunsCommand contents (task.Check image) first read before after old new result = OpensThen image.now before after result (new ≡ old) (Checks contents old new result)
+RunsCommand contents (task.Get image selector view) first read before after old new result = (none : List SocketCall) × (sockets : List SocketCall) × (none ≡ []) × NamesItem selector.now result ((new ≡ old) × (after ≡ before) × (sockets ≡ none)) (ReadsImage image.now before after none sockets result (new ≡ old) (Gets selector.now (option_copied view) contents old new result))
+RunsCommand contents (task.Posts image board) first read before after old new result = (none : List SocketCall) × (sockets : List SocketCall) × (none ≡ []) × NamesItem board.now result ((new ≡ old) × (after ≡ before) × (sockets ≡ none)) (ReadsImage image.now before after none sockets result (new ≡ old) (ListsPosts board.now contents old new result))
+RunsCommand contents (task.Remove image selectors socket) first read before after old new result = (now : ℕ) × TellsMoment first read now × (none : List SocketCall) × (sockets : List SocketCall) × (none ≡ []) × EndsNamed (names_line (map (λ name. name.now) selectors.items)) (Drops contents image.now (socket_name (option_copied socket) image.now) (map (λ name. name.now) selectors.items) now before after none sockets old new) result
+RunsCommand contents (task.Show image long) first read before after old new result = (none : List SocketCall) × (sockets : List SocketCall) × (none ≡ []) × ReadsImage image.now before after none sockets result (new ≡ old) (ListsImage (form_of long) contents old new result)
+RunsCommand contents (task.Export image) first read before after old new result = (none : List SocketCall) × (sockets : List SocketCall) × (none ≡ []) × ReadsImage image.now before after none sockets result (new ≡ old) (Exports contents old new result)
+RunsCommand contents (task.Import folder under) first read before after old new result = (after ≡ before) × Imports folder.now (option_copied under) contents old new result
+RunsCommand contents (task.Check image) first read before after old new result = (none : List SocketCall) × (sockets : List SocketCall) × (none ≡ []) × ReadsImage image.now before after none sockets result (new ≡ old) (Checks contents old new result)
 RunsCommand contents (task.Compact image) first read before after old new result = OpensThen image.now before after result (new ≡ old) (Compacts contents old new result)
-RunsCommand contents (task.Upgrade image) first read before after old new result = OpensThen image.now before after result (new ≡ old) (Upgrades contents old new result)
-RunsCommand contents (task.Copy image name pages) first read before after old new result = (asked : List NameCall) × (now : List NameCall) × (asked ≡ []) × CopiesTo contents image.now name.now pages before after asked now old new result
+RunsCommand contents (task.Upgrade image) first read before after old new result = OpensThen image.now before after result (new ≡ old) (UpgradesImage contents old new result)
+RunsCommand contents (task.Copy image name pages) first read before after old new result = (asked : List NameCall) × (now : List NameCall) × (asked ≡ []) × (none : List SocketCall) × (sockets : List SocketCall) × (none ≡ []) × CopiesTo contents image.now name.now pages before after none sockets asked now old new result
 RunsCommand contents (task.Replay (Some image) group) first read before after old new result = new ≡ old
 RunsCommand contents (task.Replay None group) first read before after old new result = (new ≡ old) × (after ≡ before)
 RunsCommand contents (task.ServeRounds image together rounds) first read before after old new result = Unit {0}
-RunsCommand contents (task.ServeClients image listen quiet per_address) first read before after old new result = new ≡ old
+RunsCommand contents (task.ServeClients image listen quiet per_address posts old_clients common_log place) first read before after old new result = new ≡ old
 
 -- ---- tasks of sessions
+
+-- the form of the log, in the common log format or not
+abbrev pub form_of_log : Bool → LogForm
+form_of_log true = Common
+form_of_log false = Own
 
 -- this holds of rounds of connections over an image, where the task is to serve some
 abbrev pub IfRounds : Task → (List ℕ → ℕ → ℕ → Type 0) → Type 0
@@ -58,8 +74,8 @@ IfRounds (task.ServeRounds image together rounds) Holds = Holds image.now togeth
 IfRounds other Holds = Unit {0}
 
 -- of whoever comes, where the task is to serve them
-abbrev pub IfClients : Task → (List ℕ → Option SocketAddr → Bool → ℕ → Type 0) → Type 0
-IfClients (task.ServeClients image listen quiet per_address) Holds = Holds image.now listen quiet per_address
+abbrev pub IfClients : Task → (List ℕ → Option SocketAddr → Bool → Terms → SocketPlace → Type 0) → Type 0
+IfClients (task.ServeClients image listen quiet per_address posts old_clients common_log place) Holds = Holds image.now listen quiet (record { most = per_address; posts = posts; old_clients = old_clients; log = form_of_log common_log }) place
 IfClients other Holds = Unit {0}
 
 -- of a script over an image, where the task is to replay one
@@ -69,7 +85,7 @@ IfScript other Holds = Unit {0}
 
 -- What these tasks did with the image in a file, whatever they answer; `used` and `after` are what was done with files, `before` and `now` are the log, where clients are told of that have gone, and `first` and `asked` what was asked of the system for a listener.
 pub record RunsSessions {S L Pin W Log Sink : Type 0} (ghosts : _) (printed : W → Option (List ℕ)) (told : Log → Option (List ℕ)) (sunk : Sink → Option (List ℕ)) (device : S → FileHistory) (site_state : S → SiteState) (lacks : S → Changes → SiteFault → Type 0) (crash_states : S → CrashStates L) (stands : L → Site → Type 0) (done : Task) (used after : List FileUse) (old new : W) (before now : Log) (result : Result (Unit {0}) Fault) : Type 0 where
-  pub rounds : IfRounds done (λ image together rounds. (first : List ListenCall) × (asked : List ListenCall) × (first ≡ []) × OpensThen image used after result ((asked ≡ first) × (new ≡ old)) (ServesRounds {Pin = Pin} ghosts printed device site_state lacks crash_states stands together rounds first asked old new result))
-  pub logged : IfClients done (λ image listen quiet most. quiet ≡ false → (first : List DoorCall) × (asked : List DoorCall) × (first ≡ []) × OpensThen image used after result ((asked ≡ first) × (now ≡ before)) (Visits told device site_state lacks crash_states stands listen most first asked before now result))
-  pub unlogged : IfClients done (λ image listen quiet most. quiet ≡ true → (now ≡ before) × (first : List DoorCall) × (asked : List DoorCall) × (first ≡ []) × OpensThen image used after result (asked ≡ first) (λ opened left. (from : Sink) × (to : Sink) × Visits sunk device site_state lacks crash_states stands listen most first asked from to result opened left))
+  pub rounds : IfRounds done (λ image together rounds. (first : List ListenCall) × (asked : List ListenCall) × (first ≡ []) × OpensThen image used after result ((asked ≡ first) × (new ≡ old)) (RunsRounds {Pin = Pin} ghosts printed device site_state lacks crash_states stands together rounds first asked old new result))
+  pub logged : IfClients done (λ image listen quiet terms place. quiet ≡ false → (first : List DoorCall) × (asked : List DoorCall) × (first ≡ []) × (none : List SocketCall) × (sockets : List SocketCall) × (none ≡ []) × OpensThen image used after result ((asked ≡ first) × (now ≡ before) × (sockets ≡ none)) (VisitsOrNoGate told device site_state lacks crash_states stands listen terms place image none sockets first asked before now result))
+  pub unlogged : IfClients done (λ image listen quiet terms place. quiet ≡ true → (now ≡ before) × (first : List DoorCall) × (asked : List DoorCall) × (first ≡ []) × (none : List SocketCall) × (sockets : List SocketCall) × (none ≡ []) × OpensThen image used after result ((asked ≡ first) × (sockets ≡ none)) (λ opened left. (from : Sink) × (to : Sink) × VisitsOrNoGate sunk device site_state lacks crash_states stands listen terms place image none sockets first asked from to result opened left))
   pub script : IfScript done (λ image group. RepliesToAll (after ≡ used) (ReplaysFile group device site_state lacks crash_states stands image used after) result)

@@ -1,32 +1,39 @@
 // The commands that make, change and show the image in a file.
-ghost use Rattle.std.specs.Prelude.{◌≡◌, ◌≢◌, ◌⊎◌, ℕ, Some, Ok, Err, OnOk, IfOk, IfErr, IsOkAnd, IsUtf8};
+ghost use Rattle.std.specs.Prelude.{◌≡◌, ◌⊎◌, Err, OnOk, IfErr};
 ghost use Rattle.std.specs.Io.KnownBytes.{Appends};
-ghost use Rattle.std.specs.IoError.{error_kind};
-ghost use Rattle.change_file.specs.Changes as file;
-ghost use Rattle.change_file.specs.declared.fault.ChangeFileFault.TheVariants.{Memory, NotToml, Table};
 ghost use Rattle.image_commands.specs.Lines as lines;
 ghost use Rattle.image_commands.specs.declared.fault.ImageFault.{ImageFault as Refusal};
+ghost use Rattle.std.specs.Option.{option_copied};
+ghost use Rattle.gopher_host.specs.Asked.{socket_name};
 ghost use Rattle.gopher_host.specs.Faults.{ended, output_fault};
-ghost use Rattle.gopher_host.specs.ImageFiles.{OpensThen, Shows, Checks, Compacts, Upgrades};
-ghost use Rattle.gopher_host.specs.Kept.{ReadsThen, Applies};
-ghost use Rattle.gopher_host.specs.NewImages.{moment_of, asked_at, IsMade, IsNotMade, Inits};
+ghost use Rattle.gopher_host.specs.Held.{ReadsImage};
+ghost use Rattle.gopher_host.specs.ImageFiles.{OpensThen, Exports, ListsImage, form_of, Checks, Compacts, UpgradesImage};
+ghost use Rattle.gopher_host.specs.Kept.{ReadsThen, AppliesOrAsks};
+ghost use Rattle.gopher_host.specs.Naming.{EndsNamed, file_line};
+ghost use Rattle.gopher_host.specs.NewImages.{moment_of, asked_at, IsNewImage, IsNoNewImage, Inits};
 ghost use Rattle.gopher_host.specs.declared.fault.Fault.TheVariants as faults;
 
+use crate::asking::{ask_instead, print_answer};
 use crate::fault::Fault;
+use crate::holding::open_to_read;
+use crate::naming::end_named;
 use crate::new_image::{made, moment};
 use crate::opening::{closed, open};
 use crate::printing::{print_applied, print_compacted, print_given, print_line, print_listing};
 use crate::progress::Shown;
 use crate::reading::whole_file;
-use change_file::{ChangeFileFault, FileChange, read_changes};
+use crate::saying::said;
+use admin_socket::SocketLog;
+use change_file::FileChange;
 use command_words::NewSite;
 use file_device::UsedFiles;
 use file_names::{Look, NameLog, look_for};
+use host_types::Stamp;
 use image_changes::apply_on;
-use image_commands::{ImageFault, check_image, compact_image, show_image, upgrade_image};
+use image_commands::{ImageFault, ListForm, check_image, compact_image, show_image, upgrade_image};
+use image_exports::export_image;
 use std::alloc::Global;
-use std::io;
-use std::io::{ErrorKind, Write};
+use std::io::Write;
 
 /// Makes an image, and prints how many pages it has.
 pub fn format<W: Write>(
@@ -40,8 +47,8 @@ pub fn format<W: Write>(
 ) -> Result<(), Fault>
     ensures asked { (e : Refusal) → asked_at site.entry pages now ≡ Err e → (result ≡ Err (faults.Image e)) × (writer.new ≡ writer.old) × (used.new.log.uses ≡ used.old.log.uses) }
     ensures printed { OnOk result (Appends (W.contents writer.old) (W.contents writer.new) (ended (lines.formatted_line pages))) }
-    ensures made { OnOk result (IsMade image.now site.entry pages now used.old.log.uses used.new.log.uses) }
-    ensures fault { IfErr result (λ e. ((e ≡ output_fault) × IsMade image.now site.entry pages now used.old.log.uses used.new.log.uses) ⊎ ((writer.new ≡ writer.old) × (cause : Refusal) × (e ≡ faults.Image cause) × IsNotMade (asked_at site.entry pages now) image.now pages used.old.log.uses used.new.log.uses cause)) }
+    ensures made { OnOk result (IsNewImage image.now site.entry pages now used.old.log.uses used.new.log.uses) }
+    ensures fault { IfErr result (λ e. ((e ≡ output_fault) × IsNewImage image.now site.entry pages now used.old.log.uses used.new.log.uses) ⊎ ((writer.new ≡ writer.old) × (cause : Refusal) × (e ≡ faults.Image cause) × IsNoNewImage (asked_at site.entry pages now) image.now pages used.old.log.uses used.new.log.uses cause)) }
 {
     let now = moment(now)?;
     let line = made(alloc, used, image, site, pages, now)?;
@@ -68,67 +75,110 @@ pub fn init<W: Write>(
     }
 }
 
-/// What the bytes of a file of changes say. A file that can't be read says nothing.
-fn said(alloc: Global, bytes: io::Result<Vec<u8>>) -> Result<Vec<FileChange>, ChangeFileFault>
-    ensures memory { IfErr bytes (λ e. error_kind e ≡ ErrorKind.OutOfMemory → result ≡ Err Memory) }
-    ensures unread { IfErr bytes (λ e. error_kind e ≢ ErrorKind.OutOfMemory → result ≡ Err NotToml) }
-    ensures ok { IfOk result (λ cs. IsOkAnd bytes (λ b. IsUtf8 b.items × (file.read b.items ≡ Some (Ok cs.items)))) }
-    ensures table { (k : ℕ) → result ≡ Err (Table k) → IsOkAnd bytes (λ b. IsUtf8 b.items × (file.read b.items ≡ Some (Err k))) }
-    ensures toml { IfOk bytes (λ b. result ≡ Err NotToml → IsUtf8 b.items → file.read b.items ≡ None) }
-{
-    match bytes {
-        Ok(bytes) => read_changes(alloc, &bytes),
-        Err(error) if error.kind() == ErrorKind::OutOfMemory => Err(ChangeFileFault::Memory),
-        Err(_) => Err(ChangeFileFault::NotToml),
-    }
-}
-
-/// Makes the changes of a file on the site of an image, and prints how many they are. On a terminal it shows meanwhile how far it is.
-pub fn apply<W: Write>(
+/// Makes changes that a file says on the site of an image, or asks the server for them, and prints what came of it.
+fn apply_said<W: Write>(
     rt: &HostRuntime,
     used: &mut UsedFiles<'_, HostRuntime>,
     image: &str,
-    file: &str,
-    now: u64,
+    file: &[u8],
+    changes: Vec<FileChange>,
+    now: Stamp,
+    socket: Option<&str>,
+    sockets: &mut SocketLog,
     writer: &mut W,
 ) -> Result<(), Fault>
-    ensures moment { (e : Refusal) → moment_of now ≡ Err e → (result ≡ Err (faults.Image e)) × (writer.new ≡ writer.old) × (used.new.log.uses ≡ used.old.log.uses) }
-    ensures image { OnOk (moment_of now) (ReadsThen result ((writer.new ≡ writer.old) × (used.new.log.uses ≡ used.old.log.uses)) (λ changes. OpensThen image.now used.old.log.uses used.new.log.uses result (writer.new ≡ writer.old) (Applies W.contents now writer.old writer.new result changes))) }
+    ensures { AppliesOrAsks W.contents image.now (socket_name (option_copied socket.entry) image.now) now used.old.log.uses used.new.log.uses sockets.old.calls sockets.new.calls writer.old writer.new file.now changes.items result }
 {
-    let now = moment(now)?;
-    let changes = said(rt.alloc(), whole_file(rt, file))?;
-    let device = open(used, image)?;
+    let device = match open(used, image) {
+        Ok(device) => device,
+        Err(fault) => {
+            let answer = ask_instead(rt, sockets, image, socket, file, fault);
+            return print_answer(answer, writer);
+        }
+    };
     let mut progress = Shown::new(rt);
     let applied = apply_on(rt.alloc(), device, changes, now, &mut progress);
     progress.end();
     print_applied(rt.alloc(), closed(used, applied), writer)
 }
 
-/// Prints a line for each item of an image.
-pub fn show<W: Write>(
-    alloc: Global,
+/// Makes the changes of a file on the site of an image, and prints how many they are. On a terminal it shows meanwhile how far it is.
+/// Where the image can't be had, the server is asked for them on whose socket somebody answers, and what it answers is printed. The change that is refused is named.
+pub fn apply<W: Write>(
+    rt: &HostRuntime,
     used: &mut UsedFiles<'_, HostRuntime>,
     image: &str,
+    file: &str,
+    now: u64,
+    socket: Option<&str>,
+    sockets: &mut SocketLog,
     writer: &mut W,
 ) -> Result<(), Fault>
-    ensures { OpensThen image.now used.old.log.uses used.new.log.uses result (writer.new ≡ writer.old) (Shows W.contents writer.old writer.new result) }
+    ensures moment { (e : Refusal) → moment_of now ≡ Err e → (result ≡ Err (faults.Image e)) × (writer.new ≡ writer.old) × (used.new.log.uses ≡ used.old.log.uses) × (sockets.new ≡ sockets.old) }
+    ensures image { OnOk (moment_of now) (ReadsThen result ((writer.new ≡ writer.old) × (used.new.log.uses ≡ used.old.log.uses) × (sockets.new ≡ sockets.old)) (λ file changes. EndsNamed (file_line file) (AppliesOrAsks W.contents image.now (socket_name (option_copied socket.entry) image.now) now used.old.log.uses used.new.log.uses sockets.old.calls sockets.new.calls writer.old writer.new file changes) result)) }
 {
-    let device = open(used, image)?;
-    let shown = show_image(alloc, device);
+    let now = moment(now)?;
+    let (bytes, changes) = said(rt.alloc(), whole_file(rt, file))?;
+    let ended = apply_said(
+        rt, used, image, &bytes, changes, now, socket, sockets, writer,
+    );
+    end_named(rt.alloc(), &bytes, ended)
+}
+
+/// How much the line of an item says: at length, or not.
+fn form_of(long: bool) -> ListForm
+    ensures { result ≡ form_of long }
+{
+    if long {
+        ListForm::Long
+    } else {
+        ListForm::Short
+    }
+}
+
+/// Prints a line for each item of an image, at length or not.
+pub fn show<W: Write>(
+    rt: &HostRuntime,
+    used: &mut UsedFiles<'_, HostRuntime>,
+    image: &str,
+    long: bool,
+    sockets: &mut SocketLog,
+    writer: &mut W,
+) -> Result<(), Fault>
+    ensures { ReadsImage image.now used.old.log.uses used.new.log.uses sockets.old.calls sockets.new.calls result (writer.new ≡ writer.old) (ListsImage (form_of long) W.contents writer.old writer.new result) }
+{
+    let device = open_to_read(rt, used, sockets, image)?;
+    let shown = show_image(rt.alloc(), device, form_of(long));
     print_listing(closed(used, shown), writer)
+}
+
+/// Prints the file of changes that put the items of an image.
+pub fn export<W: Write>(
+    rt: &HostRuntime,
+    used: &mut UsedFiles<'_, HostRuntime>,
+    image: &str,
+    sockets: &mut SocketLog,
+    writer: &mut W,
+) -> Result<(), Fault>
+    ensures { ReadsImage image.now used.old.log.uses used.new.log.uses sockets.old.calls sockets.new.calls result (writer.new ≡ writer.old) (Exports W.contents writer.old writer.new result) }
+{
+    let device = open_to_read(rt, used, sockets, image)?;
+    let exported = export_image(rt.alloc(), device);
+    print_listing(closed(used, exported), writer)
 }
 
 /// Prints the line of an image's figures.
 pub fn check<W: Write>(
-    alloc: Global,
+    rt: &HostRuntime,
     used: &mut UsedFiles<'_, HostRuntime>,
     image: &str,
+    sockets: &mut SocketLog,
     writer: &mut W,
 ) -> Result<(), Fault>
-    ensures { OpensThen image.now used.old.log.uses used.new.log.uses result (writer.new ≡ writer.old) (Checks W.contents writer.old writer.new result) }
+    ensures { ReadsImage image.now used.old.log.uses used.new.log.uses sockets.old.calls sockets.new.calls result (writer.new ≡ writer.old) (Checks W.contents writer.old writer.new result) }
 {
-    let device = open(used, image)?;
-    let checked = check_image(alloc, device);
+    let device = open_to_read(rt, used, sockets, image)?;
+    let checked = check_image(rt.alloc(), device);
     print_given(closed(used, checked), writer)
 }
 
@@ -153,7 +203,7 @@ pub fn upgrade<W: Write>(
     image: &str,
     writer: &mut W,
 ) -> Result<(), Fault>
-    ensures { OpensThen image.now used.old.log.uses used.new.log.uses result (writer.new ≡ writer.old) (Upgrades W.contents writer.old writer.new result) }
+    ensures { OpensThen image.now used.old.log.uses used.new.log.uses result (writer.new ≡ writer.old) (UpgradesImage W.contents writer.old writer.new result) }
 {
     let device = open(used, image)?;
     let upgraded = upgrade_image(alloc, device);

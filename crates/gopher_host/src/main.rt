@@ -6,23 +6,32 @@ ghost use Rattle.std.specs.Process.{exit_status};
 ghost use Rattle.cow_tree.specs.TreeSeen.{device_of};
 ghost use Rattle.site_store.specs.Seen.{keeper_of};
 ghost use Rattle.gopher_host.specs.Clock.{IfNoMoment};
-ghost use Rattle.gopher_host.specs.Faults.{Tells};
-ghost use Rattle.gopher_host.specs.Tasks.{RunsCommand, RunsSessions};
+ghost use Rattle.gopher_host.specs.Faults.{TellsFault};
+ghost use Rattle.gopher_host.specs.Tasks.{RunsCommand, RunsSessions, form_of_log};
 
+mod advice;
+mod asking;
 mod clock;
 mod commands;
 mod copying;
 mod ending;
 mod fault;
+mod holding;
+mod importing;
 mod items;
+mod lacking;
+mod naming;
 mod new_image;
 mod opening;
 mod printing;
 mod progress;
 mod reading;
 mod removing;
+mod saying;
 mod sessions;
+mod stopped;
 
+use admin_socket::SocketLog;
 use clock::{moment_now, seconds_of};
 use command_words::{Task, given, read};
 use cow_tree::TreeKeeper;
@@ -31,13 +40,31 @@ use file_device::{FileDevice, UsedFiles};
 use file_names::NameLog;
 use host_types::SiteKeeper;
 use image_server::ListenLog;
-use ready_sockets::DoorLog;
+use lacking::{explained, image_of, makes_image};
+use ready_sockets::{DoorLog, LogForm, Terms};
 use site_store::DiskSite;
 use socket_wires::SystemClock;
 use std::alloc::Global;
 use std::io;
 use std::io::{Sink, Write};
 use std::process::ExitCode;
+
+/// On what terms clients come in.
+fn terms_of(most: u32, posts: Option<u32>, old_clients: bool, common_log: bool) -> Terms
+    ensures { result ≡ record { most = most; posts = posts; old_clients = old_clients; log = form_of_log common_log } }
+{
+    let log = if common_log {
+        LogForm::Common
+    } else {
+        LogForm::Own
+    };
+    Terms {
+        most,
+        posts,
+        old_clients,
+        log,
+    }
+}
 
 /// Does a task, and prints on the writer what it prints. The clock tells the moment of a change where none is given. The log is where clients are told of that have gone.
 fn run<W: Write, L: Write>(
@@ -62,9 +89,15 @@ fn run<W: Write, L: Write>(
             let now = seconds_of(now, clock);
             commands::format(rt.alloc(), used, image, site, pages, now, writer)
         }
-        Task::Apply { image, file, now } => {
+        Task::Apply {
+            image,
+            file,
+            now,
+            socket,
+        } => {
             let now = seconds_of(now, clock);
-            commands::apply(rt, used, image, file, now, writer)
+            let sockets = &mut SocketLog::new();
+            commands::apply(rt, used, image, file, now, socket, sockets, writer)
         }
         Task::Init {
             image,
@@ -80,14 +113,36 @@ fn run<W: Write, L: Write>(
             image,
             selector,
             view,
-        } => items::get(rt.alloc(), used, image, selector, view, writer),
-        Task::Posts { image, board } => items::posts(rt.alloc(), used, image, board, writer),
-        Task::Remove { image, selectors } => {
-            let now = moment_now(clock);
-            items::remove(rt, used, image, &selectors, now, writer)
+        } => {
+            let sockets = &mut SocketLog::new();
+            items::get(rt, used, image, selector, view, sockets, writer)
         }
-        Task::Show { image } => commands::show(rt.alloc(), used, image, writer),
-        Task::Check { image } => commands::check(rt.alloc(), used, image, writer),
+        Task::Posts { image, board } => {
+            let sockets = &mut SocketLog::new();
+            items::posts(rt, used, image, board, sockets, writer)
+        }
+        Task::Remove {
+            image,
+            selectors,
+            socket,
+        } => {
+            let now = moment_now(clock);
+            let sockets = &mut SocketLog::new();
+            items::remove(rt, used, image, &selectors, now, socket, sockets, writer)
+        }
+        Task::Show { image, long } => {
+            let sockets = &mut SocketLog::new();
+            commands::show(rt, used, image, long, sockets, writer)
+        }
+        Task::Export { image } => {
+            let sockets = &mut SocketLog::new();
+            commands::export(rt, used, image, sockets, writer)
+        }
+        Task::Import { folder, under } => importing::import(rt, folder, under, writer),
+        Task::Check { image } => {
+            let sockets = &mut SocketLog::new();
+            commands::check(rt, used, image, sockets, writer)
+        }
         Task::Compact { image } => commands::compact(rt.alloc(), used, image, writer),
         Task::Upgrade { image } => commands::upgrade(rt.alloc(), used, image, writer),
         Task::Replay { image, group } => sessions::replay(rt, used, image, group),
@@ -109,9 +164,25 @@ fn run<W: Write, L: Write>(
             listen: at,
             quiet,
             per_address: most,
-        } => sessions::serve(rt, used, image, at, quiet, most, &mut DoorLog::new(), log),
+            posts,
+            old_clients,
+            common_log,
+            place,
+        } => sessions::serve(
+            rt,
+            used,
+            image,
+            at,
+            quiet,
+            terms_of(most, posts, old_clients, common_log),
+            place,
+            &mut SocketLog::new(),
+            &mut DoorLog::new(),
+            log,
+        ),
         Task::Copy { image, new, pages } => {
-            copying::copy(rt, used, &mut NameLog::new(), image, new, pages, writer)
+            let (names, sockets) = (&mut NameLog::new(), &mut SocketLog::new());
+            copying::copy(rt, used, names, sockets, image, new, pages, writer)
         }
     }
 }
@@ -119,7 +190,7 @@ fn run<W: Write, L: Write>(
 /// The status by which a task ends: 0 where it is done, and 1 where its fault is told.
 fn status<L: Write>(alloc: Global, ended: Result<(), Fault>, log: &mut L) -> io::Result<ExitCode>
     ensures done { OnOk ended (IsOkAnd result (λ code. exit_status code ≡ 0) × (log.new ≡ log.old)) }
-    ensures fault { IfErr ended (λ e. IfOk result (λ code. (exit_status code ≡ 1) × Tells e (L.contents log.old) (L.contents log.new))) }
+    ensures fault { IfErr ended (λ e. IfOk result (λ code. (exit_status code ≡ 1) × TellsFault e (L.contents log.old) (L.contents log.new))) }
 {
     match ended {
         Ok(()) => Ok(ExitCode::SUCCESS),
@@ -136,6 +207,7 @@ fn main(rt: HostRuntime) -> io::Result<ExitCode> {
         Ok(task) => task,
         Err(misread) => return misread.tell(&rt),
     };
+    let (image, makes) = (image_of(&task), makes_image(&task));
     let mut used = UsedFiles::new(&rt);
     let mut clock = SystemClock::new(&rt);
     let ended = run(
@@ -146,5 +218,6 @@ fn main(rt: HostRuntime) -> io::Result<ExitCode> {
         &mut io::writer(&rt),
         &mut rt.stderr(),
     );
+    let ended = explained(&rt, &mut NameLog::new(), image, makes, ended);
     status(rt.alloc(), ended, &mut rt.stderr())
 }

@@ -4,7 +4,7 @@ ghost use Rattle.std.specs.String.{string_bytes};
 ghost use Rattle.image_commands.specs.Lines as lines;
 ghost use Rattle.image_commands.specs.declared.fault.ImageFault.{ImageFault as Refusal};
 ghost use Rattle.gopher_host.specs.NewImages as spec;
-ghost use Rattle.gopher_host.specs.NewImages.{IsMade, IsNotMade};
+ghost use Rattle.gopher_host.specs.NewImages.{IsNewImage, IsNoNewImage};
 
 use command_words::NewSite;
 use file_device::UsedFiles;
@@ -52,8 +52,8 @@ pub fn made(
 ) -> Result<String, ImageFault>
     ensures asked { (e : Refusal) → spec.asked_for site.entry pages ≡ Err e → (result ≡ Err e) × (used.new.log.uses ≡ used.old.log.uses) }
     ensures line { IfOk result (λ line. string_bytes line ≡ lines.formatted_line pages) }
-    ensures made { OnOk result (IsMade image.now site.entry pages now used.old.log.uses used.new.log.uses) }
-    ensures fault { IfErr result (IsNotMade (spec.asked_for site.entry pages) image.now pages used.old.log.uses used.new.log.uses) }
+    ensures made { OnOk result (IsNewImage image.now site.entry pages now used.old.log.uses used.new.log.uses) }
+    ensures fault { IfErr result (IsNoNewImage (spec.asked_for site.entry pages) image.now pages used.old.log.uses used.new.log.uses) }
 {
     let (names, sectors) = asked_for(site, pages)?;
     let line = formatted_line(alloc, pages)?;

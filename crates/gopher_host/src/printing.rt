@@ -5,7 +5,7 @@ ghost use Rattle.std.specs.String.{string_bytes};
 ghost use Rattle.change_file.specs.Printed as changes;
 ghost use Rattle.image_commands.specs.Faults.{of_opening};
 ghost use Rattle.image_server.specs.Lines as serving;
-ghost use Rattle.gopher_host.specs.Endings.{Gives, GivesAs, GivesCount, text_of};
+ghost use Rattle.gopher_host.specs.Endings.{PrintsGiven, GivesAs, GivesCount, text_of};
 ghost use Rattle.gopher_host.specs.Faults.{ended, output_fault};
 ghost use Rattle.gopher_host.specs.Items.{GivesItem, item_bytes};
 ghost use Rattle.gopher_host.specs.Kept as kept;
@@ -35,7 +35,7 @@ pub fn print_line<W: Write>(writer: &mut W, line: &str) -> Result<(), Fault>
 
 /// Prints the line that a command on an image gave.
 pub fn print_given<W: Write>(given: Result<String, ImageFault>, writer: &mut W) -> Result<(), Fault>
-    ensures { Gives (text_of (λ line. ended (string_bytes line)) given) W.contents writer.old writer.new result }
+    ensures { PrintsGiven (text_of (λ line. ended (string_bytes line)) given) W.contents writer.old writer.new result }
 {
     match given {
         Ok(text) => print_line(writer, &text),
@@ -61,7 +61,7 @@ pub fn print_listing<W: Write>(
     given: Result<Vec<u8>, ImageFault>,
     writer: &mut W,
 ) -> Result<(), Fault>
-    ensures { Gives (text_of (λ listing. listing.items) given) W.contents writer.old writer.new result }
+    ensures { PrintsGiven (text_of (λ listing. listing.items) given) W.contents writer.old writer.new result }
 {
     match given {
         Ok(listing) => match writer.write_all(&listing) {

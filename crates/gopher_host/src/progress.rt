@@ -1,6 +1,7 @@
 // How far a command is, on a terminal.
 ghost use Rattle.std.specs.Prelude.{◌≡◌, [], OnOk};
 ghost use Rattle.std.specs.Io.KnownBytes.{Appends};
+ghost use Rattle.gopher_host.specs.ProgressTexts as spec;
 ghost use Rattle.gopher_host.specs.ProgressTexts.{progress_text};
 
 use change_file::{Progress, SeenLog};
@@ -11,11 +12,22 @@ use std::time::Instant;
 /// Standard error among the files of a process.
 const STANDARD_ERROR: i32 = 2;
 
-/// Writes how many changes are made, over what stood in the line.
-fn write_over<W: Write>(writer: &mut W, number: u64, count: u64) -> io::Result<()>
-    ensures { OnOk result (Appends (W.contents writer.old) (W.contents writer.new) (progress_text number count)) }
+/// How many seconds the other changes take, if they go on as these did.
+fn seconds_left(number: u64, count: u64, second: u64) -> u64
+    ensures { result ≡ spec.seconds_left number count second }
 {
-    write!(writer, "\r{number} of {count} changes")
+    if number == 0 {
+        return 0;
+    }
+    count.saturating_sub(number).saturating_mul(second) / number
+}
+
+/// Writes how many changes are made, and how long the others may take, over what stood in the line.
+fn write_over<W: Write>(writer: &mut W, number: u64, count: u64, second: u64) -> io::Result<()>
+    ensures { OnOk result (Appends (W.contents writer.old) (W.contents writer.new) (progress_text number count second)) }
+{
+    let left = seconds_left(number, count, second);
+    write!(writer, "\r{number} of {count} changes, {left} s left  ")
 }
 
 /// How many changes of a file are made. Where standard error is a terminal, it shows that once a second, in one line that is written over.
@@ -73,7 +85,7 @@ impl Progress for Shown<'_> {
         let second = self.seconds();
         if second > self.second {
             self.second = second;
-            let _ = write_over(&mut self.rt.stderr(), number, count);
+            let _ = write_over(&mut self.rt.stderr(), number, count, second);
         }
     }
 }

@@ -1,10 +1,12 @@
 // Items that are removed.
-ghost use Rattle.std.specs.Prelude.{◌≡◌, IfOk, IfErr, map};
+ghost use Rattle.std.specs.Prelude.{◌≡◌, Some, Ok, IfOk, IfErr, map};
 ghost use Rattle.std.specs.String.{string_bytes};
+ghost use Rattle.change_file.specs.Changes as file;
 ghost use Rattle.image_commands.specs.declared.fault.ImageFault.TheVariants.{Memory};
 ghost use Rattle.gopher_host.specs.Kept as spec;
 
 use change_file::FileChange;
+use change_writer::ChangeWriter;
 use host_types::{Change, Selector};
 use image_commands::ImageFault;
 use std::alloc::{AllocError, Global};
@@ -29,6 +31,20 @@ pub fn removals(alloc: Global, names: &[&str]) -> Result<Vec<FileChange>, ImageF
         changes.push(removal(name))?;
     }
     Ok(changes)
+}
+
+/// The file of changes that removes the items of these names, one after another.
+pub fn removals_file(alloc: Global, names: &[&str]) -> Result<String, ImageFault>
+    ensures text { IfOk result (λ t. file.read (string_bytes t) ≡ Some (Ok (map (λ name. spec.removal name.now) names.now))) }
+    ensures fault { IfErr result (λ e. e ≡ Memory) }
+{
+    let mut file = ChangeWriter::new(alloc);
+    for name in names {
+        if file.remove(name).is_err() {
+            return Err(ImageFault::Memory);
+        }
+    }
+    Ok(file.text()?)
 }
 
 /// The line of how many items were removed, without its LF.

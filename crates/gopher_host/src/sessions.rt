@@ -5,12 +5,17 @@ ghost use Rattle.cow_tree.specs.TreeSeen.{device_of};
 ghost use Rattle.site_store.specs.Seen.{keeper_of};
 ghost use Rattle.gopher_host.specs.Endings.{given_beside};
 ghost use Rattle.gopher_host.specs.ImageFiles.{OpensThen};
-ghost use Rattle.gopher_host.specs.Served.{Visits, ServesRounds, ReplaysFile, ReplaysInMemory, IsWritten, RepliesToAll};
+ghost use Rattle.gopher_host.specs.Served.{HasGate, IsGate, RunsRounds, VisitsOrNoGate, ReplaysFile, ReplaysInMemory, IsPrintedWhole, RepliesToAll};
 
+use crate::asking::socket_name;
 use crate::ending::{all_written, replay_ended, serving_ended};
 use crate::fault::Fault;
 use crate::opening::{closed, open};
 use crate::printing::print_served;
+use crate::stopped::StoppedTexts;
+use admin_office::{AdminOffice, UnixGate};
+use admin_socket::{SocketLog, listen_at};
+use command_words::SocketPlace;
 use cow_tree::TreeKeeper;
 use file_device::{FileDevice, UsedFiles};
 use host_script::small_site;
@@ -18,29 +23,69 @@ use host_types::SiteKeeper;
 use image_server::{ListenLog, serve_clients, serve_image};
 use image_sessions::{replay_on, replay_over};
 use mem_site::MemSite;
-use ready_sockets::{DoorLog, Stopwatch};
+use ready_sockets::{DoorLog, Stopwatch, Terms};
 use site_store::DiskSite;
 use socket_wires::SystemClock;
 use std::alloc::Global;
+use std::fs::Files;
 use std::io;
 use std::io::{BufWriter, Read, Sink, Write};
 use std::net::{Net, SocketAddr, TcpListener, TcpStream};
 use std::time::Clock as Time;
 
+/// The gate at a socket of this name, which is made.
+fn gate_at<R: Files + Net>(rt: &R, sockets: &mut SocketLog, name: &str) -> Result<UnixGate, Fault>
+    ensures { IsGate name.now sockets.old.calls sockets.new.calls result }
+{
+    match listen_at(rt, sockets, name) {
+        Ok(listener) => Ok(UnixGate::new(Some(listener))),
+        Err(fault) => Err(Fault::Socket(fault)),
+    }
+}
+
+/// The gate where administrators come to an image, or one to which nobody comes.
+fn gate_of<R: Files + Net + AllocGlobal>(
+    rt: &R,
+    sockets: &mut SocketLog,
+    place: SocketPlace<'_>,
+    image: &str,
+) -> Result<UnixGate, Fault>
+    ensures { HasGate place.entry image.now sockets.old.calls sockets.new.calls result }
+{
+    match place {
+        SocketPlace::Nowhere => Ok(UnixGate::new(None)),
+        SocketPlace::Named(name) => gate_at(rt, sockets, name),
+        SocketPlace::Beside => match socket_name(rt.alloc(), None, image) {
+            Ok(name) => gate_at(rt, sockets, &name),
+            Err(_) => Err(Fault::of_memory()),
+        },
+    }
+}
+
 /// Serves whoever comes over the site of an image, with a line in the log for each client that has gone.
-fn serve_logged<R: Net + Time + AllocGlobal, L: Write>(
+fn serve_logged<R: Files + Net + Time + AllocGlobal, L: Write>(
     rt: &R,
     used: &mut UsedFiles<'_, HostRuntime>,
     image: &str,
     listen: Option<SocketAddr>,
-    most: u32,
+    terms: Terms,
+    place: SocketPlace<'_>,
+    sockets: &mut SocketLog,
     asked: &mut DoorLog,
     log: &mut L,
 ) -> Result<(), Fault>
-    ensures { let k = ⟦<DiskSite<TreeKeeper<FileDevice>> as SiteKeeper>⟧ in OpensThen image.now used.old.log.uses used.new.log.uses result ((asked.new ≡ asked.old) × (log.new ≡ log.old)) (Visits L.contents (λ d. device_of (keeper_of d)) k.site_state k.lacks k.crash_states k.represents listen most asked.old.calls asked.new.calls log.old log.new result) }
+    ensures { let k = ⟦<DiskSite<TreeKeeper<FileDevice>> as SiteKeeper>⟧ in OpensThen image.now used.old.log.uses used.new.log.uses result ((asked.new ≡ asked.old) × (log.new ≡ log.old) × (sockets.new ≡ sockets.old)) (VisitsOrNoGate L.contents (λ d. device_of (keeper_of d)) k.site_state k.lacks k.crash_states k.represents listen terms place.entry image.now sockets.old.calls sockets.new.calls asked.old.calls asked.new.calls log.old log.new result) }
 {
     let device = open(used, image)?;
+    let gate = match gate_of(rt, sockets, place, image) {
+        Ok(gate) => gate,
+        Err(fault) => {
+            used.close(device);
+            return Err(fault);
+        }
+    };
     let (mut watch, mut clock) = (Stopwatch::start(rt), SystemClock::new(rt));
+    let mut office = AdminOffice::new(rt.alloc(), gate, StoppedTexts);
     let served = serve_clients(
         rt.alloc(),
         rt,
@@ -48,33 +93,46 @@ fn serve_logged<R: Net + Time + AllocGlobal, L: Write>(
         listen,
         asked,
         &mut watch,
+        &mut office,
         &mut clock,
         log,
-        most,
+        terms,
     );
     serving_ended(closed(used, served))
 }
 
-/// Serves whoever comes over the site of an image, at an address or else the site's port on 127.0.0.1, so many clients of one origin at a time, until that can't go on. The log gets a line for each
-/// client that has gone, unless that is not wanted. What is asked of the system for a listener is noted.
-pub fn serve<R: Net + Time + AllocGlobal, L: Write>(
+/// Serves whoever comes over the site of an image, at an address or else the site's port on 127.0.0.1, on these terms, until that can't go on. Administrators come on a socket, if one is wanted.
+/// The log gets a line for each client that has gone, unless that is not wanted. What is asked of the system for a listener and for the socket is noted.
+pub fn serve<R: Files + Net + Time + AllocGlobal, L: Write>(
     rt: &R,
     used: &mut UsedFiles<'_, HostRuntime>,
     image: &str,
     listen: Option<SocketAddr>,
     quiet: bool,
-    most: u32,
+    terms: Terms,
+    place: SocketPlace<'_>,
+    sockets: &mut SocketLog,
     asked: &mut DoorLog,
     log: &mut L,
 ) -> Result<(), Fault>
     ensures quiet { quiet ≡ true → log.new ≡ log.old }
-    ensures logged { let k = ⟦<DiskSite<TreeKeeper<FileDevice>> as SiteKeeper>⟧ in quiet ≡ false → OpensThen image.now used.old.log.uses used.new.log.uses result ((asked.new ≡ asked.old) × (log.new ≡ log.old)) (Visits L.contents (λ d. device_of (keeper_of d)) k.site_state k.lacks k.crash_states k.represents listen most asked.old.calls asked.new.calls log.old log.new result) }
-    ensures unlogged { let k = ⟦<DiskSite<TreeKeeper<FileDevice>> as SiteKeeper>⟧ in quiet ≡ true → OpensThen image.now used.old.log.uses used.new.log.uses result (asked.new ≡ asked.old) (λ opened left. (before : Sink) × (now : Sink) × Visits ⟦<Sink as Write>⟧.contents (λ d. device_of (keeper_of d)) k.site_state k.lacks k.crash_states k.represents listen most asked.old.calls asked.new.calls before now result opened left) }
+    ensures logged { let k = ⟦<DiskSite<TreeKeeper<FileDevice>> as SiteKeeper>⟧ in quiet ≡ false → OpensThen image.now used.old.log.uses used.new.log.uses result ((asked.new ≡ asked.old) × (log.new ≡ log.old) × (sockets.new ≡ sockets.old)) (VisitsOrNoGate L.contents (λ d. device_of (keeper_of d)) k.site_state k.lacks k.crash_states k.represents listen terms place.entry image.now sockets.old.calls sockets.new.calls asked.old.calls asked.new.calls log.old log.new result) }
+    ensures unlogged { let k = ⟦<DiskSite<TreeKeeper<FileDevice>> as SiteKeeper>⟧ in quiet ≡ true → OpensThen image.now used.old.log.uses used.new.log.uses result ((asked.new ≡ asked.old) × (sockets.new ≡ sockets.old)) (λ opened left. (before : Sink) × (now : Sink) × VisitsOrNoGate ⟦<Sink as Write>⟧.contents (λ d. device_of (keeper_of d)) k.site_state k.lacks k.crash_states k.represents listen terms place.entry image.now sockets.old.calls sockets.new.calls asked.old.calls asked.new.calls before now result opened left) }
 {
     if quiet {
-        serve_logged(rt, used, image, listen, most, asked, &mut io::sink())
+        serve_logged(
+            rt,
+            used,
+            image,
+            listen,
+            terms,
+            place,
+            sockets,
+            asked,
+            &mut io::sink(),
+        )
     } else {
-        serve_logged(rt, used, image, listen, most, asked, log)
+        serve_logged(rt, used, image, listen, terms, place, sockets, asked, log)
     }
 }
 
@@ -91,7 +149,7 @@ pub fn serve_rounds<
     asked: &mut ListenLog,
     writer: &mut W,
 ) -> Result<(), Fault>
-    ensures { let k = ⟦<DiskSite<TreeKeeper<FileDevice>> as SiteKeeper>⟧ in OpensThen image.now used.old.log.uses used.new.log.uses result ((asked.new ≡ asked.old) × (writer.new ≡ writer.old)) (ServesRounds k W.contents (λ d. device_of (keeper_of d)) k.site_state k.lacks k.crash_states k.represents together rounds asked.old.calls asked.new.calls writer.old writer.new result) }
+    ensures { let k = ⟦<DiskSite<TreeKeeper<FileDevice>> as SiteKeeper>⟧ in OpensThen image.now used.old.log.uses used.new.log.uses result ((asked.new ≡ asked.old) × (writer.new ≡ writer.old)) (RunsRounds k W.contents (λ d. device_of (keeper_of d)) k.site_state k.lacks k.crash_states k.represents together rounds asked.old.calls asked.new.calls writer.old writer.new result) }
 {
     let device = open(used, image)?;
     let mut clock = SystemClock::new(rt);
@@ -149,8 +207,8 @@ fn replay_from<R: Read, W: Write + Drop>(
     reader: &mut R,
     writer: &mut BufWriter<W>,
 ) -> Result<(), Fault>
-    ensures image { let k = ⟦<DiskSite<TreeKeeper<FileDevice>> as SiteKeeper>⟧ in IfSome image.entry (λ i. IsWritten (ReplaysFile grouped (λ d. device_of (keeper_of d)) k.site_state k.lacks k.crash_states k.represents i.now used.old.log.uses used.new.log.uses (R.remaining reader.old) (R.remaining reader.new) (writer_contents W.contents writer.old)) (writer_contents W.contents writer.new) (writer_buffer writer.new) result) }
-    ensures memory { let k = ⟦<MemSite as SiteKeeper>⟧ in image.entry ≡ None → (used.new.log.uses ≡ used.old.log.uses) × IsWritten (ReplaysInMemory grouped k.site_state k.lacks k.crash_states k.represents (R.remaining reader.old) (R.remaining reader.new) (writer_contents W.contents writer.old)) (writer_contents W.contents writer.new) (writer_buffer writer.new) result }
+    ensures image { let k = ⟦<DiskSite<TreeKeeper<FileDevice>> as SiteKeeper>⟧ in IfSome image.entry (λ i. IsPrintedWhole (ReplaysFile grouped (λ d. device_of (keeper_of d)) k.site_state k.lacks k.crash_states k.represents i.now used.old.log.uses used.new.log.uses (R.remaining reader.old) (R.remaining reader.new) (writer_contents W.contents writer.old)) (writer_contents W.contents writer.new) (writer_buffer writer.new) result) }
+    ensures memory { let k = ⟦<MemSite as SiteKeeper>⟧ in image.entry ≡ None → (used.new.log.uses ≡ used.old.log.uses) × IsPrintedWhole (ReplaysInMemory grouped k.site_state k.lacks k.crash_states k.represents (R.remaining reader.old) (R.remaining reader.new) (writer_contents W.contents writer.old)) (writer_contents W.contents writer.new) (writer_buffer writer.new) result }
 {
     let ended = match image {
         Some(image) => replay_image(alloc, used, image, grouped, reader, writer),

@@ -1,6 +1,6 @@
 // A flush in which one call of the disk fails, once.
 use crate::script::Script;
-use crate::sites::{Image, pairs_on, run_events, site_over};
+use crate::sites::{Image, device_under, pairs_on, run_events, site_over};
 use crate::trouble::Trouble;
 use group_hub::OutcomeList;
 use group_world::{Event, HubFault, Outcome};
@@ -23,7 +23,7 @@ struct Told {
 fn run_once(alloc: Global, image: &Image, call: u64, events: &[Event]) -> Result<Told, Trouble> {
     let site = site_over(alloc, OnceDisk::new(image.disk(alloc)?, call))?;
     let (outcomes, site) = run_events(alloc, site, true, events)?;
-    let once = site.into_keeper().into_device();
+    let once = device_under(site)?;
     Ok(Told {
         outcomes,
         has_failed: once.refused_reads() > 0 || once.refused_writes() > 0,

@@ -4,7 +4,7 @@ ghost use Rattle.host_types.specs.Site.{IsSite};
 
 use crate::items::{answer, remove};
 use crate::script::Script;
-use crate::sites::{TreeSite, in_memory, new_disk, site_on};
+use crate::sites::{TreeSite, in_memory, keeper_under, new_disk, site_on};
 use crate::trouble::Trouble;
 use group_hub::Hub;
 use group_world::{Drawn, Event, Flushed, HubFault, InputStatus};
@@ -195,7 +195,7 @@ fn hub_on(alloc: Global, pages: u32) -> Result<Hub<TreeSite>, Trouble> {
 /// The generation of the image behind a trial. A site whose disk found no memory for a write is opened again.
 fn generation_of(alloc: Global, site: TreeSite) -> Result<u64, Trouble> {
     let is_usable = site.is_usable();
-    let keeper = site.into_keeper();
+    let keeper = keeper_under(site)?;
     if is_usable {
         return Ok(keeper.figures().generation);
     }

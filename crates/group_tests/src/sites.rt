@@ -1,6 +1,7 @@
 // New sites, on a disk in memory and in memory, and hubs over them.
 ghost use Rattle.std.specs.Prelude.{◌≡◌, [], IfOk, IsTrue};
 ghost use Rattle.host_types.specs.Site.{IsSite};
+ghost use Rattle.cow_tree.specs.TreeSeen.{held};
 
 use crate::script::EVENING;
 use crate::trouble::Trouble;
@@ -65,6 +66,24 @@ pub fn site_on(alloc: Global, disk: MemDisk, calls: u64) -> Result<TreeSite, Tro
     site_over(alloc, FuseDisk::new(disk, calls))
 }
 
+/// The keeper of a site, of which no pin is to be out.
+pub fn keeper_under<D: Device + Drop>(
+    site: DiskSite<TreeKeeper<D>>,
+) -> Result<TreeKeeper<D>, Trouble>
+    ensures { IfOk result (λ keeper. (held D.state keeper).pins ≡ []) }
+{
+    if !site.is_unpinned() {
+        return Err(Trouble::Wrong("a pin is out"));
+    }
+    Ok(site.into_keeper())
+}
+
+/// The device of a site, of which no pin is to be out.
+pub fn device_under<D: Device + Drop>(site: DiskSite<TreeKeeper<D>>) -> Result<D, Trouble> {
+    let keeper = keeper_under(site)?;
+    Ok(keeper.into_device())
+}
+
 /// A hub over a site of which no pin is out, in which posts wait or don't. Its first session has the number 1.
 pub fn hub_over<S: SearchKeeper + Drop>(
     alloc: Global,
@@ -121,7 +140,7 @@ pub fn ran_on(
 ) -> Result<Ran, Trouble> {
     let site = site_on(alloc, disk, calls)?;
     let (outcomes, site) = run_events(alloc, site, is_grouped, events)?;
-    let keeper = site.into_keeper();
+    let keeper = keeper_under(site)?;
     let generation = keeper.figures().generation;
     Ok(Ran {
         outcomes,

@@ -2,7 +2,7 @@
 ghost use Rattle.std.specs.Prelude.{◌≡◌};
 
 use crate::script::Script;
-use crate::sites::{Image, Ran, pairs_on, ran_on, site_on};
+use crate::sites::{Image, Ran, device_under, pairs_on, ran_on, site_on};
 use crate::trouble::Trouble;
 use group_world::{Event, Outcome};
 use host_types::{Change, ChangesFault, SiteKeeper, Stamp};
@@ -32,7 +32,7 @@ fn together(alloc: Global, image: &Image, script: &Script) -> Result<Option<MemD
     let posts = copies(alloc, &script.posts)?;
     let mut site = site_on(alloc, image.disk(alloc)?, u64::MAX)?;
     match site.change_all(posts) {
-        Ok(()) => Ok(Some(site.into_keeper().into_device().into_inner())),
+        Ok(()) => Ok(Some(device_under(site)?.into_inner())),
         Err(ChangesFault::Full { .. } | ChangesFault::Deep) => Ok(None),
         Err(_) => Err(Trouble::Wrong("another fault of a group")),
     }

@@ -1,4 +1,5 @@
 pub mod Images
+pub mod OpeningRead
 pub mod Openings
 pub mod Upgraded
 pub mod FoundAgain

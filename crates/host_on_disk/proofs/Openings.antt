@@ -26,18 +26,6 @@ use Rattle.host_on_disk.specs.OpenFaults.{IsOpeningFault, of_keeper, of_site}
 use Rattle.host_on_disk.specs.declared.open_fault.OpenFault.TheVariants.{Keeper, Memory}
 use Rattle.host_on_disk.proofs.Images.{shown, no_content, no_slot, other_version, too_small, slot_there}
 
--- where no pin was out, and the same are, none is
-pub none_out : (h k : StoreState) → numbers_out k ≡ numbers_out h → h.pins ≡ [] → k.pins ≡ []
-none_out h k same none = no_numbers k.pins (same ∙ ap (λ (pins : List (ℕ × List Pair)). map (λ (pin : ℕ × List Pair). pin.0) pins) none)
-  where
-    no_numbers : (pins : List (ℕ × List Pair)) → map (λ (pin : ℕ × List Pair). pin.0) pins ≡ [] → pins ≡ []
-    no_numbers [] e = refl
-    no_numbers (pin ∷ pins) e = absurd (cc e)
-
--- no pin of a site is out where none of its store is
-pub no_site_pins : (h : StoreState) (keeps : HasSite h) → h.pins ≡ [] → (site_state_of h keeps).pins ≡ []
-no_site_pins h keeps none = ap (λ (numbers : List ℕ). map (λ number. (number, items_at h.honest h.pins (λ honest. (keeps honest).2) number)) numbers) (ap (λ (pins : List (ℕ × List Pair)). map (λ (pin : ℕ × List Pair). pin.0) pins) none)
-
 -- a refusal of the key-value store
 pub keeper_refused : (old new : State) → (IsTrue old.honest → length old.disk.view ≡ old.size) → (fault : KeeperFault) → IsOpenFault old new fault → CountsRefusal fault old new → IsOpeningFault old new (of_keeper fault)
 keeper_refused old new size kinds.Device is counts = is

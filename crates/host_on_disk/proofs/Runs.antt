@@ -17,7 +17,7 @@ use Rattle.group_hub.specs.Calls.{Calls, links_of}
 use Rattle.group_hub.specs.HeldPins.{IsClosed}
 use Rattle.group_hub.proofs.CallLaws.{calls_honest}
 use Rattle.host_on_disk.specs.ImageSites.{ImageRepresents}
-use Rattle.host_on_disk.specs.Headline.{IsFound, IsLink, IsRun, on_device, links_on, Survives, RunsOver, RunsOn, RunsAndSurvives}
+use Rattle.host_on_disk.specs.Headline.{IsFound, IsLink, IsRunFrom, on_device, links_on, Survives, RunsOver, RunsOn, RunsAndSurvives}
 
 -- ---- the end of a hub
 
@@ -142,7 +142,7 @@ whatever_the_reason split w e o v stored (inr (usable, why, singly)) = inr (usab
 
 -- calls over an honest device are a run
 calls_are_run : {S D L : Type 0} (device : S → D) (site_state : S → SiteState) (lacks : S → Changes → SiteFault → Type 0) (crash_states : S → CrashStates L) (stands : L → Site → Type 0) (w v : World) (k l : S) (es : List Event) (os : List Outcome) (honest : IsTrue (site_state k).honest) →
-    (calls : Calls site_state lacks crash_states stands w k es os v l) → IsRun w es os (links_on device (links_of site_state lacks crash_states stands w k es os v l honest calls))
+    (calls : Calls site_state lacks crash_states stands w k es os v l) → IsRunFrom w es os (links_on device (links_of site_state lacks crash_states stands w k es os v l honest calls))
 calls_are_run device site_state lacks crash_states stands w v k l [] [] honest calls = tt
 calls_are_run device site_state lacks crash_states stands w v k l (e ∷ es) (o ∷ os) honest calls = (
   record { event = refl; outcome = refl; step = calls.2.step honest; stored = whatever_the_reason _ w e o calls.0 (calls.2.leaves honest).0 (calls.2.leaves honest).1.stored },
@@ -160,7 +160,7 @@ unfoldable survives : {D : Type 0} (state : D → State) (crash_states : D → C
     ImageRepresents (state old).disk.view site →
     ((s : Site) → ImageRepresents (state old).disk.view s → s ≡ site) →
     AddsNone (crash_states old) (crash_states opened) →
-    IsRun (started_as grouped site first) es os ls →
+    IsRunFrom (started_as grouped site first) es os ls →
     HasCrashStates ImageRepresents site (crash_states opened) (crash_states new) ls →
     Survives state crash_states old new grouped first es os
 survives state crash_states old opened new grouped first es os site ls stands alone no_new_crash_state run at_crash =

@@ -64,7 +64,7 @@ pub record IsUnder (old : State) (before : StoreState) : Type 0 where
 pub refused : (old new : State) (before after : StoreState) (need : List Edit → CommitNeed → Type 0) → ArePairs old before → IsUnder old before → (before.banner.version ≡ 2 → ⊥) → new.failed_reads ≡ after.failed_reads → new.failed_writes ≡ after.failed_writes → (fault : SiteOpenFault) → IsNotUpgraded before after need fault → IsUpgradeRefusal old new (of_site fault)
 refused old new before after need opened under other reads writes fault is = inr (opened.large, first, by fault is)
   where
-    first : spec.IsFirst old
+    first : spec.IsFirstImage old
     first honest = (before.pairs, before.banner, (opened.content honest, opens_trees before.banner.version opened.version), ⊎_elim (λ one. one) (λ two. absurd (other two)) (first_or_second before.banner.version opened.version))
 
     stands : IsTrue old.honest → (s : Site) → FirstBy before s → ImageRepresentsFirst old.disk.view s
@@ -86,7 +86,7 @@ refused old new before after need opened under other reads writes fault is = inr
     lies false still other = refl
     lies true still other = let clash : true ≡ false = sym (still refl) ∙ other in absurd (cc clash)
 
-    by : (fault : SiteOpenFault) → IsNotUpgraded before after need fault → spec.IsNotUpgraded old new (of_site fault)
+    by : (fault : SiteOpenFault) → IsNotUpgraded before after need fault → spec.IsImageNotUpgraded old new (of_site fault)
     by reading.BadRecord is = (nothing is.reads is.writes, λ honest s first. is.cause.1 (opened.honest honest) s (shown_first old.disk.view before.pairs before.banner s (opened.content honest) first))
     by reading.Memory is = nothing is.reads is.writes
     by (reading.Keeper kinds.Device) is = inl (reads ∙ is.reads ∙ ap counted opened.reads, writes ∙ up (reading.Keeper kinds.Device) is ∙ opened.writes)

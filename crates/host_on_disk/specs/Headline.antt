@@ -30,10 +30,10 @@ pub record IsLink {D : Type 0} (w : World) (e : Event) (o : Outcome) (l : Link D
   pub stored : IsStored (Unit {0}) w e o l.world l.stored
 
 -- These events, with these outcomes, are a run from a world, one call after another.
-abbrev pub IsRun : {D : Type 0} → World → List Event → List Outcome → List (Link D) → Type 0
-IsRun w [] [] [] = Unit {0}
-IsRun w (e ∷ events) (o ∷ outcomes) (l ∷ links) = IsLink w e o l × IsRun l.world events outcomes links
-IsRun w events outcomes links = ⊥
+abbrev pub IsRunFrom : {D : Type 0} → World → List Event → List Outcome → List (Link D) → Type 0
+IsRunFrom w [] [] [] = Unit {0}
+IsRunFrom w (e ∷ events) (o ∷ outcomes) (l ∷ links) = IsLink w e o l × IsRunFrom l.world events outcomes links
+IsRunFrom w events outcomes links = ⊥
 
 -- a call of a site as one of the device that it is on
 abbrev pub on_device : {S D : Type 0} → (S → D) → Link S → Link D
@@ -50,7 +50,7 @@ pub record Survives {D : Type 0} (state : D → State) (crash_states : D → Cra
   pub opened : D
   pub no_new_crash_state : AddsNone (crash_states old) (crash_states opened)
   pub links : List (Link D)
-  pub run : IsRun (started_as grouped site first) events outcomes links
+  pub run : IsRunFrom (started_as grouped site first) events outcomes links
   pub at_crash : HasCrashStates ImageRepresents site (crash_states opened) (crash_states new) links
   pub since : (image : Image) → (crash_states new).possible_since (crash_states old).moment image → may_crash_to (crash_states old) image ⊎ HoldsCommits ImageRepresents site (accepted links) 0 image
   pub again : (image : Image) → (crash_states new).possible_since (crash_states opened).moment image → (s : Site) × ImageRepresents image s × IsFound site (accepted links) 0 s
@@ -88,7 +88,7 @@ pub record RunsAndSurvives {D S L : Type 0} (state : D → State) (device : S �
 -- ---- any number of crashes in turn
 
 -- One run in a row of runs: its device before and after, and the image that a crash of it left.
-pub record Turn (D : Type 0) : Type 0 where
+pub record RunInTurn (D : Type 0) : Type 0 where
   pub old : D
   pub new : D
   pub grouped : Bool
@@ -98,17 +98,17 @@ pub record Turn (D : Type 0) : Type 0 where
   pub left : Image
 
 -- One run survives, and a crash of it left the image.
-pub record IsTurn {D : Type 0} (state : D → State) (crash_states : D → CrashStates Image) (image : Image) (turn : Turn D) : Type 0 where
+pub record IsTurn {D : Type 0} (state : D → State) (crash_states : D → CrashStates Image) (image : Image) (turn : RunInTurn D) : Type 0 where
   pub shows : (state turn.old).disk.view ≡ image
   pub survives : Survives state crash_states turn.old turn.new turn.grouped turn.first turn.events turn.outcomes
   pub left : (crash_states turn.new).possible_since (crash_states survives.opened).moment turn.left
 
 -- Each run is on a device that shows the image which a crash of the run before left.
-abbrev pub InTurn : {D : Type 0} → (D → State) → (D → CrashStates Image) → Image → List (Turn D) → Image → Type 0
+abbrev pub InTurn : {D : Type 0} → (D → State) → (D → CrashStates Image) → Image → List (RunInTurn D) → Image → Type 0
 InTurn state crash_states image [] last = last ≡ image
 InTurn state crash_states image (turn ∷ turns) last = IsTurn state crash_states image turn × InTurn state crash_states turn.left turns last
 
 -- Each run in turn starts from a site that the one before allows: some of its accepted commits are made on the site that it starts from.
-abbrev pub FoundInTurn : {D : Type 0} → Site → List (Turn D) → Site → Type 0
+abbrev pub FoundInTurn : {D : Type 0} → Site → List (RunInTurn D) → Site → Type 0
 FoundInTurn s [] t = t ≡ s
-FoundInTurn {D = D} s (turn ∷ turns) t = (links : List (Link D)) × (m : Site) × IsRun (started_as turn.grouped s turn.first) turn.events turn.outcomes links × IsFound s (accepted links) 0 m × FoundInTurn m turns t
+FoundInTurn {D = D} s (turn ∷ turns) t = (links : List (Link D)) × (m : Site) × IsRunFrom (started_as turn.grouped s turn.first) turn.events turn.outcomes links × IsFound s (accepted links) 0 m × FoundInTurn m turns t

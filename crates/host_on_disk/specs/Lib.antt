@@ -1,4 +1,5 @@
 pub mod ImageSites
+pub mod OpeningWork
 pub mod OpenFaults
 pub mod Headline
 pub mod Upgrades

@@ -39,7 +39,7 @@ pub record KeepsEither {D : Type 0} (state : D → State) (crash_states : D → 
   pub at_crash : AddsOnly (crash_states opened) (crash_states new) (λ image. ImageRepresentsEither image site)
 
 -- It was written in version 2, and from now on a crash leaves it so: so many records, one for each item.
-pub record Upgrades {D : Type 0} (state : D → State) (crash_states : D → CrashStates Image) (old new : D) (count : ℕ) : Type 0 where
+pub record UpgradesDevice {D : Type 0} (state : D → State) (crash_states : D → CrashStates Image) (old new : D) (count : ℕ) : Type 0 where
   pub kept : KeepsEither state crash_states old new
   pub now : ImageRepresents (state new).disk.view kept.site
   pub sure : (image : Image) → may_crash_to (crash_states new) image → ImageRepresents image kept.site
@@ -55,35 +55,35 @@ pub record IsNewAlready {D : Type 0} (state : D → State) (crash_states : D →
   pub none : count ≡ 0
 
 -- What reads of a device give is of version 1, a site or not.
-abbrev pub IsFirst : State → Type 0
-IsFirst old = IsTrue old.honest → (pairs : List Pair) × (banner : Banner) × TreeHas old.disk.view pairs banner × (banner.version ≡ 1)
+abbrev pub IsFirstImage : State → Type 0
+IsFirstImage old = IsTrue old.honest → (pairs : List Pair) × (banner : Banner) × TreeHas old.disk.view pairs banner × (banner.version ≡ 1)
 
 -- It represents a site in version 1.
-abbrev pub ShowsFirst : State → Type 0
-ShowsFirst old = IsTrue old.honest → (s : Site) × ImageRepresentsFirst old.disk.view s
+abbrev pub ShowsFirstImage : State → Type 0
+ShowsFirstImage old = IsTrue old.honest → (s : Site) × ImageRepresentsFirst old.disk.view s
 
 -- No generation is left for a commit.
-abbrev pub IsLast : State → Type 0
-IsLast old = IsTrue old.honest → greatest_seal old.disk.view 16 ≡ last_generation
+abbrev pub IsLastGeneration : State → Type 0
+IsLastGeneration old = IsTrue old.honest → greatest_seal old.disk.view 16 ≡ last_generation
 
 -- With a record for each item of its site the tree may have more levels than there may be.
 abbrev pub MayGrowDeep : State → Type 0
 MayGrowDeep old = IsTrue old.honest → (s : Site) × ImageRepresentsFirst old.disk.view s × (slot : Slot) × (found : Found) × (content old.disk.view ≡ Some (slot, found)) × (edits_to_be_deep slot.root.height ≤ length s.items)
 
 -- Why an image that was opened was not upgraded, and what was counted. `BadRecord` says that it represents no site in version 1; all that a commit may answer comes of an image that does.
-abbrev pub IsNotUpgraded : State → State → OpenFault → Type 0
-IsNotUpgraded old new (Keeper kinds.Device) = OneCounted old new
-IsNotUpgraded old new (Keeper (kinds.Damaged page)) = NothingCounted old new × (old.honest ≡ false)
-IsNotUpgraded old new (Keeper kinds.Spent) = NothingCounted old new × IsLast old
-IsNotUpgraded old new (Keeper kinds.Deep) = NothingCounted old new × MayGrowDeep old
-IsNotUpgraded old new (Keeper (kinds.Full need free)) = NothingCounted old new × (free < need) × ShowsFirst old
-IsNotUpgraded old new (Keeper kinds.Failed) = (new.failed_writes ≡ counted old.failed_writes) × (new.failed_reads ≡ old.failed_reads) × ShowsFirst old
-IsNotUpgraded old new (Keeper kinds.NoImage) = ⊥
-IsNotUpgraded old new (Keeper kinds.Version) = ⊥
-IsNotUpgraded old new (Keeper kinds.Small) = ⊥
-IsNotUpgraded old new (Keeper kinds.Memory) = ⊥
-IsNotUpgraded old new BadRecord = NothingCounted old new × (IsTrue old.honest → (s : Site) → ImageRepresentsFirst old.disk.view s → ⊥)
-IsNotUpgraded old new Memory = NothingCounted old new
+abbrev pub IsImageNotUpgraded : State → State → OpenFault → Type 0
+IsImageNotUpgraded old new (Keeper kinds.Device) = OneCounted old new
+IsImageNotUpgraded old new (Keeper (kinds.Damaged page)) = NothingCounted old new × (old.honest ≡ false)
+IsImageNotUpgraded old new (Keeper kinds.Spent) = NothingCounted old new × IsLastGeneration old
+IsImageNotUpgraded old new (Keeper kinds.Deep) = NothingCounted old new × MayGrowDeep old
+IsImageNotUpgraded old new (Keeper (kinds.Full need free)) = NothingCounted old new × (free < need) × ShowsFirstImage old
+IsImageNotUpgraded old new (Keeper kinds.Failed) = (new.failed_writes ≡ counted old.failed_writes) × (new.failed_reads ≡ old.failed_reads) × ShowsFirstImage old
+IsImageNotUpgraded old new (Keeper kinds.NoImage) = ⊥
+IsImageNotUpgraded old new (Keeper kinds.Version) = ⊥
+IsImageNotUpgraded old new (Keeper kinds.Small) = ⊥
+IsImageNotUpgraded old new (Keeper kinds.Memory) = ⊥
+IsImageNotUpgraded old new BadRecord = NothingCounted old new × (IsTrue old.honest → (s : Site) → ImageRepresentsFirst old.disk.view s → ⊥)
+IsImageNotUpgraded old new Memory = NothingCounted old new
 
 -- Its key-value store is not opened.
 abbrev pub IsStoreRefusal : State → State → OpenFault → Type 0
@@ -91,4 +91,4 @@ IsStoreRefusal old new fault = IsOpeningFault old new fault × ((kind : KeeperFa
 
 -- Why an image is not upgraded: its key-value store is not opened, or it was, has content of version 1, and was refused then.
 abbrev pub IsUpgradeRefusal : State → State → OpenFault → Type 0
-IsUpgradeRefusal old new fault = IsStoreRefusal old new fault ⊎ ((128 ≤ old.size) × IsFirst old × IsNotUpgraded old new fault)
+IsUpgradeRefusal old new fault = IsStoreRefusal old new fault ⊎ ((128 ≤ old.size) × IsFirstImage old × IsImageNotUpgraded old new fault)

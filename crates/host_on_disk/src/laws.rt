@@ -5,7 +5,7 @@ ghost use Rattle.page_store.specs.Sectors.{Image};
 ghost use Rattle.page_store.specs.Steps.{crash_states_of};
 ghost use Rattle.group_world.specs.CrashStates.{Commit, HoldsCommits};
 ghost use Rattle.host_on_disk.specs.ImageSites.{ImageRepresents};
-ghost use Rattle.host_on_disk.specs.Headline.{IsFound, Turn, InTurn, FoundInTurn};
+ghost use Rattle.host_on_disk.specs.Headline.{IsFound, RunInTurn, InTurn, FoundInTurn};
 ghost use Rattle.host_on_disk.specs.Tightness.{IsTight};
 ghost use Rattle.cow_tree.specs.TreeSeen.{device_of, held};
 ghost use Rattle.host_types.specs.AllChanges.{Changes};
@@ -32,7 +32,7 @@ pub fn what_a_crash_left_is_found_again()
 /// Any number of crashes in turn: where each run is on a device that shows what a crash of the run before left, the last image represents a site,
 /// and that one is found by way of sites that the runs allow.
 pub fn any_number_of_crashes<D: Device>()
-    ensures { (first last : Image) (s : Site) (turns : List (Turn D)) → InTurn D.state (crash_states_of D.moment D.possible_since) first turns last → ImageRepresents first s → (t : Site) × ImageRepresents last t × FoundInTurn s turns t }
+    ensures { (first last : Image) (s : Site) (turns : List (RunInTurn D)) → InTurn D.state (crash_states_of D.moment D.possible_since) first turns last → ImageRepresents first s → (t : Site) × ImageRepresents last t × FoundInTurn s turns t }
 {}
 
 /// `Full` of changes on a site over a tree means that they are tight: fewer pages are free than a commit of all their keys may need in a tree of so many levels.

@@ -6,9 +6,12 @@ ghost use Rattle.sector_device.specs.Device.{NothingCounted};
 ghost use Rattle.page_store.specs.Roots.{greatest_seal};
 ghost use Rattle.page_store.specs.Steps.{crash_states_of};
 ghost use Rattle.page_store.specs.declared.fault.KeeperFault.TheVariants.{Small};
+ghost use Rattle.page_store.specs.Opening.{MadeToOpen};
+ghost use Rattle.page_store.specs.Work.{SyncsOnceAtMost};
 ghost use Rattle.cow_tree.specs.TreeSeen.{device_of, top_of, held, is_open};
 ghost use Rattle.site_store.specs.Seen.{keeper_of, seen_site};
 ghost use Rattle.host_on_disk.specs.ImageSites.{ImageRepresents};
+ghost use Rattle.host_on_disk.specs.OpeningWork.{opening_reads};
 ghost use Rattle.host_on_disk.specs.OpenFaults.{IsOpeningFault, HandsBack};
 ghost use Rattle.host_on_disk.specs.declared.open_fault.OpenFault.TheVariants.{Keeper};
 
@@ -33,6 +36,9 @@ pub fn open_site<D: Device>(
     ensures unpinned { IfOk result (λ d. (held D.state (keeper_of d)).pins ≡ []) }
     ensures none_pinned { IfOk result (λ d. (⟦<DiskSite<TreeKeeper<D>> as SiteKeeper>⟧.site_state d).pins ≡ []) }
     ensures large { IfOk result (λ d. 128 ≤ (D.state device).size) }
+    // Each page is read once, and then the pages on the way to each pair, behind one sync.
+    ensures work { IfOk result (λ d. MadeToOpen (opening_reads (D.state device).size (held D.state (keeper_of d))) (D.state device) (D.state (device_of (keeper_of d)))) }
+    ensures work_on_fault { IfErr result (λ e. SyncsOnceAtMost (D.state device).made (D.state e.1).made) }
     ensures counts { IfOk result (λ d. NothingCounted (D.state device) (D.state (device_of (keeper_of d)))) }
     ensures small { (D.state device).size < 128 → IsErrAnd result (λ e. (e.0 ≡ Keeper Small) × (e.1 ≡ device)) }
     ensures refused { IfErr result (λ e. HandsBack IsOpeningFault D.state (crash_states_of D.moment D.possible_since) device e.1 e.0) }

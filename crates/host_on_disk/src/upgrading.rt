@@ -4,7 +4,7 @@ ghost use Rattle.host_types.specs.CrashStates.{AddsNone};
 ghost use Rattle.sector_device.specs.Device.{NothingCounted};
 ghost use Rattle.page_store.specs.Steps.{crash_states_of};
 ghost use Rattle.page_store.specs.declared.fault.KeeperFault.TheVariants.{Small, Failed};
-ghost use Rattle.host_on_disk.specs.Upgrades.{Upgrades, IsNewAlready, KeepsEither, IsUpgradeRefusal};
+ghost use Rattle.host_on_disk.specs.Upgrades.{UpgradesDevice, IsNewAlready, KeepsEither, IsUpgradeRefusal};
 ghost use Rattle.host_on_disk.specs.declared.open_fault.OpenFault.TheVariants.{Keeper};
 
 use crate::open_fault::OpenFault;
@@ -17,7 +17,7 @@ use std::alloc::Global;
 ///
 /// A crash at any moment leaves the same site, in version 1 or 2; once it is done, in version 2. Refusals in order: those of `TreeKeeper::open`; `BadRecord` where the image represents no site of version 1; the faults of a commit. `Memory` may stand in place of `Damaged` and all that comes behind it, and of success. A refusal writes nothing, unless it is `Failed`.
 pub fn upgrade_on<D: Device>(alloc: Global, device: D) -> Result<(u64, D), (OpenFault, D)>
-    ensures upgraded { IsTrue (D.state device).honest → IfOk result (λ r. Upgrades D.state (crash_states_of D.moment D.possible_since) device r.1 r.0 ⊎ IsNewAlready D.state (crash_states_of D.moment D.possible_since) device r.1 r.0) }
+    ensures upgraded { IsTrue (D.state device).honest → IfOk result (λ r. UpgradesDevice D.state (crash_states_of D.moment D.possible_since) device r.1 r.0 ⊎ IsNewAlready D.state (crash_states_of D.moment D.possible_since) device r.1 r.0) }
     ensures counts { IfOk result (λ r. NothingCounted (D.state device) (D.state r.1)) }
     ensures refused { IfErr result (λ e. IsUpgradeRefusal (D.state device) (D.state e.1) e.0) }
     ensures kept { IsTrue (D.state device).honest → IfErr result (λ e. AddsNone (crash_states_of D.moment D.possible_since device) (crash_states_of D.moment D.possible_since e.1) ⊎ KeepsEither D.state (crash_states_of D.moment D.possible_since) device e.1) }

@@ -10,7 +10,7 @@ use Rattle.std.proofs.lemmas.List.{append_assoc, append-nil, take-append-drop, d
 use Rattle.std.proofs.lemmas.List.Elements.{All-nil, All-append, All-push}
 use Rattle.group_world.specs.declared.event.Event.{Event as HubEvent}
 use Rattle.group_world.specs.declared.event.Outcome.{Outcome}
-use Rattle.host_script.specs.Lines.{Ran, RanBy, RanSo, Place, start, number_after, RunsLines, IsCut, RunsLine, RunsTo, IsRunTo, IsReplayed, IsLastRun, TakesFront, StopsIn, StopsAtEnd, ComesIn, IsStopped, IsHalted, Halts, ended, is_lf, last_line}
+use Rattle.host_script.specs.Lines.{Ran, RanBy, RanSo, LinePlace, start, number_after, RunsLines, IsCutLine, RunsLine, RunsTo, IsRunTo, IsReplayed, IsLastRun, TakesFront, StopsIn, StopsAtEnd, LineComesIn, IsScriptStopped, IsHalted, Halts, ended, is_lf, last_line}
 use Rattle.host_script.specs.declared.fault.Fault.{Fault}
 use Rattle.host_script.specs.declared.fault.Fault.TheVariants.{Script, Memory, Output}
 
@@ -84,7 +84,7 @@ lines_one now after line printed e o run = record {
 pub ended-append : (xs ys : List (List ℕ)) → ended (xs ++ ys) ≡ ended xs ++ ended ys
 ended-append xs ys = flat_map-append (λ line. line ++ 10 ∷ []) xs ys
 
-pub cut_more : (text rest piece next : List ℕ) (lines others : List (List ℕ)) → IsCut text lines rest → IsCut (rest ++ piece) others next → IsCut (text ++ piece) (lines ++ others) next
+pub cut_more : (text rest piece next : List ℕ) (lines others : List (List ℕ)) → IsCutLine text lines rest → IsCutLine (rest ++ piece) others next → IsCutLine (text ++ piece) (lines ++ others) next
 cut_more text rest piece next lines others p q = record {
   whole = ap (λ l. l ++ piece) p.whole ∙ append_assoc (ended lines) rest piece ∙ ap (λ l. ended lines ++ l) q.whole ∙ sym (append_assoc (ended lines) (ended others) next) ∙ ap (λ l. l ++ next) (sym (ended-append lines others));
   lines_plain = All-append (λ line. list_any is_lf line ≡ false) lines others p.lines_plain q.lines_plain;
@@ -92,7 +92,7 @@ cut_more text rest piece next lines others p q = record {
 }
 
 -- a text and more of it
-runs_more : (now then after : Place) (a b c : Option (List ℕ)) (text rest piece next : List ℕ) (e f : List HubEvent) (o p : List Outcome) →
+runs_more : (now then after : LinePlace) (a b c : Option (List ℕ)) (text rest piece next : List ℕ) (e f : List HubEvent) (o p : List Outcome) →
     RunsTo now then a b text rest e o → RunsTo then after b c (rest ++ piece) next f p → RunsTo now after a c (text ++ piece) next (e ++ f) (o ++ p)
 runs_more now then after a b c text rest piece next e f o p first second = record {
   lines = first.lines ++ second.lines;
@@ -103,15 +103,15 @@ runs_more now then after a b c text rest piece next e f o p first second = recor
   written = subst (λ l. Appends a c l) (sym (ended-append first.printed second.printed)) (appends_more a b c _ _ first.written second.written);
 }
 
-comes_more : (fault : Fault) (left more : List ℕ) → ComesIn fault left → ComesIn fault (left ++ more)
+comes_more : (fault : Fault) (left more : List ℕ) → LineComesIn fault left → LineComesIn fault (left ++ more)
 comes_more (Script n) left more p = (p.0 ++ more, ap (λ l. l ++ more) p.1)
 comes_more Output left more p = (p.0 ++ more, ap (λ l. l ++ more) p.1)
 comes_more Memory [] more p = absurd (p refl)
 comes_more Memory (b ∷ bs) more p = some_item b (bs ++ more)
 
 -- a piece of which a front was run ends at a line
-stopped : (fault : Fault) (now then : Place) (a b c : Option (List ℕ)) (before front rest left more piece : List ℕ) (e f : List HubEvent) (o p : List Outcome) → piece ≡ front ++ (left ++ more) →
-    RunsTo now then a b (before ++ front) rest e o → StopsIn b c then rest left fault f p → IsStopped fault now a c before piece (e ++ f) (o ++ p)
+stopped : (fault : Fault) (now then : LinePlace) (a b c : Option (List ℕ)) (before front rest left more piece : List ℕ) (e f : List HubEvent) (o p : List Outcome) → piece ≡ front ++ (left ++ more) →
+    RunsTo now then a b (before ++ front) rest e o → StopsIn b c then rest left fault f p → IsScriptStopped fault now a c before piece (e ++ f) (o ++ p)
 stopped fault now then a b c before front rest left more piece e f o p is run stop = record {
   front = front;
   left = left ++ more;
@@ -130,8 +130,8 @@ stopped fault now then a b c before front rest left more piece e f o p is run st
 }
 
 -- so does a script that ends within a piece
-halted_in : (fault : Fault) (then : Place) (a b c unread : Option (List ℕ)) (text rest piece more script : List ℕ) (e f : List HubEvent) (o p : List Outcome) → script ≡ text ++ (piece ++ more) →
-    RunsTo start then a b text rest e o → IsStopped fault then b c rest piece f p → IsHalted fault a c unread script (e ++ f) (o ++ p)
+halted_in : (fault : Fault) (then : LinePlace) (a b c unread : Option (List ℕ)) (text rest piece more script : List ℕ) (e f : List HubEvent) (o p : List Outcome) → script ≡ text ++ (piece ++ more) →
+    RunsTo start then a b text rest e o → IsScriptStopped fault then b c rest piece f p → IsHalted fault a c unread script (e ++ f) (o ++ p)
 halted_in fault then a b c unread text rest piece more script e f o p is run q = record {
   front = text ++ q.front;
   left = q.left ++ more;
@@ -150,7 +150,7 @@ halted_in fault then a b c unread text rest piece more script e f o p is run q =
 }
 
 -- and one that ends at its last line, which lacks its LF
-halted_last : (fault : Fault) (then : Place) (a b c unread : Option (List ℕ)) (text rest script : List ℕ) (e f : List HubEvent) (o p : List Outcome) → script ≡ text →
+halted_last : (fault : Fault) (then : LinePlace) (a b c unread : Option (List ℕ)) (text rest script : List ℕ) (e f : List HubEvent) (o p : List Outcome) → script ≡ text →
     RunsTo start then a b text rest e o → StopsAtEnd b c then rest fault f p → IsHalted fault a c unread script (e ++ f) (o ++ p)
 halted_last fault then a b c unread text rest script e f o p is run stop = record {
   front = text;
@@ -170,7 +170,7 @@ halted_last fault then a b c unread text rest script e f o p is run stop = recor
 }
 
 -- and one of which no more could be read
-cut_off : (then : Place) (a b : Option (List ℕ)) (text rest left script : List ℕ) (e : List HubEvent) (o : List Outcome) → script ≡ text ++ left →
+cut_off : (then : LinePlace) (a b : Option (List ℕ)) (text rest left script : List ℕ) (e : List HubEvent) (o : List Outcome) → script ≡ text ++ left →
     RunsTo start then a b text rest e o → IsHalted (Script then.number) a b (Some left) script e o
 cut_off then a b text rest left script e o is run = record {
   front = text;
@@ -190,7 +190,7 @@ cut_off then a b text rest left script e o is run = record {
 }
 
 -- A reader has given a text, and that was run as far as its last LF.
-pub record IsReadTo {H : Type 0} (ran : Ran H) (old new : H) (after : Place) (a b : Option (List ℕ)) (from left : Option (List ℕ)) (rest : List ℕ) : Type 0 where
+pub record IsReadTo {H : Type 0} (ran : Ran H) (old new : H) (after : LinePlace) (a b : Option (List ℕ)) (from left : Option (List ℕ)) (rest : List ℕ) : Type 0 where
   pub text : List ℕ
   pub consumed : Consumes from left text
   pub run : IsRunTo ran old new start after a b text rest
@@ -204,7 +204,7 @@ module _ {H : Type 0} (ran : Ran H) (none : (w : H) → ran w [] [] w) (join : (
   by_more : (old mid new : H) (P Q R : List HubEvent → List Outcome → Type 0) → ((e f : List HubEvent) (o p : List Outcome) → P e o → Q f p → R (e ++ f) (o ++ p)) → RanBy ran old mid P → RanBy ran mid new Q → RanBy ran old new R
   by_more old mid new P Q R both p q = (p.0 ++ q.0, p.1 ++ q.1, both p.0 q.0 p.1 q.1 p.2 q.2, join old mid new p.0 q.0 p.1 q.1 p.3 q.3)
 
-  pub run_more : (old mid new : H) (now then after : Place) (a b c : Option (List ℕ)) (text rest piece next : List ℕ) →
+  pub run_more : (old mid new : H) (now then after : LinePlace) (a b c : Option (List ℕ)) (text rest piece next : List ℕ) →
       IsRunTo ran old mid now then a b text rest → IsRunTo ran mid new then after b c (rest ++ piece) next → IsRunTo ran old new now after a c (text ++ piece) next
   run_more old mid new now then after a b c text rest piece next p q = by_more old mid new (RunsTo now then a b text rest) (RunsTo then after b c (rest ++ piece) next) (RunsTo now after a c (text ++ piece) next) (runs_more now then after a b c text rest piece next) p q
 
@@ -218,7 +218,7 @@ module _ {H : Type 0} (ran : Ran H) (none : (w : H) → ran w [] [] w) (join : (
   so_on old mid new p q = (p.0 ++ q.0, p.1 ++ q.1, join old mid new p.0 q.0 p.1 q.1 p.2 q.2)
 
   -- nothing of a text was run yet
-  pub run_none : (w : H) (now : Place) (a : Option (List ℕ)) (rest : List ℕ) → list_any is_lf rest ≡ false → IsRunTo ran w w now now a a rest rest
+  pub run_none : (w : H) (now : LinePlace) (a : Option (List ℕ)) (rest : List ℕ) → list_any is_lf rest ≡ false → IsRunTo ran w w now now a a rest rest
   run_none w now a rest plain = (
     [],
     [],
@@ -234,7 +234,7 @@ module _ {H : Type 0} (ran : Ran H) (none : (w : H) → ran w [] [] w) (join : (
   )
 
   -- a line that its LF ends
-  pub run_one : (old new : H) (now after : Place) (a b : Option (List ℕ)) (line printed : List ℕ) (e : List HubEvent) (o : List Outcome) → list_any is_lf line ≡ false → after.number ≡ min (now.number + 1) (2 ^ 64 - 1) →
+  pub run_one : (old new : H) (now after : LinePlace) (a b : Option (List ℕ)) (line printed : List ℕ) (e : List HubEvent) (o : List Outcome) → list_any is_lf line ≡ false → after.number ≡ min (now.number + 1) (2 ^ 64 - 1) →
       RunsLine now.moment after.moment line printed e o → ran old e o new → Appends a b (printed ++ 10 ∷ []) → IsRunTo ran old new now after a b (line ++ 10 ∷ []) []
   run_one old new now after a b line printed e o plain number run calls written = (
     e,
@@ -269,7 +269,7 @@ module _ {H : Type 0} (ran : Ran H) (none : (w : H) → ran w [] [] w) (join : (
     written = subst (λ l. Appends a b l) (sym (append-nil (printed ++ 10 ∷ []))) written;
   }
 
-  pub read_more : (old mid new : H) (then after : Place) (a b c from left later : Option (List ℕ)) (piece rest next : List ℕ) →
+  pub read_more : (old mid new : H) (then after : LinePlace) (a b c from left later : Option (List ℕ)) (piece rest next : List ℕ) →
       IsReadTo ran old mid then a b from left rest → Consumes left later piece → IsRunTo ran mid new then after b c (rest ++ piece) next → IsReadTo ran old new after a c from later next
   read_more old mid new then after a b c from left later piece rest next p consumed run = record {
     text = p.text ++ piece;
@@ -281,7 +281,7 @@ module _ {H : Type 0} (ran : Ran H) (none : (w : H) → ran w [] [] w) (join : (
   read_none w a from = record { text = []; consumed = consumes_none from; run = run_none w start a [] refl }
 
   -- the script ends
-  replayed : (old mid new : H) (then : Place) (a b c : Option (List ℕ)) (script : List ℕ) (left : Option (List ℕ)) (rest : List ℕ) →
+  replayed : (old mid new : H) (then : LinePlace) (a b c : Option (List ℕ)) (script : List ℕ) (left : Option (List ℕ)) (rest : List ℕ) →
       IsReadTo ran old mid then a b (Some script) left rest → IsAtEnd left → IsLastRun ran mid new then.moment b c rest → IsReplayed ran old new a c script
   replayed old mid new then a b c script None rest p end last = absurd p.consumed
   replayed old mid new then a b c script (Some left) rest p end last =
@@ -294,38 +294,38 @@ module _ {H : Type 0} (ran : Ran H) (none : (w : H) → ran w [] [] w) (join : (
         after = last.after;
         events = p.run.0 ++ last.events;
         outcomes = p.run.1 ++ last.outcomes;
-        cut = subst (λ t. IsCut t run.lines rest) (sym whole) run.cut;
+        cut = subst (λ t. IsCutLine t run.lines rest) (sym whole) run.cut;
         run = lines_more 0 then.moment last.after run.lines (last_line rest) run.printed last.printed p.run.0 last.events p.run.1 last.outcomes run.run last.run;
         calls = join old mid new p.run.0 last.events p.run.1 last.outcomes p.run.3 last.calls;
         written = subst (λ l. Appends a c l) (sym (ended-append run.printed last.printed)) (appends_more a b c _ _ run.written last.written);
       }
 
-  pub replayed_known : (old mid new : H) (then : Place) (a b c : Option (List ℕ)) (from left : Option (List ℕ)) (rest : List ℕ) →
+  pub replayed_known : (old mid new : H) (then : LinePlace) (a b c : Option (List ℕ)) (from left : Option (List ℕ)) (rest : List ℕ) →
       IsReadTo ran old mid then a b from left rest → IsAtEnd left → IsLastRun ran mid new then.moment b c rest → IfSome from (IsReplayed ran old new a c)
   replayed_known old mid new then a b c None left rest p end last = tt
   replayed_known old mid new then a b c (Some script) left rest p end last = replayed old mid new then a b c script left rest p end last
 
   -- a fault at a byte of a piece
-  pub stopped_at : (old mid new : H) (fault : Fault) (now then : Place) (a b c : Option (List ℕ)) (line piece : List ℕ) (i : ℕ) (rest : List ℕ) → i < length piece →
-      IsRunTo ran old mid now then a b (line ++ take i piece) rest → RanBy ran mid new (StopsIn b c then rest (get_or piece i 0 ∷ []) fault) → RanBy ran old new (IsStopped fault now a c line piece)
+  pub stopped_at : (old mid new : H) (fault : Fault) (now then : LinePlace) (a b c : Option (List ℕ)) (line piece : List ℕ) (i : ℕ) (rest : List ℕ) → i < length piece →
+      IsRunTo ran old mid now then a b (line ++ take i piece) rest → RanBy ran mid new (StopsIn b c then rest (get_or piece i 0 ∷ []) fault) → RanBy ran old new (IsScriptStopped fault now a c line piece)
   stopped_at old mid new fault now then a b c line piece i rest within p q =
-      by_more old mid new (RunsTo now then a b (line ++ take i piece) rest) (StopsIn b c then rest (get_or piece i 0 ∷ []) fault) (IsStopped fault now a c line piece)
+      by_more old mid new (RunsTo now then a b (line ++ take i piece) rest) (StopsIn b c then rest (get_or piece i 0 ∷ []) fault) (IsScriptStopped fault now a c line piece)
       (λ e f o r. stopped fault now then a b c line (take i piece) rest (get_or piece i 0 ∷ []) (drop (i + 1) piece) piece e f o r (sym (take-append-drop i piece) ∙ ap (λ l. take i piece ++ l) (drop_more piece i 0 within)))
       p q
 
   -- a fault within a piece
-  pub halted_within : (old mid new : H) (fault : Fault) (then : Place) (a b c from left later : Option (List ℕ)) (piece rest : List ℕ) →
-      IsReadTo ran old mid then a b from left rest → Consumes left later piece → RanBy ran mid new (IsStopped fault then b c rest piece) → Halts ran old new a c later from fault
+  pub halted_within : (old mid new : H) (fault : Fault) (then : LinePlace) (a b c from left later : Option (List ℕ)) (piece rest : List ℕ) →
+      IsReadTo ran old mid then a b from left rest → Consumes left later piece → RanBy ran mid new (IsScriptStopped fault then b c rest piece) → Halts ran old new a c later from fault
   halted_within old mid new fault then a b c None left later piece rest p consumed q = tt
   halted_within old mid new fault then a b c (Some script) None later piece rest p consumed q = absurd p.consumed
   halted_within old mid new fault then a b c (Some script) (Some others) None piece rest p consumed q = absurd consumed
   halted_within old mid new fault then a b c (Some script) (Some others) (Some more) piece rest p consumed q =
-      by_more old mid new (RunsTo start then a b p.text rest) (IsStopped fault then b c rest piece) (IsHalted fault a c (Some more) script)
+      by_more old mid new (RunsTo start then a b p.text rest) (IsScriptStopped fault then b c rest piece) (IsHalted fault a c (Some more) script)
       (λ e f o r. halted_in fault then a b c (Some more) p.text rest piece more script e f o r (p.consumed ∙ ap (λ l. p.text ++ l) consumed))
       p.run q
 
   -- a fault at the last line
-  pub halted_at_last : (old mid new : H) (fault : Fault) (then : Place) (a b c from left unread : Option (List ℕ)) (rest : List ℕ) →
+  pub halted_at_last : (old mid new : H) (fault : Fault) (then : LinePlace) (a b c from left unread : Option (List ℕ)) (rest : List ℕ) →
       IsReadTo ran old mid then a b from left rest → IsAtEnd left → RanBy ran mid new (StopsAtEnd b c then rest fault) → Halts ran old new a c unread from fault
   halted_at_last old mid new fault then a b c None left unread rest p end q = tt
   halted_at_last old mid new fault then a b c (Some script) None unread rest p end q = absurd p.consumed
@@ -335,7 +335,7 @@ module _ {H : Type 0} (ran : Ran H) (none : (w : H) → ran w [] [] w) (join : (
       p.run q
 
   -- no more can be read
-  pub halted_unread : (old new : H) (then : Place) (a b from left unread : Option (List ℕ)) (rest : List ℕ) →
+  pub halted_unread : (old new : H) (then : LinePlace) (a b from left unread : Option (List ℕ)) (rest : List ℕ) →
       IsReadTo ran old new then a b from left rest → Keeps left unread → Halts ran old new a b unread from (Script then.number)
   halted_unread old new then a b None left unread rest p kept = tt
   halted_unread old new then a b (Some script) None unread rest p kept = absurd p.consumed
@@ -362,7 +362,7 @@ on_err (Ok x) p = tt
 on_err (Err e) p = p
 
 -- an LF stands there
-pub comes_lf : (fault : Fault) (byte : ℕ) → byte ≡ 10 → ComesIn fault (byte ∷ [])
+pub comes_lf : (fault : Fault) (byte : ℕ) → byte ≡ 10 → LineComesIn fault (byte ∷ [])
 comes_lf (Script n) byte is = ([], ap (λ b. b ∷ []) is)
 comes_lf Output byte is = ([], ap (λ b. b ∷ []) is)
 comes_lf Memory byte is = some_item byte []

@@ -5,7 +5,7 @@ use Rattle.group_world.specs.declared.event.Outcome.TheVariants.{Joined, More, R
 use Rattle.group_world.specs.declared.fault.HubFault.TheVariants as hub
 use Rattle.host_script.specs.Printed.{line_of}
 
-pub record LineExamples : Type 0 where
+pub record ScriptLineExamples : Type 0 where
   pub joined : line_of (Joined 12) ≡ codes "id 12"
   pub more : line_of More ≡ codes "more"
   pub ready : line_of Ready ≡ codes "ready"

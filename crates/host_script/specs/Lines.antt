@@ -24,20 +24,20 @@ pub record IsAnswered (event : HubEvent) (printed : List ℕ) (events : List Hub
   pub line : printed ≡ line_of outcome
 
 -- Or there was no memory for it, and nothing happened.
-abbrev pub IsAnswer : HubEvent → List ℕ → List HubEvent → List Outcome → Type 0
-IsAnswer event printed events outcomes = IsAnswered event printed events outcomes ⊎ ((events ≡ []) × (outcomes ≡ []) × (printed ≡ codes "fault Memory"))
+abbrev pub IsLineAnswer : HubEvent → List ℕ → List HubEvent → List Outcome → Type 0
+IsLineAnswer event printed events outcomes = IsAnswered event printed events outcomes ⊎ ((events ≡ []) × (outcomes ≡ []) × (printed ≡ codes "fault Memory"))
 
 -- What is asked for at a moment, the moment after it, what is printed, and the hub's events with their outcomes.
-abbrev pub IsDone : ℕ → ℕ → List ℕ → List HubEvent → List Outcome → ParsedLine → Type 0
-IsDone now after printed events outcomes (Moment stamp) = (events ≡ []) × (outcomes ≡ []) × (after ≡ stamp) × (printed ≡ codes "ok")
-IsDone now after printed events outcomes (Event event) = (after ≡ now) × IsAnswer event printed events outcomes
-IsDone now after printed events outcomes (Refused refused) = (events ≡ []) × (outcomes ≡ []) × (after ≡ now) × (printed ≡ refused_line refused)
+abbrev pub IsLineDone : ℕ → ℕ → List ℕ → List HubEvent → List Outcome → ParsedLine → Type 0
+IsLineDone now after printed events outcomes (Moment stamp) = (events ≡ []) × (outcomes ≡ []) × (after ≡ stamp) × (printed ≡ codes "ok")
+IsLineDone now after printed events outcomes (Event event) = (after ≡ now) × IsLineAnswer event printed events outcomes
+IsLineDone now after printed events outcomes (Refused refused) = (events ≡ []) × (outcomes ≡ []) × (after ≡ now) × (printed ≡ refused_line refused)
 
 -- A line is a command, and what that asks for is done.
 pub record RunsLine (now after : ℕ) (line printed : List ℕ) (events : List HubEvent) (outcomes : List Outcome) : Type 0 where
   pub command : Command
   pub is : line_command line ≡ Some command
-  pub done : IsDone now after printed events outcomes (parsed_of command now)
+  pub done : IsLineDone now after printed events outcomes (parsed_of command now)
 
 -- ---- a whole script
 
@@ -68,7 +68,7 @@ abbrev pub ended : List (List ℕ) → List ℕ
 ended lines = flat_map (λ line. line ++ 10 ∷ []) lines
 
 -- The text is these lines, each ended by an LF and without another, and what stands behind the last LF.
-pub record IsCut (text : List ℕ) (lines : List (List ℕ)) (rest : List ℕ) : Type 0 where
+pub record IsCutLine (text : List ℕ) (lines : List (List ℕ)) (rest : List ℕ) : Type 0 where
   pub whole : text ≡ ended lines ++ rest
   pub lines_plain : All (λ line. list_any is_lf line ≡ false) lines
   pub rest_plain : list_any is_lf rest ≡ false
@@ -93,18 +93,18 @@ pub record Runs {H T E : Type 0} (ran : Ran H) (old new : H) (result : Result T 
   pub led : RanSo ran old new
 
 -- Where a script stands: the moment, and the number of the next line.
-pub record Place : Type 0 where
+pub record LinePlace : Type 0 where
   pub moment : ℕ
   pub number : ℕ
 
-abbrev pub place_of : Standing → Place
+abbrev pub place_of : Standing → LinePlace
 place_of p = record { moment = p.moment; number = p.number }
 
-abbrev pub place_at : ℕ → ℕ → Place
+abbrev pub place_at : ℕ → ℕ → LinePlace
 place_at moment number = record { moment = moment; number = number }
 
 -- before the first line
-abbrev pub start : Place
+abbrev pub start : LinePlace
 start = place_at 0 1
 
 -- the number after these lines, which stays at the greatest u64
@@ -113,15 +113,15 @@ number_after n [] = n
 number_after n (line ∷ lines) = number_after (min (n + 1) (2 ^ 64 - 1)) lines
 
 -- A text was run as far as its last LF, from one place to another, and a writer was given what was printed, each line with its LF.
-pub record RunsTo (from to : Place) (given took : Option (List ℕ)) (text rest : List ℕ) (events : List HubEvent) (outcomes : List Outcome) : Type 0 where
+pub record RunsTo (from to : LinePlace) (given took : Option (List ℕ)) (text rest : List ℕ) (events : List HubEvent) (outcomes : List Outcome) : Type 0 where
   pub lines : List (List ℕ)
   pub printed : List (List ℕ)
-  pub cut : IsCut text lines rest
+  pub cut : IsCutLine text lines rest
   pub run : RunsLines from.moment to.moment lines printed events outcomes
   pub number : to.number ≡ number_after from.number lines
   pub written : Appends given took (ended printed)
 
-abbrev pub IsRunTo : {H : Type 0} → Ran H → H → H → Place → Place → Option (List ℕ) → Option (List ℕ) → List ℕ → List ℕ → Type 0
+abbrev pub IsRunTo : {H : Type 0} → Ran H → H → H → LinePlace → LinePlace → Option (List ℕ) → Option (List ℕ) → List ℕ → List ℕ → Type 0
 IsRunTo ran old new from to given took text rest = RanBy ran old new (RunsTo from to given took text rest)
 
 -- what stands behind the last LF is a line where it has bytes
@@ -147,7 +147,7 @@ pub record IsReplayed {H : Type 0} (ran : Ran H) (old new : H) (given took : Opt
   pub after : ℕ
   pub events : List HubEvent
   pub outcomes : List Outcome
-  pub cut : IsCut script lines rest
+  pub cut : IsCutLine script lines rest
   pub run : RunsLines 0 after (lines ++ last_line rest) printed events outcomes
   pub calls : ran old events outcomes new
   pub written : Appends given took (ended printed)
@@ -171,26 +171,26 @@ pub record TakesFront (given took : Option (List ℕ)) (text : List ℕ) : Type 
   pub written : Appends given took front
 
 -- How a line ends a script: it is none, and has this number; or memory is lacking for it, or for its answer, of which nothing is written; or it was run, and the writer did not take all of its answer.
-abbrev pub Stops : Option (List ℕ) → Option (List ℕ) → Place → List ℕ → Fault → List HubEvent → List Outcome → Type 0
+abbrev pub Stops : Option (List ℕ) → Option (List ℕ) → LinePlace → List ℕ → Fault → List HubEvent → List Outcome → Type 0
 Stops given took at line (Script n) events outcomes = (n ≡ at.number) × (events ≡ []) × (outcomes ≡ []) × (took ≡ given) × IsNoLine line
 Stops given took at line Memory events outcomes = (took ≡ given) × MayRun at.moment line events outcomes
 Stops given took at line Output events outcomes = (after : ℕ) × (printed : List ℕ) × RunsLine at.moment after line printed events outcomes × TakesFront given took (printed ++ 10 ∷ [])
 
 -- It comes where an LF stands; for lack of memory it may come at any byte.
-abbrev pub ComesIn : Fault → List ℕ → Type 0
-ComesIn Memory left = left ≢ []
-ComesIn fault left = (more : List ℕ) × (left ≡ 10 ∷ more)
+abbrev pub LineComesIn : Fault → List ℕ → Type 0
+LineComesIn Memory left = left ≢ []
+LineComesIn fault left = (more : List ℕ) × (left ≡ 10 ∷ more)
 
 -- A line ends a script within a text of which this is left.
-abbrev pub StopsIn : Option (List ℕ) → Option (List ℕ) → Place → List ℕ → List ℕ → Fault → List HubEvent → List Outcome → Type 0
-StopsIn given took at line left fault events outcomes = Stops given took at line fault events outcomes × ComesIn fault left
+abbrev pub StopsIn : Option (List ℕ) → Option (List ℕ) → LinePlace → List ℕ → List ℕ → Fault → List HubEvent → List Outcome → Type 0
+StopsIn given took at line left fault events outcomes = Stops given took at line fault events outcomes × LineComesIn fault left
 
 -- The last line does, which lacks its LF.
-abbrev pub StopsAtEnd : Option (List ℕ) → Option (List ℕ) → Place → List ℕ → Fault → List HubEvent → List Outcome → Type 0
+abbrev pub StopsAtEnd : Option (List ℕ) → Option (List ℕ) → LinePlace → List ℕ → Fault → List HubEvent → List Outcome → Type 0
 StopsAtEnd given took at line fault events outcomes = Stops given took at line fault events outcomes × (line ≢ [])
 
 -- All that was read was run, as far as its last LF, and no more could be read.
-pub record IsCutOff (given took unread : Option (List ℕ)) (at : Place) (left : List ℕ) (fault : Fault) (events : List HubEvent) (outcomes : List Outcome) : Type 0 where
+pub record IsCutOff (given took unread : Option (List ℕ)) (at : LinePlace) (left : List ℕ) (fault : Fault) (events : List HubEvent) (outcomes : List Outcome) : Type 0 where
   pub fault_is : fault ≡ Script at.number
   pub events_are : events ≡ []
   pub outcomes_are : outcomes ≡ []
@@ -198,11 +198,11 @@ pub record IsCutOff (given took unread : Option (List ℕ)) (at : Place) (left :
   pub unread_is : unread ≡ Some left
 
 -- A front of a text was run, behind what stood before it, as far as its last LF, and then something else came.
-pub record RunsThen (from : Place) (given : Option (List ℕ)) (before text : List ℕ) (Then : Place → Option (List ℕ) → List ℕ → List ℕ → List HubEvent → List Outcome → Type 0) (events : List HubEvent) (outcomes : List Outcome) : Type 0 where
+pub record RunsThen (from : LinePlace) (given : Option (List ℕ)) (before text : List ℕ) (Then : LinePlace → Option (List ℕ) → List ℕ → List ℕ → List HubEvent → List Outcome → Type 0) (events : List HubEvent) (outcomes : List Outcome) : Type 0 where
   pub front : List ℕ
   pub left : List ℕ
   pub is : text ≡ front ++ left
-  pub to : Place
+  pub to : LinePlace
   pub line : List ℕ
   pub between : Option (List ℕ)
   pub first_events : List HubEvent
@@ -215,8 +215,8 @@ pub record RunsThen (from : Place) (given : Option (List ℕ)) (before text : Li
   pub outcomes_are : outcomes ≡ first_outcomes ++ later_outcomes
 
 -- A piece of a script was run as far as some LF, and the line behind it ended the script.
-abbrev pub IsStopped : Fault → Place → Option (List ℕ) → Option (List ℕ) → List ℕ → List ℕ → List HubEvent → List Outcome → Type 0
-IsStopped fault from given took before piece = RunsThen from given before piece (λ to between line left e o. StopsIn between took to line left fault e o)
+abbrev pub IsScriptStopped : Fault → LinePlace → Option (List ℕ) → Option (List ℕ) → List ℕ → List ℕ → List HubEvent → List Outcome → Type 0
+IsScriptStopped fault from given took before piece = RunsThen from given before piece (λ to between line left e o. StopsIn between took to line left fault e o)
 
 -- A whole script was: each line before the one that ended it was run and printed, and nothing more was done than is said of that one; or the script could not be read on.
 abbrev pub IsHalted : Fault → Option (List ℕ) → Option (List ℕ) → Option (List ℕ) → List ℕ → List HubEvent → List Outcome → Type 0

@@ -5,7 +5,7 @@ ghost use Rattle.std.specs.Io.KnownBytes.{Appends};
 ghost use Rattle.std.specs.String.{string_bytes};
 ghost use Rattle.group_hub.specs.Calls.{HubRun};
 ghost use Rattle.host_script.specs.Script.{line_command};
-ghost use Rattle.host_script.specs.Lines.{RanBy, RanSo, Runs, place_at, place_of, IsAnswer, RunsLine, MayRun, IsRunTo, Stops, StopsIn, StopsAtEnd, IsStopped, Halts, IsLastRun, IsReplayed, is_lf};
+ghost use Rattle.host_script.specs.Lines.{RanBy, RanSo, Runs, place_at, place_of, IsLineAnswer, RunsLine, MayRun, IsRunTo, Stops, StopsIn, StopsAtEnd, IsScriptStopped, Halts, IsLastRun, IsReplayed, is_lf};
 
 use crate::asking::{ParsedLine, ask};
 use crate::fault::Fault;
@@ -28,8 +28,8 @@ fn answer<S: SearchKeeper>(
     hub: &mut Hub<S>,
     event: Event,
 ) -> Result<String, AllocError>
-    ensures answer { Runs (HubRun S.site_state S.lacks S.crash_states S.represents) hub.old hub.new result (λ ran a b printed. RanBy ran a b (IsAnswer event (string_bytes printed))) }
-    ensures lost { OnErr result ((printed : List ℕ) × RanBy (HubRun S.site_state S.lacks S.crash_states S.represents) hub.old hub.new (IsAnswer event printed)) }
+    ensures answer { Runs (HubRun S.site_state S.lacks S.crash_states S.represents) hub.old hub.new result (λ ran a b printed. RanBy ran a b (IsLineAnswer event (string_bytes printed))) }
+    ensures lost { OnErr result ((printed : List ℕ) × RanBy (HubRun S.site_state S.lacks S.crash_states S.represents) hub.old hub.new (IsLineAnswer event printed)) }
 {
     let Ok(outcomes) = hub.run(&[event]) else {
         return String::from_str(alloc, "fault Memory");
@@ -119,7 +119,7 @@ fn run_piece<S: SearchKeeper, W: Write>(
     piece: &[u8],
 ) -> Result<(), Fault>
     ensures run { Runs (HubRun S.site_state S.lacks S.crash_states S.represents) hub.old hub.new result (λ ran a b _. list_any is_lf place.old.line.items ≡ false → IsRunTo ran a b (place_of place.old) (place_of place.new) (W.contents writer.old) (W.contents writer.new) (place.old.line.items ++ piece.now) place.new.line.items) }
-    ensures stops { list_any is_lf place.old.line.items ≡ false → IfErr result (λ fault. RanBy (HubRun S.site_state S.lacks S.crash_states S.represents) hub.old hub.new (IsStopped fault (place_of place.old) (W.contents writer.old) (W.contents writer.new) place.old.line.items piece.now)) }
+    ensures stops { list_any is_lf place.old.line.items ≡ false → IfErr result (λ fault. RanBy (HubRun S.site_state S.lacks S.crash_states S.represents) hub.old hub.new (IsScriptStopped fault (place_of place.old) (W.contents writer.old) (W.contents writer.new) place.old.line.items piece.now)) }
 {
     for byte in piece {
         run_byte(alloc, hub, writer, place, *byte)?;

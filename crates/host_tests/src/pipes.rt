@@ -8,6 +8,9 @@ use text_writer::{TextPipe, text};
 
 const CHUNKS: [usize; 4] = [1, 2, 3, 1000];
 
+/// The greatest room of a call.
+const MOST_ROOM: usize = 512;
+
 /// The room of a call; with 0 each second call has room for one byte, and the others have none.
 const ROOMS: [usize; 5] = [0, 1, 2, 7, 512];
 
@@ -17,7 +20,7 @@ fn room_at(room: usize, step: u64) -> usize
     if room == 0 && step % 2 == 1 {
         1
     } else {
-        room.min(512)
+        room.min(MOST_ROOM)
     }
 }
 
@@ -28,7 +31,7 @@ fn push_chunk(
     chunk: &[u8],
     room: usize,
 ) -> Result<(), AllocError> {
-    let mut out = [0; 512];
+    let mut out = [0; MOST_ROOM];
     let mut rest = chunk;
     for step in 0..u64::MAX {
         let part = &mut out[..room_at(room, step)];
@@ -44,7 +47,7 @@ fn push_chunk(
 
 /// Adds what the pipe gives once the body has ended.
 fn push_end(piped: &mut Vec<u8>, pipe: &mut TextPipe, room: usize) -> Result<(), AllocError> {
-    let mut out = [0; 512];
+    let mut out = [0; MOST_ROOM];
     for step in 0..u64::MAX {
         let part = &mut out[..room_at(room, step)];
         let given = pipe.finish(part);

@@ -13,7 +13,7 @@ use Rattle.change_file.specs.Applied.{apply_all, IsStop, IsStopped}
 use Rattle.change_file.specs.declared.fault.FileChange.{FileChange}
 use Rattle.change_file.specs.declared.fault.FileChange.TheVariants.{Change, Refused}
 use Rattle.change_file.specs.declared.fault.ApplyFault.{ApplyFault}
-use Rattle.image_changes.specs.ImageChanges.{HasMade}
+use Rattle.image_changes.specs.ImageChanges.{HasMadeChanges}
 
 -- but for a failed write or sync the keeper stays usable
 not_shut : {S : Type 0} (state : S → SiteState) (lacks : S → Changes → SiteFault → Type 0) (change : FileChange) (now : ℕ) (made new : S) (fault : SiteFault) → fault ≢ faults.Failed → IsStop state lacks change now made new fault → (state new).usable ≡ (state made).usable
@@ -27,7 +27,7 @@ not_shut state lacks (Change change) now made new faults.Memory other stop = sto
 not_shut state lacks (Refused refused) now made new fault other stop = ap (λ k. (state k).usable) stop.1
 
 pub all_made : {L : Type 0} (represents : L → Site → Type 0) (states : CrashStates L) (old t : Site) (changes : List FileChange) (now : ℕ) (U : Type 0) (result : Result ℕ ApplyFault) →
-    OnOk result (apply_all old changes now ≡ Ok t) → OnOk result U → (U → (c : L) → may_crash_to states c → represents c t) → OnOk result (HasMade represents states old changes now)
+    OnOk result (apply_all old changes now ≡ Ok t) → OnOk result U → (U → (c : L) → may_crash_to states c → represents c t) → OnOk result (HasMadeChanges represents states old changes now)
 all_made represents states old t changes now U (Ok n) made usable sure = (t, made, sure usable)
 all_made represents states old t changes now U (Err e) made usable sure = made
 
@@ -39,7 +39,7 @@ pub before_made : {S L : Type 0} (state : S → SiteState) (lacks : S → Change
     IfErr result (λ e. IsStopped state lacks old new changes now e.number e.fault) →
     IfErr result (λ e. apply_all (state old).site (take (e.number - 1) changes) now ≡ Ok (state new).site) →
     ((state new).usable ≡ true → (c : L) → may_crash_to states c → represents c (state new).site) →
-    (e : ApplyFault) → result ≡ Err e → e.fault ≢ faults.Failed → HasMade represents states (state old).site (take (e.number - 1) changes) now
+    (e : ApplyFault) → result ≡ Err e → e.fault ≢ faults.Failed → HasMadeChanges represents states (state old).site (take (e.number - 1) changes) now
 before_made state lacks represents states old new changes now result usable stopped kept sure e is other =
     let stop : IsStopped state lacks old new changes now e.number e.fault = at_err (λ e. IsStopped state lacks old new changes now e.number e.fault) result e is stopped in (
       (state new).site,

@@ -16,13 +16,13 @@ use Rattle.change_file.specs.declared.fault.ApplyFault.{ApplyFault}
 use Rattle.host_on_disk.specs.ImageSites.{ImageRepresents}
 
 -- The site is that of these changes, made one after another, and each crash state represents it.
-abbrev pub HasMade : {L : Type 0} → (L → Site → Type 0) → CrashStates L → Site → List FileChange → ℕ → Type 0
-HasMade {L = L} represents states old changes now = (t : Site) × (apply_all old changes now ≡ Ok t) × ((c : L) → may_crash_to states c → represents c t)
+abbrev pub HasMadeChanges : {L : Type 0} → (L → Site → Type 0) → CrashStates L → Site → List FileChange → ℕ → Type 0
+HasMadeChanges {L = L} represents states old changes now = (t : Site) × (apply_all old changes now ≡ Ok t) × ((c : L) → may_crash_to states c → represents c t)
 
 -- All changes were made, or, unless a write or a sync failed, those before the one that was not. A crash in between leaves what represents the site after some of them, from the front.
 pub record AppliesTo {S L : Type 0} (site_state : S → SiteState) (crash_states : S → CrashStates L) (represents : L → Site → Type 0) (old new : S) (changes : List FileChange) (now : ℕ) (result : Result ℕ ApplyFault) : Type 0 where
-  pub all : OnOk result (HasMade represents (crash_states new) (site_state old).site changes now)
-  pub before : (e : ApplyFault) → result ≡ Err e → e.fault ≢ Failed → HasMade represents (crash_states new) (site_state old).site (take (e.number - 1) changes) now
+  pub all : OnOk result (HasMadeChanges represents (crash_states new) (site_state old).site changes now)
+  pub before : (e : ApplyFault) → result ≡ Err e → e.fault ≢ Failed → HasMadeChanges represents (crash_states new) (site_state old).site (take (e.number - 1) changes) now
   pub at_crash : AddsOnly (crash_states old) (crash_states new) (RepresentsFront represents (site_state old).site changes now)
 
 -- The same of the one site that reads of a device give at first. To open it writes nothing.
@@ -32,8 +32,8 @@ pub record AppliesToImage {D : Type 0} (state : D → State) (crash_states : D �
   pub alone : (s : Site) → ImageRepresents (state old).disk.view s → s ≡ site
   pub opened : D
   pub no_new_crash_state : AddsNone (crash_states old) (crash_states opened)
-  pub all : OnOk result (HasMade ImageRepresents (crash_states new) site changes now)
-  pub before : (e : ApplyFault) → result ≡ Err e → e.fault ≢ Failed → HasMade ImageRepresents (crash_states new) site (take (e.number - 1) changes) now
+  pub all : OnOk result (HasMadeChanges ImageRepresents (crash_states new) site changes now)
+  pub before : (e : ApplyFault) → result ≡ Err e → e.fault ≢ Failed → HasMadeChanges ImageRepresents (crash_states new) site (take (e.number - 1) changes) now
   pub at_crash : AddsOnly (crash_states opened) (crash_states new) (RepresentsFront ImageRepresents site changes now)
 
 -- What changes count on a device of which one was not made with this fault: a read that failed, or the first write or sync that did, and nothing else.

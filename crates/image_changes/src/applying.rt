@@ -31,6 +31,7 @@ pub fn apply_over<S: SiteKeeper, P: Progress>(
     ensures counts { OnOk result.0 (CountsNothing (S.site_state site) (S.site_state result.1)) }
     ensures counts_fault { IfErr result.0 (λ e. CountsFault e.fault (S.site_state site) (S.site_state result.1)) }
     ensures honest { (S.site_state result.1).honest ≡ (S.site_state site).honest }
+    ensures pins { (S.site_state result.1).pins ≡ (S.site_state site).pins }
     ensures seen { HasSeen P.seen changes.items progress.old progress.new result.0 }
 {
     let mut site = site;

@@ -3,3 +3,4 @@ pub mod DiskSites
 pub mod FirstLeaves
 pub mod FormattedImages
 pub mod NotWritten
+pub mod SyncedOnce

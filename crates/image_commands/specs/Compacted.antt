@@ -12,7 +12,7 @@ use Rattle.page_store.specs.declared.fault.KeeperFault.TheVariants as store
 use Rattle.cow_tree.specs.TreeState.{unreached}
 use Rattle.cow_tree.specs.Compacting.{NeedsFilled, IsFilled}
 use Rattle.host_on_disk.specs.ImageSites.{ImageRepresents}
-use Rattle.host_on_disk.specs.Upgrades.{IsLast}
+use Rattle.host_on_disk.specs.Upgrades.{IsLastGeneration}
 use Rattle.image_commands.specs.Faults.{IsNotOpened}
 use Rattle.image_commands.specs.declared.fault.ImageFault.{ImageFault}
 use Rattle.image_commands.specs.declared.fault.ImageFault.TheVariants.{Refused, NoFile, BadRecord, Store, Memory}
@@ -21,7 +21,7 @@ abbrev pub free_line : ℕ → List ℕ
 free_line free = codes "free " ++ decimal free
 
 -- The one site that reads of a device give at first is written anew: opening it writes nothing, and a crash at any moment after that leaves what represents it.
-pub record KeepsSite {D : Type 0} (state : D → State) (crash_states : D → CrashStates Image) (old new : D) : Type 0 where
+pub record KeepsOneSite {D : Type 0} (state : D → State) (crash_states : D → CrashStates Image) (old new : D) : Type 0 where
   pub site : Site
   pub stands : ImageRepresents (state old).disk.view site
   pub alone : (s : Site) → ImageRepresents (state old).disk.view s → s ≡ site
@@ -50,16 +50,16 @@ pub record LacksRoom (image : Image) (need free : ℕ) : Type 0 where
   pub free_is : free ≡ unreached slot [] image
 
 -- The image was opened, but not written anew: a read failed, no further generation is there, the pages don't suffice, or a write or a sync failed; or memory was lacking, which may be for what is printed.
-abbrev pub IsNotWritten : State → State → ImageFault → Type 0
-IsNotWritten old new (Refused refused) = ⊥
-IsNotWritten old new NoFile = ⊥
-IsNotWritten old new BadRecord = ⊥
-IsNotWritten old new (Store store.Device) = (new.failed_writes ≡ old.failed_writes) × (IsTrue old.honest → new.failed_reads ≡ counted old.failed_reads)
-IsNotWritten old new (Store store.Spent) = NothingCounted old new × IsLast old
-IsNotWritten old new (Store (store.Full need free)) = NothingCounted old new × (free < need) × (IsTrue old.honest → LacksRoom new.disk.view need free)
-IsNotWritten old new (Store store.Failed) = (new.failed_writes ≡ counted old.failed_writes) × (new.failed_reads ≡ old.failed_reads)
-IsNotWritten old new (Store other) = ⊥
-IsNotWritten old new Memory = NothingCounted old new
+abbrev pub IsNotWrittenAnew : State → State → ImageFault → Type 0
+IsNotWrittenAnew old new (Refused refused) = ⊥
+IsNotWrittenAnew old new NoFile = ⊥
+IsNotWrittenAnew old new BadRecord = ⊥
+IsNotWrittenAnew old new (Store store.Device) = (new.failed_writes ≡ old.failed_writes) × (IsTrue old.honest → new.failed_reads ≡ counted old.failed_reads)
+IsNotWrittenAnew old new (Store store.Spent) = NothingCounted old new × IsLastGeneration old
+IsNotWrittenAnew old new (Store (store.Full need free)) = NothingCounted old new × (free < need) × (IsTrue old.honest → LacksRoom new.disk.view need free)
+IsNotWrittenAnew old new (Store store.Failed) = (new.failed_writes ≡ counted old.failed_writes) × (new.failed_reads ≡ old.failed_reads)
+IsNotWrittenAnew old new (Store other) = ⊥
+IsNotWrittenAnew old new Memory = NothingCounted old new
 
 -- Only such a fault may come where something was written: of a write or a sync, or want of memory, which may be for what is printed.
 abbrev pub MayHaveWritten : ImageFault → Type 0
@@ -72,4 +72,4 @@ MayHaveWritten Memory = ⊤
 
 -- When a fault may come of writing an image anew.
 abbrev pub IsCompactingFault : State → State → ImageFault → Type 0
-IsCompactingFault old new fault = IsNotOpened old new fault ⊎ ((128 ≤ old.size) × IsNotWritten old new fault)
+IsCompactingFault old new fault = IsNotOpened old new fault ⊎ ((128 ≤ old.size) × IsNotWrittenAnew old new fault)

@@ -30,23 +30,23 @@ fault_line BadRecord = image_line (codes "BadRecord")
 fault_line (Store fault) = store_line fault
 fault_line Memory = codes "memory"
 
--- what to do about a store's fault; nothing is said of most
+-- what to do about a store's fault
 abbrev pub store_advice : KeeperFault → List ℕ
-store_advice store.Device = []
+store_advice store.Device = codes "A read of the file failed: the disk may be failing. Copy the file to another one first."
 store_advice store.NoImage = codes "The command `format` makes an image; what is in the file is lost."
 store_advice store.Version = codes "The image was made by another version of the program: the command `upgrade` takes over one of an older version."
-store_advice (store.Damaged page) = []
+store_advice (store.Damaged page) = codes "That page is not what the image says of it: take the last copy of the image."
 store_advice store.Small = codes "An image has 16 to 65536 pages, and its file 4096 bytes for each."
-store_advice store.Spent = []
+store_advice store.Spent = codes "The image takes no further change: the command `copy` makes a new one of the same site."
 store_advice store.Deep = []
-store_advice (store.Full need free) = []
-store_advice store.Failed = []
+store_advice (store.Full need free) = codes "The command `compact` gives back what changes left half full; `copy` with more pages makes a larger image."
+store_advice store.Failed = codes "The disk did not take a write: it may be full, or failing. What was acknowledged before is stored."
 store_advice store.Memory = []
 
 -- what to do about a fault, as a sentence for a line of its own; no bytes where nothing is said
 abbrev pub advice : ImageFault → List ℕ
-advice (Refused refused) = []
+advice (Refused refused) = codes "A host is 1 to 100 visible characters of ASCII, an administrator at most 100 bytes, a title at most 69; none has a TAB, CR or LF."
 advice NoFile = codes "The file is not there, can not be read and written, or another program has it open."
-advice BadRecord = []
+advice BadRecord = codes "The image holds no valid site: take its last copy."
 advice (Store fault) = store_advice fault
 advice Memory = []

@@ -3,6 +3,7 @@ ghost use Rattle.std.specs.Prelude.{◌≡◌, ◌<◌, false, IfOk, OnOk, IfErr
 ghost use Rattle.host_types.specs.CrashStates.{AddsNone};
 ghost use Rattle.sector_device.specs.Device.{NothingCounted};
 ghost use Rattle.page_store.specs.Steps.{crash_states_of};
+ghost use Rattle.page_store.specs.Work.{WritesNothing, SyncsOnce, SyncsOnceAtMost};
 ghost use Rattle.page_store.specs.declared.fault.KeeperFault.TheVariants.{Small};
 ghost use Rattle.host_on_disk.specs.OpenFaults.{HandsBack};
 ghost use Rattle.image_commands.specs.Faults.{IsReadingFault};
@@ -44,6 +45,7 @@ pub fn check_site<K: PinKeeper>(alloc: Global, site: &mut DiskSite<K>) -> Result
     ensures line { Reads ⟦<DiskSite<K> as SiteKeeper>⟧.site_state ⟦<DiskSite<K> as SiteKeeper>⟧.lacks ⟦<DiskSite<K> as SiteKeeper>⟧.crash_states site.old site.new result (λ s line. string_bytes line ≡ spec.checked_line s (⟦<DiskSite<K> as SiteKeeper>⟧.site_state site.old).free (K.store_state (keeper_of site.old)).generation) }
     ensures counts { OnOk result ((⟦<DiskSite<K> as SiteKeeper>⟧.site_state site.new).failed_reads ≡ (⟦<DiskSite<K> as SiteKeeper>⟧.site_state site.old).failed_reads) }
     ensures closed { (⟦<DiskSite<K> as SiteKeeper>⟧.site_state site.old).usable ≡ false → IsErrOf result Failed }
+    ensures work { WritesNothing (K.store_state (keeper_of site.old)).made (K.store_state (keeper_of site.new)).made }
 {
     let figures = site.figures()?;
     let line = figures_line(alloc, figures)?;
@@ -56,6 +58,9 @@ pub fn check_image<D: Device>(alloc: Global, device: D) -> Result<(String, D), (
     ensures refused { IfErr result (λ e. HandsBack IsReadingFault D.state (crash_states_of D.moment D.possible_since) device e.1 e.0) }
     ensures small { (D.state device).size < 128 → IsErrAnd result (λ e. (e.0 ≡ Store Small) × (e.1 ≡ device)) }
     ensures counts { IfOk result (λ r. NothingCounted (D.state device) (D.state r.1)) }
+    // The image is opened once, so that all is made sure of once.
+    ensures work { IfOk result (λ r. SyncsOnce (D.state device).made (D.state r.1).made) }
+    ensures work_on_fault { IfErr result (λ e. SyncsOnceAtMost (D.state device).made (D.state e.1).made) }
     ensures at_crash { IsTrue (D.state device).honest → IfOk result (λ r. AddsNone (crash_states_of D.moment D.possible_since device) (crash_states_of D.moment D.possible_since r.1)) }
     ensures honest { IfOk result (λ r. (D.state r.1).honest ≡ (D.state device).honest) }
 {

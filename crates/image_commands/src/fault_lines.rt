@@ -50,13 +50,22 @@ fn store_advice(fault: KeeperFault) -> &'static str
             "The image was made by another version of the program: the command `upgrade` takes over one of an older version."
         }
         KeeperFault::Small => "An image has 16 to 65536 pages, and its file 4096 bytes for each.",
-        KeeperFault::Device
-        | KeeperFault::Damaged { .. }
-        | KeeperFault::Spent
-        | KeeperFault::Deep
-        | KeeperFault::Full { .. }
-        | KeeperFault::Failed
-        | KeeperFault::Memory => "",
+        KeeperFault::Device => {
+            "A read of the file failed: the disk may be failing. Copy the file to another one first."
+        }
+        KeeperFault::Damaged { .. } => {
+            "That page is not what the image says of it: take the last copy of the image."
+        }
+        KeeperFault::Spent => {
+            "The image takes no further change: the command `copy` makes a new one of the same site."
+        }
+        KeeperFault::Full { .. } => {
+            "The command `compact` gives back what changes left half full; `copy` with more pages makes a larger image."
+        }
+        KeeperFault::Failed => {
+            "The disk did not take a write: it may be full, or failing. What was acknowledged before is stored."
+        }
+        KeeperFault::Deep | KeeperFault::Memory => "",
     }
 }
 
@@ -69,6 +78,10 @@ pub fn advice(fault: ImageFault) -> &'static str
             "The file is not there, can not be read and written, or another program has it open."
         }
         ImageFault::Store(fault) => store_advice(fault),
-        ImageFault::Refused(_) | ImageFault::BadRecord | ImageFault::Memory => "",
+        ImageFault::Refused(_) => {
+            "A host is 1 to 100 visible characters of ASCII, an administrator at most 100 bytes, a title at most 69; none has a TAB, CR or LF."
+        }
+        ImageFault::BadRecord => "The image holds no valid site: take its last copy.",
+        ImageFault::Memory => "",
     }
 }

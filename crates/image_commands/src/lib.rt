@@ -18,7 +18,7 @@ pub use fault::ImageFault;
 pub use fault_lines::{advice, fault_line};
 pub use formatting::{format_image, formatted_line, sectors_of};
 pub use laws::worked_examples;
-pub use listing::list_item;
+pub use listing::{ListForm, list_item};
 pub use names::SiteNames;
 pub use showing::{show_image, show_site};
 pub use upgrading::{upgrade_image, upgraded_line};

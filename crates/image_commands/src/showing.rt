@@ -9,10 +9,10 @@ ghost use Rattle.image_commands.specs.Faults.{IsReadingFault};
 ghost use Rattle.image_commands.specs.declared.fault.ImageFault.TheVariants.{Store};
 ghost use Rattle.host_types.specs.declared.site_fault.SiteFault.TheVariants.{Failed};
 ghost use Rattle.site_replies.specs.Reads.{Reads};
-ghost use Rattle.image_commands.specs.Listing.{listing, IsListedNext, IsShown};
+ghost use Rattle.image_commands.specs.Listing.{listing_in, IsListedNext, IsListing};
 
 use crate::ImageFault;
-use crate::listing::list_item;
+use crate::listing::{ListForm, list_in};
 use host_on_disk::open_site;
 use host_types::{Selector, SiteFault, SiteKeeper};
 use page_store::PinKeeper;
@@ -23,17 +23,18 @@ use std::alloc::Global;
 /// Adds the line of the first item above a selector, and answers its selector; with no selector, of the first item of all.
 fn list_next<K: PinKeeper>(
     alloc: Global,
+    form: ListForm,
     site: &mut DiskSite<K>,
     text: &mut Vec<u8>,
     after: Option<&Selector>,
 ) -> Result<Option<Selector>, SiteFault>
-    ensures next { Reads ⟦<DiskSite<K> as SiteKeeper>⟧.site_state ⟦<DiskSite<K> as SiteKeeper>⟧.lacks ⟦<DiskSite<K> as SiteKeeper>⟧.crash_states site.old site.new result (λ s next. IsListedNext s (option_map (λ selector. selector.now) after.entry) text.old.items text.new.items next) }
+    ensures next { Reads ⟦<DiskSite<K> as SiteKeeper>⟧.site_state ⟦<DiskSite<K> as SiteKeeper>⟧.lacks ⟦<DiskSite<K> as SiteKeeper>⟧.crash_states site.old site.new result (λ s next. IsListedNext form s (option_map (λ selector. selector.now) after.entry) text.old.items text.new.items next) }
     ensures counts { OnOk result ((⟦<DiskSite<K> as SiteKeeper>⟧.site_state site.new).failed_reads ≡ (⟦<DiskSite<K> as SiteKeeper>⟧.site_state site.old).failed_reads) }
     ensures closed { (⟦<DiskSite<K> as SiteKeeper>⟧.site_state site.old).usable ≡ false → IsErrOf result Failed }
 {
     match site.next_card(after) {
         Ok(Some((selector, card))) => {
-            list_item(alloc, text, &selector, &card)?;
+            list_in(alloc, form, text, &selector, &card)?;
             Ok(Some(selector))
         }
         Ok(None) => Ok(None),
@@ -41,9 +42,13 @@ fn list_next<K: PinKeeper>(
     }
 }
 
-/// The lines of all items, in the order of their selectors: letter (`>` of an item that has moved), selector and title, escaped.
-pub fn show_site<K: PinKeeper>(alloc: Global, site: &mut DiskSite<K>) -> Result<Vec<u8>, SiteFault>
-    ensures listing { Reads ⟦<DiskSite<K> as SiteKeeper>⟧.site_state ⟦<DiskSite<K> as SiteKeeper>⟧.lacks ⟦<DiskSite<K> as SiteKeeper>⟧.crash_states site.old site.new result (λ s text. text.items ≡ listing s) }
+/// The lines of all items in a form, in the order of their selectors: letter (`>` of an item that has moved), in the long one date and size, then selector and title, escaped.
+pub fn show_site<K: PinKeeper>(
+    alloc: Global,
+    site: &mut DiskSite<K>,
+    form: ListForm,
+) -> Result<Vec<u8>, SiteFault>
+    ensures listing { Reads ⟦<DiskSite<K> as SiteKeeper>⟧.site_state ⟦<DiskSite<K> as SiteKeeper>⟧.lacks ⟦<DiskSite<K> as SiteKeeper>⟧.crash_states site.old site.new result (λ s text. text.items ≡ listing_in form s) }
     ensures counts { OnOk result ((⟦<DiskSite<K> as SiteKeeper>⟧.site_state site.new).failed_reads ≡ (⟦<DiskSite<K> as SiteKeeper>⟧.site_state site.old).failed_reads) }
     ensures closed { (⟦<DiskSite<K> as SiteKeeper>⟧.site_state site.old).usable ≡ false → IsErrOf result Failed }
 {
@@ -53,7 +58,7 @@ pub fn show_site<K: PinKeeper>(alloc: Global, site: &mut DiskSite<K>) -> Result<
     let mut text = Vec::new(alloc);
     let mut after = None;
     for _ in 0..u64::MAX {
-        match list_next(alloc, site, &mut text, after.as_ref()) {
+        match list_next(alloc, form, site, &mut text, after.as_ref()) {
             Ok(Some(next)) => after = Some(next),
             Ok(None) => return Ok(text),
             Err(fault) => return Err(fault),
@@ -63,9 +68,13 @@ pub fn show_site<K: PinKeeper>(alloc: Global, site: &mut DiskSite<K>) -> Result<
     Err(SiteFault::Memory)
 }
 
-/// Opens the image on a device, gives the lines of its items, and hands the device back. Nothing is written.
-pub fn show_image<D: Device>(alloc: Global, device: D) -> Result<(Vec<u8>, D), (ImageFault, D)>
-    ensures shown { IsTrue (D.state device).honest → IfOk result (λ r. IsShown (D.state device).disk.view r.0.items) }
+/// Opens the image on a device, gives the lines of its items in a form, and hands the device back. Nothing is written.
+pub fn show_image<D: Device>(
+    alloc: Global,
+    device: D,
+    form: ListForm,
+) -> Result<(Vec<u8>, D), (ImageFault, D)>
+    ensures shown { IsTrue (D.state device).honest → IfOk result (λ r. IsListing form (D.state device).disk.view r.0.items) }
     ensures refused { IfErr result (λ e. HandsBack IsReadingFault D.state (crash_states_of D.moment D.possible_since) device e.1 e.0) }
     ensures small { (D.state device).size < 128 → IsErrAnd result (λ e. (e.0 ≡ Store Small) × (e.1 ≡ device)) }
     ensures counts { IfOk result (λ r. NothingCounted (D.state device) (D.state r.1)) }
@@ -76,7 +85,7 @@ pub fn show_image<D: Device>(alloc: Global, device: D) -> Result<(Vec<u8>, D), (
         Ok(site) => site,
         Err((fault, device)) => return Err((ImageFault::from(fault), device)),
     };
-    let shown = show_site(alloc, &mut site);
+    let shown = show_site(alloc, &mut site, form);
     let device = site.into_keeper().into_device();
     match shown {
         Ok(text) => Ok((text, device)),

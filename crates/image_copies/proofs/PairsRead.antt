@@ -6,14 +6,14 @@ use Rattle.common_types.specs.Counts.{Rose}
 use Rattle.page_store.specs.Pages.{Pair}
 use Rattle.page_store.specs.Keys.{precedes}
 use Rattle.page_store.specs.Batch.{is_pair, pair_after}
-use Rattle.page_store.specs.StoreState.{StoreState, HasStayed, HasRead, IsReadFault}
+use Rattle.page_store.specs.StoreState.{StoreState, HasRead, IsReadFault}
 use Rattle.page_store.specs.declared.fault.KeeperFault.{KeeperFault}
 use Rattle.page_store.specs.declared.fault.KeeperFault.TheVariants as faults
 use Rattle.image_commands.specs.declared.fault.ImageFault.{ImageFault}
 use Rattle.image_commands.specs.declared.fault.ImageFault.TheVariants.{Refused, NoFile, BadRecord, Store, Memory}
 use Rattle.cow_tree.proofs.PairsRead.{behind_fits}
 use Rattle.site_store.proofs.LocalReads.{rose_counted}
-use Rattle.image_copies.specs.SitesRead.{IsNotRead}
+use Rattle.image_copies.specs.SitesRead.{IsSiteNotRead}
 
 pub lies : (b : Bool) → IsTrue b → b ≡ false → ⊥
 lies b holds fails = let clash : true ≡ false = sym holds ∙ fails in cc clash
@@ -31,35 +31,8 @@ not_read old new (faults.Full need free) usable is honest = absurd is
 not_read old new faults.Failed usable is honest = absurd (lies old.usable usable is)
 not_read old new faults.Memory usable is honest = absurd is
 
-pub stays : (h : StoreState) → HasRead h h
-stays h = record {
-  same = record { pairs = λ honest. refl; banner = refl; usable = refl; generation = refl; top = refl; free = refl; height = refl; keys = refl; out = refl; pins = λ honest. refl };
-  honest = refl;
-  reads = omega arith;
-  writes = refl;
-}
-
-pub read_again : (a b c : StoreState) → HasRead a b → HasRead b c → HasRead a c
-read_again a b c p q = record {
-  same = record {
-    pairs = λ honest. q.same.pairs (subst IsTrue (sym p.honest) honest) ∙ p.same.pairs honest;
-    banner = q.same.banner ∙ p.same.banner;
-    usable = q.same.usable ∙ p.same.usable;
-    generation = q.same.generation ∙ p.same.generation;
-    top = q.same.top ∙ p.same.top;
-    free = q.same.free ∙ p.same.free;
-    height = q.same.height ∙ p.same.height;
-    keys = q.same.keys ∙ p.same.keys;
-    out = q.same.out ∙ p.same.out;
-    pins = λ honest. q.same.pins (subst IsTrue (sym p.honest) honest) ∙ p.same.pins honest;
-  };
-  honest = q.honest ∙ p.honest;
-  reads = let x = p.reads in let y = q.reads in omega (arith, x, y);
-  writes = q.writes ∙ p.writes;
-}
-
 -- a read that failed behind others that didn't
-pub not_read_since : (old mid new : StoreState) (fault : ImageFault) → mid.honest ≡ old.honest → mid.failed_reads ≡ old.failed_reads → IsNotRead mid new fault → IsNotRead old new fault
+pub not_read_since : (old mid new : StoreState) (fault : ImageFault) → mid.honest ≡ old.honest → mid.failed_reads ≡ old.failed_reads → IsSiteNotRead mid new fault → IsSiteNotRead old new fault
 not_read_since old mid new (Refused refused) honest none is = absurd is
 not_read_since old mid new NoFile honest none is = absurd is
 not_read_since old mid new BadRecord honest none is = absurd is

@@ -16,7 +16,7 @@ use Rattle.image_commands.specs.Faults.{of_store, IsNotRead, IsReadingFault}
 use Rattle.image_commands.specs.declared.fault.ImageFault.{ImageFault}
 use Rattle.image_commands.specs.declared.fault.ImageFault.TheVariants.{Refused, NoFile, BadRecord, Store, Memory}
 use Rattle.image_copies.specs.Copies.{HasCount}
-use Rattle.image_copies.specs.CopyFaults.{of_new, IsNoCount, LacksPages, IsNotMade, IsNotPlanned, IsNotWritten}
+use Rattle.image_copies.specs.CopyFaults.{of_new, IsNoCount, LacksPages, IsNoCopyMade, IsNotPlanned, IsNotCopiedWhole}
 use Rattle.image_copies.specs.declared.fault.CopyFault.{CopyFault}
 use Rattle.image_copies.specs.declared.fault.CopyFault.TheVariants.{Image as OfImage, Small, Full, Failed, NoFile as NoNewFile, There}
 
@@ -33,7 +33,7 @@ counted_since old mid new first second = record { reads = second.reads ∙ first
 
 -- a copy that is not made is not planned
 pub not_planned : (asked : Option ℕ) (old new : State) (count : ℕ) (pairs : List Pair) (fault : CopyFault) → NothingCounted old new → 128 ≤ old.size → (asked ≡ Some count) ⊎ ((16 ≤ count) × (count ≤ 65536))
-    → (IsTrue old.honest → HasCount asked new.disk.view count) → (IsTrue old.honest → (s : Site) × ImageRepresents old.disk.view s × (pairs ≡ layout s)) → IsNotMade count pairs fault → IsNotPlanned asked old new fault
+    → (IsTrue old.honest → HasCount asked new.disk.view count) → (IsTrue old.honest → (s : Site) × ImageRepresents old.disk.view s × (pairs ≡ layout s)) → IsNoCopyMade count pairs fault → IsNotPlanned asked old new fault
 not_planned asked old new count pairs (OfImage fault) counts large possible counted read is = subst (λ (f : ImageFault). IsReadingFault old new f) (sym is) (inr (large, counts.writes))
 not_planned asked old new count pairs Small counts large possible counted read is = (counts, no_count)
   where
@@ -56,7 +56,7 @@ not_planned asked old new count pairs NoNewFile counts large possible counted re
 not_planned asked old new count pairs There counts large possible counted read is = absurd is
 
 -- the faults of the image of some pairs, as the copy's
-pub not_made : (count : ℕ) (pairs : List Pair) (fault : KeeperFault) → images.IsNotMade count pairs fault → IsNotMade count pairs (of_new fault)
+pub not_made : (count : ℕ) (pairs : List Pair) (fault : KeeperFault) → images.IsNotMade count pairs fault → IsNoCopyMade count pairs (of_new fault)
 not_made count pairs store.Small is = is
 not_made count pairs (store.Full need free) is = is
 not_made count pairs store.Failed is = absurd is
@@ -69,7 +69,7 @@ not_made count pairs store.Deep is = absurd is
 not_made count pairs store.Memory is = refl
 
 -- the same once it is written
-pub not_written : (count : ℕ) (old new : State) (fault : KeeperFault) → (((fault ≡ store.Failed) → ⊥) → new ≡ old) → images.IsNotWritten count old new fault → IsNotWritten count old new (of_new fault)
+pub not_written : (count : ℕ) (old new : State) (fault : KeeperFault) → (((fault ≡ store.Failed) → ⊥) → new ≡ old) → images.IsNotWritten count old new fault → IsNotCopiedWhole count old new (of_new fault)
 not_written count old new store.Small same is = (is, same (λ e. cc e))
 not_written count old new (store.Full need free) same is = absurd is
 not_written count old new store.Failed same is = is

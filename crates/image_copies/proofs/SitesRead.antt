@@ -32,7 +32,7 @@ site_not_read old new a b sites.Failed honest before now writes usable large is 
 site_not_read old new a b sites.Memory honest before now writes usable large is = (large, writes)
 
 -- pairs that were not read, behind other reads that didn't fail
-pub pairs_not_read : (old new : State) (h k : StoreState) (fault : ImageFault) → h.honest ≡ old.honest → h.failed_reads ≡ old.failed_reads → new.failed_reads ≡ k.failed_reads → new.failed_writes ≡ old.failed_writes → 128 ≤ old.size → pairs.IsNotRead h k fault → IsNotRead old new fault
+pub pairs_not_read : (old new : State) (h k : StoreState) (fault : ImageFault) → h.honest ≡ old.honest → h.failed_reads ≡ old.failed_reads → new.failed_reads ≡ k.failed_reads → new.failed_writes ≡ old.failed_writes → 128 ≤ old.size → pairs.IsSiteNotRead h k fault → IsNotRead old new fault
 pairs_not_read old new h k (Refused refused) honest before now writes large is = absurd is
 pairs_not_read old new h k NoFile honest before now writes large is = absurd is
 pairs_not_read old new h k BadRecord honest before now writes large is = absurd is

@@ -35,7 +35,7 @@ pub record IsCopyOf (s : Site) (count : ℕ) (copy : SiteCopy) : Type 0 where
   pub items : copy.items ≡ length s.items
 
 -- The one site that reads of a device give is ready to be written, in as many pages as were asked for.
-pub record IsPlanned {D : Type 0} (state : D → State) (asked : Option ℕ) (old new : D) (copy : SiteCopy) : Type 0 where
+pub record IsPlannedCopy {D : Type 0} (state : D → State) (asked : Option ℕ) (old new : D) (copy : SiteCopy) : Type 0 where
   pub site : Site
   pub stands : ImageRepresents (state old).disk.view site
   pub alone : (s : Site) → ImageRepresents (state old).disk.view s → s ≡ site

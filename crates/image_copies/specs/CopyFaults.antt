@@ -38,13 +38,13 @@ abbrev pub IsNoCount : Option ℕ → Type 0
 IsNoCount asked = (n : ℕ) × (asked ≡ Some n) × ((n < 16) ⊎ (65536 < n))
 
 -- Why the copy of these pairs, in so many pages, is not made: as of the image of them.
-abbrev pub IsNotMade : ℕ → List Pair → CopyFault → Type 0
-IsNotMade count pairs (OfImage fault) = fault ≡ image.Memory
-IsNotMade count pairs Small = (count < 16) ⊎ (65536 < count)
-IsNotMade count pairs (Full need free) = (16 ≤ count) × (count ≤ 65536) × (need ≡ pages_for pairs) × (count ≡ free + 2) × (free < need)
-IsNotMade count pairs Failed = ⊥
-IsNotMade count pairs NoFile = ⊥
-IsNotMade count pairs There = ⊥
+abbrev pub IsNoCopyMade : ℕ → List Pair → CopyFault → Type 0
+IsNoCopyMade count pairs (OfImage fault) = fault ≡ image.Memory
+IsNoCopyMade count pairs Small = (count < 16) ⊎ (65536 < count)
+IsNoCopyMade count pairs (Full need free) = (16 ≤ count) × (count ≤ 65536) × (need ≡ pages_for pairs) × (count ≡ free + 2) × (free < need)
+IsNoCopyMade count pairs Failed = ⊥
+IsNoCopyMade count pairs NoFile = ⊥
+IsNoCopyMade count pairs There = ⊥
 
 -- The site of an image takes so many pages, filled, and the count of pages that was asked for has so many but for the root slots. The count goes by the image as it is left.
 pub record LacksPages (asked : Option ℕ) (image left : Image) (need free : ℕ) : Type 0 where
@@ -63,17 +63,17 @@ IsNotPlanned asked old new NoFile = ⊥
 IsNotPlanned asked old new There = ⊥
 
 -- Why a new image of so many pages is not written: memory lacks, the device is too small, or a write or a sync failed.
-abbrev pub IsNotWritten : ℕ → State → State → CopyFault → Type 0
-IsNotWritten count old new (OfImage fault) = (fault ≡ image.Memory) × (new ≡ old)
-IsNotWritten count old new Small = (old.size < 8 * count) × (new ≡ old)
-IsNotWritten count old new (Full need free) = ⊥
-IsNotWritten count old new Failed = (new.failed_reads ≡ old.failed_reads) × (new.failed_writes ≡ counted old.failed_writes)
-IsNotWritten count old new NoFile = ⊥
-IsNotWritten count old new There = ⊥
+abbrev pub IsNotCopiedWhole : ℕ → State → State → CopyFault → Type 0
+IsNotCopiedWhole count old new (OfImage fault) = (fault ≡ image.Memory) × (new ≡ old)
+IsNotCopiedWhole count old new Small = (old.size < 8 * count) × (new ≡ old)
+IsNotCopiedWhole count old new (Full need free) = ⊥
+IsNotCopiedWhole count old new Failed = (new.failed_reads ≡ old.failed_reads) × (new.failed_writes ≡ counted old.failed_writes)
+IsNotCopiedWhole count old new NoFile = ⊥
+IsNotCopiedWhole count old new There = ⊥
 
 -- Why the site of one device is not copied to another one: it is not ready to be written, and the other one is as before; or it was, and was not written there.
 abbrev pub IsNotCopied : Option ℕ → State → State → State → State → CopyFault → Type 0
-IsNotCopied asked old new other other_new fault = (IsNotPlanned asked old new fault × (other_new ≡ other)) ⊎ (NothingCounted old new × (count : ℕ) × HasCount asked new.disk.view count × IsNotWritten count other other_new fault)
+IsNotCopied asked old new other other_new fault = (IsNotPlanned asked old new fault × (other_new ≡ other)) ⊎ (NothingCounted old new × (count : ℕ) × HasCount asked new.disk.view count × IsNotCopiedWhole count other other_new fault)
 
 -- ---- lines
 

@@ -17,16 +17,16 @@ pub record IsReadOf (s : Site) (read : SiteRead) : Type 0 where
   pub items : read.items ≡ length s.items
 
 -- The one site that an image represents was read.
-pub record IsRead (image : Image) (read : SiteRead) : Type 0 where
+pub record IsSiteRead (image : Image) (read : SiteRead) : Type 0 where
   pub site : Site
   pub stands : ImageRepresents image site
   pub alone : (s : Site) → ImageRepresents image s → s ≡ site
   pub read_is : IsReadOf site read
 
 -- Why the pairs are not read: a read failed or the device lied, or memory lacks.
-abbrev pub IsNotRead : StoreState → StoreState → ImageFault → Type 0
-IsNotRead old new (Refused refused) = ⊥
-IsNotRead old new NoFile = ⊥
-IsNotRead old new BadRecord = ⊥
-IsNotRead old new (Store fault) = (fault ≡ store.Device) × (IsTrue old.honest → Rose old.failed_reads new.failed_reads)
-IsNotRead old new Memory = Unit {0}
+abbrev pub IsSiteNotRead : StoreState → StoreState → ImageFault → Type 0
+IsSiteNotRead old new (Refused refused) = ⊥
+IsSiteNotRead old new NoFile = ⊥
+IsSiteNotRead old new BadRecord = ⊥
+IsSiteNotRead old new (Store fault) = (fault ≡ store.Device) × (IsTrue old.honest → Rose old.failed_reads new.failed_reads)
+IsSiteNotRead old new Memory = Unit {0}

@@ -7,7 +7,7 @@ ghost use Rattle.page_store.specs.Steps.{crash_states_of};
 ghost use Rattle.page_store.specs.StoreState.{HasRead};
 ghost use Rattle.cow_tree.specs.Compacting.{most_pairs};
 ghost use Rattle.cow_tree.specs.TreeSeen.{held, device_of, is_open, kept_by};
-ghost use Rattle.image_copies.specs.SitesRead.{IsNotRead};
+ghost use Rattle.image_copies.specs.SitesRead.{IsSiteNotRead};
 
 use cow_tree::TreeKeeper;
 use image_commands::ImageFault;
@@ -44,7 +44,7 @@ fn pair_behind<D: Device>(
     ensures few { IfOk result (λ next. IfSome next (λ p. length p.1 ≤ 1024)) }
     ensures kept { HasRead (held D.state keeper.old) (held D.state keeper.new) }
     ensures counts { OnOk result ((held D.state keeper.new).failed_reads ≡ (held D.state keeper.old).failed_reads) }
-    ensures fault { IfErr result (IsNotRead (held D.state keeper.old) (held D.state keeper.new)) }
+    ensures fault { IfErr result (IsSiteNotRead (held D.state keeper.old) (held D.state keeper.new)) }
     ensures at_crash { IsTrue (held D.state keeper.old).honest → AddsNone (crash_states_of D.moment D.possible_since (device_of keeper.old)) (crash_states_of D.moment D.possible_since (device_of keeper.new)) }
 {
     let (mut key, mut value) = ([0; 300], [0; 1024]);
@@ -77,7 +77,7 @@ pub(crate) fn all_pairs<D: Device>(
     ensures counted { IfOk result (λ pairs. length pairs.items ≡ (held D.state keeper.old).keys) }
     ensures kept { HasRead (held D.state keeper.old) (held D.state keeper.new) }
     ensures counts { OnOk result ((held D.state keeper.new).failed_reads ≡ (held D.state keeper.old).failed_reads) }
-    ensures fault { IfErr result (IsNotRead (held D.state keeper.old) (held D.state keeper.new)) }
+    ensures fault { IfErr result (IsSiteNotRead (held D.state keeper.old) (held D.state keeper.new)) }
     ensures at_crash { IsTrue (held D.state keeper.old).honest → AddsNone (crash_states_of D.moment D.possible_since (device_of keeper.old)) (crash_states_of D.moment D.possible_since (device_of keeper.new)) }
 {
     let mut pairs = Vec::new(alloc);

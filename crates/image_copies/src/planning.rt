@@ -12,8 +12,8 @@ ghost use Rattle.host_on_disk.specs.OpenFaults.{HandsBack};
 ghost use Rattle.image_commands.specs.Faults.{IsNotRead};
 ghost use Rattle.image_commands.specs.declared.fault.ImageFault.TheVariants.{Store};
 ghost use Rattle.image_copies.specs.SitesRead.{IsReadOf};
-ghost use Rattle.image_copies.specs.Copies.{HasCount, IsCopyOf, IsPlanned};
-ghost use Rattle.image_copies.specs.CopyFaults.{IsNotMade, IsNotPlanned};
+ghost use Rattle.image_copies.specs.Copies.{HasCount, IsCopyOf, IsPlannedCopy};
+ghost use Rattle.image_copies.specs.CopyFaults.{IsNoCopyMade, IsNotPlanned};
 ghost use Rattle.image_copies.specs.declared.fault.CopyFault.TheVariants.{Image as OfImage};
 
 use crate::site_read::SiteRead;
@@ -31,7 +31,7 @@ const NOT_READ: ImageFault = ImageFault::Store(KeeperFault::Device);
 /// The copy of what was read of a site, in so many pages.
 fn copy_of(alloc: Global, read: SiteRead, count: u32) -> Result<SiteCopy, CopyFault>
     ensures copy { (s : Site) → IsReadOf s read → IfOk result (IsCopyOf s count) }
-    ensures fault { IfErr result (IsNotMade count read.pairs.items) }
+    ensures fault { IfErr result (IsNoCopyMade count read.pairs.items) }
 {
     let SiteRead {
         pairs,
@@ -74,7 +74,7 @@ pub fn plan_copy<D: Device>(
     device: D,
     pages: Option<u32>,
 ) -> Result<(SiteCopy, D), (CopyFault, D)>
-    ensures planned { IsTrue (D.state device).honest → IfOk result (λ r. IsPlanned D.state pages device r.1 r.0) }
+    ensures planned { IsTrue (D.state device).honest → IfOk result (λ r. IsPlannedCopy D.state pages device r.1 r.0) }
     ensures counts { IfOk result (λ r. NothingCounted (D.state device) (D.state r.1)) }
     ensures honest { IfOk result (λ r. (D.state r.1).honest ≡ (D.state device).honest) }
     ensures at_crash { IsTrue (D.state device).honest → IfOk result (λ r. AddsNone (crash_states_of D.moment D.possible_since device) (crash_states_of D.moment D.possible_since r.1)) }

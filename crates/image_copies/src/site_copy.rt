@@ -6,7 +6,7 @@ ghost use Rattle.sector_device.specs.Device.{NothingCounted};
 ghost use Rattle.sector_device.specs.Effects.{IsSameDevice};
 ghost use Rattle.page_store.specs.Steps.{crash_states_of, AllAre};
 ghost use Rattle.image_copies.specs.Copies.{IsCopyOf, IsCopied};
-ghost use Rattle.image_copies.specs.CopyFaults.{IsNotWritten};
+ghost use Rattle.image_copies.specs.CopyFaults.{IsNotCopiedWhole};
 ghost use Rattle.image_copies.specs.declared.fault.CopyFault.TheVariants.{Failed};
 
 use crate::CopyFault;
@@ -37,7 +37,7 @@ impl SiteCopy {
     pub fn write<D: Device>(&self, alloc: Global, device: &mut D) -> Result<String, CopyFault>
         ensures copied { IsTrue (D.state device.old).honest → (s : Site) (count : ℕ) → IsCopyOf s count self.now → IfOk result (λ line. IsCopied s count (string_bytes line) (D.state device.new).disk.view) }
         ensures sure { IsTrue (D.state device.old).honest → OnOk result (AllAre (crash_states_of D.moment D.possible_since device.new) (D.state device.new).disk.view) }
-        ensures fault { (s : Site) (count : ℕ) → IsCopyOf s count self.now → IfErr result (IsNotWritten count (D.state device.old) (D.state device.new)) }
+        ensures fault { (s : Site) (count : ℕ) → IsCopyOf s count self.now → IfErr result (IsNotCopiedWhole count (D.state device.old) (D.state device.new)) }
         ensures counts { OnOk result (NothingCounted (D.state device.old) (D.state device.new)) }
         ensures unwritten { IfErr result (λ e. e ≢ Failed → device.new ≡ device.old) }
         ensures same { IsSameDevice (D.state device.old) (D.state device.new) }

@@ -1,5 +1,5 @@
 // All of a site, read from its image.
-ghost use Rattle.std.specs.Prelude.{◌≡◌, ◌≤◌, ◌<◌, true, IsTrue, IfOk, OnOk, IfErr, IsErrAnd, length};
+ghost use Rattle.std.specs.Prelude.{◌≡◌, ◌≤◌, ◌<◌, [], true, IsTrue, IfOk, OnOk, IfErr, IsErrAnd, length};
 ghost use Rattle.std.specs.Option.{is_some};
 ghost use Rattle.common_types.specs.CrashStates.{AddsNone};
 ghost use Rattle.sector_device.specs.Device.{NothingCounted};
@@ -13,12 +13,13 @@ ghost use Rattle.host_on_disk.specs.OpenFaults.{HandsBack};
 ghost use Rattle.image_commands.specs.Faults.{IsNotRead, IsReadingFault};
 ghost use Rattle.image_commands.specs.declared.fault.ImageFault.TheVariants.{Store};
 ghost use Rattle.image_copies.specs.SitesRead as pairs;
-ghost use Rattle.image_copies.specs.SitesRead.{IsReadOf, IsRead};
+ghost use Rattle.image_copies.specs.SitesRead.{IsReadOf, IsSiteRead};
 
 use crate::all_pairs::all_pairs;
 use crate::site_read::SiteRead;
 use cow_tree::TreeKeeper;
 use host_on_disk::open_site;
+use host_types::SiteKeeper;
 use image_commands::ImageFault;
 use page_store::Keeper;
 use sector_device::Device;
@@ -38,7 +39,7 @@ fn read_keeper<D: Device>(
     ensures items { IfOk result (λ read. read.items ≡ items) }
     ensures kept { HasRead (held D.state keeper.old) (held D.state keeper.new) }
     ensures counts { OnOk result ((held D.state keeper.new).failed_reads ≡ (held D.state keeper.old).failed_reads) }
-    ensures fault { IfErr result (pairs.IsNotRead (held D.state keeper.old) (held D.state keeper.new)) }
+    ensures fault { IfErr result (pairs.IsSiteNotRead (held D.state keeper.old) (held D.state keeper.new)) }
     ensures at_crash { IsTrue (held D.state keeper.old).honest → AddsNone (crash_states_of D.moment D.possible_since (device_of keeper.old)) (crash_states_of D.moment D.possible_since (device_of keeper.new)) }
 {
     let banner = match keeper.banner().clone() {
@@ -62,6 +63,7 @@ fn read_open<D: Device>(
 ) -> Result<(SiteRead, D), (ImageFault, D)>
     requires usable { is_open (keeper_of site) ≡ true }
     requires large { 128 ≤ (D.state (device_of (keeper_of site))).size }
+    requires unpinned { (⟦<DiskSite<TreeKeeper<D>> as SiteKeeper>⟧.site_state site).pins ≡ [] }
     ensures read { IsTrue (D.state (device_of (keeper_of site))).honest → IfOk result (λ r. IsReadOf (seen_site site) r.0) }
     ensures rooted { IsTrue (D.state (device_of (keeper_of site))).honest → IfOk result (λ r. is_some (current (D.state r.1).disk.view) ≡ true) }
     ensures counts { IfOk result (λ r. NothingCounted (D.state (device_of (keeper_of site))) (D.state r.1)) }
@@ -87,7 +89,7 @@ pub(crate) fn read_image<D: Device>(
     alloc: Global,
     device: D,
 ) -> Result<(SiteRead, D), (ImageFault, D)>
-    ensures read { IsTrue (D.state device).honest → IfOk result (λ r. IsRead (D.state device).disk.view r.0) }
+    ensures read { IsTrue (D.state device).honest → IfOk result (λ r. IsSiteRead (D.state device).disk.view r.0) }
     ensures rooted { IsTrue (D.state device).honest → IfOk result (λ r. is_some (current (D.state r.1).disk.view) ≡ true) }
     ensures counts { IfOk result (λ r. NothingCounted (D.state device) (D.state r.1)) }
     ensures honest { IfOk result (λ r. (D.state r.1).honest ≡ (D.state device).honest) }

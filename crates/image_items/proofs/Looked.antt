@@ -1,6 +1,6 @@
 -- A site that is read while it is pinned.
-use Rattle.std.proofs.Common.{◌≡◌, ◌≤◌, ℕ, Bool, true, false, List, length, refl, ap, sym, subst, ◌∙◌, arith, IsTrue}
-use Rattle.host_types.specs.Site.{Items}
+use Rattle.std.proofs.Common.{◌≡◌, ◌≤◌, ℕ, Bool, true, false, List, [], ◌∷◌, length, refl, ap, sym, subst, ◌∙◌, arith, IsTrue}
+use Rattle.host_types.specs.Site.{Items, Site}
 use Rattle.host_types.specs.Card.{viewed_at}
 use Rattle.host_types.specs.SiteState.{SiteState, HasRead, IsReadFault, Rose}
 use Rattle.host_types.specs.Pins.{Pinned, Copied, Numbered, items_or_none, pinned_items, viewed_among, IsPinned, IsUnpinned}
@@ -32,6 +32,18 @@ unpinned_reads : (a b : SiteState) (pin : Pinned) → IsUnpinned a b pin → b.f
 unpinned_reads a b (Copied items) is = ap (λ (h : SiteState). h.failed_reads) is
 unpinned_reads a b (Numbered n) is = ap (λ (h : SiteState). h.failed_reads) is.same
 
+-- no pin is out once the only one is given back
+none_out : {A : Type 0} (xs : List A) → length xs ≡ 0 → xs ≡ []
+none_out [] none = refl
+none_out (x ∷ xs) none = absurd (omega (arith, none))
+
+unpinned_none : (a b c d : SiteState) (pin : Pinned) → IsPinned a b pin → c.pins ≡ b.pins → IsUnpinned c d pin → a.pins ≡ [] → d.pins ≡ []
+unpinned_none a b c d (Copied items) first same last none = ap (λ (h : SiteState). h.pins) last ∙ same ∙ ap (λ (h : SiteState). h.pins) first.1 ∙ none
+unpinned_none a b c d (Numbered n) first same last none =
+    let before : length a.pins ≡ 0 = ap (λ (ps : List (ℕ × Items)). length ps) none in
+    let kept : length c.pins ≡ length b.pins = ap (λ (ps : List (ℕ × Items)). length ps) same in
+    none_out d.pins (omega (arith, before, kept, first.count, last.count))
+
 -- the view that is drawn is as long as it was before the pin
 pub drawn_size : (a b : SiteState) (pin : Pinned) (d : ViewDraw) (selector : List ℕ) (view size : ℕ) → IsPinned a b pin → d.source.selector ≡ selector → d.source.view ≡ view →
     (IsTrue a.honest → length (viewed_at a.site selector view) ≡ size) → IsTrue b.honest → length (body_at b pin d) ≡ size
@@ -53,10 +65,39 @@ read_fault a b c d pin faults.Deep first last is = absurd is
 read_fault a b c d pin faults.Failed first last is = sym (pinned_usable a b pin first) ∙ is
 read_fault a b c d pin faults.Memory first last is = refl
 
+-- a site that is pinned, read and unpinned
+module _ (a b c d : SiteState) (pin : Pinned) (first : IsPinned a b pin) (kept : HasRead b c) (last : IsUnpinned c d pin) where
+  pinned_whole : (A : Type 0) (f : SiteState → A) → ((ps : List (ℕ × Items)) → f (record a { pins = ps }) ≡ f a) → f b ≡ f a
+  pinned_whole A f same = by pin first
+    where
+      by : (p : Pinned) → IsPinned a b p → f b ≡ f a
+      by (Copied items) is = ap f is.1
+      by (Numbered n) is = ap f is.same ∙ same b.pins
+
+  unpinned_whole : (A : Type 0) (f : SiteState → A) → ((ps : List (ℕ × Items)) (free : ℕ) → f (record c { pins = ps; free = free }) ≡ f c) → f d ≡ f c
+  unpinned_whole A f same = by pin last
+    where
+      by : (p : Pinned) → IsUnpinned c d p → f d ≡ f c
+      by (Copied items) is = ap f is
+      by (Numbered n) is = ap f is.same ∙ same d.pins d.free
+
+  pub looked_pinned : HasLooked a d
+  looked_pinned =
+      let reads_before : b.failed_reads ≡ a.failed_reads = pinned_whole ℕ (λ h. h.failed_reads) (λ ps. refl) in
+      let reads_after : d.failed_reads ≡ c.failed_reads = unpinned_whole ℕ (λ h. h.failed_reads) (λ ps free. refl) in
+      record {
+        site = λ honest. unpinned_whole Site (λ h. h.site) (λ ps free. refl) ∙ kept.site (subst IsTrue (sym (pinned_whole Bool (λ h. h.honest) (λ ps. refl))) honest) ∙ pinned_whole Site (λ h. h.site) (λ ps. refl);
+        honest = unpinned_whole Bool (λ h. h.honest) (λ ps free. refl) ∙ kept.honest ∙ pinned_whole Bool (λ h. h.honest) (λ ps. refl);
+        usable = unpinned_whole Bool (λ h. h.usable) (λ ps free. refl) ∙ kept.usable ∙ pinned_whole Bool (λ h. h.usable) (λ ps. refl);
+        reads = omega (arith, reads_before, reads_after, kept.reads);
+        writes = unpinned_whole ℕ (λ h. h.failed_writes) (λ ps free. refl) ∙ kept.writes ∙ pinned_whole ℕ (λ h. h.failed_writes) (λ ps. refl);
+        pins = unpinned_none a b c d pin first kept.pins last;
+      }
+
 -- ---- one call after another
 
 pub read : (a b : SiteState) → HasRead a b → HasLooked a b
-read a b is = record { site = is.site; honest = is.honest; usable = is.usable; reads = is.reads; writes = is.writes }
+read a b is = record { site = is.site; honest = is.honest; usable = is.usable; reads = is.reads; writes = is.writes; pins = λ none. is.pins ∙ none }
 
 pub then : (a b c : SiteState) → HasLooked a b → HasLooked b c → HasLooked a c
 then a b c first second = record {
@@ -65,4 +106,5 @@ then a b c first second = record {
   usable = second.usable ∙ first.usable;
   reads = omega (arith, first.reads, second.reads);
   writes = second.writes ∙ first.writes;
+  pins = λ none. second.pins (first.pins none);
 }

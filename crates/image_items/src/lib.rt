@@ -14,3 +14,4 @@ pub use fault::{ItemFault, item_line};
 pub use getting::{get_image, posts_image};
 pub use laws::worked_examples;
 pub use posts::board_posts;
+pub use stored_view::view_bytes;

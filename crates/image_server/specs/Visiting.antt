@@ -3,6 +3,7 @@ use Rattle.std.specs.Prelude.{◌≡◌, ◌⊎◌, ℕ, true, List, [], ◌∷�
 use Rattle.std.specs.Net.Socket.{socket_ip, socket_port}
 use Rattle.std.specs.declared.net.ip_addr.IpAddr.TheVariants.{V4}
 use Rattle.std.specs.declared.net.socket_addr.SocketAddr.{SocketAddr}
+use Rattle.host_types.specs.Address.{Address, address}
 use Rattle.host_types.specs.AllChanges.{Changes}
 use Rattle.host_types.specs.CrashStates.{CrashStates}
 use Rattle.host_types.specs.Site.{Site}
@@ -16,11 +17,15 @@ use Rattle.turns.specs.Runs.{HasRun}
 use Rattle.host_on_disk.specs.ImageSites.{ImageRepresents}
 use Rattle.image_sessions.specs.ImageRuns.{OverSite, OnImage}
 use Rattle.host_on_disk.specs.declared.open_fault.OpenFault.TheVariants as opening
-use Rattle.ready_sockets.specs.Rounds.{HasServed}
+use Rattle.ready_sockets.specs.Offices.{WorksOf}
+use Rattle.ready_sockets.specs.Rounds.{HasServed, Premises}
 use Rattle.ready_sockets.specs.Visits.{IsFresh}
+use Rattle.ready_sockets.specs.declared.pace.Pace.{Pace}
 use Rattle.ready_sockets.specs.declared.room.Room.{Room}
 use Rattle.ready_sockets.specs.declared.stopwatch.Reading.{Reading}
+use Rattle.ready_sockets.specs.declared.terms.Terms.{Terms}
 use Rattle.ready_sockets.specs.declared.room.VisitFault.{VisitFault}
+use Rattle.image_server.specs.Starting.{TellsStart}
 use Rattle.image_server.specs.declared.serving.ServingFault.{ServingFault}
 use Rattle.image_server.specs.declared.serving.ServingFault.TheVariants.{Image, Net}
 
@@ -39,26 +44,32 @@ pub record IsPlace (device : State) (address : Option SocketAddr) (at : SocketAd
 abbrev pub IsListened : {C : Type 0} → (SocketAddr → C) → State → Option SocketAddr → List C → List C → Type 0
 IsListened had device address before now = (at : SocketAddr) × IsPlace device address at × (now ≡ before ++ had at ∷ [])
 
--- A device was opened as the site that it shows. In a room in which nobody was, clients were served by these events, so many of one origin at most, until that ended; and the device was handed back. With the log stand the readings of a watch.
-pub record ServesClients {D S Log X : Type 0} (contents : Log → Option (List ℕ)) (most : ℕ) (state : D → State) (device : S → D) (site_state : S → SiteState) (old new : D) (log_before log_now : Log × List Reading) (result : Result X VisitFault) (es : List Event) (os : List Outcome) : Type 0 where
+-- A device was opened as the site that it shows, and the log was told where it is served. In a room in which nobody was, clients were served on these terms, by these events, until that ended; and the device was handed back. With the log stand the readings of a watch, and an office.
+pub record ServesClients {D S Log O X : Type 0} (contents : Log → Option (List ℕ)) (lets_wait : O → Pace) (works : WorksOf O) (terms : Terms) (listen : Option SocketAddr) (state : D → State) (device : S → D) (site_state : S → SiteState) (old new : D) (before now : Log × List Reading × O) (result : Result X VisitFault) (es : List Event) (os : List Outcome) : Type 0 where
   pub opened : S
   pub closed : S
   pub shows : IsTrue (state old).honest → ImageRepresents (state old).disk.view (site_state opened).site
+  pub front : Address
+  pub named : IsTrue (state old).honest → front ≡ address (site_state opened).site
+  pub at : SocketAddr
+  pub place : IsGivenOrOwn listen front.port at
+  pub told : Log
+  pub start : TellsStart contents front at before.0 told
   pub first : Room
   pub last : Room
   pub fresh : IsFresh first
-  pub served : HasServed contents most result (site_state closed).usable (first, log_before.0, log_before.1) es os (last, log_now.0, log_now.1)
+  pub served : HasServed contents lets_wait works terms result (site_state closed).usable (first, told, before.1, before.2) es os (last, now.0, now.1, now.2)
   pub handed : new ≡ device closed
 
 -- All that was done to a site is a run, by the events of the clients that were served in a room.
-abbrev pub VisitedOver : {S L Log X : Type 0} → (S → SiteState) → (S → Changes → SiteFault → Type 0) → (S → CrashStates L) → (L → Site → Type 0) → (Log → Option (List ℕ)) → ℕ → Result X VisitFault → S → S → Room × Log × List Reading → Room × Log × List Reading → List ℕ → List ℕ → Type 0
-VisitedOver site_state lacks crash_states stands contents most result old new first last told_before told_now =
-    HasRun (OverSite true site_state lacks crash_states stands) old new told_before told_now (λ es os. HasServed contents most result (site_state new).usable first es os last)
+abbrev pub VisitedOver : {S L Log O X : Type 0} → (S → SiteState) → (S → Changes → SiteFault → Type 0) → (S → CrashStates L) → (L → Site → Type 0) → (Log → Option (List ℕ)) → (O → Pace) → WorksOf O → Terms → Result X VisitFault → S → S → Premises Log O → Premises Log O → List ℕ → List ℕ → Type 0
+VisitedOver site_state lacks crash_states stands contents lets_wait works terms result old new first last told_before told_now =
+    HasRun (OverSite true site_state lacks crash_states stands) old new told_before told_now (λ es os. HasServed contents lets_wait works terms result (site_state new).usable first es os last)
 
 -- And all that was done to a device.
-abbrev pub VisitedImage : {D S L Log X : Type 0} → (Log → Option (List ℕ)) → (D → State) → (S → D) → (S → SiteState) → (S → Changes → SiteFault → Type 0) → (S → CrashStates L) → (L → Site → Type 0) → (D → CrashStates Content) → ℕ → Result X VisitFault → D → D → Log × List Reading → Log × List Reading → List ℕ → List ℕ → Type 0
-VisitedImage contents state device site_state lacks site_crash_states stands crash_states most result old new log_before log_now told_before told_now =
-    HasRun (OnImage true state device site_state lacks site_crash_states stands crash_states) old new told_before told_now (λ es os. ServesClients contents most state device site_state old new log_before log_now result es os)
+abbrev pub VisitedImage : {D S L Log O X : Type 0} → (Log → Option (List ℕ)) → (O → Pace) → WorksOf O → (D → State) → (S → D) → (S → SiteState) → (S → Changes → SiteFault → Type 0) → (S → CrashStates L) → (L → Site → Type 0) → (D → CrashStates Content) → Terms → Option SocketAddr → Result X VisitFault → D → D → Log × List Reading × O → Log × List Reading × O → List ℕ → List ℕ → Type 0
+VisitedImage contents lets_wait works state device site_state lacks site_crash_states stands crash_states terms listen result old new before now told_before told_now =
+    HasRun (OnImage true state device site_state lacks site_crash_states stands crash_states) old new told_before told_now (λ es os. ServesClients contents lets_wait works terms listen state device site_state old new before now result es os)
 
 -- What was asked of the system where no client is served: `Net` comes where a listener was not had; lack of memory before one was asked for, or behind one that was had; all else before.
 abbrev pub IsAskedInVain : {C : Type 0} → (SocketAddr → C) → (SocketAddr → C) → State → Option SocketAddr → List C → List C → ServingFault → Type 0

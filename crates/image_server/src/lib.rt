@@ -4,6 +4,7 @@
 mod lines;
 mod listening;
 mod serving;
+mod starting;
 mod visiting;
 
 pub use lines::{round_line, served_line, serving_line};

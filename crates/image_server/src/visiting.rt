@@ -10,12 +10,13 @@ ghost use Rattle.image_server.specs.Serving.{IsServingFault, of_visits};
 ghost use Rattle.image_server.specs.Visiting.{IsGivenOrOwn, VisitedOver, VisitedImage, IsListened, IsAskedInVain};
 
 use crate::ServingFault;
+use crate::starting::tell_start;
 use cow_tree::TreeKeeper;
 use group_hub::Hub;
 use host_on_disk::{OpenFault, open_site};
 use host_types::SiteKeeper;
 use page_store::KeeperFault;
-use ready_sockets::{DoorLog, Room, Stopwatch, VisitFault, serve_visits};
+use ready_sockets::{DoorLog, Office, Room, Stopwatch, Terms, VisitFault, serve_visits};
 use sector_device::Device;
 use site_store::DiskSite;
 use std::alloc::Global;
@@ -47,23 +48,24 @@ pub(crate) fn given_or_own(address: Option<SocketAddr>, port: u16) -> SocketAddr
     }
 }
 
-/// Serves whoever comes, so many clients of one origin at a time, over a valid site in one hub, in which posts wait for one another and whose sessions count from 1, and hands the site back once that has ended. `Memory` comes before the first client, and
+/// Serves whoever comes on these terms, over a valid site in one hub, in which posts wait for one another and whose sessions count from 1, and hands the site back once that has ended. `Memory` comes before the first client, and
 /// before anything is asked of the room's door.
-pub fn visits_over<S: SearchKeeper, C: Clock, R: Time, L: Write>(
+pub fn visits_over<S: SearchKeeper, C: Clock, R: Time, L: Write, O: Office>(
     alloc: Global,
     site: S,
     rt: &R,
     watch: &mut Stopwatch,
     room: &mut Room,
+    office: &mut O,
     clock: &mut C,
     log: &mut L,
-    most: u32,
+    terms: Terms,
 ) -> Result<(Result<(), VisitFault>, S), (OpenFault, S)>
     requires usable { (S.site_state site).usable ≡ true }
     requires unpinned { (S.site_state site).pins ≡ [] }
     requires valid { IsTrue (S.site_state site).honest → ∥ IsSite (S.site_state site).site ∥₁ }
-    ensures served { IfOk result (λ r. VisitedOver S.site_state S.lacks S.crash_states S.represents L.contents most r.0 site r.1 (room.old, log.old, watch.old.read.readings) (room.new, log.new, watch.new.read.readings) (C.given clock.old) (C.given clock.new)) }
-    ensures unasked { OnErr result ((room.new ≡ room.old) × (log.new ≡ log.old) × (watch.new ≡ watch.old)) }
+    ensures served { IfOk result (λ r. VisitedOver S.site_state S.lacks S.crash_states S.represents L.contents O.lets_wait O.works terms r.0 site r.1 (room.old, log.old, watch.old.read.readings, office.old) (room.new, log.new, watch.new.read.readings, office.new) (C.given clock.old) (C.given clock.new)) }
+    ensures unasked { OnErr result ((room.new ≡ room.old) × (log.new ≡ log.old) × (watch.new ≡ watch.old) × (office.new ≡ office.old)) }
     ensures unpinned { IfOk result (λ r. (S.site_state r.1).pins ≡ []) }
     ensures err { IfErr result (λ e. (e.0 ≡ OpenFault.Memory) × (e.1 ≡ site)) }
     ensures untold { IfErr result (λ e. clock.new ≡ clock.old) }
@@ -72,37 +74,39 @@ pub fn visits_over<S: SearchKeeper, C: Clock, R: Time, L: Write>(
         Ok(hub) => hub,
         Err((_, site)) => return Err((OpenFault::Memory, site)),
     };
-    let ended = serve_visits(alloc, rt, watch, room, &mut hub, clock, log, most);
+    let ended = serve_visits(alloc, rt, watch, room, office, &mut hub, clock, log, terms);
     Ok((ended, hub.close()))
 }
 
-/// Opens the image on a device, and serves whoever comes over its site, so many clients of one origin at a time, at an address or else at the site's port on 127.0.0.1, until a write or a sync of the device has
-/// failed, or no socket can be waited for. Then it hands the device back.
+/// Opens the image on a device, and serves whoever comes over its site on these terms, at an address or else at the site's port on 127.0.0.1, until a write or a sync of the device has
+/// failed, or no socket can be waited for. Then it hands the device back. The log tells first where it is served.
 ///
 /// What a crash at any moment leaves on the device represents the site after the first so many commits of the events that the clients made, with each that was acknowledged by
 /// then. What is asked of the system for a listener is noted.
-pub fn serve_clients<D: Device, R: Net + Time, C: Clock, L: Write>(
+pub fn serve_clients<D: Device, R: Net + Time, C: Clock, L: Write, O: Office>(
     alloc: Global,
     rt: &R,
     device: D,
     address: Option<SocketAddr>,
     asked: &mut DoorLog,
     watch: &mut Stopwatch,
+    office: &mut O,
     clock: &mut C,
     log: &mut L,
-    most: u32,
+    terms: Terms,
 ) -> Result<(Result<(), VisitFault>, D), (ServingFault, D)>
-    ensures served { let k = ⟦<DiskSite<TreeKeeper<D>> as SiteKeeper>⟧ in IfOk result (λ r. VisitedImage L.contents D.state (λ d. device_of (keeper_of d)) k.site_state k.lacks k.crash_states k.represents (crash_states_of D.moment D.possible_since) most r.0 device r.1 (log.old, watch.old.read.readings) (log.new, watch.new.read.readings) (C.given clock.old) (C.given clock.new)) }
+    ensures served { let k = ⟦<DiskSite<TreeKeeper<D>> as SiteKeeper>⟧ in IfOk result (λ r. VisitedImage L.contents O.lets_wait O.works D.state (λ d. device_of (keeper_of d)) k.site_state k.lacks k.crash_states k.represents (crash_states_of D.moment D.possible_since) terms address r.0 device r.1 (log.old, watch.old.read.readings, office.old) (log.new, watch.new.read.readings, office.new) (C.given clock.old) (C.given clock.new)) }
     ensures listened { OnOk result (IsListened Listened (D.state device) address asked.old.calls asked.new.calls) }
     ensures asked { IfErr result (λ e. IsAskedInVain Listened NotListened (D.state device) address asked.old.calls asked.new.calls e.0) }
     ensures refused { IfErr result (λ e. HandsBack IsServingFault D.state (crash_states_of D.moment D.possible_since) device e.1 e.0) }
-    ensures untold { IfErr result (λ e. clock.new ≡ clock.old) }
+    ensures untold { IfErr result (λ e. (clock.new ≡ clock.old) × (office.new ≡ office.old)) }
 {
     let site = match open_site(alloc, device) {
         Ok(site) => site,
         Err((fault, device)) => return Err((ServingFault::Image(fault), device)),
     };
-    let at = given_or_own(address, site.front().port);
+    let front = site.front();
+    let at = given_or_own(address, front.port);
     let mut room = match Room::open(alloc, rt, at, asked) {
         Ok(room) => room,
         Err(VisitFault::Memory) => return Err((
@@ -112,7 +116,8 @@ pub fn serve_clients<D: Device, R: Net + Time, C: Clock, L: Write>(
         Err(VisitFault::Net) => return Err((ServingFault::Net, site.into_keeper().into_device())),
         Err(VisitFault::Failed) => unreachable!(),
     };
-    match visits_over(alloc, site, rt, watch, &mut room, clock, log, most) {
+    tell_start(alloc, &front, at, log);
+    match visits_over(alloc, site, rt, watch, &mut room, office, clock, log, terms) {
         Ok((ended, site)) => Ok((ended, site.into_keeper().into_device())),
         Err((fault, site)) => Err((ServingFault::Image(fault), site.into_keeper().into_device())),
     }

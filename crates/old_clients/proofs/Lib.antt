@@ -8,3 +8,5 @@ pub mod Menus
 pub mod CallRuns
 pub mod Hearings
 pub mod Fetches
+pub mod Sizes
+pub mod Clients

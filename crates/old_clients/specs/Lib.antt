@@ -4,5 +4,6 @@ pub mod Fetches
 pub mod AdaptedReply
 pub mod Place
 pub mod Streams
+pub mod Clients
 pub mod Laws
 pub mod Examples

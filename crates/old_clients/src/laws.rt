@@ -8,13 +8,18 @@ ghost use Rattle.text_writer.specs.declared.error.ErrorText.{ErrorText};
 ghost use Rattle.old_clients.specs.AdaptedReply.{adapted_reply, head_line, info};
 ghost use Rattle.old_clients.specs.Examples.{RewrittenLines, OtherLines, Replies};
 ghost use Rattle.old_clients.specs.Fetches.{AreFetches};
-ghost use Rattle.old_clients.specs.Laws.{PassTheInput, TellOfTheInput, GiveTheReply};
+ghost use Rattle.old_clients.specs.Laws.{PassTheInput, TellOfTheInput, GiveTheReply, OthersPass};
 
 /// However an input or a reply is cut into chunks and whatever room the calls have, what they gave and what the adapter will give are what is passed on of it.
 pub fn any_cuts()
     ensures passed { PassTheInput }
     ensures told { TellOfTheInput }
     ensures given { GiveTheReply }
+{}
+
+/// Of a client that isn't an old one all is passed on as it comes.
+pub fn others_pass()
+    ensures { OthersPass }
 {}
 
 /// A rewritten line is a fetch of the item at its selector, with data or by its search words.

@@ -1,10 +1,11 @@
 // A reply to an old client, by chunks of the reply and by parts of what is sent.
-ghost use Rattle.std.specs.Prelude.{◌≡◌, ◌≤◌, ◌+◌, ◌⊎◌, ◌++◌, ◌∷◌, ℕ, List, [], length, take, drop};
+ghost use Rattle.std.specs.Prelude.{◌≡◌, ◌≤◌, ◌<◌, ◌+◌, ◌*◌, ◌⊎◌, ◌++◌, ◌∷◌, ℕ, List, [], length, take, drop};
 ghost use Rattle.arrayvec.specs.ArrayVec.{array_vec_len};
 ghost use Rattle.host_types.specs.SiteState.{IsUnchangedBehind};
 ghost use Rattle.old_clients.specs.AdaptedReply.{adapted_reply};
 ghost use Rattle.old_clients.specs.Place.{closing};
 ghost use Rattle.old_clients.specs.declared.place.Place.TheVariants.{Behind};
+ghost use Rattle.old_clients.specs.Clients.{is_through};
 ghost use Rattle.old_clients.specs.Streams.{Informing, will_give, fresh_reply, Passes, Ends};
 
 use crate::place::{Place, Ready, after, closing, emitted, run_length};
@@ -44,6 +45,13 @@ impl ReplyAdapter {
         }
     }
 
+    /// Whether all that comes is sent as it comes.
+    pub fn is_through(&self) -> bool
+        ensures { result ≡ is_through self.now }
+    {
+        self.place == Place::Behind && self.ready.is_empty()
+    }
+
     /// Takes from the chunk, the next bytes of the reply, and gives to `out` what is sent. All of the chunk was taken and
     /// nothing is ready, or `out` is full.
     pub fn next(&mut self, chunk: &[u8], out: &mut [u8]) -> Moved
@@ -75,6 +83,26 @@ impl ReplyAdapter {
     {
         self.end();
         self.give(out, 0)
+    }
+
+    /// Gives what is sent of bytes that were drawn of the reply, and says how many bytes that are, for which there is room.
+    pub fn pass(&mut self, drawn: &[u8], out: &mut [u8]) -> usize
+        requires room { 40 + 8 * length drawn.now < length out.old }
+        ensures within { result ≤ length out.new }
+        ensures given { (rest : List ℕ) → take result out.new ++ will_give self.new rest ≡ will_give self.old (drawn.now ++ rest) }
+    {
+        let _ = &self.ready;
+        self.next(drawn, out).given
+    }
+
+    /// Gives what is left, once the reply has ended, and says how many bytes that are, for which there is room.
+    pub fn pass_end(&mut self, out: &mut [u8]) -> usize
+        requires room { 40 < length out.old }
+        ensures within { result ≤ length out.new }
+        ensures given { take result out.new ≡ will_give self.old [] }
+    {
+        let _ = &self.ready;
+        self.finish(out)
     }
 
     /// Takes a byte of the reply, once nothing is ready.

@@ -1,10 +1,11 @@
 // A request of an old client, by chunks of what came and by parts of what is passed on.
-ghost use Rattle.std.specs.Prelude.{◌≡◌, ◌≤◌, ◌+◌, ◌⊎◌, ◌++◌, ℕ, List, true, false, [], length, take, drop};
+ghost use Rattle.std.specs.Prelude.{◌≡◌, ◌≤◌, ◌<◌, ◌+◌, ◌⊎◌, ◌++◌, ℕ, List, true, false, [], length, take, drop};
 ghost use Rattle.std.specs.List.{list_any};
 ghost use Rattle.arrayvec.specs.ArrayVec.{array_vec_len};
 ghost use Rattle.host_types.specs.Lines.{is_lf, without_cr};
 ghost use Rattle.host_types.specs.SiteState.{IsUnchangedBehind};
 ghost use Rattle.old_clients.specs.AdaptedRequest.{adapted_line, adapted_request, is_old, is_rewritten};
+ghost use Rattle.old_clients.specs.Clients.{through_request, IsHeard};
 ghost use Rattle.old_clients.specs.Streams.{Hearing, will_pass, will_rewrite, fresh_request, IsWaiting, Passes, Ends, Keeps};
 
 use crate::line::{first_of, sign_of};
@@ -14,7 +15,7 @@ use std::marker::Model;
 use text_writer::Moved;
 
 /// The greatest length of a request line in bytes, a CR counted and the LF not.
-const LONGEST_LINE: usize = 1024;
+pub const LONGEST_LINE: usize = 1024;
 
 /// A request on its way to the hub. The first line is held back until its LF has come, or until it is too long for a
 /// request; then it, rewritten where an old client wrote it, and all behind it are passed on. It takes no memory.
@@ -33,7 +34,7 @@ impl Model for RequestAdapter {
 
     ghost view = { λ a. record { hears = a.hears; held = drop a.given a.held.items; rewritten = a.rewritten } };
 
-    ghost invariant = { λ a. (a.given ≤ array_vec_len a.held)
+    ghost invariant = { λ a. ((a.given ≤ array_vec_len a.held) × (array_vec_len a.held ≤ 1024))
         × (a.hears ≡ true → (a.given ≡ 0) × (list_any is_lf a.held.items ≡ false) × (a.rewritten ≡ false)) };
 }
 
@@ -52,6 +53,18 @@ impl RequestAdapter {
         }
     }
 
+    /// An adapter that passes on all that comes, as it comes.
+    pub fn through() -> Self
+        ensures { result ≡ through_request }
+    {
+        RequestAdapter {
+            held: ArrayVec::new(),
+            given: 0,
+            hears: false,
+            rewritten: false,
+        }
+    }
+
     /// Takes from the chunk, the next bytes of the input, and gives to `out` what is passed on. All of the chunk was taken and
     /// nothing is left to give but a line that has not ended, or `out` is full.
     pub fn next(&mut self, chunk: &[u8], out: &mut [u8]) -> Moved
@@ -60,6 +73,7 @@ impl RequestAdapter {
         ensures passes { Passes will_pass self.old chunk.now result.taken (take result.given out.new) self.new }
         ensures rewrites { Keeps will_rewrite self.old chunk.now result.taken self.new }
         ensures waits { IsWaiting self.new }
+        ensures ended { self.old.hears ≡ false → self.new.hears ≡ false }
         ensures behind { IsUnchangedBehind result.given out.old out.new }
         ensures progress { ((result.taken ≡ length chunk.now) × ((self.new.hears ≡ true) ⊎ (self.new.held ≡ []))) ⊎ (result.given ≡ length out.new) }
     {
@@ -77,11 +91,26 @@ impl RequestAdapter {
         ensures within { result ≤ length out.new }
         ensures given { Ends will_pass self.old (take result out.new) self.new }
         ensures rewrites { will_rewrite self.new [] ≡ will_rewrite self.old [] }
+        ensures ended { self.new.hears ≡ false }
         ensures behind { IsUnchangedBehind result out.old out.new }
         ensures progress { (will_pass self.new [] ≡ []) ⊎ (result ≡ length out.new) }
     {
         self.end();
         self.give(out)
+    }
+
+    /// Passes on a piece of what a client sent, and holds back nothing of it but a line that has not ended; no bytes are the end. It says how many bytes it gave, for which there is room.
+    pub fn pass(&mut self, piece: &[u8], out: &mut [u8]) -> usize
+        requires room { 1024 + length piece.now < length out.old }
+        ensures within { result ≤ length out.new }
+        ensures heard { IsHeard self.old piece.now (take result out.new) self.new }
+    {
+        let _ = &self.held;
+        if piece.is_empty() {
+            self.finish(out)
+        } else {
+            self.next(piece, out).given
+        }
     }
 
     /// Whether the first line has ended and was rewritten.
@@ -97,6 +126,7 @@ impl RequestAdapter {
         ensures passes { Passes will_pass self.old chunk.now result [] self.new }
         ensures rewrites { Keeps will_rewrite self.old chunk.now result self.new }
         ensures waits { IsWaiting self.new }
+        ensures ended { self.old.hears ≡ false → self.new.hears ≡ false }
         ensures all { (result ≡ length chunk.now) ⊎ (self.new.hears ≡ false) }
     {
         if !self.hears {

@@ -83,6 +83,7 @@ flat_holding state slot pairs top usable = record {
   free = half_size slot.root.pages;
   height = 0;
   keys = length pairs;
+  made = state.made;
   pins = [];
 }
 

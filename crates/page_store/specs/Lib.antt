@@ -16,6 +16,7 @@ pub mod Batch
 pub mod PairsInOrder
 pub mod Counting
 pub mod Opening
+pub mod Work
 pub mod StoreState
 pub mod Compaction
 pub mod Pins

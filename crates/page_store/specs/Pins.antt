@@ -1,5 +1,6 @@
 -- Pins of a key-value store: each keeps the pairs that stood when it was made.
-use Rattle.std.specs.Prelude.{◌≡◌, ◌≤◌, ◌<◌, ◌+◌, ◌==◌, ◌||◌, ◌&&◌, not, ℕ, Bool, true, false, List, length, Option, Some, IsTrue}
+use Rattle.std.proofs.Common.{◌∙◌, ap, refl}
+use Rattle.std.specs.Prelude.{[], ◌∷◌, map, ◌≡◌, ◌≤◌, ◌<◌, ◌+◌, ◌==◌, ◌||◌, ◌&&◌, not, ℕ, Bool, true, false, List, length, Option, Some, IsTrue}
 use Rattle.std.specs.Map.{lookup}
 use Rattle.page_store.specs.Content.{is_among}
 use Rattle.page_store.specs.Pages.{Pair}
@@ -46,3 +47,12 @@ pub record IsUnpinned (old new : StoreState) (number : ℕ) : Type 0 where
   pub others : IsTrue old.honest → OthersStay number old new
   pub free : old.free ≤ new.free
   pub same : new ≡ record old { pins = new.pins; free = new.free }
+
+-- ---- where no pin is out
+
+none_numbered : (pins : List (ℕ × List Pair)) → map (λ (pin : ℕ × List Pair). pin.0) pins ≡ [] → pins ≡ []
+none_numbered [] e = refl
+none_numbered (pin ∷ pins) e = absurd (cc e)
+
+pub none_out : (old new : StoreState) → numbers_out new ≡ numbers_out old → old.pins ≡ [] → new.pins ≡ []
+none_out old new same none = none_numbered new.pins (same ∙ ap (λ (pins : List (ℕ × List Pair)). map (λ (pin : ℕ × List Pair). pin.0) pins) none)

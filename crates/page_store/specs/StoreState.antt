@@ -1,6 +1,8 @@
 -- What a key-value store holds, and what its calls have in common.
 use Rattle.std.specs.Prelude.{◌≡◌, ◌⊎◌, ◌<◌, ◌≤◌, ◌+◌, ◌-◌, ◌^◌, ℕ, max, Bool, false, List, length, drop, map, Option, Some, None, Result, Ok, Err, IsTrue}
 use Rattle.common_types.specs.Counts.{counted}
+use Rattle.sector_device.specs.CallsMade.{CallsMade}
+use Rattle.page_store.specs.Work.{WritesNothing}
 use Rattle.page_store.specs.Pages.{Pair}
 use Rattle.page_store.specs.declared.banner.Banner.{Banner}
 use Rattle.page_store.specs.declared.edit.Edit.{Edit}
@@ -8,7 +10,7 @@ use Rattle.page_store.specs.declared.figures.Figures.{Figures}
 use Rattle.page_store.specs.declared.fault.KeeperFault.{KeeperFault}
 use Rattle.page_store.specs.declared.fault.KeeperFault.TheVariants as faults
 
--- The pairs stand in byte order of their keys. `honest`: the device keeps its written meaning. `usable`: no write or sync has failed. `generation`: that of the current root slot. `top`: the greatest generation that was found at opening or tried since. `free`: how many pages a commit may write. `height`: how many levels the tree of pages has, none where the pages are flat. `keys`: how many pairs it counts, on every device: so many were found when it was opened, and a commit counts them on. `pins`: the number of each pin that is out, and the pairs that it keeps.
+-- The pairs stand in byte order of their keys. `honest`: the device keeps its written meaning. `usable`: no write or sync has failed. `generation`: that of the current root slot. `top`: the greatest generation that was found at opening or tried since. `free`: how many pages a commit may write. `height`: how many levels the tree of pages has, none where the pages are flat. `keys`: how many pairs it counts, on every device: so many were found when it was opened, and a commit counts them on. `made`: how many calls it has made of what it is kept on. `pins`: the number of each pin that is out, and the pairs that it keeps.
 pub record StoreState : Type 0 where
   pub pairs : List Pair
   pub banner : Banner
@@ -21,6 +23,7 @@ pub record StoreState : Type 0 where
   pub free : ℕ
   pub height : ℕ
   pub keys : ℕ
+  pub made : CallsMade
   pub pins : List (ℕ × List Pair)
 
 -- the numbers of the pins that are out
@@ -50,7 +53,7 @@ pub record IsFigures (h : StoreState) (figures : Figures) : Type 0 where
   pub free : figures.free ≡ h.free
   pub generation : figures.generation ≡ h.generation
 
--- What a call leaves that changes nothing of what is held.
+-- What a call leaves that changes nothing of what is held: it has written nothing.
 pub record HasStayed (old new : StoreState) : Type 0 where
   pub pairs : IsTrue old.honest → new.pairs ≡ old.pairs
   pub banner : new.banner ≡ old.banner
@@ -62,6 +65,7 @@ pub record HasStayed (old new : StoreState) : Type 0 where
   pub keys : new.keys ≡ old.keys
   pub out : numbers_out new ≡ numbers_out old
   pub pins : IsTrue old.honest → new.pins ≡ old.pins
+  pub calls : WritesNothing old.made new.made
 
 -- What a call that only reads leaves: reads may have failed.
 pub record HasRead (old new : StoreState) : Type 0 where

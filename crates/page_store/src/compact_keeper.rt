@@ -4,6 +4,7 @@ ghost use Rattle.common_types.specs.CrashStates.{AddsOnly, AddsNone};
 ghost use Rattle.page_store.specs.Compaction.{IsCompacted, IsCompactFault, CompactsTheSame};
 ghost use Rattle.page_store.specs.Counting.{CountsReads, CountsWrites};
 ghost use Rattle.page_store.specs.StoreState.{HasTried, NeedsTheSame, last_generation};
+ghost use Rattle.page_store.specs.Work.{WritesAtMost};
 ghost use Rattle.page_store.specs.declared.fault.KeeperFault.TheVariants.{Failed, Spent};
 
 use crate::{Keeper, KeeperFault};
@@ -31,6 +32,7 @@ pub trait CompactKeeper: Keeper {
         ensures tried { HasTried (Self.store_state self.old) (Self.store_state self.new) }
         ensures reads { CountsReads result (Self.store_state self.old).failed_reads (Self.store_state self.new).failed_reads }
         ensures writes { CountsWrites (Self.store_state self.old).usable result (Self.store_state self.old).failed_writes (Self.store_state self.new).failed_writes }
+        ensures work { WritesAtMost (Self.store_state self.old).free (Self.store_state self.old).made (Self.store_state self.new).made }
 
         // A crash within the call leaves the same pairs and the same banner.
         ensures at_crash { IsTrue (Self.store_state self.old).honest → (Self.store_state self.old).usable ≡ true →

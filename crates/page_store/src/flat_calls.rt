@@ -8,7 +8,8 @@ ghost use Rattle.common_types.specs.Counts.{Counts};
 ghost use Rattle.page_store.specs.Commit.{IsBetween};
 ghost use Rattle.page_store.specs.FlatPlan.{IsPlan};
 ghost use Rattle.page_store.specs.Counting.{CountsReads, CountsWrites};
-ghost use Rattle.page_store.specs.StoreState.{SoManyPages, HasTried, NeedsTheSame, IsCommitFault, numbers_out, last_generation};
+ghost use Rattle.page_store.specs.StoreState.{SoManyPages, HasTried, NeedsTheSame, IsCommitFault, numbers_out, last_generation, most_levels};
+ghost use Rattle.page_store.specs.Work.{CommitsWithin};
 ghost use Rattle.page_store.specs.FlatSeen.{held, device_of, slot_of, pairs_of, top_of, is_open};
 ghost use Rattle.page_store.specs.declared.fault.KeeperFault.TheVariants.{Failed, Spent};
 ghost use Rattle.page_store.specs.Content.{is_opened, ImageHas};
@@ -150,7 +151,7 @@ impl<D: Device> Keeper for FlatKeeper<D> {
         ensures tried { HasTried (held D.state self.old) (held D.state self.new) }
         ensures reads { CountsReads result (held D.state self.old).failed_reads (held D.state self.new).failed_reads }
         ensures writes { CountsWrites (held D.state self.old).usable result (held D.state self.old).failed_writes (held D.state self.new).failed_writes }
-        ensures work { MadeIfOk result 0 (8 * pages_needed (updated (pairs_of self.old) batch.now) + 8) 2 (D.state (device_of self.old)) (D.state (device_of self.new)) }
+        ensures work { CommitsWithin (most_levels * length batch.now) (held D.state self.old).free (held D.state self.old).made (held D.state self.new).made }
         ensures at_crash { IsTrue (held D.state self.old).honest → (held D.state self.old).usable ≡ true →
             AddsOnly (crash_states_of D.moment D.possible_since (device_of self.old)) (crash_states_of D.moment D.possible_since (device_of self.new))
             (λ c. ImageHas c (held D.state self.old).pairs (held D.state self.old).banner ⊎ ImageHas c (updated (held D.state self.old).pairs batch.now) banner) }
@@ -162,6 +163,9 @@ impl<D: Device> Keeper for FlatKeeper<D> {
         ensures between { IsTrue (held D.state self.old).honest → (held D.state self.old).usable ≡ true →
             AddsOnly (crash_states_of D.moment D.possible_since (device_of self.old)) (crash_states_of D.moment D.possible_since (device_of self.new))
             (λ c. may_crash_to (crash_states_of D.moment D.possible_since (device_of self.old)) c ⊎ IsFlatBetween (slot_of self.old) (pairs_of self.old) (top_of self.old) (D.state (device_of self.old)).disk.view batch.now banner c) }
+
+        // So many pages as the batch needs and the page of a root are written, with two syncs.
+        ensures written { MadeIfOk result 0 (8 * pages_needed (updated (pairs_of self.old) batch.now) + 8) 2 (D.state (device_of self.old)) (D.state (device_of self.new)) }
 
         // A fault before the first write leaves the device as it is.
         ensures unwritten { IfErr result (λ e. is_open self.new ≡ is_open self.old → device_of self.new ≡ device_of self.old) }

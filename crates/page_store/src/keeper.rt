@@ -1,10 +1,11 @@
 // A map of byte keys that is kept on a device.
-ghost use Rattle.std.specs.Prelude.{◌≡◌, ◌⊎◌, ◌≤◌, ◌<◌, ◌+◌, ℕ, Bool, List, true, false, IfOk, OnOk, IfErr, IsErrOf, IfSome, IsTrue, length, take, option_map};
+ghost use Rattle.std.specs.Prelude.{◌≡◌, ◌⊎◌, ◌≤◌, ◌<◌, ◌+◌, ◌*◌, ℕ, Bool, List, true, false, IfOk, OnOk, IfErr, IsErrOf, IfSome, IsTrue, length, take, option_map};
 ghost use Rattle.common_types.specs.CrashStates.{CrashStates, AddsOnly, AddsNone, may_crash_to};
 ghost use Rattle.page_store.specs.Pages.{Pair};
 ghost use Rattle.page_store.specs.Batch.{value_at, pair_after, updated, is_batch, is_map};
 ghost use Rattle.page_store.specs.Counting.{CountsReads, CountsWrites};
 ghost use Rattle.page_store.specs.StoreState.{StoreState, CommitNeed, SoManyPages, IsFigures, HasRead, HasTried, NeedsTheSame, IsFilled, IsReadFault, IsCommitFault, numbers_out, last_generation, most_levels};
+ghost use Rattle.page_store.specs.Work.{ReadsPages, CommitsWithin, pages_tried};
 ghost use Rattle.page_store.specs.declared.banner.Banner.{Banner as BannerValue};
 ghost use Rattle.page_store.specs.declared.edit.Edit.{Edit as EditValue};
 ghost use Rattle.page_store.specs.declared.fault.KeeperFault.TheVariants.{Failed, Spent};
@@ -56,6 +57,7 @@ pub trait Keeper {
         ensures fault { IfErr result (IsReadFault (store_state self.old) (store_state self.new)) }
         ensures closed { (store_state self.old).usable ≡ false → IsErrOf result Failed }
         ensures unchanged { (store_state self.old).usable ≡ false → store_state self.new ≡ store_state self.old }
+        ensures work { ReadsPages (store_state self.old).height (store_state self.old).made (store_state self.new).made }
         ensures at_crash { IsTrue (store_state self.old).honest → AddsNone (crash_states self.old) (crash_states self.new) };
 
     /// Puts the pair with the least key above this one into the fronts of the buffers, and answers its lengths, or none where no key is above. The empty key is below all. What stands behind key and value stays. It takes no memory.
@@ -75,6 +77,7 @@ pub trait Keeper {
         ensures fault { IfErr result (IsReadFault (store_state self.old) (store_state self.new)) }
         ensures closed { (store_state self.old).usable ≡ false → IsErrOf result Failed }
         ensures unchanged { (store_state self.old).usable ≡ false → store_state self.new ≡ store_state self.old }
+        ensures work { ReadsPages (pages_tried (store_state self.old).height) (store_state self.old).made (store_state self.new).made }
         ensures at_crash { IsTrue (store_state self.old).honest → AddsNone (crash_states self.old) (crash_states self.new) };
 
     /// Makes all edits of a batch, whose keys rise, and sets the banner, in one step.
@@ -100,6 +103,7 @@ pub trait Keeper {
         ensures tried { HasTried (store_state self.old) (store_state self.new) }
         ensures reads { CountsReads result (store_state self.old).failed_reads (store_state self.new).failed_reads }
         ensures writes { CountsWrites (store_state self.old).usable result (store_state self.old).failed_writes (store_state self.new).failed_writes }
+        ensures work { CommitsWithin (most_levels * length batch.now) (store_state self.old).free (store_state self.old).made (store_state self.new).made }
 
         // A crash within the call leaves the pairs and the banner from before it, or the new ones.
         ensures at_crash { IsTrue (store_state self.old).honest → (store_state self.old).usable ≡ true →

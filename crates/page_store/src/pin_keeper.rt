@@ -1,9 +1,10 @@
 // A key-value store that keeps what stood before.
-ghost use Rattle.std.specs.Prelude.{◌≡◌, ◌≤◌, ℕ, false, IfOk, IfErr, IsErrOf, IfSome, IsTrue, length, take, option_map};
+ghost use Rattle.std.specs.Prelude.{◌↔◌, ◌≡◌, [], ◌≤◌, ℕ, false, IfOk, IfErr, IsErrOf, IfSome, IsTrue, length, take, option_map};
 ghost use Rattle.common_types.specs.CrashStates.{AddsNone};
 ghost use Rattle.page_store.specs.Batch.{value_at, pair_after};
 ghost use Rattle.page_store.specs.Counting.{CountsReads};
-ghost use Rattle.page_store.specs.StoreState.{HasRead, NeedsTheSame, IsFilled, IsReadFault};
+ghost use Rattle.page_store.specs.StoreState.{HasRead, NeedsTheSame, IsFilled, IsReadFault, most_levels};
+ghost use Rattle.page_store.specs.Work.{ReadsPages, pages_tried};
 ghost use Rattle.page_store.specs.Pins.{is_out, pairs_at, IsPinned, IsPinFault, IsUnpinned};
 ghost use Rattle.page_store.specs.declared.fault.KeeperFault.TheVariants.{Failed};
 
@@ -16,6 +17,10 @@ pub trait PinKeeper: Keeper {
 
     /// Its number. No other pin of the store that is out has it.
     ghost number: { Self.Pin → ℕ };
+
+    /// Whether no pin is out. It takes no memory.
+    fn is_unpinned(&self) -> bool
+        ensures { IsTrue result ↔ ((Self.store_state self.now).pins ≡ []) };
 
     /// Pins the current pairs. Nothing is read or written, and it takes no memory.
     fn pin(&mut self) -> Result<Self::Pin, PinFault>
@@ -49,6 +54,7 @@ pub trait PinKeeper: Keeper {
         ensures fault { IfErr result (IsReadFault (Self.store_state self.old) (Self.store_state self.new)) }
         ensures closed { (Self.store_state self.old).usable ≡ false → IsErrOf result Failed }
         ensures unchanged { (Self.store_state self.old).usable ≡ false → Self.store_state self.new ≡ Self.store_state self.old }
+        ensures work { ReadsPages most_levels (Self.store_state self.old).made (Self.store_state self.new).made }
         ensures at_crash { IsTrue (Self.store_state self.old).honest → AddsNone (Self.crash_states self.old) (Self.crash_states self.new) };
 
     /// As `next`, of the pairs that the pin keeps.
@@ -70,6 +76,7 @@ pub trait PinKeeper: Keeper {
         ensures fault { IfErr result (IsReadFault (Self.store_state self.old) (Self.store_state self.new)) }
         ensures closed { (Self.store_state self.old).usable ≡ false → IsErrOf result Failed }
         ensures unchanged { (Self.store_state self.old).usable ≡ false → Self.store_state self.new ≡ Self.store_state self.old }
+        ensures work { ReadsPages (pages_tried most_levels) (Self.store_state self.old).made (Self.store_state self.new).made }
         ensures at_crash { IsTrue (Self.store_state self.old).honest → AddsNone (Self.crash_states self.old) (Self.crash_states self.new) };
 
     /// There are not too many pins.

@@ -7,7 +7,7 @@ use cow_tree::{TreeKeeper, format};
 use group_hub::Hub;
 use host_types::{Admin, Bytes, Host, SiteKeeper, Stamp, Title};
 use mem_site::MemSite;
-use page_store::{Banner, Edit};
+use page_store::{Banner, Edit, PinKeeper};
 use sector_device::MemDisk;
 use site_store::{DiskSite, first_pairs};
 use std::alloc::Global;
@@ -60,6 +60,22 @@ fn formatted(alloc: Global, pages: u32, host: Host, admin: Admin) -> Result<MemD
     Ok(disk)
 }
 
+/// The disk of a keeper, of which no pin is to be out.
+fn device_under(keeper: TreeKeeper<MemDisk>) -> Result<MemDisk, Trouble> {
+    if !keeper.is_unpinned() {
+        return Err(Trouble::Wrong("a pin is out"));
+    }
+    Ok(keeper.into_device())
+}
+
+/// The disk of a site, of which no pin is to be out.
+pub fn disk_under(site: TreeSite) -> Result<MemDisk, Trouble> {
+    if !site.is_unpinned() {
+        return Err(Trouble::Wrong("a pin is out"));
+    }
+    Ok(site.into_keeper().into_device())
+}
+
 /// A disk with a site of so many pages: its top menu, `Top`, without entries.
 pub fn new_disk(alloc: Global, pages: u32) -> Result<MemDisk, Trouble> {
     let Names { host, admin, title } = Names::new()?;
@@ -69,7 +85,7 @@ pub fn new_disk(alloc: Global, pages: u32) -> Result<MemDisk, Trouble> {
         Err((fault, _)) => return Err(Trouble::Keeper(fault)),
     };
     commit(&mut keeper, &first_edits(alloc, &title)?)?;
-    Ok(keeper.into_device())
+    device_under(keeper)
 }
 
 /// The same site in memory.

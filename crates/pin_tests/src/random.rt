@@ -1,7 +1,7 @@
 // Sessions over the same site on a disk and in memory, whose events are mixed at random.
 use crate::changes::{Document, put_board, put_form, put_text, remove};
 use crate::dice::Dice;
-use crate::made::{TreeSite, hub_over, in_memory, new_disk, site_on};
+use crate::made::{TreeSite, disk_under, hub_over, in_memory, new_disk, site_on};
 use crate::trouble::Trouble;
 use group_hub::{Hub, MOST_SESSIONS};
 use group_world::HubFault;
@@ -208,11 +208,14 @@ impl Run {
         let Hubs { disk, memory } = hubs;
         let mut disk = disk.close();
         let compacted = self.compact(&mut disk);
-        let disk = disk.into_keeper().into_device();
+        let disk = disk_under(disk);
         let memory = memory.close();
         ended?;
         compacted?;
-        Ok(Site { disk, memory })
+        Ok(Site {
+            disk: disk?,
+            memory,
+        })
     }
 }
 
@@ -237,7 +240,7 @@ fn new_site(alloc: Global) -> Result<Site, Trouble> {
         disk.change(change.clone()?, Stamp::start())?;
         memory.change(change, Stamp::start())?;
     }
-    let disk = disk.into_keeper().into_device();
+    let disk = disk_under(disk)?;
     Ok(Site { disk, memory })
 }
 

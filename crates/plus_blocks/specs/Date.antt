@@ -52,8 +52,28 @@ unfoldable pub numbered : Civil → ℕ → List ℕ
 numbered date second =
     four_digits date.year ++ two_digits date.month ++ two_digits date.day ++ time second
 
+-- as `1993-07-28`
+unfoldable pub dashed_day : Civil → List ℕ
+dashed_day date = four_digits date.year ++ codes "-" ++ two_digits date.month ++ codes "-" ++ two_digits date.day
+
+-- as `1993-07-28T17:02:01Z` (RFC 3339)
+unfoldable pub dashed : Civil → ℕ → List ℕ
+dashed date second = dashed_day date ++ codes "T" ++ clock second ++ codes "Z"
+
+-- as `28/Jul/1993:17:02:01 +0000`, which the common log format of web servers has
+unfoldable pub slashed : Civil → ℕ → List ℕ
+slashed date second =
+    two_digits date.day ++ codes "/" ++ month_name date.month ++ codes "/" ++ four_digits date.year
+    ++ codes ":" ++ clock second ++ codes " +0000"
+
 abbrev pub dated : Civil → ℕ → ℕ → List ℕ
 dated date weekday second = spoken date weekday second ++ codes " <" ++ numbered date second ++ codes ">"
 
 unfoldable pub mod_date : ℕ → List ℕ
 mod_date stamp = dated (date_of (day_of stamp)) (weekday_of (day_of stamp)) (second_of stamp)
+
+unfoldable pub listed_date : ℕ → List ℕ
+listed_date stamp = dashed (date_of (day_of stamp)) (second_of stamp)
+
+unfoldable pub log_date : ℕ → List ℕ
+log_date stamp = slashed (date_of (day_of stamp)) (second_of stamp)

@@ -5,7 +5,7 @@ use Rattle.host_types.specs.declared.card.Card.{Card}
 use Rattle.host_types.specs.declared.card.CardBody.TheVariants as cards
 use Rattle.host_types.specs.declared.view.Kind.TheVariants as kinds
 use Rattle.host_types.specs.declared.form.Question.TheVariants as questions
-use Rattle.plus_blocks.specs.Date.{mod_date}
+use Rattle.plus_blocks.specs.Date.{mod_date, listed_date, log_date}
 use Rattle.plus_blocks.specs.Blocks.{attributes, entry_attributes, info, item_blocks, views, abstract_block}
 
 pub record DateExamples : Type 0 where
@@ -13,6 +13,8 @@ pub record DateExamples : Type 0 where
   pub least : mod_date 0 ≡ codes "Thu Jan 01 00:00:00 1970 <19700101000000>"
   pub greatest : mod_date 253402300799 ≡ codes "Fri Dec 31 23:59:59 9999 <99991231235959>"
   pub leap_day : mod_date 951782400 ≡ codes "Tue Feb 29 00:00:00 2000 <20000229000000>"
+  pub in_a_listing : listed_date 743878921 ≡ codes "1993-07-28T17:02:01Z"
+  pub in_a_log : log_date 743878921 ≡ codes "28/Jul/1993:17:02:01 +0000"
 
 abbrev pub here : Address
 here = record { host = codes "localhost"; port = 7070; admin = codes "Ada <ada@localhost>" }

@@ -159,3 +159,66 @@ pub(crate) fn push_mod_date(out: &mut Vec<u8>, stamp: Stamp) -> Result<(), Alloc
     out.push(b'>')?;
     Ok(())
 }
+
+/// Adds a date, as `1993-07-28`.
+#[tactic(auto, unfolding(crate::specs::Date::dashed_day))]
+fn push_dashed_day(out: &mut Vec<u8>, date: Civil) -> Result<(), AllocError>
+    ensures { OnOk result (out.new.items ≡ out.old.items ++ spec.dashed_day date) }
+{
+    push_four(out, date.year)?;
+    out.push(b'-')?;
+    push_two(out, u16::from(date.month))?;
+    out.push(b'-')?;
+    push_two(out, u16::from(date.day))
+}
+
+/// Adds a date and time, as `1993-07-28T17:02:01Z`.
+#[tactic(auto, unfolding(crate::specs::Date::dashed))]
+fn push_dashed(out: &mut Vec<u8>, date: Civil, second: u32) -> Result<(), AllocError>
+    requires { second < 86400 }
+    ensures { OnOk result (out.new.items ≡ out.old.items ++ spec.dashed date second) }
+{
+    push_dashed_day(out, date)?;
+    out.push(b'T')?;
+    push_clock(out, second)?;
+    out.push(b'Z')?;
+    Ok(())
+}
+
+/// Adds a date and time, as `28/Jul/1993:17:02:01 +0000`.
+#[tactic(auto, unfolding(crate::specs::Date::slashed))]
+fn push_slashed(out: &mut Vec<u8>, date: Civil, second: u32) -> Result<(), AllocError>
+    requires first { 1 ≤ date.month }
+    requires last { date.month ≤ 12 }
+    requires time { second < 86400 }
+    ensures { OnOk result (out.new.items ≡ out.old.items ++ spec.slashed date second) }
+{
+    push_two(out, u16::from(date.day))?;
+    out.push(b'/')?;
+    push_month_name(out, date.month)?;
+    out.push(b'/')?;
+    push_four(out, date.year)?;
+    out.push(b':')?;
+    push_clock(out, second)?;
+    out.extend_from_slice(b" +0000")
+}
+
+/// Adds a stamp's date and time in UTC as a listing has it, `1993-07-28T17:02:01Z`.
+#[tactic(auto, unfolding(crate::specs::Date::listed_date, crate::specs::Date::day_of, crate::specs::Date::second_of))]
+pub fn push_listed_date(out: &mut Vec<u8>, stamp: Stamp) -> Result<(), AllocError>
+    ensures { OnOk result (out.new.items ≡ out.old.items ++ spec.listed_date stamp) }
+{
+    let seconds = stamp.seconds();
+    let (date, _) = day_at(seconds / 86_400);
+    push_dashed(out, date, (seconds % 86_400) as u32)
+}
+
+/// Adds a stamp's date and time in UTC as the common log format has it, `28/Jul/1993:17:02:01 +0000`.
+#[tactic(auto, unfolding(crate::specs::Date::log_date, crate::specs::Date::day_of, crate::specs::Date::second_of))]
+pub fn push_log_date(out: &mut Vec<u8>, stamp: Stamp) -> Result<(), AllocError>
+    ensures { OnOk result (out.new.items ≡ out.old.items ++ spec.log_date stamp) }
+{
+    let seconds = stamp.seconds();
+    let (date, _) = day_at(seconds / 86_400);
+    push_slashed(out, date, (seconds % 86_400) as u32)
+}

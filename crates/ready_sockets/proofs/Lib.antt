@@ -1,8 +1,12 @@
 pub mod ComingIn
 pub mod Dues
+pub mod Tellings
 pub mod HeadsKept
 pub mod LogWrites
+pub mod Limiting
 pub mod Passes
+pub mod PassesBeside
+pub mod Sparing
 pub mod Rounds
 pub mod SameClients
 pub mod SocketCalls

@@ -44,10 +44,10 @@ abbrev IsOut : Visit → Type 0
 IsOut visit = is_waiting visit.seat.stage ≡ false
 
 goes_out : (over : Bool) (old new : Visit) (es : List Event) (os : List Outcome) → IsOut old → GoesIf over old es os new → IsOut new
-goes_out true old new es os out d = dismissed_out old.seat.stage (state_of old.seat) _ (state_of new.seat) refl d.does
+goes_out true old new es os out d = dismissed_out old.seat.stage (state_of old.seat) _ (state_of new.seat) refl d.0.does
 goes_out false old new es os out d = subst IsOut (sym d.2) out
 
 pub nobody_waits : (now : ℕ) (old mid new : List Visit) (es fs : List Event) (os ps : List Outcome) → Both IsFlushed (InOrder Learned) old es os mid → InOrder (WasDismissed now) mid fs ps new → NobodyWaits new
 nobody_waits now old mid new es fs os ps made dismissed =
     all_after (WasDismissed now) IsOut IsOut (λ x y gs qs out d. goes_out (is_late now x) x y gs qs out d) mid new fs ps
-    (all_after Learned (λ x. Unit {0}) IsOut (λ x y gs qs p d. learns_out x.seat.stage (state_of x.seat) _ (state_of y.seat) refl d.learns.does) made.mid mid made.later_events made.later_outcomes (anything made.mid) made.later) dismissed
+    (all_after Learned (λ x. Unit {0}) IsOut (λ x y gs qs p d. learns_out x.seat.stage (state_of x.seat) _ (state_of y.seat) refl d.learns.0.does) made.mid mid made.later_events made.later_outcomes (anything made.mid) made.later) dismissed

@@ -7,10 +7,17 @@ use Rattle.std.proofs.lemmas.List.Folds.{list_any-append}
 use Rattle.std.proofs.lemmas.List.Sums.{sum_by_push}
 use Rattle.turns.specs.WireCalls.{WireCall}
 use Rattle.ready_sockets.specs.Sent.{read_by, written_by, head_of, has_line, taken_by}
+use Rattle.ready_sockets.specs.Stored.{offered_by, told_of}
 use Rattle.ready_sockets.proofs.HeadsKept.{take_pieces}
 
 pub head_more : (calls : List WireCall) (call : WireCall) → take 256 (head_of calls ++ read_by call) ≡ head_of (calls ++ call ∷ [])
 head_more calls call = take_pieces 256 (flat_map read_by calls) (read_by call) ∙ ap (take 256) (flat_map_more read_by [] calls call)
+
+pub told_more : (calls : List WireCall) (call : WireCall) → take 256 (told_of calls ++ offered_by call) ≡ told_of (calls ++ call ∷ [])
+told_more calls call = take_pieces 256 (flat_map offered_by calls) (offered_by call) ∙ ap (take 256) (flat_map_more offered_by [] calls call)
+
+pub told_same : (calls : List WireCall) (call : WireCall) → offered_by call ≡ [] → told_of calls ≡ told_of (calls ++ call ∷ [])
+told_same calls call none = ap (take 256) (sym (append-nil (flat_map offered_by calls)) ∙ ap (λ l. flat_map offered_by calls ++ l) (sym none) ∙ flat_map_more offered_by [] calls call)
 
 pub head_same : (calls : List WireCall) (call : WireCall) → read_by call ≡ [] → head_of calls ≡ head_of (calls ++ call ∷ [])
 head_same calls call none = ap (take 256) (sym (append-nil (flat_map read_by calls)) ∙ ap (λ l. flat_map read_by calls ++ l) (sym none) ∙ flat_map_more read_by [] calls call)

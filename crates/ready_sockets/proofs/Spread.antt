@@ -9,13 +9,16 @@ use Rattle.group_world.specs.declared.event.Outcome.{Outcome}
 use Rattle.ready_sockets.specs.DoorCalls.{DoorCall}
 use Rattle.ready_sockets.specs.Origins.{Origin, Ipv4, Ipv6, origin_of, is_same}
 use Rattle.ready_sockets.specs.Rounds.{AreReceived, nobody, in_behind, away, HasHadTurns, HasHadRounds, House, none, more, who}
+use Rattle.ready_sockets.specs.Offices.{WorksOf}
+use Rattle.ready_sockets.specs.declared.pace.Pace.{Pace}
 use Rattle.ready_sockets.specs.Visits.{count_of, has_gone, is_called, is_crowded, woken_by, woken_where, IsSpread}
 use Rattle.ready_sockets.specs.declared.crowd.Away.{Away}
+use Rattle.ready_sockets.specs.declared.terms.Terms.{Terms}
 use Rattle.ready_sockets.specs.declared.visit.Visit.{Visit}
 
 -- ---- one more
 
-same_is : (one other : Origin) → is_same one other ≡ true → one ≡ other
+pub same_is : (one other : Origin) → is_same one other ≡ true → one ≡ other
 same_is (Ipv4 a) (Ipv4 b) h = ap Ipv4 ((bytes_eq-Decides a b).0 h)
 same_is (Ipv6 a) (Ipv6 b) h = ap Ipv6 ((bytes_eq-Decides a b).0 h)
 same_is (Ipv4 a) (Ipv6 b) h = absurd cc
@@ -42,10 +45,10 @@ spread_if false most origin visits visit is few free = omega (arith, count_more 
 spread_more : (most : ℕ) (visits : List Visit) (visit : Visit) → IsSpread most visits → is_crowded most visits visit.from ≡ false → IsSpread most (visits ++ visit ∷ [])
 spread_more most visits visit spread free origin = spread_if (is_same (origin_of visit.from) origin) most origin visits visit refl (spread origin) free
 
-pub received_spread : (most now : ℕ) (old : List Visit) (es : List Event) (os : List Outcome) (new : List Visit) (calls : List DoorCall) (crowd : List Away) → AreReceived most now old es os new calls crowd → IsSpread most old → IsSpread most new
-received_spread most now old es os new calls crowd nobody spread = spread
-received_spread most now old es os new calls crowd (in_behind es_before os_before visits calls_before crowd_before visit outcome before free is_new) spread = spread_more most visits visit (received_spread most now old es_before os_before visits calls_before crowd_before before spread) free
-received_spread most now old es os new calls crowd (away es_before os_before visits calls_before crowd_before from token socket before full declined) spread = received_spread most now old es_before os_before visits calls_before crowd_before before spread
+pub received_spread : (terms : Terms) (now : ℕ) (old : List Visit) (es : List Event) (os : List Outcome) (new : List Visit) (calls : List DoorCall) (crowd : List Away) → AreReceived terms now old es os new calls crowd → IsSpread terms.most old → IsSpread terms.most new
+received_spread terms now old es os new calls crowd nobody spread = spread
+received_spread terms now old es os new calls crowd (in_behind es_before os_before visits calls_before crowd_before visit outcome before free is_new) spread = spread_more terms.most visits visit (received_spread terms now old es_before os_before visits calls_before crowd_before before spread) free
+received_spread terms now old es os new calls crowd (away es_before os_before visits calls_before crowd_before from token socket before full declined) spread = received_spread terms now old es_before os_before visits calls_before crowd_before before spread
 
 -- ---- the same clients
 
@@ -93,13 +96,13 @@ kept_spread most old new is spread origin = omega (arith, ap (count_of origin) i
 
 -- ---- turns and rounds
 
-pub turns_spread : (most now : ℕ) (old new : _) (es : List Event) (os : List Outcome) (crowd : List Away) → HasHadTurns most now old es os new crowd → IsSpread most old.visits.items → IsSpread most new.visits.items
-turns_spread most now old new es os crowd had spread = same_spread most had.full.visits.items new.visits.items had.clients (received_spread most now old.visits.items had.join_events had.join_outcomes had.full.visits.items had.let_in.calls crowd had.let_in.received spread)
+pub turns_spread : (terms : Terms) (now : ℕ) (old new : _) (es : List Event) (os : List Outcome) (crowd : List Away) → HasHadTurns terms now old es os new crowd → IsSpread terms.most old.visits.items → IsSpread terms.most new.visits.items
+turns_spread terms now old new es os crowd had spread = same_spread terms.most had.full.visits.items new.visits.items had.clients (received_spread terms now old.visits.items had.join_events had.join_outcomes had.full.visits.items had.let_in.calls crowd had.let_in.received spread)
 
-pub rounds_spread : {L : Type 0} (contents : L → _) (most rounds : ℕ) (old new : House L) (es : List Event) (os : List Outcome) → HasHadRounds contents most rounds old es os new → IsSpread most old.0.visits.items → IsSpread most new.0.visits.items
-rounds_spread contents most rounds old new es os (none room) spread = spread
-rounds_spread contents most rounds old new es os (more before _ mid _ es_before es_now os_before os_now had one) spread =
-    kept_spread most one.turned.visits.items new.0.visits.items one.seen_off.visits
-    (turns_spread most _ one.waited one.turned es_now os_now one.crowd one.turns
-    (same_spread most mid.0.visits.items one.waited.visits.items (ap (map who) one.wait.woken.visits ∙ all_woken_who _ one.called mid.0.visits.items)
-    (rounds_spread contents most before old mid es_before os_before had spread)))
+pub rounds_spread : {L O : Type 0} (contents : L → _) (lets_wait : O → Pace) (works : WorksOf O) (terms : Terms) (rounds : ℕ) (old new : House L O) (es : List Event) (os : List Outcome) → HasHadRounds contents lets_wait works terms rounds old es os new → IsSpread terms.most old.0.visits.items → IsSpread terms.most new.0.visits.items
+rounds_spread contents lets_wait works terms rounds old new es os (none house) spread = spread
+rounds_spread contents lets_wait works terms rounds old new es os (more before _ mid _ es_before es_now os_before os_now had one) spread =
+    kept_spread terms.most one.turned.visits.items new.0.visits.items one.seen_off.visits
+    (turns_spread terms _ one.waited one.turned one.turns.turn_events one.turns.turn_outcomes one.crowd one.turns.clients
+    (same_spread terms.most mid.0.visits.items one.waited.visits.items (ap (map who) one.wait.woken.visits ∙ all_woken_who _ one.called mid.0.visits.items)
+    (rounds_spread contents lets_wait works terms before old mid es_before os_before had spread)))

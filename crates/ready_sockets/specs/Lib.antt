@@ -2,12 +2,16 @@ pub mod DoorCalls
 pub mod Doors
 pub mod Heads
 pub mod Origins
+pub mod Posts
 pub mod Sent
+pub mod Stored
 pub mod Limits
 pub mod Lines
 pub mod Visits
+pub mod Offices
 pub mod Due
 pub mod Logged
 pub mod Rounds
 pub mod Examples
 pub mod Readings
+pub mod Told

@@ -1,5 +1,5 @@
 -- What the log gets for clients that have gone.
-use Rattle.std.specs.Prelude.{◌≡◌, ℕ, Bool, true, false, Option, Some, List, [], ◌∷◌, ◌++◌, flat_map, codes}
+use Rattle.std.specs.Prelude.{◌≡◌, ℕ, Bool, true, false, Option, Some, None, List, [], ◌∷◌, ◌++◌, flat_map, codes}
 use Rattle.std.specs.List.{list_any}
 use Rattle.std.specs.Io.KnownBytes.{Appends}
 use Rattle.turns.specs.WireCalls.{WireCall, HasMade, IsSent}
@@ -10,17 +10,19 @@ use Rattle.ready_sockets.specs.Due.{bytes_by}
 use Rattle.ready_sockets.specs.Lines.{log_line}
 use Rattle.ready_sockets.specs.Origins.{address_text}
 use Rattle.ready_sockets.specs.Sent.{asked_by, taken_by}
+use Rattle.ready_sockets.specs.Stored.{stored_by}
 use Rattle.ready_sockets.specs.Visits.{has_gone}
 use Rattle.ready_sockets.specs.declared.crowd.Away.{Away}
+use Rattle.ready_sockets.specs.declared.terms.LogForm.{LogForm}
 use Rattle.ready_sockets.specs.declared.visit.Visit.{Visit}
 
--- The line of a client whose session ended so: when it had gone, its address, what it asked for and how many bytes it took.
-abbrev pub line_of : ℕ → Visit → Ending → List ℕ
-line_of moment visit ending = log_line moment (address_text visit.from) (asked_by visit.seat.wire.made.calls) ending (taken_by visit.seat.wire.made.calls)
+-- The line of a client whose session ended so: when it had gone, its address, what it asked for, how many bytes it took, and the post that it stored.
+abbrev pub line_of : LogForm → ℕ → Visit → Ending → List ℕ
+line_of form moment visit ending = log_line form moment (address_text visit.from) (asked_by visit.seat.wire.made.calls) ending (taken_by visit.seat.wire.made.calls) (stored_by visit.seat.wire.made.calls)
 
 -- The line of one who was turned away: nothing was read of its connection.
-abbrev pub crowd_line : ℕ → Away → List ℕ
-crowd_line moment away = log_line moment (address_text away.from) [] Crowd away.taken
+abbrev pub crowd_line : LogForm → ℕ → Away → List ℕ
+crowd_line form moment away = log_line form moment (address_text away.from) [] Crowd away.taken None
 
 -- what stands in its place where there is no memory for it
 abbrev pub no_memory_line : List ℕ
@@ -38,29 +40,29 @@ module _ {L : Type 0} (contents : L → Option (List ℕ)) where
     no_memory : (whole : Bool) → IsWritten old new (no_memory_line ++ 10 ∷ []) whole → HasLine line old new
 
   -- what the log gets for a client: nothing while it is in, and else its line
-  pub data IsTold (moment : ℕ) (visit : Visit) (old new : L × List WireCall) : Type 0 where
-    in_still : has_gone visit ≡ false → new ≡ old → IsTold moment visit old new
-    told : (ending : Ending) → ending_of visit.seat.stage ≡ Some ending → HasLine (line_of moment visit ending) old new → IsTold moment visit old new
+  pub data IsTold (form : LogForm) (moment : ℕ) (visit : Visit) (old new : L × List WireCall) : Type 0 where
+    in_still : has_gone visit ≡ false → new ≡ old → IsTold form moment visit old new
+    told : (ending : Ending) → ending_of visit.seat.stage ≡ Some ending → HasLine (line_of form moment visit ending) old new → IsTold form moment visit old new
 
   -- and for one who was turned away
-  abbrev pub IsToldOff : ℕ → Away → L × List WireCall → L × List WireCall → Type 0
-  IsToldOff moment away old new = HasLine (crowd_line moment away) old new
+  abbrev pub IsToldOff : LogForm → ℕ → Away → L × List WireCall → L × List WireCall → Type 0
+  IsToldOff form moment away old new = HasLine (crowd_line form moment away) old new
 
   -- what it gets for each of some, in order
   abbrev pub AllTold : {X : Type 0} → (X → L × List WireCall → L × List WireCall → Type 0) → List X → L × List WireCall → L × List WireCall → Type 0
   AllTold Tells [] old new = new ≡ old
   AllTold Tells (x ∷ xs) old new = (mid : L × List WireCall) × Tells x old mid × AllTold Tells xs mid new
 
-  abbrev pub AreTold : ℕ → List Visit → L × List WireCall → L × List WireCall → Type 0
-  AreTold moment visits old new = AllTold (IsTold moment) visits old new
+  abbrev pub AreTold : LogForm → ℕ → List Visit → L × List WireCall → L × List WireCall → Type 0
+  AreTold form moment visits old new = AllTold (IsTold form moment) visits old new
 
-  abbrev pub AreToldOff : ℕ → List Away → L × List WireCall → L × List WireCall → Type 0
-  AreToldOff moment crowd old new = AllTold (IsToldOff moment) crowd old new
+  abbrev pub AreToldOff : LogForm → ℕ → List Away → L × List WireCall → L × List WireCall → Type 0
+  AreToldOff form moment crowd old new = AllTold (IsToldOff form moment) crowd old new
 
   -- What the log gets where those go out who have gone: nothing where nobody has, or was turned away; else what it gets for each, at one moment that a clock gave.
-  pub data IsLogged (given_old given_new : List ℕ) (crowd : List Away) (visits : List Visit) (old new : L × List WireCall) : Type 0 where
-    nobody : crowd ≡ [] → list_any has_gone visits ≡ false → given_new ≡ given_old → new ≡ old → IsLogged given_old given_new crowd visits old new
-    at : (moment : ℕ) (mid : L × List WireCall) → given_new ≡ given_old ++ moment ∷ [] → AreToldOff moment crowd old mid → AreTold moment visits mid new → IsLogged given_old given_new crowd visits old new
+  pub data IsLogged (form : LogForm) (given_old given_new : List ℕ) (crowd : List Away) (visits : List Visit) (old new : L × List WireCall) : Type 0 where
+    nobody : crowd ≡ [] → list_any has_gone visits ≡ false → given_new ≡ given_old → new ≡ old → IsLogged form given_old given_new crowd visits old new
+    at : (moment : ℕ) (mid : L × List WireCall) → given_new ≡ given_old ++ moment ∷ [] → AreToldOff form moment crowd old mid → AreTold form moment visits mid new → IsLogged form given_old given_new crowd visits old new
 
 -- What writes take of bytes that are sent is a front of them; and all of them, where the last write did not fail and took some.
 abbrev pub TakesAFront : Type 0

@@ -33,7 +33,7 @@ impl Default for Away {
 pub type Crowd = ArrayVec<Away, MOST_VISITS>;
 
 /// Whether two addresses are of one origin.
-fn is_same_origin(one: IpAddr, other: IpAddr) -> bool
+pub(crate) fn is_same_origin(one: IpAddr, other: IpAddr) -> bool
     ensures { result ≡ is_same (origin_of one) (origin_of other) }
 {
     match (one.to_canonical(), other.to_canonical()) {

@@ -1,9 +1,10 @@
 // The calls of the system at the door: a listener, waits, and connections that are taken. `listen`, `wait` and `take` note each of their calls. That they make the call
 // which they note, no clause can say: so each is short, and tests on real connections hold it.
-ghost use Rattle.std.specs.Prelude.{◌≡◌, ◌++◌, ◌<◌, IfErr, IfSome};
+ghost use Rattle.std.specs.Prelude.{◌≡◌, ◌++◌, ◌≤◌, IfErr, IfSome};
 ghost use Rattle.ready_sockets.specs.DoorCalls.{for_reading, listen_calls};
 ghost use Rattle.ready_sockets.specs.declared.room.VisitFault.TheVariants.{Net as NoSocket};
 
+use crate::Desk;
 use crate::door_log::{DoorKind, DoorLog, Missed};
 use crate::room::VisitFault;
 use mio::net::{TcpListener, TcpStream};
@@ -15,6 +16,15 @@ use std::time::Duration;
 
 /// The token of the listener.
 pub(crate) const LISTENER: Token = Token(0);
+
+/// The token of an office's listener.
+pub(crate) const OFFICE_LISTENER: Token = Token(1);
+
+/// The token of an office's connection.
+pub(crate) const OFFICE_WIRE: Token = Token(2);
+
+/// The first token of clients.
+const FIRST: usize = 3;
 
 /// A listener at an address, and the wait for whoever is ready, which tells of it in this interest.
 fn listener_at<R: Net>(rt: &R, address: SocketAddr) -> Option<(Poll, TcpListener, Interest)>
@@ -60,15 +70,15 @@ pub(crate) struct Door {
     listener: TcpListener,
     next_token: usize,
     made: DoorLog,
-    ghost named: { 0 < next_token },
+    ghost named: { 3 ≤ next_token },
 }
 
 impl Door {
-    ghost use Rattle.std.specs.Prelude.{◌≡◌, ◌≢◌, ◌⊎◌, [], ◌∷◌, ◌++◌, option_map, IfOk, IfErr};
+    ghost use Rattle.std.specs.Prelude.{◌≡◌, ◌⊎◌, [], ◌∷◌, ◌++◌, option_map, IfOk, IfErr};
     ghost use Rattle.std.specs.Duration.{as_nanos};
     ghost use Rattle.mio.specs.Events.{items};
     ghost use Rattle.ready_sockets.specs.DoorCalls.{both_ways, listen_calls, wait_call, take_call};
-    ghost use Rattle.ready_sockets.specs.Doors.{listener_token, HasSameListener};
+    ghost use Rattle.ready_sockets.specs.Doors.{IsClients, HasSameListener};
     ghost use Rattle.ready_sockets.specs.declared.room.VisitFault.TheVariants as faults;
 
     /// Listens at an address, which is noted. No other call was made of it.
@@ -91,9 +101,14 @@ impl Door {
             poll,
             events,
             listener,
-            next_token: 1,
+            next_token: FIRST,
             made: DoorLog::new(),
         })
+    }
+
+    /// Where an office has waits tell of its sockets.
+    pub(crate) fn desk(&self) -> Desk<'_> {
+        Desk::new(self.poll.registry())
     }
 
     /// The events of the last wait.
@@ -125,7 +140,7 @@ impl Door {
     {
         stream.set_nodelay(true)?;
         let token = Token(self.next_token);
-        self.next_token = self.next_token.wrapping_add(1).max(1);
+        self.next_token = self.next_token.wrapping_add(1).max(FIRST);
         let both = Interest::READABLE | Interest::WRITABLE;
         self.poll.registry().register(stream, token, both)?;
         Ok((token, both))
@@ -134,7 +149,7 @@ impl Door {
     /// Asks for the next connection, and notes who came: with its client's address and its token.
     pub(crate) fn take(&mut self) -> Result<(TcpStream, IpAddr, Token), Missed>
         ensures made { self.new.made.calls ≡ self.old.made.calls ++ take_call result ∷ [] }
-        ensures token { IfOk result (λ next. next.2 ≢ listener_token) }
+        ensures token { IfOk result (λ next. IsClients next.2) }
     {
         match self.listener.accept() {
             Ok((mut stream, address)) => {

@@ -2,32 +2,42 @@
 #![tactic(auto)]
 
 mod crowd;
+mod desk;
 mod door;
 mod door_log;
 mod head;
 mod laws;
 mod limits;
 mod lines;
+mod office;
+mod pace;
+mod posts;
 mod ready_socket;
 mod room;
 mod serving;
 mod stopwatch;
+mod terms;
 mod visit;
 mod waking;
 mod written;
 
 pub use crowd::{Away, Crowd};
+pub use desk::Desk;
 pub use door_log::{DoorLog, Missed};
 pub use head::Head;
 pub use laws::{
-    gives_what_is_due, head_of_pieces, stays_spread, takes_a_front, wait_keeps_clients,
-    worked_examples,
+    gives_what_is_due, head_of_pieces, stays_sparing, stays_spread, takes_a_front,
+    tells_what_is_sent, wait_keeps_clients, worked_examples,
 };
 pub use limits::{
     LONGEST_LINE, LONGEST_REQUEST, LONGEST_SILENCE, LONGEST_VISIT, is_over, longest_stay,
 };
 pub use lines::{Record, log_line};
+pub use office::{NoOffice, Office};
+pub use pace::Pace;
+pub use posts::{MOST_POSTS, RecentPost, RecentPosts};
 pub use ready_socket::ReadySocket;
 pub use room::{MOST_VISITS, Room, VisitFault};
-pub use serving::serve_visits;
+pub use serving::{serve_visits, write_line};
 pub use stopwatch::{Reading, ReadingLog, Stopwatch};
+pub use terms::{LogForm, Terms};

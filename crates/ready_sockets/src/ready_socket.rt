@@ -3,6 +3,8 @@
 ghost use Rattle.std.specs.Prelude.{◌≡◌, ◌==◌, ◌⊎◌, true, [], IfOk};
 ghost use Rattle.std.specs.List.{list_any};
 ghost use Rattle.ready_sockets.specs.Sent.{head_of, asked_by, has_line, taken_by};
+ghost use Rattle.ready_sockets.specs.Stored.{stored_by, told_of};
+ghost use Rattle.std.specs.Option.{option_copied};
 
 use crate::Head;
 use mio::net::TcpStream;
@@ -17,9 +19,11 @@ pub struct ReadySocket {
     stream: TcpStream,
     made: CallLog,
     head: Head,
+    told: Head,
     line: bool,
     taken: u64,
     ghost head_is: { head.bytes.items ≡ head_of made.calls },
+    ghost told_is: { told.bytes.items ≡ told_of made.calls },
     ghost line_is: { line ≡ has_line made.calls },
     ghost taken_is: { taken ≡ taken_by made.calls },
 }
@@ -49,6 +53,7 @@ impl ReadySocket {
             stream,
             made: CallLog::new(),
             head: Head::new(),
+            told: Head::new(),
             line: false,
             taken: 0,
         }
@@ -59,6 +64,17 @@ impl ReadySocket {
         ensures { result.now ≡ asked_by self.now.made.calls }
     {
         self.head.selector()
+    }
+
+    /// The post that the client stored, by the first line of its reply.
+    pub fn stored(&self) -> Option<&[u8]>
+        ensures { option_copied result ≡ stored_by self.now.made.calls }
+    {
+        if self.head.has_data() {
+            self.told.named()
+        } else {
+            None
+        }
     }
 
     /// Whether a line of what the client sent has come whole.
@@ -100,6 +116,7 @@ impl ReadyWire for ReadySocket {
     }
 
     fn write(&mut self, bytes: &[u8]) -> Result<Option<usize>, WireFault> {
+        self.told.hear(bytes);
         match self.stream.write(bytes) {
             Ok(count) => {
                 self.made.note(CallKind::Wrote(count), bytes);

@@ -3,8 +3,10 @@ ghost use Rattle.std.specs.Prelude.{◌≤◌, vec_len, vec_capacity};
 
 use crate::door::{Door, LISTENER};
 use crate::door_log::DoorLog;
+use crate::posts::RecentPosts;
 use crate::visit::Visit;
-use crate::waking::{all_wait, is_called, wake_called, was_in_vain};
+use crate::waking::{all_wait, at_most_a_tick, is_called, names_office, wake_called, was_in_vain};
+use crate::{Desk, Pace};
 use mio::Token;
 use mio::net::TcpStream;
 use std::alloc::Global;
@@ -15,8 +17,11 @@ use thiserror::Error;
 /// How many clients are in at a time, at most.
 pub const MOST_VISITS: usize = 32;
 
+/// How many sockets waits tell of, at most: of the listener, of an office's two, and of each client's.
+const MOST_SOCKETS: usize = MOST_VISITS + 3;
+
 /// How many seconds a wait lasts while somebody is in or may be at the door, at most.
-const TICK: u64 = 1;
+pub(crate) const TICK: u64 = 1;
 
 /// Why serving can't begin, or ends.
 #[derive(Clone, Copy, Debug, PartialEq, Eq, Error)]
@@ -31,7 +36,7 @@ pub enum VisitFault {
     Memory,
 }
 
-/// The door, whether somebody may be at it, and the clients that are in.
+/// The door, whether somebody may be at it, the clients that are in, and the posts that came of late.
 #[derive(Drop)]
 pub struct Room {
     door: Door,
@@ -39,18 +44,20 @@ pub struct Room {
     /// Since the last wait one was lost who was at the door.
     lost: bool,
     pub(crate) visits: Vec<Visit>,
+    pub(crate) posts: RecentPosts,
     ghost few: { vec_len visits ≤ 32 },
     ghost space: { 32 ≤ vec_capacity visits },
 }
 
 impl Room {
-    ghost use Rattle.std.specs.Prelude.{◌≡◌, ◌≢◌, ◌⊎◌, ◌++◌, ◌<◌, true, false, not, List, [], length, filter, map, option_map, IfOk, IfErr, IfSome, OnErr};
+    ghost use Rattle.std.specs.Prelude.{◌≡◌, ◌⊎◌, ◌++◌, ◌<◌, true, false, not, List, [], length, filter, map, option_map, IfOk, IfErr, IfSome, OnErr};
     ghost use Rattle.std.specs.List.{list_any};
     ghost use Rattle.std.specs.Duration.{as_nanos};
     ghost use Rattle.mio.specs.Events.{items};
     ghost use Rattle.ready_sockets.specs.DoorCalls.{DoorCall, listen_calls};
-    ghost use Rattle.ready_sockets.specs.Doors.{listener_token};
-    ghost use Rattle.ready_sockets.specs.Visits.{has_gone, woken, patience, asks, HasAsked, IsFresh, HasWoken, HasWaited, HasNotWaited};
+    ghost use Rattle.ready_sockets.specs.Doors.{IsClients};
+    ghost use Rattle.ready_sockets.specs.Offices.{calls_office};
+    ghost use Rattle.ready_sockets.specs.Visits.{has_gone, woken, own_patience, patience, asks, HasAsked, IsFresh, HasWoken, HasWaited, HasNotWaited};
     ghost use Rattle.ready_sockets.specs.declared.room.VisitFault.TheVariants as faults;
 
     /// Listens at an address, with nobody in. Whether a listener was had there is noted.
@@ -67,12 +74,13 @@ impl Room {
         let Ok(visits) = Vec::with_capacity(alloc, MOST_VISITS) else {
             return Err(VisitFault::Memory);
         };
-        let door = Door::open(alloc, rt, address, MOST_VISITS + 1, asked)?;
+        let door = Door::open(alloc, rt, address, MOST_SOCKETS, asked)?;
         Ok(Room {
             door,
             may_accept: true,
             lost: false,
             visits,
+            posts: RecentPosts::new(),
         })
     }
 
@@ -83,9 +91,14 @@ impl Room {
         self.may_accept && self.visits.len() < MOST_VISITS
     }
 
+    /// Where an office has waits tell of its sockets.
+    pub(crate) fn desk(&self) -> Desk<'_> {
+        self.door.desk()
+    }
+
     /// How long the next wait may be: none where somebody has a turn or the next client may come in, and without end where nobody is in or may be at the door.
-    fn patience(&self) -> Option<Duration>
-        ensures { option_map as_nanos result ≡ patience self.now }
+    fn own_patience(&self) -> Option<Duration>
+        ensures { option_map as_nanos result ≡ own_patience self.now }
     {
         if !all_wait(&self.visits) || (self.asks() && !self.lost) {
             Some(Duration::ZERO)
@@ -96,11 +109,23 @@ impl Room {
         }
     }
 
+    /// How long the next wait may be, where an office lets it be so long.
+    fn patience(&self, pace: Pace) -> Option<Duration>
+        ensures { option_map as_nanos result ≡ patience pace self.now }
+    {
+        match pace {
+            Pace::Idle => self.own_patience(),
+            Pace::Waits => at_most_a_tick(self.own_patience()),
+            Pace::Busy => Some(Duration::ZERO),
+        }
+    }
+
     /// Who is ready has a turn again.
     fn wake(&mut self)
         ensures woken { HasWoken false (items self.old.door.events) self.old self.new }
         ensures door { self.new.door ≡ self.old.door }
         ensures lost { self.new.lost ≡ self.old.lost }
+        ensures posts { self.new.posts ≡ self.old.posts }
     {
         self.may_accept |= is_called(self.door.events(), LISTENER);
         wake_called(&mut self.visits, self.door.events());
@@ -112,6 +137,7 @@ impl Room {
         ensures may_accept { self.new.may_accept ≡ true }
         ensures door { self.new.door ≡ self.old.door }
         ensures lost { self.new.lost ≡ self.old.lost }
+        ensures posts { self.new.posts ≡ self.old.posts }
     {
         self.may_accept = true;
         for visit in self.visits.iter_mut() {
@@ -119,29 +145,31 @@ impl Room {
         }
     }
 
-    /// Waits until somebody is ready, or a second has passed.
-    pub(crate) fn wait(&mut self) -> Result<(), VisitFault>
-        ensures woken { IfOk result (λ _. HasWaited (items self.new.door.events) self.old self.new) }
-        ensures not_waited { OnErr result (HasNotWaited self.old self.new) }
+    /// Waits until somebody is ready, or a second has passed; not at all while an office is busy. It answers whether the office is called.
+    pub(crate) fn wait(&mut self, pace: Pace) -> Result<bool, VisitFault>
+        ensures woken { IfOk result (λ _. HasWaited pace (items self.new.door.events) self.old self.new) }
+        ensures called { IfOk result (λ called. called ≡ calls_office (patience pace self.old) (items self.new.door.events)) }
+        ensures not_waited { OnErr result (HasNotWaited pace self.old self.new) }
         ensures fault { IfErr result (λ fault. fault ≡ faults.Net) }
     {
-        let patience = self.patience();
+        let patience = self.patience(pace);
         self.door.wait(patience)?;
         self.lost = false;
         if was_in_vain(self.door.events(), patience) {
             self.wake_all();
-            return Ok(());
+            return Ok(true);
         }
         self.wake();
-        Ok(())
+        Ok(names_office(self.door.events()))
     }
 
     /// The next connection, where there is room for it. Where none comes, none is asked for until the listener is ready; where one can't be had, the next is asked for
     /// after the next wait.
     pub(crate) fn next(&mut self) -> Option<(TcpStream, IpAddr, Token)>
         ensures visits { self.new.visits ≡ self.old.visits }
+        ensures posts { self.new.posts ≡ self.old.posts }
         ensures room { IfSome result (λ _. length self.old.visits.items < 32) }
-        ensures token { IfSome result (λ next. next.2 ≢ listener_token) }
+        ensures token { IfSome result (λ next. IsClients next.2) }
         ensures may_accept { IfSome result (λ _. (self.old.may_accept ≡ true) × (self.new.may_accept ≡ true)) }
         ensures shut { (self.new.may_accept ≡ self.old.may_accept) ⊎ (self.new.may_accept ≡ false) }
         ensures lost { IfSome result (λ _. self.new.lost ≡ self.old.lost) }
@@ -174,6 +202,7 @@ impl Room {
         ensures door { self.new.door ≡ self.old.door }
         ensures may_accept { self.new.may_accept ≡ self.old.may_accept }
         ensures lost { self.new.lost ≡ self.old.lost }
+        ensures posts { self.new.posts ≡ self.old.posts }
     {
         self.visits.retain(|visit| !visit.is_closed());
     }

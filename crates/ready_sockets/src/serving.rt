@@ -1,26 +1,26 @@
 // Serves whoever comes.
 ghost use Rattle.std.specs.Prelude.{◌≡◌, ◌+◌, ◌<◌, ◌≤◌, ℕ, List, [], ◌∷◌, ◌++◌, length, map, vec_capacity, IfOk, IsOkAnd};
-ghost use Rattle.std.specs.String.{string_bytes};
 ghost use Rattle.group_hub.specs.Calls.{HubRun};
 ghost use Rattle.turns.specs.Runs.{HasRun};
-ghost use Rattle.ready_sockets.specs.Rounds.{who, HasLetIn, HasHadTurns, HasSeenOff, ServesVisits};
+ghost use Rattle.ready_sockets.specs.Rounds.{who, HasLetIn, HasHadTurns, AllHadTurns, HasSeenOff, ServesVisits};
 ghost use Rattle.turns.specs.Turns.{Both, InOrder, IsFlushed};
-ghost use Rattle.ready_sockets.specs.Visits.{HasSpace, NobodyWaits, HadTurn, Learned, WasDismissed, HadPasses, WereServed, ComesInOrNot, IsReceived};
+ghost use Rattle.ready_sockets.specs.Visits.{HasSpace, NobodyWaits, HadTurn, HadLimitedTurn, HadPass, IsLetThroughBy, Learned, WasDismissed, HadPasses, WereServed, ComesInOrNot, IsReceived};
 ghost use Rattle.ready_sockets.specs.Logged.{crowd_line, HasLine, IsTold, IsToldOff, AreTold, AreToldOff, IsLogged};
 
-use crate::ReadySocket;
 use crate::crowd::{Away, Crowd, decline, is_crowded, note_away};
 use crate::lines::{Record, address_text, log_line};
+use crate::posts::{RecentPosts, take_post};
 use crate::room::{MOST_VISITS, Room, VisitFault};
 use crate::stopwatch::Stopwatch;
 use crate::visit::Visit;
 use crate::waking::all_wait;
 use crate::written::write_out;
+use crate::{LogForm, Office, ReadySocket, Terms};
 use group_hub::Hub;
 use host_types::Stamp;
 use mio::Token;
 use mio::net::TcpStream;
-use ready_turns::{Ending, dismiss, join, learn, take_turn};
+use ready_turns::{Ending, dismiss, join, learn, take_turn, turn_down};
 use socket_wires::SystemClock;
 use std::alloc::{AllocError, Global};
 use std::io::Write;
@@ -38,13 +38,14 @@ fn enter<S: SearchKeeper>(
     hub: &mut Hub<S>,
     next: (TcpStream, IpAddr, Token),
     now: u64,
+    terms: Terms,
 )
-    ensures run { HasRun (HubRun S.site_state S.lacks S.crash_states S.represents) hub.old hub.new [] [] (λ es os. ComesInOrNot (HasSpace visits.old) next.1 next.2 now visits.old.items es os visits.new.items) }
+    ensures run { HasRun (HubRun S.site_state S.lacks S.crash_states S.represents) hub.old hub.new [] [] (λ es os. ComesInOrNot terms (HasSpace visits.old) next.1 next.2 now visits.old.items es os visits.new.items) }
     ensures capacity { vec_capacity visits.old ≤ vec_capacity visits.new }
 {
     let (stream, from, token) = next;
     let visit = Visit {
-        seat: join(hub, ReadySocket::new(stream)),
+        seat: join(hub, ReadySocket::new(stream), terms.old_clients),
         from,
         token,
         came: now,
@@ -62,33 +63,33 @@ fn receive<S: SearchKeeper>(
     hub: &mut Hub<S>,
     next: (TcpStream, IpAddr, Token),
     now: u64,
-    most: u32,
+    terms: Terms,
     crowd: &mut Crowd,
 )
     requires { length crowd.old.items < 32 }
-    ensures run { HasRun (HubRun S.site_state S.lacks S.crash_states S.represents) hub.old hub.new [] [] (λ es os. IsReceived most (HasSpace visits.old) next.1 next.2 now visits.old.items es os visits.new.items crowd.old.items crowd.new.items) }
+    ensures run { HasRun (HubRun S.site_state S.lacks S.crash_states S.represents) hub.old hub.new [] [] (λ es os. IsReceived terms (HasSpace visits.old) next.1 next.2 now visits.old.items es os visits.new.items crowd.old.items crowd.new.items) }
     ensures capacity { vec_capacity visits.old ≤ vec_capacity visits.new }
     ensures few { length crowd.new.items ≤ length crowd.old.items + 1 }
 {
-    if is_crowded(visits.as_slice(), next.1, most) {
+    if is_crowded(visits.as_slice(), next.1, terms.most) {
         let (stream, from, _) = next;
         let socket = decline(stream);
         note_away(crowd, from, &socket);
     } else {
-        enter(visits, hub, next, now);
+        enter(visits, hub, next, now, terms);
     }
 }
 
 /// A session joins for each client that comes, as long as there is room and not too many of its origin are in. It answers who was turned away.
-fn admit<S: SearchKeeper>(room: &mut Room, hub: &mut Hub<S>, now: u64, most: u32) -> Crowd
-    ensures { HasRun (HubRun S.site_state S.lacks S.crash_states S.represents) hub.old hub.new [] [] (λ es os. HasLetIn most now room.old es os room.new result.items) }
+fn admit<S: SearchKeeper>(room: &mut Room, hub: &mut Hub<S>, now: u64, terms: Terms) -> Crowd
+    ensures { HasRun (HubRun S.site_state S.lacks S.crash_states S.represents) hub.old hub.new [] [] (λ es os. HasLetIn terms now room.old es os room.new result.items) }
 {
     let mut crowd = Crowd::new();
     for _client in 0..MOST_VISITS {
         let Some(next) = room.next() else {
             return crowd;
         };
-        receive(&mut room.visits, hub, next, now, most, &mut crowd);
+        receive(&mut room.visits, hub, next, now, terms, &mut crowd);
     }
     crowd
 }
@@ -107,31 +108,78 @@ fn take_turn_of<S: SearchKeeper, C: Clock>(
     visit.note_move(now);
 }
 
+/// A client's post came to wait. Where posts are limited, and as many of its origin came of late as may be, the client is turned down.
+fn limit_post<S: SearchKeeper>(
+    visit: &mut Visit,
+    posts: &mut RecentPosts,
+    hub: &mut Hub<S>,
+    now: u64,
+    most: Option<u32>,
+)
+    ensures run { HasRun (HubRun S.site_state S.lacks S.crash_states S.represents) hub.old hub.new [] [] (λ es os. IsLetThroughBy most now (visit.old, posts.old.items) es os (visit.new, posts.new.items)) }
+    ensures who { who visit.new ≡ who visit.old }
+{
+    let Some(most) = most else {
+        return;
+    };
+    if !take_post(posts, visit.from, now, most) {
+        turn_down(hub, &mut visit.seat);
+    }
+}
+
+/// One turn for a client, of which a post that comes to wait in it may be one too many.
+fn take_limited_turn<S: SearchKeeper, C: Clock>(
+    visit: &mut Visit,
+    posts: &mut RecentPosts,
+    hub: &mut Hub<S>,
+    clock: &mut C,
+    now: u64,
+    most: Option<u32>,
+)
+    ensures run { HasRun (HubRun S.site_state S.lacks S.crash_states S.represents) hub.old hub.new (C.given clock.old) (C.given clock.new) (λ es os. HadLimitedTurn most now (visit.old, posts.old.items) es os (visit.new, posts.new.items)) }
+    ensures who { who visit.new ≡ who visit.old }
+{
+    let waited = visit.seat.stage().is_waiting();
+    take_turn_of(visit, hub, clock, now);
+    if !waited && visit.seat.stage().is_waiting() {
+        limit_post(visit, posts, hub, now, most);
+    }
+}
+
 /// One turn for each client, in order.
-fn pass<S: SearchKeeper, C: Clock>(visits: &mut [Visit], hub: &mut Hub<S>, clock: &mut C, now: u64)
-    ensures run { HasRun (HubRun S.site_state S.lacks S.crash_states S.represents) hub.old hub.new (C.given clock.old) (C.given clock.new) (λ es os. InOrder (HadTurn now) visits.old es os visits.new) }
+fn pass<S: SearchKeeper, C: Clock>(
+    visits: &mut [Visit],
+    posts: &mut RecentPosts,
+    hub: &mut Hub<S>,
+    clock: &mut C,
+    now: u64,
+    most: Option<u32>,
+)
+    ensures run { HasRun (HubRun S.site_state S.lacks S.crash_states S.represents) hub.old hub.new (C.given clock.old) (C.given clock.new) (λ es os. HadPass most now (visits.old, posts.old.items) es os (visits.new, posts.new.items)) }
     ensures clients { map who visits.new ≡ map who visits.old }
 {
     for visit in visits.iter_mut() {
-        take_turn_of(visit, hub, clock, now);
+        take_limited_turn(visit, posts, hub, clock, now, most);
     }
 }
 
 /// Passes over the clients, until nobody has a turn.
 fn give_turns<S: SearchKeeper, C: Clock>(
     visits: &mut [Visit],
+    posts: &mut RecentPosts,
     hub: &mut Hub<S>,
     clock: &mut C,
     now: u64,
+    most: Option<u32>,
 )
-    ensures run { HasRun (HubRun S.site_state S.lacks S.crash_states S.represents) hub.old hub.new (C.given clock.old) (C.given clock.new) (λ es os. HadPasses now visits.old es os visits.new) }
+    ensures run { HasRun (HubRun S.site_state S.lacks S.crash_states S.represents) hub.old hub.new (C.given clock.old) (C.given clock.new) (λ es os. HadPasses most now (visits.old, posts.old.items) es os (visits.new, posts.new.items)) }
     ensures clients { map who visits.new ≡ map who visits.old }
 {
     for _pass in 0..TURNS {
         if all_wait(visits) {
             return;
         }
-        pass(visits, hub, clock, now);
+        pass(visits, posts, hub, clock, now, most);
     }
 }
 
@@ -185,35 +233,37 @@ fn dismiss_late<S: SearchKeeper>(visits: &mut [Visit], hub: &mut Hub<S>, now: u6
 /// Turns for all clients. Then the posts that wait are made, and whose time is over goes.
 fn serve_all<S: SearchKeeper, C: Clock>(
     visits: &mut [Visit],
+    posts: &mut RecentPosts,
     hub: &mut Hub<S>,
     clock: &mut C,
     now: u64,
+    most: Option<u32>,
 )
-    ensures run { HasRun (HubRun S.site_state S.lacks S.crash_states S.represents) hub.old hub.new (C.given clock.old) (C.given clock.new) (λ es os. WereServed now visits.old es os visits.new) }
+    ensures run { HasRun (HubRun S.site_state S.lacks S.crash_states S.represents) hub.old hub.new (C.given clock.old) (C.given clock.new) (λ es os. WereServed most now (visits.old, posts.old.items) es os (visits.new, posts.new.items)) }
     ensures clients { map who visits.new ≡ map who visits.old }
     ensures nobody_waits { NobodyWaits visits.new }
 {
-    give_turns(visits, hub, clock, now);
+    give_turns(visits, posts, hub, clock, now, most);
     make_posts(visits, hub);
     dismiss_late(visits, hub, now);
 }
 
 /// A line with its LF.
-fn with_end(line: Result<String, AllocError>) -> Result<String, AllocError>
-    ensures { IfOk result (λ text. IsOkAnd line (λ l. string_bytes text ≡ string_bytes l ++ 10 ∷ [])) }
+fn with_end(line: Result<Vec<u8>, AllocError>) -> Result<Vec<u8>, AllocError>
+    ensures { IfOk result (λ text. IsOkAnd line (λ l. text.items ≡ l.items ++ 10 ∷ [])) }
 {
     let mut line = line?;
-    line.push('\n')?;
+    line.push(b'\n')?;
     Ok(line)
 }
 
 /// A line is written to the log. Where there is no memory for it, the log says so.
-fn write_line<L: Write>(line: Result<String, AllocError>, log: &mut L, written: &mut CallLog)
-    ensures { (bytes : List ℕ) → IfOk line (λ l. string_bytes l ≡ bytes) → HasLine L.contents bytes (log.old, written.old.calls) (log.new, written.new.calls) }
+pub fn write_line<L: Write>(line: Result<Vec<u8>, AllocError>, log: &mut L, written: &mut CallLog)
+    ensures { (bytes : List ℕ) → IfOk line (λ l. l.items ≡ bytes) → HasLine L.contents bytes (log.old, written.old.calls) (log.new, written.new.calls) }
 {
     match with_end(line) {
         Ok(line) => {
-            write_out(log, written, line.as_bytes());
+            write_out(log, written, &line);
         }
         Err(_) => {
             write_out(log, written, b"memory\n");
@@ -224,76 +274,94 @@ fn write_line<L: Write>(line: Result<String, AllocError>, log: &mut L, written: 
 /// A line of the log for a client that has gone.
 fn tell_if_gone<L: Write>(
     alloc: Global,
+    form: LogForm,
     visit: &Visit,
     moment: Stamp,
     log: &mut L,
     written: &mut CallLog,
 )
-    ensures { IsTold L.contents moment visit.now (log.old, written.old.calls) (log.new, written.new.calls) }
+    ensures { IsTold L.contents form moment visit.now (log.old, written.old.calls) (log.new, written.new.calls) }
 {
     if let Some(ending) = visit.seat.stage().ending() {
-        write_line(visit.line(alloc, moment, ending), log, written);
+        write_line(visit.line(alloc, form, moment, ending), log, written);
     }
 }
 
 /// A line of the log for each client that has gone.
 fn tell_gone<L: Write>(
     alloc: Global,
+    form: LogForm,
     visits: &[Visit],
     moment: Stamp,
     log: &mut L,
     written: &mut CallLog,
 )
-    ensures { AreTold L.contents moment visits.now (log.old, written.old.calls) (log.new, written.new.calls) }
+    ensures { AreTold L.contents form moment visits.now (log.old, written.old.calls) (log.new, written.new.calls) }
 {
     for visit in visits.iter() {
-        tell_if_gone(alloc, visit, moment, log, written);
+        tell_if_gone(alloc, form, visit, moment, log, written);
     }
 }
 
 /// The line of a client that was turned away.
-fn away_line(alloc: Global, away: &Away, moment: Stamp) -> Result<String, AllocError>
-    ensures { IfOk result (λ text. string_bytes text ≡ crowd_line moment away.now) }
+fn away_line(
+    alloc: Global,
+    form: LogForm,
+    away: &Away,
+    moment: Stamp,
+) -> Result<Vec<u8>, AllocError>
+    ensures { IfOk result (λ text. text.items ≡ crowd_line form moment away.now) }
 {
     let from = address_text(alloc, away.from)?;
     let ending = Ending::Crowd;
     log_line(
         alloc,
+        form,
         &Record {
             moment,
             from: &from,
             selector: b"",
             ending,
             taken: away.taken,
+            stored: None,
         },
     )
 }
 
 /// A line of the log for a client that was turned away.
-fn tell_off<L: Write>(alloc: Global, away: &Away, moment: Stamp, log: &mut L, written: &mut CallLog)
-    ensures { IsToldOff L.contents moment away.now (log.old, written.old.calls) (log.new, written.new.calls) }
+fn tell_off<L: Write>(
+    alloc: Global,
+    form: LogForm,
+    away: &Away,
+    moment: Stamp,
+    log: &mut L,
+    written: &mut CallLog,
+)
+    ensures { IsToldOff L.contents form moment away.now (log.old, written.old.calls) (log.new, written.new.calls) }
 {
-    write_line(away_line(alloc, away, moment), log, written);
+    write_line(away_line(alloc, form, away, moment), log, written);
 }
 
 /// A line of the log for each client that was turned away.
 fn tell_crowd<L: Write>(
     alloc: Global,
+    form: LogForm,
     crowd: &[Away],
     moment: Stamp,
     log: &mut L,
     written: &mut CallLog,
 )
-    ensures { AreToldOff L.contents moment crowd.now (log.old, written.old.calls) (log.new, written.new.calls) }
+    ensures { AreToldOff L.contents form moment crowd.now (log.old, written.old.calls) (log.new, written.new.calls) }
 {
     for away in crowd.iter() {
-        tell_off(alloc, away, moment, log, written);
+        tell_off(alloc, form, away, moment, log, written);
     }
 }
 
 /// A line of the log for each client that was turned away or has gone, and then it is in no more.
 fn see_off<R: Time, L: Write>(
     alloc: Global,
+    form: LogForm,
     room: &mut Room,
     crowd: &[Away],
     moments: &mut SystemClock<'_, R>,
@@ -301,45 +369,65 @@ fn see_off<R: Time, L: Write>(
     written: &mut CallLog,
 )
     ensures gone { HasSeenOff room.old room.new }
-    ensures logged { IsLogged L.contents moments.old.given.moments moments.new.given.moments crowd.now room.old.visits.items (log.old, written.old.calls) (log.new, written.new.calls) }
+    ensures logged { IsLogged L.contents form moments.old.given.moments moments.new.given.moments crowd.now room.old.visits.items (log.old, written.old.calls) (log.new, written.new.calls) }
 {
     if !crowd.is_empty() || room.has_closed() {
         let moment = moments.now();
-        tell_crowd(alloc, crowd, moment, log, written);
-        tell_gone(alloc, &room.visits, moment, log, written);
+        tell_crowd(alloc, form, crowd, moment, log, written);
+        tell_gone(alloc, form, &room.visits, moment, log, written);
         room.sweep();
     }
 }
 
 /// Who is ready comes in, and has turns; whose time is over goes. It answers who was turned away.
-fn round<S: SearchKeeper, C: Clock>(
+fn clients_turns<S: SearchKeeper, C: Clock>(
     room: &mut Room,
     hub: &mut Hub<S>,
     clock: &mut C,
     now: u64,
-    most: u32,
+    terms: Terms,
 ) -> Crowd
-    ensures { HasRun (HubRun S.site_state S.lacks S.crash_states S.represents) hub.old hub.new (C.given clock.old) (C.given clock.new) (λ es os. HasHadTurns most now room.old es os room.new result.items) }
+    ensures { HasRun (HubRun S.site_state S.lacks S.crash_states S.represents) hub.old hub.new (C.given clock.old) (C.given clock.new) (λ es os. HasHadTurns terms now room.old es os room.new result.items) }
 {
-    let crowd = admit(room, hub, now, most);
-    serve_all(&mut room.visits, hub, clock, now);
+    let crowd = admit(room, hub, now, terms);
+    let most = terms.posts;
+    serve_all(&mut room.visits, &mut room.posts, hub, clock, now, most);
     crowd
 }
 
-/// Serves whoever comes, up to 32 clients at a time and so many of one origin at most, until a write or a sync of what the site is kept on has failed, or no socket can be waited for.
+/// Turns with whoever is at the door, and then one turn of the office. It answers who was turned away.
+fn round<S: SearchKeeper, C: Clock, O: Office>(
+    room: &mut Room,
+    office: &mut O,
+    hub: &mut Hub<S>,
+    clock: &mut C,
+    called: bool,
+    now: u64,
+    terms: Terms,
+) -> Crowd
+    ensures { HasRun (HubRun S.site_state S.lacks S.crash_states S.represents) hub.old hub.new (C.given clock.old) (C.given clock.new) (λ es os. AllHadTurns O.works terms called now (room.old, office.old) es os (room.new, office.new) result.items) }
+{
+    let crowd = clients_turns(room, hub, clock, now, terms);
+    office.turn(&room.desk(), hub, clock, called, now);
+    crowd
+}
+
+/// Serves whoever comes on these terms, up to 32 clients at a time, until a write or a sync of what the site is kept on has failed, or no socket can be waited for.
 /// Where posts wait for one another they are made behind the turns of each round, and behind a round nobody waits: who did learned that the post is stored, or is asked to try again later.
 /// For each client that has gone the log gets a line, as far as it takes it. The watch is read once a round.
-pub fn serve_visits<S: SearchKeeper, C: Clock, R: Time, L: Write>(
+/// Behind the turns of each round the office has one.
+pub fn serve_visits<S: SearchKeeper, C: Clock, R: Time, L: Write, O: Office>(
     alloc: Global,
     rt: &R,
     watch: &mut Stopwatch,
     room: &mut Room,
+    office: &mut O,
     hub: &mut Hub<S>,
     clock: &mut C,
     log: &mut L,
-    most: u32,
+    terms: Terms,
 ) -> Result<(), VisitFault>
-    ensures { ServesVisits S.site_state S.lacks S.crash_states S.represents L.contents most result hub.old hub.new (room.old, log.old, watch.old.read.readings) (room.new, log.new, watch.new.read.readings) (C.given clock.old) (C.given clock.new) }
+    ensures { ServesVisits S.site_state S.lacks S.crash_states S.represents L.contents O.lets_wait O.works terms result hub.old hub.new (room.old, log.old, watch.old.read.readings, office.old) (room.new, log.new, watch.new.read.readings, office.new) (C.given clock.old) (C.given clock.new) }
 {
     let mut moments = SystemClock::new(rt);
     let mut written = CallLog::new();
@@ -347,10 +435,12 @@ pub fn serve_visits<S: SearchKeeper, C: Clock, R: Time, L: Write>(
         if !hub.is_usable() {
             return Err(VisitFault::Failed);
         }
-        room.wait()?;
-        let crowd = round(room, hub, clock, watch.seconds(rt), most);
+        let called = room.wait(office.pace())?;
+        let now = watch.seconds(rt);
+        let crowd = round(room, office, hub, clock, called, now, terms);
         see_off(
             alloc,
+            terms.log,
             room,
             crowd.as_slice(),
             &mut moments,

@@ -1,13 +1,12 @@
 // A client that came, and what the log will say of it.
 ghost use Rattle.std.specs.Prelude.{◌≡◌, IfOk, if◌then◌else◌};
-ghost use Rattle.std.specs.String.{string_bytes};
 ghost use Rattle.ready_sockets.specs.Logged.{line_of};
 ghost use Rattle.ready_sockets.specs.Rounds.{who};
 ghost use Rattle.ready_sockets.specs.Visits.{has_gone, has_turn, is_late, woken};
 
-use crate::ReadySocket;
 use crate::limits::{is_over, longest_stay};
 use crate::lines::{Record, address_text, log_line};
+use crate::{LogForm, ReadySocket};
 use host_types::Stamp;
 use mio::Token;
 use ready_turns::{Ending, Seat};
@@ -71,21 +70,24 @@ impl Visit {
     pub(crate) fn line(
         &self,
         alloc: Global,
+        form: LogForm,
         moment: Stamp,
         ending: Ending,
-    ) -> Result<String, AllocError>
-        ensures { IfOk result (λ text. string_bytes text ≡ line_of moment self.now ending) }
+    ) -> Result<Vec<u8>, AllocError>
+        ensures { IfOk result (λ text. text.items ≡ line_of form moment self.now ending) }
     {
         let from = address_text(alloc, self.from)?;
         let socket = self.seat.wire();
         log_line(
             alloc,
+            form,
             &Record {
                 moment,
                 from: &from,
                 selector: socket.selector(),
                 ending,
                 taken: socket.taken(),
+                stored: socket.stored(),
             },
         )
     }

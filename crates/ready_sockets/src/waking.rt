@@ -2,8 +2,11 @@
 ghost use Rattle.std.specs.Prelude.{◌≡◌, false, map, option_map};
 ghost use Rattle.std.specs.Duration.{as_nanos};
 ghost use Rattle.mio.specs.Events.{items};
-ghost use Rattle.ready_sockets.specs.Visits.{all_wait, is_called, woken_by, was_in_vain};
+ghost use Rattle.ready_sockets.specs.Offices.{names_office};
+ghost use Rattle.ready_sockets.specs.Visits.{all_wait, at_most_a_second, is_called, woken_by, was_in_vain};
 
+use crate::door::{OFFICE_LISTENER, OFFICE_WIRE};
+use crate::room::TICK;
 use crate::visit::Visit;
 use mio::{Events, Token};
 use std::time::Duration;
@@ -20,6 +23,23 @@ pub(crate) fn is_called(events: &Events, token: Token) -> bool
     ensures { result ≡ is_called (items events.now) token }
 {
     events.iter().any(|event| event.token() == token)
+}
+
+/// Whether an event is one of an office's sockets.
+pub(crate) fn names_office(events: &Events) -> bool
+    ensures { result ≡ names_office (items events.now) }
+{
+    is_called(events, OFFICE_LISTENER) || is_called(events, OFFICE_WIRE)
+}
+
+/// A second, where a wait would have no end.
+pub(crate) fn at_most_a_tick(patience: Option<Duration>) -> Option<Duration>
+    ensures { option_map as_nanos result ≡ at_most_a_second (option_map as_nanos patience) }
+{
+    match patience {
+        Some(time) => Some(time),
+        None => Some(Duration::from_secs(TICK)),
+    }
 }
 
 /// Whether a wait that had patience ended with no event.

@@ -1,14 +1,17 @@
 -- What is done in a turn, put together.
 use Rattle.std.proofs.Common.{◌≡◌, inl, ℕ, ◌≤◌, Bool, true, false, not, List, [], ◌∷◌, ◌++◌, length, take, drop, refl, sym, ap, subst, ◌∙◌, arith, Result, Ok, Err, Option, Some, None}
 use Rattle.std.proofs.lemmas.Bool.{true≢false}
-use Rattle.std.specs.Prelude.{IfSome, ◌==◌}
-use Rattle.std.proofs.lemmas.List.{append-nil, take-append-drop, length-take-le}
+use Rattle.std.specs.Prelude.{IfSome, ◌==◌, ◌&&◌, min}
+use Rattle.std.proofs.lemmas.List.{append-nil, take-append-drop, length-take-le, take_min}
 use Rattle.std.specs.Fmt.{digits}
 use Rattle.text_writer.specs.Errors.{error_reply, plus_error, words_of}
 use Rattle.text_writer.specs.declared.error.ErrorText.TheVariants.{TryAgainLater}
+use Rattle.old_clients.specs.Clients.{Adapting, HasAnswered, HasClosed, HasHeard, is_through}
 use Rattle.group_world.specs.declared.event.Event.{Event}
 use Rattle.group_world.specs.declared.event.Event.TheVariants as events
 use Rattle.group_world.specs.declared.event.Outcome.{Outcome}
+use Rattle.group_world.specs.declared.event.Outcome.TheVariants as outcomes
+use Rattle.old_clients.proofs.Clients.{through_gives, through_none}
 use Rattle.group_world.specs.declared.fault.HubFault.{HubFault}
 use Rattle.group_world.specs.Outcomes.{join_outcome, drawn_outcome, draw_outcome}
 use Rattle.group_world.specs.declared.answer.Drawn.{Drawn}
@@ -20,8 +23,9 @@ use Rattle.ready_turns.specs.Tries.{write_try, read_try}
 use Rattle.ready_turns.specs.declared.seat.Seat.{Seat}
 use Rattle.ready_turns.specs.declared.seat.Stage.{Stage}
 use Rattle.ready_turns.specs.declared.seat.Ending.{Ending}
+use Rattle.ready_turns.specs.declared.seat.Ending.TheVariants.{Served, Failed}
 use Rattle.ready_turns.specs.declared.seat.Stage.TheVariants as stages
-use Rattle.ready_turns.specs.Seats.{SeatState, at, state_of, leaving, has_left, joined_state, refused_state, heard_state, learned_state, drawn_state, Listens, Asks, Draws, Replies, Writes, Finishes, Takes, Follows, WhereReady, Acts, Turn, LearnsAt, Learns, DismissedAt, Dismissed, For}
+use Rattle.ready_turns.specs.Seats.{SeatState, at, state_of, leaving, has_left, joined_state, refused_state, heard_state, learned_state, drawn_state, draw_room, most_drawn, is_held, IsAdapted, TellsUnless, HearsPiece, Listens, KeepsClient, HasTurn, HasKept, Asks, Draws, Replies, Writes, Finishes, Takes, Follows, WhereReady, Acts, Turn, LearnsAt, Learns, DismissedAt, Dismissed, TurnedDownAt, TurnedDown, For}
 
 abbrev ok_of : {E : Type 0} → Option ℕ → Result (Option ℕ) E
 ok_of field = Ok field
@@ -60,12 +64,12 @@ sent_some before count old new after some within called is = (
 )
 
 -- what is to be sent, where there is some
-pub replies_more : (id : ℕ) (unsent : List ℕ) (t : Trace) (before after : SeatState) → (unsent ≡ [] → ⊥) → before ≡ at (stages.Replying id) unsent false → Writes before t after → Replies id unsent t after
-replies_more id [] t before after some is w = absurd (some refl)
-replies_more id (b ∷ bytes) t before after some is w = subst (λ s. Writes s t after) is w
+pub replies_more : (old new : Adapting) (id : ℕ) (unsent : List ℕ) (t : Trace) (before after : SeatState) → new ≡ old → (unsent ≡ [] → ⊥) → before ≡ at (stages.Replying id) unsent false → Writes before t after → Replies old new id unsent t after
+replies_more old new id [] t before after kept some is w = absurd (some refl)
+replies_more old new id (b ∷ bytes) t before after kept some is w = (kept, subst (λ s. Writes s t after) is w)
 
-pub replies_anew : (id : ℕ) (unsent : List ℕ) (t : Trace) (after : SeatState) → unsent ≡ [] → Draws id t after → Replies id unsent t after
-replies_anew id unsent t after none d = subst (λ u. Replies id u t after) (sym none) d
+pub replies_anew : (old new : Adapting) (id : ℕ) (unsent : List ℕ) (t : Trace) (after : SeatState) → unsent ≡ [] → Draws old new id t after → Replies old new id unsent t after
+replies_anew old new id unsent t after none d = subst (λ u. Replies old new id u t after) (sym none) d
 
 pub finishes_more : (ending : Ending) (unsent : List ℕ) (t : Trace) (before after : SeatState) → (unsent ≡ [] → ⊥) → before ≡ leaving ending unsent → Writes before t after → Finishes ending unsent t after
 finishes_more ending [] t before after some is w = absurd (some refl)
@@ -74,12 +78,82 @@ finishes_more ending (b ∷ bytes) t before after some is w = subst (λ s. Write
 pub joined_at : (result : Result ℕ HubFault) (stage : Stage) (unsent : List ℕ) → at stage [] false ≡ joined_state (join_outcome result) → unsent ≡ [] → at stage unsent false ≡ joined_state (join_outcome result)
 joined_at result stage unsent is none = ap (λ u. at stage u false) none ∙ is
 
-pub drawn_made : (id : ℕ) (outcome : Outcome) (after : SeatState) → length (drawn_bytes outcome) ≤ 4096 → after ≡ drawn_state id outcome → Draws id (trace [] (events.Draw id 4096 ∷ []) (outcome ∷ [])) after
-drawn_made id outcome after room is = record { outcome = outcome; room = room; is = refl; after_is = is }
+pub drawn_made : (old new : Adapting) (id room : ℕ) (outcome : Outcome) (part : List ℕ) (after : SeatState) → draw_room old ≡ room → length (drawn_bytes outcome) ≤ room → IsAdapted old outcome part new → after ≡ drawn_state id outcome part →
+    Draws old new id (trace [] (events.Draw id room ∷ []) (outcome ∷ [])) after
+drawn_made old new id room outcome part after size few adapted is = record {
+  outcome = outcome;
+  part = part;
+  room = subst (λ n. length (drawn_bytes outcome) ≤ n) (sym size) few;
+  is = ap (λ n. trace [] (events.Draw id n ∷ []) (outcome ∷ [])) (sym size);
+  adapted = adapted;
+  after_is = is;
+}
 
-pub heard_made : (id : ℕ) (unsent : List ℕ) (old new : List WireCall) (piece : List ℕ) (es : List Event) (os : List Outcome) (outcome : Outcome) (after : SeatState) → length piece ≤ 512 → new ≡ old ++ Read 512 piece ∷ [] → IsTold id piece es os outcome → after ≡ heard_state id outcome →
-    HasMade old new (λ made. Listens id unsent (trace made es os) after)
-heard_made id unsent old new piece es os outcome after room read told is = (Read 512 piece ∷ [], read, inl (record { piece = piece; outcome = outcome; room = room; calls_are = refl; told = told; after_is = is }))
+-- where all is sent as it comes
+pub room_through : (old : Adapting) → is_through old.answers ≡ true → draw_room old ≡ 4096
+room_through old through = ap most_drawn through
+
+pub room_adapted : (old : Adapting) → is_through old.answers ≡ false → draw_room old ≡ 500
+room_adapted old adapts = ap most_drawn adapts
+
+-- bytes that were drawn are to be sent
+pub drawn_on : (id count : ℕ) (result : Result Drawn HubFault) (bytes : List ℕ) → result ≡ Ok (drawn.Bytes count) → bytes ≡ drawn_bytes (draw_outcome result bytes) → at (stages.Replying id) bytes false ≡ drawn_state id (draw_outcome result bytes) (drawn_bytes (draw_outcome result bytes))
+drawn_on id count (Ok (drawn.Bytes n)) bytes is are = ap (λ l. at (stages.Replying id) l false) are
+drawn_on id count (Ok drawn.Finished) bytes is are = absurd (cc is)
+drawn_on id count (Err fault) bytes is are = absurd (cc is)
+
+-- all of it is sent as it comes
+through_sent : (old : Adapting) (outcome : Outcome) → is_through old.answers ≡ true → IsAdapted old outcome (drawn_bytes outcome) old
+through_sent old (outcomes.Drawn bytes) through = record { gives = through_gives old bytes through; asks = refl; through = λ _. (refl, refl) }
+through_sent old outcomes.Finished through = record { gives = through_none old through; asks = refl; through = λ _. refl }
+through_sent old (outcomes.Joined id) through = (refl, refl)
+through_sent old outcomes.More through = (refl, refl)
+through_sent old outcomes.Ready through = (refl, refl)
+through_sent old outcomes.Waiting through = (refl, refl)
+through_sent old outcome through = (refl, refl)
+
+pub through_adapted : (old new : Adapting) (outcome : Outcome) → is_through old.answers ≡ true → new ≡ old → IsAdapted old outcome (drawn_bytes outcome) new
+through_adapted old new outcome through kept = subst (λ client. IsAdapted old outcome (drawn_bytes outcome) client) (sym kept) (through_sent old outcome through)
+
+-- what is adapted of bytes that were drawn
+pub part_adapted : (old mid new : Adapting) (result : Result Drawn HubFault) (d : Drawn) (count size : ℕ) (room part : List ℕ) → result ≡ Ok d → d ≡ drawn.Bytes count → length room ≡ size → new ≡ mid → HasAnswered old (take (min count size) room) part mid → IsAdapted old (draw_outcome result room) part new
+part_adapted old mid new result d count size room part is bytes fits kept answered =
+    subst (λ r. IsAdapted old (draw_outcome r room) part new) (sym (is ∙ ap (λ d. Ok d) bytes))
+    (subst (λ client. HasAnswered old (take count room) part client) (sym kept) (subst (λ l. HasAnswered old l part mid) (ap (λ n. take (min count n) room) (sym fits) ∙ take_min count room) answered))
+
+pub end_adapted : (old mid new : Adapting) (result : Result Drawn HubFault) (d : Drawn) (room part : List ℕ) → result ≡ Ok d → d ≡ drawn.Finished → new ≡ mid → HasClosed old part mid → IsAdapted old (draw_outcome result room) part new
+end_adapted old mid new result d room part is finished kept closed = subst (λ r. IsAdapted old (draw_outcome r room) part new) (sym (is ∙ ap (λ d. Ok d) finished)) (subst (λ client. HasClosed old part client) (sym kept) closed)
+
+fault_sends : (old : Adapting) (fault : HubFault) → IsAdapted old (outcomes.Fault fault) [] old
+fault_sends old fault = (refl, refl)
+
+pub fault_adapted : (old new : Adapting) (result : Result Drawn HubFault) (fault : HubFault) (room : List ℕ) → result ≡ Err fault → new ≡ old → IsAdapted old (draw_outcome result room) [] new
+fault_adapted old new result fault room is kept = subst (λ client. IsAdapted old (draw_outcome result room) [] client) (sym kept) (subst (λ r. IsAdapted old (draw_outcome r room) [] old) (sym is) (fault_sends old fault))
+
+-- and what follows of it
+pub part_follows : (id count : ℕ) (result : Result Drawn HubFault) (d : Drawn) (room part : List ℕ) → result ≡ Ok d → d ≡ drawn.Bytes count → at (stages.Replying id) part false ≡ drawn_state id (draw_outcome result room) part
+part_follows id count result d room part is bytes = sym (ap (λ r. drawn_state id (draw_outcome r room) part) (is ∙ ap (λ d. Ok d) bytes))
+
+pub end_follows : (id : ℕ) (result : Result Drawn HubFault) (d : Drawn) (room part : List ℕ) → result ≡ Ok d → d ≡ drawn.Finished → leaving Served part ≡ drawn_state id (draw_outcome result room) part
+end_follows id result d room part is finished = sym (ap (λ r. drawn_state id (draw_outcome r room) part) (is ∙ ap (λ d. Ok d) finished))
+
+pub fault_follows : (id : ℕ) (result : Result Drawn HubFault) (fault : HubFault) (room : List ℕ) → result ≡ Err fault → leaving Failed [] ≡ drawn_state id (draw_outcome result room) []
+fault_follows id result fault room is = sym (ap (λ r. drawn_state id (draw_outcome r room) []) is)
+
+-- ---- a piece
+
+pub held_by : (piece out : List ℕ) (count : ℕ) (answer : Bool) → count ≤ length out → answer ≡ (not (length piece == 0) && (count == 0)) → is_held piece (take count out) ≡ answer
+held_by piece out count answer within is = ap (λ n. not (length piece == 0) && (n == 0)) (length-take-le count out within) ∙ sym is
+
+pub heard_piece : (old mid new : Adapting) (id : ℕ) (piece passed : List ℕ) (es : List Event) (os : List Outcome) (outcome : Outcome) (after : SeatState) → new ≡ mid → HasHeard old piece passed mid → is_held piece passed ≡ false → IsTold id passed es os outcome → after ≡ heard_state id outcome → HearsPiece old new id piece es os after
+heard_piece old mid new id piece passed es os outcome after kept heard some told is = record { passed = passed; heard = subst (λ client. HasHeard old piece passed client) (sym kept) heard; told = subst (λ b. TellsUnless b id passed es os after) (sym some) (outcome, told, is) }
+
+pub held_piece : (old mid new : Adapting) (id : ℕ) (piece passed : List ℕ) (after : SeatState) → new ≡ mid → HasHeard old piece passed mid → is_held piece passed ≡ true → after ≡ at (stages.Listening id) [] false → HearsPiece old new id piece [] [] after
+held_piece old mid new id piece passed after kept heard all is = record { passed = passed; heard = subst (λ client. HasHeard old piece passed client) (sym kept) heard; told = subst (λ b. TellsUnless b id passed [] [] after) (sym all) (refl, refl, is) }
+
+pub heard_made : (first last : Adapting) (id : ℕ) (unsent : List ℕ) (old new : List WireCall) (piece : List ℕ) (es : List Event) (os : List Outcome) (after : SeatState) → length piece ≤ 512 → new ≡ old ++ Read 512 piece ∷ [] → HearsPiece first last id piece es os after →
+    HasMade old new (λ made. Listens first last id unsent (trace made es os) after)
+heard_made first last id unsent old new piece es os after room read hears = (Read 512 piece ∷ [], read, inl (record { piece = piece; room = room; calls_are = refl; hears = hears }))
 
 none_of : (bytes : List ℕ) → length bytes ≤ 0 → bytes ≡ []
 none_of [] few = refl
@@ -107,17 +181,17 @@ later_fits text is = let size : length text ≡ 27 = ap length is in omega (arit
 
 -- ---- turns
 
-pub turn_of : {W : Type 0} (old new : Seat W) (stage : Stage) (t : Trace) → old.waits ≡ false → old.stage ≡ stage → Acts stage old.unsent.items t (state_of new) → Turn (state_of old) t (state_of new)
-turn_of old new stage t ready is acts = subst (λ b. WhereReady (not b) (state_of old) t (state_of new)) (sym ready) (subst (λ s. Acts s old.unsent.items t (state_of new)) (sym is) acts)
+pub turn_of : {W : Type 0} (old new : Seat W) (stage : Stage) (t : Trace) → old.waits ≡ false → old.stage ≡ stage → Acts old.client new.client stage old.unsent.items t (state_of new) → Turn old.client new.client (state_of old) t (state_of new)
+turn_of old new stage t ready is acts = subst (λ b. WhereReady old.client new.client (not b) (state_of old) t (state_of new)) (sym ready) (subst (λ s. Acts old.client new.client s old.unsent.items t (state_of new)) (sym is) acts)
 
 -- one that rests
-pub rested : {W : Type 0} (calls : W → List WireCall) (seat : Seat W) → seat.waits ≡ true → For calls Turn seat [] [] seat
-rested calls seat waits = record { made = []; calls_are = sym (append-nil (calls seat.wire)); does = subst (λ b. WhereReady (not b) (state_of seat) nothing (state_of seat)) (sym waits) (refl, refl) }
+pub rested : {W : Type 0} (calls : W → List WireCall) (seat : Seat W) → seat.waits ≡ true → HasTurn calls seat [] [] seat
+rested calls seat waits = record { made = []; calls_are = sym (append-nil (calls seat.wire)); does = subst (λ b. WhereReady seat.client seat.client (not b) (state_of seat) nothing (state_of seat)) (sym waits) (refl, (refl, refl)) }
 
 -- a turn is what is done, and what follows
 pub took : {W : Type 0} (calls : W → List WireCall) (old new : Seat W) (stage : Stage) (id : ℕ) (Does : Trace → SeatState → Type 0) (es fs : List Event) (os ps : List Outcome) → old.waits ≡ false → old.stage ≡ stage →
-    ((t : Trace) → Takes id Does t (state_of new) → Acts stage old.unsent.items t (state_of new)) →
-    HasMade (calls old.wire) (calls new.wire) (λ made. Does (trace made es os) (state_of new)) → Follows id (has_left new.stage) (trace [] fs ps) → For calls Turn old (es ++ fs) (os ++ ps) new
+    ((t : Trace) → Takes id Does t (state_of new) → Acts old.client new.client stage old.unsent.items t (state_of new)) →
+    HasMade (calls old.wire) (calls new.wire) (λ made. Does (trace made es os) (state_of new)) → Follows id (has_left new.stage) (trace [] fs ps) → HasTurn calls old (es ++ fs) (os ++ ps) new
 took calls old new stage id Does es fs os ps ready is acts first second = record {
   made = first.0;
   calls_are = first.1;
@@ -130,35 +204,38 @@ took calls old new stage id Does es fs os ps ready is acts first second = record
   }));
 }
 
-pub finished : {W : Type 0} (calls : W → List WireCall) (old new : Seat W) (ending : Ending) → old.waits ≡ false → old.stage ≡ stages.Leaving ending → HasMade (calls old.wire) (calls new.wire) (λ made. Finishes ending old.unsent.items (trace made [] []) (state_of new)) → For calls Turn old [] [] new
-finished calls old new ending ready is m = record { made = m.0; calls_are = m.1; does = turn_of old new (stages.Leaving ending) (trace m.0 [] []) ready is m.2 }
+pub finished : {W : Type 0} (calls : W → List WireCall) (old new : Seat W) (ending : Ending) → old.waits ≡ false → old.stage ≡ stages.Leaving ending → new.client ≡ old.client → HasMade (calls old.wire) (calls new.wire) (λ made. Finishes ending old.unsent.items (trace made [] []) (state_of new)) → HasTurn calls old [] [] new
+finished calls old new ending ready is kept m = record { made = m.0; calls_are = m.1; does = turn_of old new (stages.Leaving ending) (trace m.0 [] []) ready is (kept, m.2) }
 
-pub nothing_left : {W : Type 0} (calls : W → List WireCall) (seat : Seat W) (ending : Ending) → seat.waits ≡ false → seat.stage ≡ stages.Closed ending → For calls Turn seat [] [] seat
+pub nothing_left : {W : Type 0} (calls : W → List WireCall) (seat : Seat W) (ending : Ending) → seat.waits ≡ false → seat.stage ≡ stages.Closed ending → HasTurn calls seat [] [] seat
 nothing_left calls seat ending ready is = record {
   made = [];
   calls_are = sym (append-nil (calls seat.wire));
-  does = turn_of seat seat (stages.Closed ending) nothing ready is (refl, at_same seat.stage (stages.Closed ending) seat.unsent.items seat.unsent.items seat.waits false is refl ready);
+  does = turn_of seat seat (stages.Closed ending) nothing ready is (refl, (refl, at_same seat.stage (stages.Closed ending) seat.unsent.items seat.unsent.items seat.waits false is refl ready));
 }
 
 -- one whose post waits
-pub still_waits : {W : Type 0} (calls : W → List WireCall) (seat : Seat W) (id : ℕ) → seat.waits ≡ false → seat.stage ≡ stages.Waiting id → For calls Turn seat [] [] seat
+pub still_waits : {W : Type 0} (calls : W → List WireCall) (seat : Seat W) (id : ℕ) → seat.waits ≡ false → seat.stage ≡ stages.Waiting id → HasTurn calls seat [] [] seat
 still_waits calls seat id ready is = record {
   made = [];
   calls_are = sym (append-nil (calls seat.wire));
-  does = turn_of seat seat (stages.Waiting id) nothing ready is (refl, at_same seat.stage (stages.Waiting id) seat.unsent.items seat.unsent.items seat.waits false is refl ready);
+  does = turn_of seat seat (stages.Waiting id) nothing ready is (refl, (refl, at_same seat.stage (stages.Waiting id) seat.unsent.items seat.unsent.items seat.waits false is refl ready));
 }
 
 -- ---- what came of a post
 
-pub learned : {W : Type 0} (calls : W → List WireCall) (old new : Seat W) (id : ℕ) (es fs : List Event) (os ps : List Outcome) → old.stage ≡ stages.Waiting id → new.wire ≡ old.wire → Asks id (trace [] es os) (state_of new) → Follows id (has_left new.stage) (trace [] fs ps) → For calls Learns old (es ++ fs) (os ++ ps) new
-learned calls old new id es fs os ps is wire first second = record {
-  made = [];
-  calls_are = ap calls wire ∙ sym (append-nil (calls old.wire));
-  does = subst (λ s. LearnsAt s (state_of old) (trace [] (es ++ fs) (os ++ ps)) (state_of new)) (sym is) (record { done = trace [] es os; rest = trace [] fs ps; is = refl; does = first; follows = second });
-}
+pub learned : {W : Type 0} (calls : W → List WireCall) (old new : Seat W) (id : ℕ) (es fs : List Event) (os ps : List Outcome) → old.stage ≡ stages.Waiting id → new.wire ≡ old.wire → new.client ≡ old.client → Asks id (trace [] es os) (state_of new) → Follows id (has_left new.stage) (trace [] fs ps) → HasKept calls Learns old (es ++ fs) (os ++ ps) new
+learned calls old new id es fs os ps is wire client first second = (
+  record {
+    made = [];
+    calls_are = ap calls wire ∙ sym (append-nil (calls old.wire));
+    does = subst (λ s. LearnsAt s (state_of old) (trace [] (es ++ fs) (os ++ ps)) (state_of new)) (sym is) (record { done = trace [] es os; rest = trace [] fs ps; is = refl; does = first; follows = second });
+  },
+  client,
+)
 
-pub learns_nothing : {W : Type 0} (calls : W → List WireCall) (seat : Seat W) → ((id : ℕ) → seat.stage ≡ stages.Waiting id → ⊥) → For calls Learns seat [] [] seat
-learns_nothing calls seat other = record { made = []; calls_are = sym (append-nil (calls seat.wire)); does = rests seat.stage (state_of seat) other }
+pub learns_nothing : {W : Type 0} (calls : W → List WireCall) (seat : Seat W) → ((id : ℕ) → seat.stage ≡ stages.Waiting id → ⊥) → HasKept calls Learns seat [] [] seat
+learns_nothing calls seat other = (record { made = []; calls_are = sym (append-nil (calls seat.wire)); does = rests seat.stage (state_of seat) other }, refl)
   where
     rests : (stage : Stage) (state : SeatState) → ((id : ℕ) → stage ≡ stages.Waiting id → ⊥) → LearnsAt stage state nothing state
     rests (stages.Waiting id) state other = absurd (other id refl)
@@ -169,5 +246,27 @@ learns_nothing calls seat other = record { made = []; calls_are = sym (append-ni
 
 -- ---- those whose time is over
 
-pub dismissed_at : {W : Type 0} (calls : W → List WireCall) (old new : Seat W) (stage : Stage) (made : List WireCall) (es : List Event) (os : List Outcome) → old.stage ≡ stage → calls new.wire ≡ calls old.wire ++ made → DismissedAt stage (state_of old) (trace made es os) (state_of new) → For calls Dismissed old es os new
-dismissed_at calls old new stage made es os is called does = record { made = made; calls_are = called; does = subst (λ s. DismissedAt s (state_of old) (trace made es os) (state_of new)) (sym is) does }
+pub dismissed_at : {W : Type 0} (calls : W → List WireCall) (old new : Seat W) (stage : Stage) (made : List WireCall) (es : List Event) (os : List Outcome) → old.stage ≡ stage → new.client ≡ old.client → calls new.wire ≡ calls old.wire ++ made → DismissedAt stage (state_of old) (trace made es os) (state_of new) → HasKept calls Dismissed old es os new
+dismissed_at calls old new stage made es os is kept called does = (record { made = made; calls_are = called; does = subst (λ s. DismissedAt s (state_of old) (trace made es os) (state_of new)) (sym is) does }, kept)
+
+-- ---- one whose post is not to be made
+
+pub turned_down : {W : Type 0} (calls : W → List WireCall) (old new : Seat W) (id : ℕ) (es : List Event) (os : List Outcome) → old.stage ≡ stages.Waiting id → new.wire ≡ old.wire → new.client ≡ old.client → TurnedDownAt (stages.Waiting id) (state_of old) (trace [] es os) (state_of new) → HasKept calls TurnedDown old es os new
+turned_down calls old new id es os is wire client does = (
+  record {
+    made = [];
+    calls_are = ap calls wire ∙ sym (append-nil (calls old.wire));
+    does = subst (λ s. TurnedDownAt s (state_of old) (trace [] es os) (state_of new)) (sym is) does;
+  },
+  client,
+)
+
+pub turns_nobody_down : {W : Type 0} (calls : W → List WireCall) (seat : Seat W) → ((id : ℕ) → seat.stage ≡ stages.Waiting id → ⊥) → HasKept calls TurnedDown seat [] [] seat
+turns_nobody_down calls seat other = (record { made = []; calls_are = sym (append-nil (calls seat.wire)); does = rests seat.stage (state_of seat) other }, refl)
+  where
+    rests : (stage : Stage) (state : SeatState) → ((id : ℕ) → stage ≡ stages.Waiting id → ⊥) → TurnedDownAt stage state nothing state
+    rests (stages.Waiting id) state other = absurd (other id refl)
+    rests (stages.Listening id) state other = (refl, refl)
+    rests (stages.Replying id) state other = (refl, refl)
+    rests (stages.Leaving ending) state other = (refl, refl)
+    rests (stages.Closed ending) state other = (refl, refl)

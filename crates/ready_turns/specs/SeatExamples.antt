@@ -4,7 +4,7 @@ use Rattle.group_world.specs.declared.event.Outcome.TheVariants as outcomes
 use Rattle.group_world.specs.declared.fault.HubFault.TheVariants as faults
 use Rattle.ready_turns.specs.declared.seat.Ending.TheVariants.{Served, Full, Failed, Cut}
 use Rattle.ready_turns.specs.declared.seat.Stage.TheVariants.{Listening, Waiting, Replying, Leaving, Closed}
-use Rattle.ready_turns.specs.Seats.{at, leaving, acts, has_left, ending_of, joined_state, heard_state, learned_state, drawn_state}
+use Rattle.ready_turns.specs.Seats.{at, leaving, acts, has_left, ending_of, joined_state, heard_state, learned_state, drawn_state, is_held}
 
 pub record SeatExamples : Type 0 where
   pub joins : joined_state (outcomes.Joined 3) ≡ at (Listening 3) [] false
@@ -19,9 +19,12 @@ pub record SeatExamples : Type 0 where
   pub waits_for_others : acts (Waiting 3) ≡ false
   pub no_room : heard_state 3 (outcomes.Fault (faults.Full 9 4)) ≡ leaving Full (codes "--1\r\n2 Try again later\r\n.\r\n")
   pub no_memory : heard_state 3 (outcomes.Fault faults.Memory) ≡ leaving Failed []
-  pub to_be_sent : drawn_state 3 (outcomes.Drawn (codes "Hello")) ≡ at (Replying 3) (codes "Hello") false
-  pub all_drawn : drawn_state 3 outcomes.Finished ≡ leaving Served []
+  pub to_be_sent : drawn_state 3 (outcomes.Drawn (codes "Hello")) (codes "Hello") ≡ at (Replying 3) (codes "Hello") false
+  pub all_drawn : drawn_state 3 outcomes.Finished [] ≡ leaving Served []
   pub replies : has_left (Replying 3) ≡ false
   pub leaves : has_left (Leaving Full) ≡ true
   pub ended : ending_of (Closed Served) ≡ Some Served
   pub not_closed : ending_of (Leaving Served) ≡ None
+  pub held_back : is_held (codes "/sign") [] ≡ true
+  pub passed_on : is_held (codes "/sign") (codes "/sign") ≡ false
+  pub no_more : is_held [] [] ≡ false

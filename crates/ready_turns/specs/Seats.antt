@@ -1,7 +1,8 @@
 -- What is done for a session in its turn, where its wire is ready.
-use Rattle.std.specs.Prelude.{◌≡◌, ◌≢◌, ◌⊎◌, ◌≤◌, ℕ, Bool, true, false, not, List, [], ◌∷◌, ◌++◌, length, Option, Some, None}
+use Rattle.std.specs.Prelude.{◌≡◌, ◌≢◌, ◌⊎◌, ◌≤◌, ◌==◌, ℕ, Bool, true, false, not, ◌&&◌, List, [], ◌∷◌, ◌++◌, length, Option, Some, None}
 use Rattle.text_writer.specs.Errors.{error_reply}
 use Rattle.text_writer.specs.declared.error.ErrorText.TheVariants.{TryAgainLater}
+use Rattle.old_clients.specs.Clients.{Adapting, HasAnswered, HasClosed, HasHeard, fresh_client, is_through}
 use Rattle.group_world.specs.declared.event.Event.{Event}
 use Rattle.group_world.specs.declared.event.Event.TheVariants as events
 use Rattle.group_world.specs.declared.event.Outcome.{Outcome}
@@ -11,7 +12,7 @@ use Rattle.group_world.specs.declared.fault.HubFault.TheVariants as faults
 use Rattle.turns.specs.WireCalls.{WireCall, Read, ReadFailed, ReadWaited, Wrote, WriteFailed, WriteWaited, Closed}
 use Rattle.turns.specs.Turns.{Trace, trace, nothing, then, IsTold, drawn_bytes}
 use Rattle.ready_turns.specs.declared.seat.Ending.{Ending}
-use Rattle.ready_turns.specs.declared.seat.Ending.TheVariants.{Served, Full, Failed, Cut, Late}
+use Rattle.ready_turns.specs.declared.seat.Ending.TheVariants.{Served, Full, Failed, Cut, Late, Often}
 use Rattle.ready_turns.specs.declared.seat.Stage.{Stage}
 use Rattle.ready_turns.specs.declared.seat.Stage.TheVariants as stages
 use Rattle.ready_turns.specs.declared.seat.Seat.{Seat}
@@ -85,21 +86,35 @@ learned_state id outcomes.Finished = at (stages.Replying id) [] false
 learned_state id (outcomes.Fault fault) = refused_state fault
 learned_state id outcome = leaving Failed []
 
-abbrev pub drawn_state : ℕ → Outcome → SeatState
-drawn_state id (outcomes.Drawn bytes) = at (stages.Replying id) bytes false
-drawn_state id outcomes.Finished = leaving Served []
-drawn_state id outcome = leaving Failed []
+-- where this part is sent of what was drawn
+abbrev pub drawn_state : ℕ → Outcome → List ℕ → SeatState
+drawn_state id (outcomes.Drawn bytes) part = at (stages.Replying id) part false
+drawn_state id outcomes.Finished part = leaving Served part
+drawn_state id outcome part = leaving Failed []
 
 -- ---- what is done in a turn
 
--- One read into room for 512 bytes, of which the hub is told.
-pub record Hears (id : ℕ) (t : Trace) (after : SeatState) : Type 0 where
+-- all of a piece is held back
+abbrev pub is_held : List ℕ → List ℕ → Bool
+is_held piece passed = not (length piece == 0) && (length passed == 0)
+
+-- The hub is told of what was passed on, or nothing where all was held back.
+abbrev pub TellsUnless : Bool → ℕ → List ℕ → List Event → List Outcome → SeatState → Type 0
+TellsUnless true id passed es os after = (es ≡ []) × (os ≡ []) × (after ≡ at (stages.Listening id) [] false)
+TellsUnless false id passed es os after = (outcome : Outcome) × IsTold id passed es os outcome × (after ≡ heard_state id outcome)
+
+-- A piece was heard by the client's adapter, and the hub is told of what that passed on.
+pub record HearsPiece (old new : Adapting) (id : ℕ) (piece : List ℕ) (es : List Event) (os : List Outcome) (after : SeatState) : Type 0 where
+  pub passed : List ℕ
+  pub heard : HasHeard old piece passed new
+  pub told : TellsUnless (is_held piece passed) id passed es os after
+
+-- One read into room for 512 bytes, which are heard.
+pub record Hears (old new : Adapting) (id : ℕ) (t : Trace) (after : SeatState) : Type 0 where
   pub piece : List ℕ
-  pub outcome : Outcome
   pub room : length piece ≤ 512
   pub calls_are : t.calls ≡ Read 512 piece ∷ []
-  pub told : IsTold id piece t.events t.outcomes outcome
-  pub after_is : after ≡ heard_state id outcome
+  pub hears : HearsPiece old new id piece t.events t.outcomes after
 
 -- A read that failed: the hub gets nothing.
 abbrev pub FailsToRead : Trace → SeatState → Type 0
@@ -109,12 +124,28 @@ FailsToRead t after = (t ≡ trace (ReadFailed 512 ∷ []) [] []) × (after ≡ 
 abbrev pub Waits : WireCall → SeatState → Trace → SeatState → Type 0
 Waits call before t after = (t ≡ trace (call ∷ []) [] []) × (after ≡ at before.stage before.unsent true)
 
--- One draw of at most 4,096 bytes, which are to be sent.
-pub record Draws (id : ℕ) (t : Trace) (after : SeatState) : Type 0 where
+-- how many bytes are drawn in a turn, at most: fewer where they are adapted
+abbrev pub most_drawn : Bool → ℕ
+most_drawn true = 4096
+most_drawn false = 500
+
+abbrev pub draw_room : Adapting → ℕ
+draw_room client = most_drawn (is_through client.answers)
+
+-- what is sent of a draw, by the client's adapter
+abbrev pub IsAdapted : Adapting → Outcome → List ℕ → Adapting → Type 0
+IsAdapted old (outcomes.Drawn bytes) part new = HasAnswered old bytes part new
+IsAdapted old outcomes.Finished part new = HasClosed old part new
+IsAdapted old outcome part new = (part ≡ []) × (new ≡ old)
+
+-- One draw, and what is to be sent of it.
+pub record Draws (old new : Adapting) (id : ℕ) (t : Trace) (after : SeatState) : Type 0 where
   pub outcome : Outcome
-  pub room : length (drawn_bytes outcome) ≤ 4096
-  pub is : t ≡ trace [] (events.Draw id 4096 ∷ []) (outcome ∷ [])
-  pub after_is : after ≡ drawn_state id outcome
+  pub part : List ℕ
+  pub room : length (drawn_bytes outcome) ≤ draw_room old
+  pub is : t ≡ trace [] (events.Draw id (draw_room old) ∷ []) (outcome ∷ [])
+  pub adapted : IsAdapted old outcome part new
+  pub after_is : after ≡ drawn_state id outcome part
 
 -- A session whose post waited is asked by a draw of no bytes.
 pub record Asks (id : ℕ) (t : Trace) (after : SeatState) : Type 0 where
@@ -159,14 +190,18 @@ Rests before t after = (t ≡ nothing) × (after ≡ before)
 abbrev pub Closes : Ending → Trace → SeatState → Type 0
 Closes ending t after = (t ≡ trace (Closed ∷ []) [] []) × (after ≡ at (stages.Closed ending) [] false)
 
+-- so it is, and the client's adapter stays
+abbrev pub KeepsClient : Adapting → Adapting → Type 0 → Type 0
+KeepsClient old new P = (new ≡ old) × P
+
 -- A session that hears makes one read.
-abbrev pub Listens : ℕ → List ℕ → Trace → SeatState → Type 0
-Listens id unsent t after = Hears id t after ⊎ FailsToRead t after ⊎ Waits (ReadWaited 512) (at (stages.Listening id) unsent false) t after
+abbrev pub Listens : Adapting → Adapting → ℕ → List ℕ → Trace → SeatState → Type 0
+Listens old new id unsent t after = Hears old new id t after ⊎ KeepsClient old new (FailsToRead t after) ⊎ KeepsClient old new (Waits (ReadWaited 512) (at (stages.Listening id) unsent false) t after)
 
 -- One that is replied to makes one draw, or one write of what is to be sent.
-abbrev pub Replies : ℕ → List ℕ → Trace → SeatState → Type 0
-Replies id [] t after = Draws id t after
-Replies id (b ∷ bytes) t after = Writes (at (stages.Replying id) (b ∷ bytes) false) t after
+abbrev pub Replies : Adapting → Adapting → ℕ → List ℕ → Trace → SeatState → Type 0
+Replies old new id [] t after = Draws old new id t after
+Replies old new id (b ∷ bytes) t after = KeepsClient old new (Writes (at (stages.Replying id) (b ∷ bytes) false) t after)
 
 -- One that has left makes one write of what is to be sent, and then its wire is closed.
 abbrev pub Finishes : Ending → List ℕ → Trace → SeatState → Type 0
@@ -174,20 +209,20 @@ Finishes ending [] t after = Closes ending t after
 Finishes ending (b ∷ bytes) t after = Writes (leaving ending (b ∷ bytes)) t after
 
 -- One turn of a session that doesn't rest.
-abbrev pub Acts : Stage → List ℕ → Trace → SeatState → Type 0
-Acts (stages.Listening id) unsent t after = Takes id (Listens id unsent) t after
-Acts (stages.Waiting id) unsent t after = Rests (at (stages.Waiting id) unsent false) t after
-Acts (stages.Replying id) unsent t after = Takes id (Replies id unsent) t after
-Acts (stages.Leaving ending) unsent t after = Finishes ending unsent t after
-Acts (stages.Closed ending) unsent t after = Rests (at (stages.Closed ending) unsent false) t after
+abbrev pub Acts : Adapting → Adapting → Stage → List ℕ → Trace → SeatState → Type 0
+Acts old new (stages.Listening id) unsent t after = Takes id (Listens old new id unsent) t after
+Acts old new (stages.Waiting id) unsent t after = KeepsClient old new (Rests (at (stages.Waiting id) unsent false) t after)
+Acts old new (stages.Replying id) unsent t after = Takes id (Replies old new id unsent) t after
+Acts old new (stages.Leaving ending) unsent t after = KeepsClient old new (Finishes ending unsent t after)
+Acts old new (stages.Closed ending) unsent t after = KeepsClient old new (Rests (at (stages.Closed ending) unsent false) t after)
 
-abbrev pub WhereReady : Bool → SeatState → Trace → SeatState → Type 0
-WhereReady true before t after = Acts before.stage before.unsent t after
-WhereReady false before t after = Rests before t after
+abbrev pub WhereReady : Adapting → Adapting → Bool → SeatState → Trace → SeatState → Type 0
+WhereReady old new true before t after = Acts old new before.stage before.unsent t after
+WhereReady old new false before t after = KeepsClient old new (Rests before t after)
 
--- One turn of a session.
-abbrev pub Turn : SeatState → Trace → SeatState → Type 0
-Turn before t after = WhereReady (not before.waits) before t after
+-- One turn of a session, from how its client's adapter was to how it is.
+abbrev pub Turn : Adapting → Adapting → SeatState → Trace → SeatState → Type 0
+Turn old new before t after = WhereReady old new (not before.waits) before t after
 
 abbrev pub LearnsAt : Stage → SeatState → Trace → SeatState → Type 0
 LearnsAt (stages.Waiting id) before t after = Takes id (Asks id) t after
@@ -212,6 +247,18 @@ DismissedAt (stages.Closed ending) before t after = Rests before t after
 abbrev pub Dismissed : SeatState → Trace → SeatState → Type 0
 Dismissed before t after = DismissedAt before.stage before t after
 
+-- a session whose post waits leaves the hub, and its client is asked to try again later
+abbrev pub LeavesUnmade : ℕ → Trace → SeatState → Type 0
+LeavesUnmade id t after = (outcome : Outcome) × (t ≡ trace [] (events.Leave id ∷ []) (outcome ∷ [])) × (after ≡ leaving Often (error_reply true TryAgainLater []))
+
+abbrev pub TurnedDownAt : Stage → SeatState → Trace → SeatState → Type 0
+TurnedDownAt (stages.Waiting id) before t after = LeavesUnmade id t after
+TurnedDownAt stage before t after = Rests before t after
+
+-- What is done for a session whose post is not to be made.
+abbrev pub TurnedDown : SeatState → Trace → SeatState → Type 0
+TurnedDown before t after = TurnedDownAt before.stage before t after
+
 -- ---- seats
 
 -- This is done for a seat.
@@ -220,10 +267,19 @@ pub record For {W : Type 0} (calls : W → List WireCall) (Does : SeatState → 
   pub calls_are : calls new.wire ≡ calls old.wire ++ made
   pub does : Does (state_of old) (trace made es os) (state_of new)
 
--- A session joins on a wire, of which no call is made.
-pub record IsSeated {W : Type 0} (wire : W) (es : List Event) (os : List Outcome) (seat : Seat W) : Type 0 where
+-- One turn was had by a seat.
+abbrev pub HasTurn : {W : Type 0} → (W → List WireCall) → Seat W → List Event → List Outcome → Seat W → Type 0
+HasTurn calls old es os new = For calls (Turn old.client new.client) old es os new
+
+-- And this was done for a seat, whose client's adapter stays.
+abbrev pub HasKept : {W : Type 0} → (W → List WireCall) → (SeatState → Trace → SeatState → Type 0) → Seat W → List Event → List Outcome → Seat W → Type 0
+HasKept calls Does old es os new = For calls Does old es os new × (new.client ≡ old.client)
+
+-- A session joins on a wire, of which no call is made, for a client of which nothing came.
+pub record IsSeated {W : Type 0} (wire : W) (old_client : Bool) (es : List Event) (os : List Outcome) (seat : Seat W) : Type 0 where
   pub outcome : Outcome
   pub events_are : es ≡ events.Join ∷ []
   pub outcomes_are : os ≡ outcome ∷ []
   pub wire_is : seat.wire ≡ wire
+  pub client_is : seat.client ≡ fresh_client old_client
   pub state_is : state_of seat ≡ joined_state outcome

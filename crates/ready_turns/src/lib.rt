@@ -5,9 +5,11 @@ mod laws;
 mod ready_wire;
 mod seat;
 mod turn;
+mod unsent;
 mod writing;
 
 pub use laws::worked_examples;
 pub use ready_wire::ReadyWire;
-pub use seat::{Ending, ROOM, Seat, Stage};
-pub use turn::{dismiss, join, learn, take_turn};
+pub use seat::{Ending, Seat, Stage};
+pub use turn::{dismiss, join, learn, take_turn, turn_down};
+pub use unsent::ROOM;

@@ -1,11 +1,9 @@
 // A wire and the session on it.
 ghost use Rattle.std.specs.Prelude.{◌≡◌, ◌≤◌, false, [], length, Option, Some, None};
-ghost use Rattle.ready_turns.specs.Seats.{at, acts, has_left, ending_of, state_of};
+ghost use Rattle.ready_turns.specs.Seats.{at, acts, has_left, ending_of, is_waiting, state_of};
 
-use arrayvec::ArrayVec;
-
-/// How many bytes are drawn in a turn, at most.
-pub const ROOM: usize = 4096;
+use crate::unsent::Unsent;
+use old_clients::ClientAdapter;
 
 /// How a session ended.
 #[derive(Clone, Copy, Debug, PartialEq, Eq)]
@@ -22,6 +20,8 @@ pub enum Ending {
     Late,
     /// None joined: as many of its client's origin were in as may be.
     Crowd,
+    /// Its post was not made: as many of its client's origin came as may come in a minute.
+    Often,
 }
 
 /// How far the session on a wire is.
@@ -60,6 +60,13 @@ impl Stage {
         }
     }
 
+    /// Whether the post of the session waits for others.
+    pub fn is_waiting(self) -> bool
+        ensures { result ≡ is_waiting self }
+    {
+        matches!(self, Stage::Waiting(_))
+    }
+
     /// How the session of a closed wire ended.
     pub fn ending(self) -> Option<Ending>
         ensures { result ≡ ending_of self }
@@ -71,13 +78,14 @@ impl Stage {
     }
 }
 
-/// A wire, how far the session on it is, and what is to be sent.
+/// A wire, how far the session on it is, what is to be sent, and the adapter of its client.
 #[derive(Drop)]
 pub struct Seat<W> {
     pub(crate) wire: W,
     pub(crate) stage: Stage,
-    pub(crate) unsent: ArrayVec<u8, ROOM>,
+    pub(crate) unsent: Unsent,
     pub(crate) waits: bool,
+    pub(crate) client: ClientAdapter,
 }
 
 impl<W> Seat<W> {
@@ -106,6 +114,7 @@ impl<W> Seat<W> {
     pub fn wake(&mut self)
         ensures state { state_of self.new ≡ at self.old.stage self.old.unsent.items false }
         ensures wire { self.new.wire ≡ self.old.wire }
+        ensures client { self.new.client ≡ self.old.client }
     {
         self.waits = false;
     }
@@ -115,12 +124,20 @@ impl<W> Seat<W> {
         requires { length unsent.now ≤ 4096 }
         ensures state { state_of self.new ≡ at stage unsent.now false }
         ensures wire { self.new.wire ≡ self.old.wire }
+        ensures client { self.new.client ≡ self.old.client }
     {
         self.stage = stage;
-        self.unsent.clear();
-        if self.unsent.try_extend_from_slice(unsent).is_err() {
-            unreachable!();
-        }
+        self.unsent.fill(unsent);
+        self.waits = false;
+    }
+
+    /// From here on the session is so far, with the same bytes to be sent.
+    pub(crate) fn go_on(&mut self, stage: Stage)
+        ensures state { state_of self.new ≡ at stage self.old.unsent.items false }
+        ensures wire { self.new.wire ≡ self.old.wire }
+        ensures client { self.new.client ≡ self.old.client }
+    {
+        self.stage = stage;
         self.waits = false;
     }
 }

@@ -1,19 +1,21 @@
 // One turn of a session: a read, a draw or a write.
-ghost use Rattle.std.specs.Prelude.{◌≡◌, false, [], ◌∷◌, ◌++◌};
+ghost use Rattle.std.specs.Prelude.{◌≡◌, ◌≤◌, ◌==◌, ◌&&◌, not, true, false, [], ◌∷◌, ◌++◌, length};
+ghost use Rattle.old_clients.specs.Clients.{is_through};
 ghost use Rattle.group_hub.specs.Calls.{HubCall, HubRun};
 ghost use Rattle.group_world.specs.Outcomes.{join_outcome, bytes_outcome};
 ghost use Rattle.turns.specs.Runs.{HasRun};
 ghost use Rattle.turns.specs.WireCalls.{HasMade, Closed};
 ghost use Rattle.turns.specs.Turns.{trace};
 ghost use Rattle.ready_turns.specs.declared.seat.Stage.TheVariants as Stage;
-ghost use Rattle.ready_turns.specs.Seats.{at, state_of, has_left, joined_state, refused_state, heard_state, Listens, Asks, Draws, Replies, Follows, Finishes, Turn, Learns, Dismissed, IsSeated, For};
+ghost use Rattle.ready_turns.specs.Seats.{at, state_of, has_left, joined_state, refused_state, heard_state, HearsPiece, Listens, Asks, Draws, Replies, Follows, Finishes, Learns, Dismissed, TurnedDown, IsSeated, HasTurn, HasKept};
 
 use crate::ReadyWire;
-use crate::seat::{Ending, ROOM, Seat, Stage};
+use crate::seat::{Ending, Seat, Stage};
+use crate::unsent::{ROOM, Unsent};
 use crate::writing::write_on;
-use arrayvec::ArrayVec;
 use group_hub::Hub;
 use group_world::{Drawn, HubFault, InputStatus};
+use old_clients::{ClientAdapter, PASSED, SHARE};
 use turns::{Clock, PIECE, tell, try_again_later};
 use word_index::SearchKeeper;
 
@@ -27,16 +29,17 @@ fn joined(answer: Result<u64, HubFault>) -> Stage
     }
 }
 
-/// A session joins on a wire.
-pub fn join<S: SearchKeeper, W: ReadyWire>(hub: &mut Hub<S>, wire: W) -> Seat<W>
-    ensures { HasRun (HubRun S.site_state S.lacks S.crash_states S.represents) hub.old hub.new [] [] (λ es os. IsSeated wire es os result) }
+/// A session joins on a wire, for an old client or another.
+pub fn join<S: SearchKeeper, W: ReadyWire>(hub: &mut Hub<S>, wire: W, old_client: bool) -> Seat<W>
+    ensures { HasRun (HubRun S.site_state S.lacks S.crash_states S.represents) hub.old hub.new [] [] (λ es os. IsSeated wire old_client es os result) }
 {
     let stage = joined(hub.join());
     Seat {
         wire,
         stage,
-        unsent: ArrayVec::new(),
+        unsent: Unsent::new(),
         waits: false,
+        client: ClientAdapter::new(old_client),
     }
 }
 
@@ -44,6 +47,7 @@ pub fn join<S: SearchKeeper, W: ReadyWire>(hub: &mut Hub<S>, wire: W) -> Seat<W>
 fn refused<W>(seat: &mut Seat<W>, fault: HubFault)
     ensures state { state_of seat.new ≡ refused_state fault }
     ensures wire { seat.new.wire ≡ seat.old.wire }
+    ensures client { seat.new.client ≡ seat.old.client }
 {
     match fault {
         HubFault::Full { .. } | HubFault::Crowded | HubFault::NotReady => {
@@ -57,6 +61,7 @@ fn refused<W>(seat: &mut Seat<W>, fault: HubFault)
 fn heard<W>(seat: &mut Seat<W>, id: u64, answer: Result<InputStatus, HubFault>)
     ensures state { state_of seat.new ≡ heard_state id (bytes_outcome answer) }
     ensures wire { seat.new.wire ≡ seat.old.wire }
+    ensures client { seat.new.client ≡ seat.old.client }
 {
     match answer {
         Ok(InputStatus::More) => seat.become_stage(Stage::Listening(id), b""),
@@ -64,6 +69,35 @@ fn heard<W>(seat: &mut Seat<W>, id: u64, answer: Result<InputStatus, HubFault>)
         Ok(InputStatus::Finished) => seat.become_stage(Stage::Leaving(Ending::Cut), b""),
         Ok(InputStatus::Waiting) => seat.become_stage(Stage::Waiting(id), b""),
         Err(fault) => refused(seat, fault),
+    }
+}
+
+/// Whether all of a piece is held back, where so many bytes are passed on.
+fn is_held(piece: &[u8], count: usize) -> bool
+    ensures { result ≡ (not (length piece.now == 0) && (count == 0)) }
+{
+    !piece.is_empty() && count == 0
+}
+
+/// What was read is passed on, and what the hub makes of that; it is told of nothing where all is held back.
+fn hear_piece<S: SearchKeeper, W, C: Clock>(
+    hub: &mut Hub<S>,
+    seat: &mut Seat<W>,
+    clock: &mut C,
+    id: u64,
+    piece: &[u8],
+)
+    requires { length piece.now ≤ 512 }
+    ensures run { HasRun (HubRun S.site_state S.lacks S.crash_states S.represents) hub.old hub.new (C.given clock.old) (C.given clock.new) (λ es os. HearsPiece seat.old.client seat.new.client id piece.now es os (state_of seat.new)) }
+    ensures wire { seat.new.wire ≡ seat.old.wire }
+{
+    let mut passed = [0; PASSED];
+    let count = seat.client.hear(piece, &mut passed);
+    if is_held(piece, count) {
+        seat.become_stage(Stage::Listening(id), b"");
+    } else {
+        let answer = tell(hub, id, &passed[..count], clock);
+        heard(seat, id, answer);
     }
 }
 
@@ -75,31 +109,59 @@ fn hear<S: SearchKeeper, W: ReadyWire, C: Clock>(
     id: u64,
 )
     requires { seat.old.stage ≡ Stage.Listening id }
-    ensures { HasRun (HubRun S.site_state S.lacks S.crash_states S.represents) hub.old hub.new (C.given clock.old) (C.given clock.new) (λ es os. HasMade (W.calls seat.old.wire) (W.calls seat.new.wire) (λ made. Listens id seat.old.unsent.items (trace made es os) (state_of seat.new))) }
+    ensures { HasRun (HubRun S.site_state S.lacks S.crash_states S.represents) hub.old hub.new (C.given clock.old) (C.given clock.new) (λ es os. HasMade (W.calls seat.old.wire) (W.calls seat.new.wire) (λ made. Listens seat.old.client seat.new.client id seat.old.unsent.items (trace made es os) (state_of seat.new))) }
 {
     let mut buffer = [0; PIECE];
     match seat.wire.read(&mut buffer) {
-        Ok(Some(count)) => {
-            let answer = tell(hub, id, &buffer[..count], clock);
-            heard(seat, id, answer);
-        }
+        Ok(Some(count)) => hear_piece(hub, seat, clock, id, &buffer[..count]),
         Ok(None) => seat.waits = true,
         Err(_) => seat.become_stage(Stage::Leaving(Ending::Cut), b""),
     }
 }
 
-/// One draw.
-fn draw<S: SearchKeeper, W>(hub: &mut Hub<S>, seat: &mut Seat<W>, id: u64)
-    ensures run { HasRun (HubRun S.site_state S.lacks S.crash_states S.represents) hub.old hub.new [] [] (λ es os. Draws id (trace [] es os) (state_of seat.new)) }
+/// One draw, of bytes that are sent as they come.
+fn draw_through<S: SearchKeeper, W>(hub: &mut Hub<S>, seat: &mut Seat<W>, id: u64)
+    requires { is_through seat.old.client.answers ≡ true }
+    ensures run { HasRun (HubRun S.site_state S.lacks S.crash_states S.represents) hub.old hub.new [] [] (λ es os. Draws seat.old.client seat.new.client id (trace [] es os) (state_of seat.new)) }
     ensures wire { seat.new.wire ≡ seat.old.wire }
 {
-    let mut buffer = [0; ROOM];
-    match hub.draw(id, &mut buffer) {
-        Ok(Drawn::Bytes(count)) => {
-            seat.become_stage(Stage::Replying(id), &buffer[..count.min(ROOM)]);
-        }
+    match seat.unsent.draw(hub, id) {
+        Ok(Drawn::Bytes(_)) => seat.go_on(Stage::Replying(id)),
         Ok(Drawn::Finished) => seat.become_stage(Stage::Leaving(Ending::Served), b""),
         Err(_) => seat.become_stage(Stage::Leaving(Ending::Failed), b""),
+    }
+}
+
+/// One draw, of bytes that are adapted.
+fn draw_adapted<S: SearchKeeper, W>(hub: &mut Hub<S>, seat: &mut Seat<W>, id: u64)
+    requires { is_through seat.old.client.answers ≡ false }
+    ensures run { HasRun (HubRun S.site_state S.lacks S.crash_states S.represents) hub.old hub.new [] [] (λ es os. Draws seat.old.client seat.new.client id (trace [] es os) (state_of seat.new)) }
+    ensures wire { seat.new.wire ≡ seat.old.wire }
+{
+    let mut drawn = [0; SHARE];
+    let mut part = [0; ROOM];
+    match hub.draw(id, &mut drawn) {
+        Ok(Drawn::Bytes(count)) => {
+            let given = seat.client.answer(&drawn[..count.min(SHARE)], &mut part);
+            seat.become_stage(Stage::Replying(id), &part[..given]);
+        }
+        Ok(Drawn::Finished) => {
+            let given = seat.client.close(&mut part);
+            seat.become_stage(Stage::Leaving(Ending::Served), &part[..given]);
+        }
+        Err(_) => seat.become_stage(Stage::Leaving(Ending::Failed), b""),
+    }
+}
+
+/// One draw.
+fn draw<S: SearchKeeper, W>(hub: &mut Hub<S>, seat: &mut Seat<W>, id: u64)
+    ensures run { HasRun (HubRun S.site_state S.lacks S.crash_states S.represents) hub.old hub.new [] [] (λ es os. Draws seat.old.client seat.new.client id (trace [] es os) (state_of seat.new)) }
+    ensures wire { seat.new.wire ≡ seat.old.wire }
+{
+    if seat.client.is_through() {
+        draw_through(hub, seat, id);
+    } else {
+        draw_adapted(hub, seat, id);
     }
 }
 
@@ -107,6 +169,7 @@ fn draw<S: SearchKeeper, W>(hub: &mut Hub<S>, seat: &mut Seat<W>, id: u64)
 fn ask<S: SearchKeeper, W>(hub: &mut Hub<S>, seat: &mut Seat<W>, id: u64)
     ensures run { HasRun (HubRun S.site_state S.lacks S.crash_states S.represents) hub.old hub.new [] [] (λ es os. Asks id (trace [] es os) (state_of seat.new)) }
     ensures wire { seat.new.wire ≡ seat.old.wire }
+    ensures client { seat.new.client ≡ seat.old.client }
 {
     match hub.draw(id, &mut []) {
         Ok(_) => seat.become_stage(Stage::Replying(id), b""),
@@ -127,7 +190,7 @@ fn follow<S: SearchKeeper>(hub: &mut Hub<S>, stage: Stage, id: u64)
 fn reply<S: SearchKeeper, W: ReadyWire>(hub: &mut Hub<S>, seat: &mut Seat<W>, id: u64)
     requires stage { seat.old.stage ≡ Stage.Replying id }
     requires ready { seat.old.waits ≡ false }
-    ensures { HasRun (HubRun S.site_state S.lacks S.crash_states S.represents) hub.old hub.new [] [] (λ es os. HasMade (W.calls seat.old.wire) (W.calls seat.new.wire) (λ made. Replies id seat.old.unsent.items (trace made es os) (state_of seat.new))) }
+    ensures { HasRun (HubRun S.site_state S.lacks S.crash_states S.represents) hub.old hub.new [] [] (λ es os. HasMade (W.calls seat.old.wire) (W.calls seat.new.wire) (λ made. Replies seat.old.client seat.new.client id seat.old.unsent.items (trace made es os) (state_of seat.new))) }
 {
     if seat.unsent.is_empty() {
         draw(hub, seat, id);
@@ -140,6 +203,7 @@ fn reply<S: SearchKeeper, W: ReadyWire>(hub: &mut Hub<S>, seat: &mut Seat<W>, id
 fn shut<W: ReadyWire>(seat: &mut Seat<W>, ending: Ending)
     ensures calls { W.calls seat.new.wire ≡ W.calls seat.old.wire ++ Closed ∷ [] }
     ensures state { state_of seat.new ≡ at (Stage.Closed ending) [] false }
+    ensures client { seat.new.client ≡ seat.old.client }
 {
     seat.wire.close();
     seat.become_stage(Stage::Closed(ending), b"");
@@ -149,7 +213,8 @@ fn shut<W: ReadyWire>(seat: &mut Seat<W>, ending: Ending)
 fn finish<W: ReadyWire>(seat: &mut Seat<W>, ending: Ending)
     requires stage { seat.old.stage ≡ Stage.Leaving ending }
     requires ready { seat.old.waits ≡ false }
-    ensures { HasMade (W.calls seat.old.wire) (W.calls seat.new.wire) (λ made. Finishes ending seat.old.unsent.items (trace made [] []) (state_of seat.new)) }
+    ensures made { HasMade (W.calls seat.old.wire) (W.calls seat.new.wire) (λ made. Finishes ending seat.old.unsent.items (trace made [] []) (state_of seat.new)) }
+    ensures client { seat.new.client ≡ seat.old.client }
 {
     if seat.unsent.is_empty() {
         shut(seat, ending);
@@ -164,7 +229,7 @@ pub fn take_turn<S: SearchKeeper, W: ReadyWire, C: Clock>(
     seat: &mut Seat<W>,
     clock: &mut C,
 )
-    ensures { HasRun (HubRun S.site_state S.lacks S.crash_states S.represents) hub.old hub.new (C.given clock.old) (C.given clock.new) (λ es os. For W.calls Turn seat.old es os seat.new) }
+    ensures { HasRun (HubRun S.site_state S.lacks S.crash_states S.represents) hub.old hub.new (C.given clock.old) (C.given clock.new) (λ es os. HasTurn W.calls seat.old es os seat.new) }
 {
     if seat.waits {
         return;
@@ -186,7 +251,7 @@ pub fn take_turn<S: SearchKeeper, W: ReadyWire, C: Clock>(
 
 /// A session whose post waited learns what came of it, once the posts that wait were made.
 pub fn learn<S: SearchKeeper, W: ReadyWire>(hub: &mut Hub<S>, seat: &mut Seat<W>)
-    ensures { HasRun (HubRun S.site_state S.lacks S.crash_states S.represents) hub.old hub.new [] [] (λ es os. For W.calls Learns seat.old es os seat.new) }
+    ensures { HasRun (HubRun S.site_state S.lacks S.crash_states S.represents) hub.old hub.new [] [] (λ es os. HasKept W.calls Learns seat.old es os seat.new) }
 {
     match seat.stage {
         Stage::Waiting(id) => {
@@ -199,7 +264,7 @@ pub fn learn<S: SearchKeeper, W: ReadyWire>(hub: &mut Hub<S>, seat: &mut Seat<W>
 
 /// A session whose time is over leaves the hub, and its wire is closed.
 pub fn dismiss<S: SearchKeeper, W: ReadyWire>(hub: &mut Hub<S>, seat: &mut Seat<W>)
-    ensures { HasRun (HubRun S.site_state S.lacks S.crash_states S.represents) hub.old hub.new [] [] (λ es os. For W.calls Dismissed seat.old es os seat.new) }
+    ensures { HasRun (HubRun S.site_state S.lacks S.crash_states S.represents) hub.old hub.new [] [] (λ es os. HasKept W.calls Dismissed seat.old es os seat.new) }
 {
     match seat.stage {
         Stage::Listening(id) | Stage::Waiting(id) | Stage::Replying(id) => {
@@ -208,5 +273,18 @@ pub fn dismiss<S: SearchKeeper, W: ReadyWire>(hub: &mut Hub<S>, seat: &mut Seat<
         }
         Stage::Leaving(_) => shut(seat, Ending::Late),
         Stage::Closed(_) => {}
+    }
+}
+
+/// A session whose post waits leaves the hub, so that its post is not made, and its client is asked to try again later.
+pub fn turn_down<S: SearchKeeper, W: ReadyWire>(hub: &mut Hub<S>, seat: &mut Seat<W>)
+    ensures { HasRun (HubRun S.site_state S.lacks S.crash_states S.represents) hub.old hub.new [] [] (λ es os. HasKept W.calls TurnedDown seat.old es os seat.new) }
+{
+    match seat.stage {
+        Stage::Waiting(session) => {
+            let _ = hub.leave(session);
+            seat.become_stage(Stage::Leaving(Ending::Often), try_again_later());
+        }
+        _ => {}
     }
 }

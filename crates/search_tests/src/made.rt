@@ -5,7 +5,7 @@ use crate::trouble::Trouble;
 use cow_tree::{TreeKeeper, format};
 use host_types::{Admin, Bytes, Host, Stamp, Title};
 use mem_site::MemSite;
-use page_store::{Banner, Edit};
+use page_store::{Banner, Edit, PinKeeper};
 use sector_device::MemDisk;
 use site_store::{DiskSite, first_pairs};
 use std::alloc::Global;
@@ -70,6 +70,14 @@ fn keeper_on(alloc: Global, disk: MemDisk, reads: Reads) -> Result<Tree, Trouble
     }
 }
 
+/// The disk of a keeper, of which no pin is to be out.
+pub fn device_under(keeper: Tree) -> Result<CountingDisk<MemDisk>, Trouble> {
+    if !keeper.is_unpinned() {
+        return Err(Trouble::Wrong("a pin is out"));
+    }
+    Ok(keeper.into_device())
+}
+
 /// The site on a disk.
 pub fn site_on(alloc: Global, disk: CountingDisk<MemDisk>) -> Result<TreeSite, Trouble> {
     let keeper = match TreeKeeper::open(alloc, disk) {
@@ -87,7 +95,7 @@ pub fn on_disk(alloc: Global, reads: Reads) -> Result<TreeSite, Trouble> {
     let Names { host, admin, title } = Names::new()?;
     let mut keeper = keeper_on(alloc, formatted(alloc, host, admin)?, reads)?;
     commit(&mut keeper, &first_edits(alloc, &title)?)?;
-    site_on(alloc, keeper.into_device())
+    site_on(alloc, device_under(keeper)?)
 }
 
 /// The sectors of an image.

@@ -1,6 +1,6 @@
 // The same site twice, on a disk and in memory, and queries to both.
 use crate::counting::Reads;
-use crate::made::{Tree, TreeSite, in_memory, of_image, on_disk, site_on};
+use crate::made::{Tree, TreeSite, device_under, in_memory, of_image, on_disk, site_on};
 use crate::trouble::Trouble;
 use host_types::{Change, Selector, SiteKeeper, Stamp};
 use mem_site::MemSite;
@@ -130,9 +130,12 @@ impl Sites {
         let Some(site) = self.disk.take() else {
             return Err(Trouble::Wrong("no site"));
         };
+        if !site.is_unpinned() {
+            return Err(Trouble::Wrong("a pin is out"));
+        }
         let mut keeper = site.into_keeper();
         let found = filtered_in(self.alloc, &mut keeper, queries)?;
-        self.disk = Some(site_on(self.alloc, keeper.into_device())?);
+        self.disk = Some(site_on(self.alloc, device_under(keeper)?)?);
         Ok(found)
     }
 

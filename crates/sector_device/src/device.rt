@@ -76,7 +76,7 @@ pub trait Device {
         ensures time { IsTrue (state self.old).honest → Elapses (moment self.old) (moment self.new) (possible_since self.old) (possible_since self.new) }
         ensures work { MadeExactly 0 1 0 (state self.old) (state self.new) };
 
-    /// MadeExactly sure of all that reads give.
+    /// Makes sure of all that reads give.
     fn sync(&mut self) -> Result<(), DeviceFault>
         ensures synced { IsTrue (state self.old).honest → OnOk result ((state self.new).disk ≡ synced (state self.old).disk) }
         ensures failed { IsTrue (state self.old).honest → OnErr result (SyncFailed (state self.old).disk (state self.new).disk) }

@@ -1,5 +1,6 @@
 // Reading the entries of a menu.
-ghost use Rattle.std.specs.Prelude.{◌≡◌, ◌++◌, IfOk, IfErr, IsTrue, List, Some};
+ghost use Rattle.std.specs.Prelude.{◌≡◌, ◌∷◌, ◌++◌, [], IfOk, IfErr, IsTrue, List, Some, None};
+ghost use Rattle.site_records.specs.declared.record.RecordFault.TheVariants.{BadRecord};
 ghost use Rattle.host_types.specs.declared.menu.Entry.{Entry};
 ghost use Rattle.site_records.specs.Records.{entries_bytes};
 ghost use Rattle.site_records.specs.Limits.{are_entries};
@@ -66,6 +67,21 @@ fn entry_of(bytes: &[u8]) -> Result<(Entry, &[u8]), RecordFault>
     entry_behind(tag, rest)
 }
 
+/// Adds the entry at the front of the bytes, and says whether there was memory for it, and what stands behind it. A local one, which most are, is
+/// made where it is added: to hand it on would copy each field that it might have.
+#[tactic(auto, unfolding(crate::specs::Reading::entry_at, crate::specs::Reading::entry_behind, crate::specs::Field::byte, crate::specs::Field::mapped))]
+fn add_entry<'a>(entries: &mut EntryList, bytes: &'a [u8]) -> Result<(bool, &'a [u8]), RecordFault>
+    ensures added { IfOk result (λ a. (entry : Entry) × (entry_at bytes.now ≡ Some (entry, a.1.now)) × (IsTrue a.0 → entries.new ≡ entries.old ++ entry ∷ [])) }
+    ensures fault { IfErr result (λ e. (e ≡ BadRecord) × (entry_at bytes.now ≡ None)) }
+{
+    if let [b'L', fields @ ..] = bytes {
+        let (selector, behind) = selector_of(fields)?;
+        return Ok((entries.push(Entry::Local(selector)).is_ok(), behind));
+    }
+    let (entry, behind) = entry_of(bytes)?;
+    Ok((entries.push(entry).is_ok(), behind))
+}
+
 /// The fault where memory is lacking and so many entries may come yet: one that can't be read goes before.
 fn lacking(most: usize, bytes: &[u8]) -> RecordFault
     ensures { Fails result (until_end entry_at most bytes.now) }
@@ -97,11 +113,11 @@ fn entries_within(alloc: Global, most: usize, bytes: &[u8]) -> Result<EntryList,
         if rest.is_empty() {
             return Ok(entries);
         }
-        let (entry, behind) = entry_of(rest)?;
-        match entries.push(entry) {
-            Ok(()) => rest = behind,
-            Err(_) => return Err(lacking(most - 1 - count, behind)),
+        let (is_added, behind) = add_entry(&mut entries, rest)?;
+        if !is_added {
+            return Err(lacking(most - 1 - count, behind));
         }
+        rest = behind;
     }
     if rest.is_empty() {
         Ok(entries)

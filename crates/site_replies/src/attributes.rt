@@ -1,5 +1,6 @@
 // Attributes of what stands in a site.
-ghost use Rattle.std.specs.Prelude.{◌≡◌, true, filter_map, IfOk, IfErr, IsTrue};
+ghost use Rattle.std.specs.Prelude.{◌≡◌, ◌++◌, true, filter_map, OnOk, IfOk, IfErr, IsTrue};
+ghost use Rattle.std.specs.Option.{option_to_list};
 ghost use Rattle.host_types.specs.Card.{card_at};
 ghost use Rattle.host_types.specs.Visible.{visible};
 ghost use Rattle.host_types.specs.SiteState.{HasRead, LacksTheSame, IsReadFault};
@@ -8,9 +9,8 @@ ghost use Rattle.site_replies.specs.Reads.{Reads};
 ghost use Rattle.site_replies.specs.Reply as spec;
 ghost use Rattle.site_replies.specs.Reply.{found_blocks, entry_block, attributes_of};
 
-use crate::entries::posts;
+use crate::entries::{locals, post_names};
 use crate::looking::card_at;
-use crate::menus::add_any;
 use crate::posts::error_reply_of;
 use host_types::{Bytes, CardBody, Entry, LineList, Selector, SiteFault, Stamp};
 use plus_blocks::{entry_attributes, info, item_blocks};
@@ -65,6 +65,16 @@ fn blocks_of<S: SearchKeeper>(
     Ok(link_block(alloc, line)?)
 }
 
+/// Adds the blocks of an entry, where there are some.
+fn add_any(all: &mut LineList, blocks: Option<Bytes>) -> Result<(), AllocError>
+    ensures { OnOk result (all.new ≡ all.old ++ option_to_list blocks) }
+{
+    if let Some(blocks) = blocks {
+        all.push(blocks)?;
+    }
+    Ok(())
+}
+
 /// The blocks of the entries that have some.
 #[tactic(auto, using(crate::proofs::AfterReads::lacking_on, crate::proofs::Picks::filter_map_push))]
 fn all_blocks<S: SearchKeeper>(
@@ -112,7 +122,8 @@ pub fn entries_reply<S: SearchKeeper>(
     match body {
         CardBody::Menu(entries) => attributes_of(alloc, site, names, entries.as_slice(), now),
         CardBody::Board { cap, next } => {
-            let entries = posts(alloc, selector, *cap, *next)?;
+            let names_of_posts = post_names(alloc, selector, *cap, *next)?;
+            let entries = locals(alloc, names_of_posts.as_slice())?;
             attributes_of(alloc, site, names, entries.as_slice(), now)
         }
         _ => Ok(error_reply_of(alloc, true, ErrorText::NotAMenu)?),

@@ -5,6 +5,7 @@ ghost use Rattle.site_replies.specs.Reply.{locals, post_names};
 
 use host_types::{Entry, EntryList, Selector};
 use std::alloc::{AllocError, Global};
+use word_index::SelectorList;
 
 /// The entries of items of this site.
 pub fn locals(alloc: Global, selectors: &[Selector]) -> Result<EntryList, AllocError>
@@ -17,33 +18,38 @@ pub fn locals(alloc: Global, selectors: &[Selector]) -> Result<EntryList, AllocE
     Ok(entries)
 }
 
-/// Adds the entry of a post whose selector is a name.
+/// Adds the selector of a post where it is a name.
 fn add_post(
     alloc: Global,
-    entries: &mut EntryList,
+    names: &mut SelectorList,
     board: &Selector,
     number: u64,
 ) -> Result<(), AllocError>
-    ensures { OnOk result (entries.new ≡ entries.old ++ locals (filter (λ name. nat_le (length name) 255) (post_selector board.now number ∷ []))) }
+    ensures { OnOk result (names.new ≡ names.old ++ filter (λ name. nat_le (length name) 255) (post_selector board.now number ∷ [])) }
 {
     if let Some(selector) = Selector::of_post(alloc, board, number)? {
-        entries.push(Entry::Local(selector))?;
+        names.push(selector)?;
     }
     Ok(())
 }
 
-/// The entries of a board: its posts, newest first, whether they are there or not.
-pub fn posts(alloc: Global, board: &Selector, cap: u16, next: u64) -> Result<EntryList, AllocError>
-    ensures { IfOk result (λ entries. entries ≡ locals (post_names board.now cap next)) }
+/// The posts of a board, newest first, whether they are there or not.
+pub fn post_names(
+    alloc: Global,
+    board: &Selector,
+    cap: u16,
+    next: u64,
+) -> Result<SelectorList, AllocError>
+    ensures { IfOk result (λ names. names ≡ post_names board.now cap next) }
 {
-    let mut entries = EntryList::new(alloc);
+    let mut names = SelectorList::new(alloc);
     let mut number = next;
     for _ in 0..cap {
         if number <= 1 {
-            return Ok(entries);
+            return Ok(names);
         }
         number -= 1;
-        add_post(alloc, &mut entries, board, number)?;
+        add_post(alloc, &mut names, board, number)?;
     }
-    Ok(entries)
+    Ok(names)
 }

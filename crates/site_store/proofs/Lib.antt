@@ -26,6 +26,8 @@ pub mod Searches
 pub mod ItemCounts
 pub mod SitesCompacted
 pub mod ShortSites
+pub mod PagesSearched
+pub mod CardLookUps
 pub mod PairsFound
 pub mod LayoutsCounted
 pub mod SiteCounts

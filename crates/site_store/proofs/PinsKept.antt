@@ -11,6 +11,7 @@ use Rattle.page_store.specs.Pages.{Pair}
 use Rattle.page_store.specs.StoreState.{StoreState, CommitNeed, HasRead, HasStayed, IsCommitFault, numbers_out}
 use Rattle.page_store.specs.declared.fault.KeeperFault.{KeeperFault}
 use Rattle.page_store.specs.declared.fault.KeeperFault.TheVariants as kinds
+use Rattle.site_store.specs.Represented.{HasSite, site_state_of}
 use Rattle.site_store.specs.PinnedItems.{Pins, IsLaidOut, HasItems, AllHave, items_of, items_at, pins_of, same_items}
 
 -- ---- the pins by their numbers
@@ -105,7 +106,7 @@ pins_stay_read old new read = record { out = read.same.out; pins = read.same.pin
 pins_stayed : (old new : StoreState) → HasStayed old new → PinsStay old new
 pins_stayed old new same = record { out = same.out; pins = same.pins }
 
-fault_pins : (old new : StoreState) (edits : ℕ) (may_need : CommitNeed → Type 0) (fault : KeeperFault) → IsCommitFault old new edits may_need fault → PinsStay old new
+pub fault_pins : (old new : StoreState) (edits : ℕ) (may_need : CommitNeed → Type 0) (fault : KeeperFault) → IsCommitFault old new edits may_need fault → PinsStay old new
 fault_pins old new edits may_need kinds.Device h = pins_stayed old new h.0
 fault_pins old new edits may_need kinds.NoImage h = absurd h
 fault_pins old new edits may_need kinds.Version h = absurd h
@@ -128,3 +129,17 @@ have_still old new stay honest have = subst AllHave (sym (stay.pins honest)) hav
 -- no pin is out
 pub none_have : (pins : Pins) → pins ≡ [] → AllHave pins
 none_have pins none = subst AllHave (sym none) (λ number. tt)
+
+-- ---- where no pin is out
+
+-- no pin of a site is out where none of its store is
+pub no_site_pins : (h : StoreState) (keeps : HasSite h) → h.pins ≡ [] → (site_state_of h keeps).pins ≡ []
+no_site_pins h keeps none = ap (λ (numbers : List ℕ). map (λ number. (number, items_at h.honest h.pins (λ honest. (keeps honest).2) number)) numbers) (ap (λ (pins : List (ℕ × List Pair)). map (λ (pin : ℕ × List Pair). pin.0) pins) none)
+
+none_named : (honest : Bool) (pins : Pins) (have : IsTrue honest → AllHave pins) → pins_of honest pins have ≡ [] → pins ≡ []
+none_named honest [] have none = refl
+none_named honest (pin ∷ pins) have none = absurd (cc none)
+
+-- and the other way round
+pub no_store_pins : (h : StoreState) (keeps : HasSite h) → (site_state_of h keeps).pins ≡ [] → h.pins ≡ []
+no_store_pins h keeps none = none_named h.honest h.pins (λ honest. (keeps honest).2) none

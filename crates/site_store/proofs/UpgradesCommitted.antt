@@ -5,15 +5,17 @@ use mathlib.Core.Logic.{∥∥₁_elim}
 use Rattle.common_types.specs.Counts.{counted}
 use Rattle.common_types.specs.CrashStates.{CrashStates, AddsOnly, AddsNone, adds_both, may_crash_to}
 use Rattle.host_types.specs.Site.{Site}
+use Rattle.page_store.specs.Work.{WritesAtMost, nothing_then, nothing_at_most, writes_behind}
 use Rattle.page_store.specs.Batch.{updated}
 use Rattle.page_store.specs.Counting.{reads_after, writes_after}
 use Rattle.page_store.specs.Pages.{Pair}
-use Rattle.page_store.specs.StoreState.{StoreState, CommitNeed, SoManyPages, TooManyLevels, HasRead, HasStayed, HasFailed, HasTried, NeedsTheSame, IsCommitFault, MayBeDeep, edits_to_be_deep}
+use Rattle.page_store.specs.StoreState.{numbers_out, StoreState, CommitNeed, SoManyPages, TooManyLevels, HasRead, HasStayed, HasFailed, HasTried, NeedsTheSame, IsCommitFault, MayBeDeep, edits_to_be_deep}
 use Rattle.page_store.specs.declared.banner.Banner.{Banner}
 use Rattle.page_store.specs.declared.edit.Edit.{Edit}
 use Rattle.page_store.specs.declared.fault.KeeperFault.{KeeperFault}
 use Rattle.page_store.specs.declared.fault.KeeperFault.TheVariants as kinds
 use Rattle.site_records.specs.Layout.{Pairs, layout}
+use Rattle.site_store.proofs.PinsKept.{fault_pins}
 use Rattle.site_store.proofs.RaisedPairs.{raises}
 use Rattle.site_store.proofs.StoreAsSite.{none_added_crashes}
 use Rattle.site_store.proofs.Upgrades.{shown_raised, makes_layout, one_for_each}
@@ -64,10 +66,10 @@ uncounted true kinds.Memory old new up other same = same
 
 module _ (a b : StoreState) (may_need : List Edit → CommitNeed → Type 0) (up : a.usable ≡ true) (read : HasRead a b) where
   keeper_refused : (fault : KeeperFault) → IsCountedFault a b fault → IsNotUpgraded a b may_need (Keeper fault)
-  keeper_refused kinds.Device h = record { cause = read.same; honest = read.honest; reads = h.1; writes = uncounted a.usable kinds.Device a.failed_writes b.failed_writes up (λ is. absurd (cc is)) read.writes }
+  keeper_refused kinds.Device h = record { cause = read.same; honest = read.honest; reads = h.1; writes = uncounted a.usable kinds.Device a.failed_writes b.failed_writes up (λ is. absurd (cc is)) read.writes; out = read.same.out; calls = nothing_at_most read.same.calls a.free }
   keeper_refused kinds.NoImage h = absurd h.0
   keeper_refused kinds.Version h = absurd h.0
-  keeper_refused (kinds.Damaged page) h = record { cause = (read.same, h.0); honest = read.honest; reads = h.1; writes = uncounted a.usable (kinds.Damaged page) a.failed_writes b.failed_writes up (λ is. absurd (cc is)) read.writes }
+  keeper_refused (kinds.Damaged page) h = record { cause = (read.same, h.0); honest = read.honest; reads = h.1; writes = uncounted a.usable (kinds.Damaged page) a.failed_writes b.failed_writes up (λ is. absurd (cc is)) read.writes; out = read.same.out; calls = nothing_at_most read.same.calls a.free }
   keeper_refused kinds.Small h = absurd h.0
   keeper_refused kinds.Spent h = absurd h.0
   keeper_refused kinds.Deep h = absurd h.0
@@ -76,9 +78,9 @@ module _ (a b : StoreState) (may_need : List Edit → CommitNeed → Type 0) (up
   keeper_refused kinds.Memory h = absurd h.0
 
   pub not_read : (fault : SiteOpenFault) → IsFirstReadFault a b fault → IsNotUpgraded a b may_need fault
-  not_read BadRecord h = record { cause = (read.same, λ honest s first. h.1 honest (s, first)); honest = read.honest; reads = h.0; writes = read.writes }
+  not_read BadRecord h = record { cause = (read.same, λ honest s first. h.1 honest (s, first)); honest = read.honest; reads = h.0; writes = read.writes; out = read.same.out; calls = nothing_at_most read.same.calls a.free }
   not_read (Keeper fault) h = keeper_refused fault h
-  not_read Memory h = record { cause = read.same; honest = read.honest; reads = h; writes = read.writes }
+  not_read Memory h = record { cause = read.same; honest = read.honest; reads = h; writes = read.writes; out = read.same.out; calls = nothing_at_most read.same.calls a.free }
 
 -- ---- the commit
 
@@ -94,6 +96,7 @@ stay_on a b c x y = record {
   keys = y.keys ∙ x.same.keys;
   out = y.out ∙ x.same.out;
   pins = λ honest. y.pins (x.honest ∙ honest) ∙ x.same.pins honest;
+  calls = nothing_then x.same.calls y.calls;
 }
 
 fail_on : (a b c : StoreState) → HasRead a b → HasFailed b c → HasFailed a c
@@ -167,12 +170,14 @@ module _ (a b c : StoreState) (need_a need_b : List Edit → CommitNeed → Type
   writes_as true kinds.Memory n = refl
   writes_as false kinds.Memory n = refl
 
-  pub not_committed : (fault : KeeperFault) → IsCommitFault b c (length batch) (need_b batch) fault → HasTried b c → c.failed_reads ≡ reads_after fault b.failed_reads → c.failed_writes ≡ writes_after b.usable fault b.failed_writes → IsNotUpgraded a c need_a (commit_fault fault)
-  not_committed fault h tried reads writes = record {
+  pub not_committed : (fault : KeeperFault) → IsCommitFault b c (length batch) (need_b batch) fault → HasTried b c → c.failed_reads ≡ reads_after fault b.failed_reads → c.failed_writes ≡ writes_after b.usable fault b.failed_writes → WritesAtMost b.free b.made c.made → IsNotUpgraded a c need_a (commit_fault fault)
+  not_committed fault h tried reads writes work = record {
     cause = commit_cause fault h;
     honest = tried.honest ∙ read.honest;
     reads = reads ∙ ap (reads_after fault) none ∙ reads_as fault a.failed_reads;
     writes = writes ∙ ap (λ (u : Bool). writes_after u fault b.failed_writes) read.same.usable ∙ ap (writes_after a.usable fault) read.writes ∙ writes_as a.usable fault a.failed_writes;
+    out = (fault_pins b c (length batch) (need_b batch) fault h).out ∙ read.same.out;
+    calls = subst (λ (free : ℕ). WritesAtMost free a.made c.made) read.same.free (writes_behind read.same.calls work);
   }
 
   -- what the commit makes represents the site
@@ -188,8 +193,8 @@ module _ (a b c : StoreState) (need_a need_b : List Edit → CommitNeed → Type
         version = ap (λ (x : Banner). x.version) under;
       }
 
-  pub is_upgraded : (banner : Banner) (count : ℕ) → banner ≡ raised_banner b.banner → (IsTrue b.honest → c.pairs ≡ updated b.pairs batch) → c.banner ≡ banner → c.usable ≡ true → c.top ≡ b.top + 1 → c.generation ≡ b.top + 1 → HasTried b c → c.failed_reads ≡ b.failed_reads → c.failed_writes ≡ b.failed_writes → count ≡ length batch → IsFirstWhole a count → IsUpgraded a c count
-  is_upgraded banner count is pairs named usable top generation tried reads writes counted_is whole = record {
+  pub is_upgraded : (banner : Banner) (count : ℕ) → banner ≡ raised_banner b.banner → (IsTrue b.honest → c.pairs ≡ updated b.pairs batch) → c.banner ≡ banner → c.usable ≡ true → c.top ≡ b.top + 1 → c.generation ≡ b.top + 1 → HasTried b c → c.failed_reads ≡ b.failed_reads → c.failed_writes ≡ b.failed_writes → numbers_out c ≡ numbers_out b → WritesAtMost b.free b.made c.made → count ≡ length batch → IsFirstWhole a count → IsUpgraded a c count
+  is_upgraded banner count is pairs named usable top generation tried reads writes out work counted_is whole = record {
     site = λ honest.
         let u = upgrade honest in
         let shown = made banner u.0 is honest u.1 u.2 in (
@@ -213,6 +218,8 @@ module _ (a b c : StoreState) (need_a need_b : List Edit → CommitNeed → Type
     honest = tried.honest ∙ read.honest;
     reads = reads ∙ none;
     writes = writes ∙ read.writes;
+    out = out ∙ read.same.out;
+    calls = subst (λ (free : ℕ). WritesAtMost free a.made c.made) read.same.free (writes_behind read.same.calls work);
   }
 
   -- what a crash leaves represents the site, in version 1 or 2

@@ -1,5 +1,6 @@
 pub mod PinnedItems
 pub mod Represented
+pub mod Work
 pub mod StoreReads
 pub mod Reads
 pub mod StoreFault
@@ -7,8 +8,8 @@ pub mod Planned
 pub mod LookUps
 pub mod ReadLaws
 pub mod LookUpLaws
-pub mod Seen
 pub mod Lacking
+pub mod Seen
 pub mod CrashStatesRepresent
 pub mod Pinned
 pub mod Opening

@@ -1,9 +1,11 @@
 -- Reading a whole site from its pairs.
-use Rattle.std.specs.Prelude.{◌≡◌, ◌<◌, ◌≤◌, ℕ, All, ◌==◌, slice_index_or, true, false, length, flat_map, List, [], ◌∷◌, Option, Some, None, IsTrue, if◌then◌else◌}
+use Rattle.std.specs.Prelude.{◌≡◌, ◌+◌, ◌*◌, ◌<◌, ◌≤◌, ℕ, All, ◌==◌, slice_index_or, true, false, length, flat_map, List, [], ◌∷◌, Option, Some, None, IsTrue, if◌then◌else◌}
 use Rattle.std.specs.List.{AllByRecursion}
 use Rattle.common_types.specs.Counts.{counted}
 use Rattle.host_types.specs.Site.{Site, IsSite, item_at, with_item}
 use Rattle.host_types.specs.declared.item.Item.{Item}
+use Rattle.sector_device.specs.CallsMade.{none_made}
+use Rattle.page_store.specs.Work.{ReadsPages, pages_tried}
 use Rattle.page_store.specs.Pages.{Pair}
 use Rattle.page_store.specs.Batch.{value_at}
 pub use Rattle.page_store.specs.PairsInOrder.{key_or_none, last_key, AreFirst}
@@ -79,7 +81,7 @@ KeysFit pairs = All (λ p. length p.0 ≤ 300) pairs
 
 -- Pairs in memory under a banner, as a store that holds them: no read of it fails, and it is never written.
 abbrev pub pairs_state : List Pair → Banner → StoreState
-pairs_state pairs banner = record { pairs = pairs; banner = banner; honest = true; usable = true; failed_reads = 0; failed_writes = 0; generation = 0; top = 0; free = 0; height = 0; keys = length pairs; pins = [] }
+pairs_state pairs banner = record { pairs = pairs; banner = banner; honest = true; usable = true; failed_reads = 0; failed_writes = 0; generation = 0; top = 0; free = 0; height = 0; keys = length pairs; made = none_made; pins = [] }
 
 -- no item is too long
 abbrev pub AreShort : List (List ℕ × Item) → Type 0
@@ -105,3 +107,7 @@ AreCounted all n es = StandAmong all (pairs_in es) × (n ≡ length (pairs_in es
 -- These pairs are the layout of a site that keeps all rules.
 abbrev pub IsLayoutOf : List Pair → Site → Type 0
 IsLayoutOf pairs s = IsSite s × (pairs ≡ layout s)
+
+-- How much is read of a store to go through its pairs once: one search for each pair, and one that finds no more.
+abbrev pub ReadsAll : StoreState → StoreState → Type 0
+ReadsAll old new = ReadsPages ((old.keys + 1) * pages_tried old.height) old.made new.made

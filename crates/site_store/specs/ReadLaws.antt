@@ -6,12 +6,13 @@ use mathlib.Core.Logic.{∥∥₁_elim}
 use Rattle.host_types.specs.Site.{Site, IsSite, item_at}
 use Rattle.host_types.specs.Standing.{limits_at}
 use Rattle.host_types.specs.CrashStates.{CrashStates, no_new_crash_state, adds_none_again}
+use Rattle.page_store.specs.Work.{nothing_yet, nothing_then}
 use Rattle.page_store.specs.StoreState.{StoreState, CommitNeed, HasRead, NeedsTheSame}
 use Rattle.page_store.specs.declared.edit.Edit.{Edit}
 use Rattle.site_store.specs.Represented.{RepresentedBy}
 use Rattle.site_store.specs.StoreReads.{ReadsOnly, NoneFailed}
 
-read_later : (a b c : StoreState) → HasRead a b → HasRead b c → HasRead a c
+pub read_later : (a b c : StoreState) → HasRead a b → HasRead b c → HasRead a c
 read_later a b c x y =
     let now = λ (honest : IsTrue a.honest). let h : IsTrue b.honest = x.honest ∙ honest in h in
     record {
@@ -26,6 +27,7 @@ read_later a b c x y =
         pins = λ honest. y.same.pins (x.honest ∙ honest) ∙ x.same.pins honest;
         top = y.same.top ∙ x.same.top;
         free = y.same.free ∙ x.same.free;
+        calls = nothing_then x.same.calls y.same.calls;
       };
       honest = y.honest ∙ x.honest;
       reads = omega (arith, x.reads, y.reads);
@@ -48,14 +50,17 @@ reads_later store_state may_need crash_states a b c x y = record {
   no_new_crash_state = λ honest. adds_none_again (crash_states a) (crash_states b) (crash_states c) (x.no_new_crash_state honest) (y.no_new_crash_state (x.read.honest ∙ honest));
 }
 
+pub not_read_yet : (h : StoreState) → HasRead h h
+not_read_yet h = record {
+  same = record { pairs = λ honest. refl; banner = refl; usable = refl; generation = refl; height = refl; keys = refl; out = refl; pins = λ honest. refl; top = refl; free = refl; calls = nothing_yet h.made };
+  honest = refl;
+  reads = omega arith;
+  writes = refl;
+}
+
 pub not_yet : {K L : Type 0} → (store_state : K → StoreState) (may_need : K → List Edit → CommitNeed → Type 0) (crash_states : K → CrashStates L) (a : K) → ReadsOnly store_state may_need crash_states a a
 not_yet store_state may_need crash_states a = record {
-  read = record {
-    same = record { pairs = λ honest. refl; banner = refl; usable = refl; generation = refl; height = refl; keys = refl; out = refl; pins = λ honest. refl; top = refl; free = refl };
-    honest = refl;
-    reads = omega arith;
-    writes = refl;
-  };
+  read = not_read_yet (store_state a);
   need = record { after = λ batch need h. h; before = λ batch need h. h };
   no_new_crash_state = λ honest. no_new_crash_state (crash_states a);
 }

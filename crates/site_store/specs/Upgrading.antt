@@ -5,7 +5,8 @@ use Rattle.host_types.specs.Site.{Site, IsSite}
 use Rattle.host_types.specs.declared.item.Item.{Item}
 use Rattle.page_store.specs.Counting.{reads_after, writes_after}
 use Rattle.page_store.specs.Pages.{Pair}
-use Rattle.page_store.specs.StoreState.{StoreState, CommitNeed, SoManyPages, TooManyLevels, HasStayed, HasFailed, MayBeDeep, last_generation}
+use Rattle.page_store.specs.Work.{WritesAtMost}
+use Rattle.page_store.specs.StoreState.{StoreState, numbers_out, CommitNeed, SoManyPages, TooManyLevels, HasStayed, HasFailed, MayBeDeep, last_generation}
 use Rattle.page_store.specs.declared.banner.Banner.{Banner}
 use Rattle.page_store.specs.declared.edit.Edit.{Edit}
 use Rattle.page_store.specs.declared.fault.KeeperFault.{KeeperFault}
@@ -118,6 +119,8 @@ pub record IsUpgraded (old new : StoreState) (count : ℕ) : Type 0 where
   pub honest : new.honest ≡ old.honest
   pub reads : new.failed_reads ≡ old.failed_reads
   pub writes : new.failed_writes ≡ old.failed_writes
+  pub out : numbers_out new ≡ numbers_out old
+  pub calls : WritesAtMost old.free old.made new.made
 
 -- Why nothing was upgraded, and what stays then: all of it, but that a keeper that has failed may have tried one generation more. `BadRecord` says that the pairs and the banner represent no site in version 1.
 abbrev pub IsUpgradeFault : StoreState → StoreState → (List Edit → CommitNeed → Type 0) → SiteOpenFault → Type 0
@@ -165,6 +168,8 @@ pub record IsNotUpgraded (old new : StoreState) (may_need : List Edit → Commit
   pub honest : new.honest ≡ old.honest
   pub reads : new.failed_reads ≡ reads_counted fault old.failed_reads
   pub writes : new.failed_writes ≡ writes_counted old.usable fault old.failed_writes
+  pub out : numbers_out new ≡ numbers_out old
+  pub calls : WritesAtMost old.free old.made new.made
 
 -- the keeper that an upgrade hands back, whatever it answers
 abbrev pub handed_back : {K : Type 0} → Result (K × ℕ) (SiteOpenFault × K) → K

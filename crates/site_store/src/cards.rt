@@ -1,10 +1,11 @@
 // Cards of items.
-ghost use Rattle.std.specs.Prelude.{◌≡◌, IsTrue};
+ghost use Rattle.std.specs.Prelude.{◌≡◌, ◌+◌, IsTrue};
 ghost use Rattle.host_types.specs.Card.{card_at, card_body};
 ghost use Rattle.site_records.specs.Limits.{is_body};
 ghost use Rattle.site_store.specs.Represented.{RepresentedBy};
 ghost use Rattle.site_store.specs.StoreReads.{HasBody};
 ghost use Rattle.site_store.specs.Reads.{ReadsKnown, AlwaysReadsKnown};
+ghost use Rattle.site_store.specs.Work.{MakesLookUps, chunks_behind, most_menu_chunks};
 
 use crate::SiteOpenFault;
 use crate::items::{read_form, read_menu};
@@ -24,6 +25,7 @@ fn card_body<K: Keeper>(
 ) -> Result<CardBody, SiteOpenFault>
     requires { IsTrue (is_body kept) }
     ensures body { ReadsKnown K.store_state K.may_need K.crash_states keeper.old keeper.new result (λ h b. HasBody h selector.now kept b) (λ b x. x ≡ card_body b) }
+    ensures work { MakesLookUps (chunks_behind kept) (K.store_state keeper.old) (K.store_state keeper.new) }
 {
     match kept {
         RecordBody::Views(kind, cards) => Ok(CardBody::Views(kind, cards)),
@@ -48,6 +50,7 @@ pub fn card_in<K: Keeper>(
     selector: &Selector,
 ) -> Result<Option<Card>, SiteOpenFault>
     ensures card { AlwaysReadsKnown K.store_state K.may_need K.crash_states keeper.old keeper.new result RepresentedBy (λ s o. o ≡ card_at s selector.now) }
+    ensures work { MakesLookUps (1 + most_menu_chunks) (K.store_state keeper.old) (K.store_state keeper.new) }
 {
     let record = match record_at(alloc, keeper, selector) {
         Ok(Some(record)) => record,

@@ -2,7 +2,8 @@
 ghost use Rattle.std.specs.Prelude.{◌<◌};
 ghost use Rattle.site_store.specs.Represented.{HasSite, HasSite-prop};
 
-use page_store::Keeper;
+use host_types::SiteKeeper;
+use page_store::{Keeper, PinKeeper};
 use std::alloc::Global;
 
 /// A site over any key-value store. It reads through the keeper: no copy of the site stands in memory.
@@ -14,13 +15,22 @@ pub struct DiskSite<K: Keeper> {
     ghost port: { 0 < (K.store_state keeper).banner.port },
 }
 
-impl<K: Keeper> DiskSite<K> {
-    ghost use Rattle.std.specs.Prelude.{◌≡◌};
+impl<K: PinKeeper> DiskSite<K> {
+    ghost use Rattle.std.specs.Prelude.{◌↔◌, ◌≡◌, [], IsTrue};
     ghost use Rattle.site_store.specs.Seen.{keeper_of};
 
-    /// The key-value store.
+    /// Whether no pin is out. It takes no memory.
+    pub fn is_unpinned(&self) -> bool
+        ensures { IsTrue result ↔ ((⟦<DiskSite<K> as SiteKeeper>⟧.site_state self.now).pins ≡ []) }
+    {
+        self.keeper.is_unpinned()
+    }
+
+    /// The key-value store. No pin is out.
     pub fn into_keeper(self) -> K
-        ensures { result ≡ keeper_of self }
+        requires unpinned { (⟦<DiskSite<K> as SiteKeeper>⟧.site_state self).pins ≡ [] }
+        ensures keeper { result ≡ keeper_of self }
+        ensures unpinned { (K.store_state result).pins ≡ [] }
     {
         let DiskSite { alloc: _, keeper } = self;
         keeper

@@ -1,10 +1,11 @@
 // How much a site over a keeper holds.
-ghost use Rattle.std.specs.Prelude.{◌≡◌, true, false, length, IfOk, IfErr, IsErrOf, IsTrue};
+ghost use Rattle.std.specs.Prelude.{◌≡◌, ◌+◌, ◌*◌, true, false, length, IfOk, IfErr, IsErrOf, IsTrue};
 ghost use Rattle.host_types.specs.Counting.{CountsReads};
 ghost use Rattle.host_types.specs.SiteState.{HasRead, LacksTheSame, IsReadFault};
 ghost use Rattle.host_types.specs.CrashStates.{AddsNone};
 ghost use Rattle.host_types.specs.declared.site_fault.SiteFault.TheVariants.{Failed};
 ghost use Rattle.page_store.specs.StoreState.{IsFigures};
+ghost use Rattle.page_store.specs.Work.{WritesNothing, ReadsPages, pages_tried};
 ghost use Rattle.site_store.specs.Represented.{RepresentedBy, site_state_of, site_of};
 ghost use Rattle.site_store.specs.Lacking.{IsLacking};
 ghost use Rattle.site_store.specs.Reads.{ReadsKnown};
@@ -27,6 +28,8 @@ pub struct SiteFigures {
 /// How many items there are.
 fn items_in<K: Keeper>(keeper: &mut K) -> Result<u64, SiteOpenFault>
     ensures items { ReadsKnown K.store_state K.may_need K.crash_states keeper.old keeper.new result RepresentedBy (λ s items. items ≡ length s.items) }
+    ensures work { IfOk result (λ items. ReadsPages ((items + 1) * pages_tried (K.store_state keeper.old).height) (K.store_state keeper.old).made (K.store_state keeper.new).made) }
+    ensures calls { WritesNothing (K.store_state keeper.old).made (K.store_state keeper.new).made }
 {
     let mut selector = Selector::root();
     for counted in 1..u64::MAX {
@@ -45,6 +48,9 @@ impl<K: Keeper> DiskSite<K> {
     pub fn figures(&mut self) -> Result<SiteFigures, SiteFault>
         ensures items { IsTrue (K.store_state self.old.keeper).honest → IfOk result (λ figures. figures.items ≡ length (site_state_of (K.store_state self.old.keeper) self.old.kept).site.items) }
         ensures store { IfOk result (λ figures. IsFigures (K.store_state self.old.keeper) figures.store) }
+        // It goes through the items once.
+        ensures work { IfOk result (λ figures. ReadsPages ((figures.items + 1) * pages_tried (K.store_state self.old.keeper).height) (K.store_state self.old.keeper).made (K.store_state self.new.keeper).made) }
+        ensures calls { WritesNothing (K.store_state self.old.keeper).made (K.store_state self.new.keeper).made }
         ensures reads { CountsReads result (site_state_of (K.store_state self.old.keeper) self.old.kept) (site_state_of (K.store_state self.new.keeper) self.new.kept) }
         ensures lacking { LacksTheSame (IsLacking K.store_state K.may_need self.old.keeper (site_of (K.store_state self.old.keeper) self.old.kept)) (IsLacking K.store_state K.may_need self.new.keeper (site_of (K.store_state self.new.keeper) self.new.kept)) }
         ensures kept { HasRead (site_state_of (K.store_state self.old.keeper) self.old.kept) (site_state_of (K.store_state self.new.keeper) self.new.kept) }

@@ -8,7 +8,9 @@ ghost use Rattle.host_types.specs.Card.{card_view};
 ghost use Rattle.site_records.specs.Limits.{is_body, is_short, is_short_body, are_entries, are_questions};
 ghost use Rattle.site_store.specs.Represented.{RepresentedBy};
 ghost use Rattle.site_store.specs.StoreReads.{HasViews, HasEntries, HasQuestions, HasBody};
+ghost use Rattle.site_records.specs.Layout.{chunk_count};
 ghost use Rattle.site_store.specs.Reads.{ReadsKnown, AlwaysReadsKnown};
+ghost use Rattle.site_store.specs.Work.{MakesLookUps};
 
 use crate::SiteOpenFault;
 use crate::looking::ValueLookup;
@@ -51,6 +53,7 @@ pub fn read_menu<V: ValueLookup>(
     requires { size ≤ 262144 }
     ensures entries { ReadsKnown V.store_state V.may_need V.crash_states from.old from.new result (λ h es. HasEntries h.pairs selector.now size es) (λ es l. l ≡ es) }
     ensures valid { IfOk result (λ l. IsTrue (are_entries l)) }
+    ensures work { MakesLookUps (chunk_count size) (V.store_state from.old) (V.store_state from.new) }
 {
     let bytes = match read_part(alloc, from, selector, 0, size as usize) {
         Ok(bytes) => bytes,
@@ -74,6 +77,7 @@ pub fn read_form<V: ValueLookup>(
     ensures questions { ReadsKnown V.store_state V.may_need V.crash_states from.old from.new result (λ h qs. HasQuestions h.pairs selector.now size qs) (λ qs l. l ≡ qs) }
     ensures valid { IfOk result (λ l. IsTrue (are_questions l)) }
     ensures short { IfOk result (λ l. list_any is_long_question l ≡ false) }
+    ensures work { MakesLookUps (chunk_count size) (V.store_state from.old) (V.store_state from.new) }
 {
     let bytes = match read_part(alloc, from, selector, 0, size as usize) {
         Ok(bytes) => bytes,

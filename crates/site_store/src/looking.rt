@@ -3,6 +3,7 @@ ghost use Rattle.std.specs.Prelude.{◌≡◌, ◌≤◌, ℕ, List, IfOk, IfSom
 ghost use Rattle.host_types.specs.CrashStates.{CrashStates};
 ghost use Rattle.page_store.specs.Batch.{value_at};
 ghost use Rattle.page_store.specs.StoreState.{StoreState, CommitNeed};
+ghost use Rattle.page_store.specs.Work.{ReadsPages};
 ghost use Rattle.page_store.specs.declared.edit.Edit.{Edit};
 ghost use Rattle.site_store.specs.StoreReads.{IsCountedFault, IsKeeperFault};
 ghost use Rattle.site_store.specs.Reads.{AlwaysReads};
@@ -32,7 +33,8 @@ pub trait ValueLookup {
         buffer: &mut [u8; 1024],
     ) -> Result<Option<usize>, SiteOpenFault>
         ensures within { IfOk result (λ found. IfSome found (λ n. n ≤ length buffer.new)) }
-        ensures value { AlwaysReads store_state may_need crash_states self.old self.new result (λ a b. IsKeeperFault (IsCountedFault a b)) (λ h found. option_map (λ n. take n buffer.new) found ≡ value_at h.pairs key.now) };
+        ensures value { AlwaysReads store_state may_need crash_states self.old self.new result (λ a b. IsKeeperFault (IsCountedFault a b)) (λ h found. option_map (λ n. take n buffer.new) found ≡ value_at h.pairs key.now) }
+        ensures work { ReadsPages (store_state self.old).height (store_state self.old).made (store_state self.new).made };
 }
 
 impl<K: Keeper> ValueLookup for K {

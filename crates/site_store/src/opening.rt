@@ -2,11 +2,12 @@
 ghost use Rattle.std.specs.Prelude.{◌↔◌, ◌≡◌, ◌<◌, ◌≤◌, true, false, [], length, IfOk, IfErr, IfSome, OnOk, IsErrAnd, IsTrue};
 ghost use Rattle.host_types.specs.Site.{Site};
 ghost use Rattle.page_store.specs.Batch.{pair_after};
+ghost use Rattle.page_store.specs.Work.{ReadsPages, pages_tried};
 ghost use Rattle.page_store.specs.declared.fault.KeeperFault.TheVariants.{Failed};
 ghost use Rattle.site_store.specs.Represented.{RepresentedBy, Shows};
 ghost use Rattle.site_store.specs.StoreReads.{ReadsOnly, NoneFailed, IsSiteReadFault, IsReadOrMemory};
 ghost use Rattle.site_store.specs.Reads.{AlwaysReads, ReadsKnown};
-ghost use Rattle.site_store.specs.Opening.{IsOpenFault, IsReadWhole, IsPairsFault, ValuesFit, KeysFit, last_key, site_under, with_named, with_all_named, HasAddress};
+ghost use Rattle.site_store.specs.Opening.{IsOpenFault, IsReadWhole, IsPairsFault, ValuesFit, KeysFit, ReadsAll, last_key, site_under, with_named, with_all_named, HasAddress};
 ghost use Rattle.site_store.specs.Seen.{keeper_of, seen_site};
 ghost use Rattle.site_store.specs.declared.fault.SiteOpenFault.TheVariants.{Keeper as StoreFault};
 
@@ -33,6 +34,16 @@ fn are_all<K: Keeper>(keeper: &K, pairs: &[Pair]) -> bool
     pairs.len() as u64 == keeper.figures().keys
 }
 
+/// The key of the last of these pairs, or the empty one, which is below all.
+fn last_key(pairs: &[Pair]) -> &[u8]
+    ensures { result.now ≡ last_key pairs.now }
+{
+    match pairs.last() {
+        Some(last) => last.key(),
+        None => &[],
+    }
+}
+
 /// The pair behind these, the first ones of the keeper.
 fn pair_behind<K: Keeper>(
     alloc: Global,
@@ -42,13 +53,10 @@ fn pair_behind<K: Keeper>(
     ensures pair { AlwaysReads K.store_state K.may_need K.crash_states keeper.old keeper.new result IsReadOrMemory (λ h found. found ≡ pair_after h.pairs (last_key pairs.now)) }
     ensures fit { IfOk result (λ found. IfSome found (λ p. length p.1 ≤ 1024)) }
     ensures keys { IfOk result (λ found. IfSome found (λ p. length p.0 ≤ 300)) }
+    ensures work { ReadsPages (pages_tried (K.store_state keeper.old).height) (K.store_state keeper.old).made (K.store_state keeper.new).made }
 {
     let (mut key, mut value) = ([0; 300], [0; 1024]);
-    let found = match pairs.last() {
-        Some(last) => keeper.next(last.key(), &mut key, &mut value),
-        None => keeper.next(&[], &mut key, &mut value),
-    };
-    match found {
+    match keeper.next(last_key(pairs), &mut key, &mut value) {
         Ok(Some((size, length))) => {
             let pair = Pair::from_slices(alloc, &key[..size], &value[..length])?;
             Ok(Some(pair))
@@ -64,6 +72,7 @@ pub(crate) fn pairs_of<K: Keeper>(alloc: Global, keeper: &mut K) -> Result<Vec<P
     ensures fit { IfOk result (λ all. ValuesFit all.items) }
     ensures keys { IfOk result (λ all. KeysFit all.items) }
     ensures counted { IfOk result (λ all. length all.items ≡ (K.store_state keeper.old).keys) }
+    ensures work { OnOk result (ReadsAll (K.store_state keeper.old) (K.store_state keeper.new)) }
 {
     let mut pairs = Vec::new(alloc);
     for _ in 0..u64::MAX {
@@ -157,6 +166,7 @@ fn check<K: Keeper>(alloc: Global, keeper: &mut K) -> Result<(), SiteOpenFault>
     requires version { (K.store_state keeper.old).banner.version ≡ 2 }
     ensures kept { AlwaysReads K.store_state K.may_need K.crash_states keeper.old keeper.new result IsSiteReadFault (λ h _. (s : Site) × RepresentedBy h s) }
     ensures whole { OnOk result (IsReadWhole (K.store_state keeper.old)) }
+    ensures work { OnOk result (ReadsAll (K.store_state keeper.old) (K.store_state keeper.new)) }
     ensures port { OnOk result (0 < (K.store_state keeper.old).banner.port) }
 {
     let pairs = pairs_of(alloc, keeper)?;
@@ -174,6 +184,8 @@ impl<K: Keeper> DiskSite<K> {
         ensures whole { OnOk result (IsReadWhole (K.store_state keeper)) }
         ensures reads_only { IfOk result (λ d. ReadsOnly K.store_state K.may_need K.crash_states keeper (keeper_of d)) }
         ensures reads { IfOk result (λ d. NoneFailed (K.store_state keeper) (K.store_state (keeper_of d))) }
+        // It goes through the pairs once.
+        ensures work { IfOk result (λ d. ReadsAll (K.store_state keeper) (K.store_state (keeper_of d))) }
         ensures usable { IfOk result (λ d. (K.store_state (keeper_of d)).usable ≡ true) }
         ensures fault { IfErr result (λ e. IsOpenFault (K.store_state keeper) (K.store_state e.1) e.0) }
         ensures handed_back { IfErr result (λ e. ReadsOnly K.store_state K.may_need K.crash_states keeper e.1) }

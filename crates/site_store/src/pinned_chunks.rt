@@ -1,11 +1,13 @@
 // Chunks of views as they stood when a pin was made.
-ghost use Rattle.std.specs.Prelude.{◌≡◌, ◌≤◌, IfOk, IfErr, IfSome, IsTrue, take, option_map};
+ghost use Rattle.std.specs.Prelude.{◌≡◌, ◌≤◌, ◌*◌, IfOk, IfErr, IfSome, IsTrue, take, option_map};
 ghost use Rattle.std.specs.Prelude as list;
 ghost use Rattle.host_types.specs.Site.{Site, item_at};
 ghost use Rattle.host_types.specs.Card.{viewed_at, chunk_of};
 ghost use Rattle.host_types.specs.SiteState.{IsUnchangedBehind};
 ghost use Rattle.page_store.specs.Batch.{value_at};
 ghost use Rattle.page_store.specs.Pins.{is_out, pairs_at};
+ghost use Rattle.page_store.specs.StoreState.{most_levels};
+ghost use Rattle.page_store.specs.Work.{ReadsPages};
 ghost use Rattle.site_store.specs.StoreReads.{IsCountedFault, IsKeeperFault, is_document};
 ghost use Rattle.site_store.specs.Reads.{AlwaysReads};
 ghost use Rattle.site_store.specs.Pinned.{StoodAt, IsPinnedFault};
@@ -25,6 +27,7 @@ fn look_up_at<K: PinKeeper>(
     requires out { IsTrue (is_out (K.store_state keeper.old) (K.number pin.now)) }
     ensures within { IfOk result (λ found. IfSome found (λ n. n ≤ list.length buffer.new)) }
     ensures value { AlwaysReads K.store_state K.may_need K.crash_states keeper.old keeper.new result (λ a b. IsKeeperFault (IsCountedFault a b)) (λ h found. IfSome (pairs_at h (K.number pin.now)) (λ pairs. option_map (λ n. take n buffer.new) found ≡ value_at pairs key.now)) }
+    ensures work { ReadsPages most_levels (K.store_state keeper.old).made (K.store_state keeper.new).made }
 {
     match keeper.get_at(pin, key.as_bytes(), buffer) {
         Ok(found) => Ok(found),
@@ -40,6 +43,7 @@ fn has_document_at<K: PinKeeper>(
 ) -> Result<bool, SiteOpenFault>
     requires out { IsTrue (is_out (K.store_state keeper.old) (K.number pin.now)) }
     ensures document { AlwaysReads K.store_state K.may_need K.crash_states keeper.old keeper.new result (IsPinnedFault (K.number pin.now)) (λ h yes. (s : Site) → StoodAt (K.number pin.now) h s → yes ≡ is_document (item_at s selector.now)) }
+    ensures work { ReadsPages most_levels (K.store_state keeper.old).made (K.store_state keeper.new).made }
 {
     let mut buffer = [0; 1024];
     match look_up_at(keeper, pin, &item_key(selector), &mut buffer) {
@@ -73,6 +77,8 @@ pub fn chunk_in_at<K: PinKeeper>(
     ensures chunk { AlwaysReads K.store_state K.may_need K.crash_states keeper.old keeper.new result (IsPinnedFault (K.number pin.now)) (λ h n. (s : Site) → StoodAt (K.number pin.now) h s → take n buffer.new ≡ chunk_of (viewed_at s selector.now view) k) }
     ensures behind { IfOk result (λ n. IsUnchangedBehind n buffer.old buffer.new) }
     ensures untouched { IfErr result (λ e. buffer.new ≡ buffer.old) }
+    // Two look-ups: of the document, and of the chunk.
+    ensures work { ReadsPages (2 * most_levels) (K.store_state keeper.old).made (K.store_state keeper.new).made }
 {
     match has_document_at(keeper, pin, selector) {
         Ok(true) => {}

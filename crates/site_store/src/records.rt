@@ -2,6 +2,7 @@
 ghost use Rattle.std.specs.Prelude.{◌≡◌, ◌⊎◌, IfOk, IfErr, IfSome, IsTrue};
 ghost use Rattle.std.specs.Option.{option_map};
 ghost use Rattle.host_types.specs.Site.{item_at};
+ghost use Rattle.page_store.specs.Work.{ReadsPages};
 ghost use Rattle.site_records.specs.Records.{recorded, record_bytes};
 ghost use Rattle.site_records.specs.Limits.{is_record};
 ghost use Rattle.site_records.specs.declared.record.Record.{Record as RecordValue};
@@ -36,6 +37,7 @@ pub fn record_at<V: ValueLookup>(
 ) -> Result<Option<Record>, SiteOpenFault>
     ensures record { AlwaysReadsKnown V.store_state V.may_need V.crash_states from.old from.new result RepresentedBy (λ s r. r ≡ option_map recorded (item_at s selector.now)) }
     ensures valid { IfOk result (λ r. IfSome r (λ r. IsTrue (is_record r))) }
+    ensures work { ReadsPages (V.store_state from.old).height (V.store_state from.old).made (V.store_state from.new).made }
 {
     items_have_records();
     let mut buffer = [0; 1024];

@@ -1,12 +1,24 @@
 // The calls of a site over a key-value store.
-ghost use Rattle.std.specs.Prelude.{◌≡◌, ◌∷◌, [], false, IsTrue, IfOk, IfErr, IsErrOf};
-ghost use Rattle.common_types.specs.CrashStates.{AddsNone};
-ghost use Rattle.host_types.specs.Pins.{Numbered, IsPinned, IsPinFault};
-ghost use Rattle.host_types.specs.SiteState.{LacksTheSame};
+ghost use Rattle.std.specs.Prelude.{◌≡◌, ◌⊎◌, ◌≤◌, ◌+◌, ◌*◌, ◌∷◌, [], true, false, Ok, IsTrue, IfOk, OnOk, IfErr, IsErrOf, length, take};
+ghost use Rattle.common_types.specs.CrashStates.{AddsOnly, AddsNone};
+ghost use Rattle.host_types.specs.AllChanges.{all_applied};
+ghost use Rattle.host_types.specs.Card.{card_at, chunk_of};
+ghost use Rattle.host_types.specs.Change.{apply};
+ghost use Rattle.host_types.specs.ChangesFaults.{as_one, IsChangesFault};
+ghost use Rattle.host_types.specs.Counting.{CountsReads, CountsWrites};
+ghost use Rattle.host_types.specs.Pins.{Numbered, is_out, pinned_items, viewed_among, IsPinned, IsPinFault};
+ghost use Rattle.host_types.specs.Site.{Site};
+ghost use Rattle.host_types.specs.SiteState.{HasRead, LacksTheSame, IsUnchangedBehind, HasTried, SpentFirst, IsReadFault, IsChangeFault};
+ghost use Rattle.host_types.specs.declared.changes_fault.ChangesFault.TheVariants.{Failed as AllFailed};
 ghost use Rattle.host_types.specs.declared.pin_fault.SitePinFault.TheVariants.{Failed as PinFailed, Memory as PinMemory};
+ghost use Rattle.host_types.specs.declared.site_fault.SiteFault.TheVariants.{Failed};
+ghost use Rattle.page_store.specs.StoreState.{most_levels};
+ghost use Rattle.page_store.specs.Work.{ReadsPages, WritesAtMost};
 ghost use Rattle.site_store.specs.Represented.{site_state_of, site_of, Represents};
 ghost use Rattle.site_store.specs.Lacking.{IsLacking};
 ghost use Rattle.site_store.specs.CrashStatesRepresent.{crash_states_represent_site};
+ghost use Rattle.site_store.specs.Seen.{seen, lacks_of};
+ghost use Rattle.site_store.specs.Work.{MakesLookUps, most_menu_chunks};
 
 use crate::DiskSite;
 use crate::cards::card_in;
@@ -59,7 +71,18 @@ impl<K: PinKeeper> SiteKeeper for DiskSite<K> {
         self.keeper.is_usable()
     }
 
-    fn card(&mut self, selector: &Selector) -> Result<Option<Card>, SiteFault> {
+    fn card(&mut self, selector: &Selector) -> Result<Option<Card>, SiteFault>
+        ensures card { IsTrue (seen self.old).honest → IfOk result (λ card. card ≡ card_at (seen self.old).site selector.now) }
+        ensures kept { HasRead (seen self.old) (seen self.new) }
+        ensures fault { IfErr result (IsReadFault true (seen self.old) (seen self.new)) }
+        ensures reads { CountsReads result (seen self.old) (seen self.new) }
+        ensures closed { (seen self.old).usable ≡ false → IsErrOf result Failed }
+        ensures lacking { LacksTheSame (lacks_of self.old) (lacks_of self.new) }
+        ensures at_crash { IsTrue (seen self.old).honest → AddsNone (K.crash_states self.old.keeper) (K.crash_states self.new.keeper) }
+
+        // Its record is looked up, and each chunk behind it, once.
+        ensures work { MakesLookUps (1 + most_menu_chunks) (K.store_state self.old.keeper) (K.store_state self.new.keeper) }
+    {
         match card_in(self.alloc, &mut self.keeper, selector) {
             Ok(card) => Ok(card),
             Err(fault) => Err(to_site_fault(fault)),
@@ -67,11 +90,11 @@ impl<K: PinKeeper> SiteKeeper for DiskSite<K> {
     }
 
     fn pin_site(&mut self) -> Result<K::Pin, SitePinFault>
-        ensures pinned { IfOk result (λ pin. IsPinned (site_state_of (K.store_state self.old.keeper) self.old.kept) (site_state_of (K.store_state self.new.keeper) self.new.kept) (Numbered (K.number pin))) }
-        ensures fault { IfErr result (IsPinFault (site_state_of (K.store_state self.old.keeper) self.old.kept) (site_state_of (K.store_state self.new.keeper) self.new.kept)) }
-        ensures closed { (site_state_of (K.store_state self.old.keeper) self.old.kept).usable ≡ false → IsErrOf result PinFailed }
-        ensures lacking { LacksTheSame (IsLacking K.store_state K.may_need self.old.keeper (site_of (K.store_state self.old.keeper) self.old.kept)) (IsLacking K.store_state K.may_need self.new.keeper (site_of (K.store_state self.new.keeper) self.new.kept)) }
-        ensures at_crash { IsTrue (site_state_of (K.store_state self.old.keeper) self.old.kept).honest → AddsNone (K.crash_states self.old.keeper) (K.crash_states self.new.keeper) }
+        ensures pinned { IfOk result (λ pin. IsPinned (seen self.old) (seen self.new) (Numbered (K.number pin))) }
+        ensures fault { IfErr result (IsPinFault (seen self.old) (seen self.new)) }
+        ensures closed { (seen self.old).usable ≡ false → IsErrOf result PinFailed }
+        ensures lacking { LacksTheSame (lacks_of self.old) (lacks_of self.new) }
+        ensures at_crash { IsTrue (seen self.old).honest → AddsNone (K.crash_states self.old.keeper) (K.crash_states self.new.keeper) }
 
         // It takes no memory, so that there is another cause of each fault.
         ensures memory { IfErr result (λ e. e ≡ PinMemory → ⊥) }
@@ -93,14 +116,46 @@ impl<K: PinKeeper> SiteKeeper for DiskSite<K> {
         view: usize,
         k: usize,
         buffer: &mut [u8; 1000],
-    ) -> Result<usize, SiteFault> {
+    ) -> Result<usize, SiteFault>
+        requires out { IsTrue (is_out (seen self.old) (Numbered (K.number pin.now))) }
+        ensures within { IfOk result (λ n. n ≤ length buffer.new) }
+        ensures chunk { IsTrue (seen self.old).honest → IfOk result (λ n. take n buffer.new ≡ chunk_of (viewed_among (pinned_items (seen self.old) (Numbered (K.number pin.now))) selector.now view) k) }
+        ensures behind { IfOk result (λ n. IsUnchangedBehind n buffer.old buffer.new) }
+        ensures untouched { IfErr result (λ e. buffer.new ≡ buffer.old) }
+        ensures kept { HasRead (seen self.old) (seen self.new) }
+        ensures fault { IfErr result (IsReadFault false (seen self.old) (seen self.new)) }
+        ensures reads { CountsReads result (seen self.old) (seen self.new) }
+        ensures closed { (seen self.old).usable ≡ false → IsErrOf result Failed }
+        ensures lacking { LacksTheSame (lacks_of self.old) (lacks_of self.new) }
+        ensures at_crash { IsTrue (seen self.old).honest → AddsNone (K.crash_states self.old.keeper) (K.crash_states self.new.keeper) }
+
+        // Two values are looked up in the tree that was pinned: the document's, and the chunk.
+        ensures work { ReadsPages (2 * most_levels) (K.store_state self.old.keeper).made (K.store_state self.new.keeper).made }
+    {
         match chunk_in_at(&mut self.keeper, pin, selector, view, k, buffer) {
             Ok(length) => Ok(length),
             Err(fault) => Err(to_site_fault(fault)),
         }
     }
 
-    fn change(&mut self, change: Change, now: Stamp) -> Result<(), SiteFault> {
+    fn change(&mut self, change: Change, now: Stamp) -> Result<(), SiteFault>
+        ensures done { IsTrue (seen self.old).honest → OnOk result (apply (seen self.old).site change now ≡ Ok (seen self.new).site) }
+        ensures still_usable { OnOk result ((seen self.new).usable ≡ true) }
+        ensures fault { IfErr result (IsChangeFault (lacks_of self.old ((change, now) ∷ [])) (seen self.old) (seen self.new) (apply (seen self.old).site change now)) }
+        ensures spent { (seen self.old).usable ≡ true → SpentFirst (lacks_of self.old ((change, now) ∷ [])) result }
+        ensures lacking { IfErr result (λ e. (seen self.new).usable ≡ (seen self.old).usable → LacksTheSame (lacks_of self.old) (lacks_of self.new)) }
+        ensures closed { (seen self.old).usable ≡ false → IsErrOf result Failed }
+        ensures tried { HasTried (seen self.old) (seen self.new) }
+        ensures reads { CountsReads result (seen self.old) (seen self.new) }
+        ensures writes { CountsWrites result (seen self.old) (seen self.new) }
+        ensures at_crash { IsTrue (seen self.old).honest → (seen self.old).usable ≡ true →
+            AddsOnly (K.crash_states self.old.keeper) (K.crash_states self.new.keeper) (λ c. Represents K.has_content c (seen self.old).site ⊎ ((s : Site) × (apply (seen self.old).site change now ≡ Ok s) × Represents K.has_content c s)) }
+        ensures no_new_crash_state { IsTrue (seen self.old).honest → IfErr result (λ e. (seen self.new).usable ≡ true → AddsNone (K.crash_states self.old.keeper) (K.crash_states self.new.keeper)) }
+        ensures no_new_crash_state_when_closed { IsTrue (seen self.old).honest → (seen self.old).usable ≡ false → AddsNone (K.crash_states self.old.keeper) (K.crash_states self.new.keeper) }
+
+        // At most all free pages and the page of a root are written, with two syncs.
+        ensures work { WritesAtMost (K.store_state self.old.keeper).free (K.store_state self.old.keeper).made (K.store_state self.new.keeper).made }
+    {
         if !self.keeper.is_usable() {
             return Err(SiteFault::Failed);
         }
@@ -111,7 +166,24 @@ impl<K: PinKeeper> SiteKeeper for DiskSite<K> {
         }
     }
 
-    fn change_all(&mut self, changes: Vec<(Change, Stamp)>) -> Result<(), ChangesFault> {
+    fn change_all(&mut self, changes: Vec<(Change, Stamp)>) -> Result<(), ChangesFault>
+        ensures done { IsTrue (seen self.old).honest → OnOk result (all_applied (seen self.old).site changes.items ≡ Ok (seen self.new).site) }
+        ensures still_usable { OnOk result ((seen self.new).usable ≡ true) }
+        ensures fault { IfErr result (IsChangesFault (lacks_of self.old changes.items) (seen self.old) (seen self.new) (all_applied (seen self.old).site changes.items)) }
+        ensures spent { (seen self.old).usable ≡ true → SpentFirst (lacks_of self.old changes.items) (as_one result) }
+        ensures lacking { IfErr result (λ e. (seen self.new).usable ≡ (seen self.old).usable → LacksTheSame (lacks_of self.old) (lacks_of self.new)) }
+        ensures closed { (seen self.old).usable ≡ false → IsErrOf result AllFailed }
+        ensures tried { HasTried (seen self.old) (seen self.new) }
+        ensures reads { CountsReads (as_one result) (seen self.old) (seen self.new) }
+        ensures writes { CountsWrites (as_one result) (seen self.old) (seen self.new) }
+        ensures at_crash { IsTrue (seen self.old).honest → (seen self.old).usable ≡ true →
+            AddsOnly (K.crash_states self.old.keeper) (K.crash_states self.new.keeper) (λ c. Represents K.has_content c (seen self.old).site ⊎ ((s : Site) × (all_applied (seen self.old).site changes.items ≡ Ok s) × Represents K.has_content c s)) }
+        ensures no_new_crash_state { IsTrue (seen self.old).honest → IfErr result (λ e. (seen self.new).usable ≡ true → AddsNone (K.crash_states self.old.keeper) (K.crash_states self.new.keeper)) }
+        ensures no_new_crash_state_when_closed { IsTrue (seen self.old).honest → (seen self.old).usable ≡ false → AddsNone (K.crash_states self.old.keeper) (K.crash_states self.new.keeper) }
+
+        // At most all free pages and the page of a root are written, with two syncs.
+        ensures work { WritesAtMost (K.store_state self.old.keeper).free (K.store_state self.old.keeper).made (K.store_state self.new.keeper).made }
+    {
         if !self.keeper.is_usable() {
             return Err(ChangesFault::Failed);
         }

@@ -3,6 +3,7 @@ ghost use Rattle.std.specs.Prelude.{◌≡◌, ◌<◌, ◌≤◌, ◌++◌, ◌
 ghost use Rattle.std.specs.List.{list_all};
 ghost use Rattle.host_types.specs.CrashStates.{AddsOnly, AddsNone};
 ghost use Rattle.host_types.specs.Site.{Site};
+ghost use Rattle.page_store.specs.StoreState.{numbers_out};
 ghost use Rattle.page_store.specs.Batch.{is_edit, is_batch};
 ghost use Rattle.page_store.specs.declared.fault.KeeperFault.TheVariants.{Failed};
 ghost use Rattle.site_pairs.specs.Edits.{batch_of};
@@ -206,6 +207,7 @@ impl<K: Keeper> DiskSite<K> {
         ensures closed { (K.store_state keeper).usable ≡ false → result ≡ Err (StoreFault Failed, keeper) }
         ensures done { ((K.store_state keeper).banner.version ≡ 2 → ⊥) → IfOk result (λ d. IsUpgraded (K.store_state keeper) (K.store_state d.0) d.1) }
         ensures fault { IfErr result (λ e. IsNotUpgraded (K.store_state keeper) (K.store_state e.1) (K.may_need keeper) e.0) }
+        ensures out { numbers_out (K.store_state (handed_back result)) ≡ numbers_out (K.store_state keeper) }
         ensures at_crash { IsTrue (K.store_state keeper).honest → (K.store_state keeper).usable ≡ true → (s : Site) → FirstBy (K.store_state keeper) s → AddsOnly (K.crash_states keeper) (K.crash_states (handed_back result)) (λ c. RepresentsEither K.has_content c s) }
         ensures no_new_crash_state { IsTrue (K.store_state keeper).honest → IfErr result (λ e. (K.store_state e.1).usable ≡ true → AddsNone (K.crash_states keeper) (K.crash_states e.1)) }
         ensures no_site { IsTrue (K.store_state keeper).honest → ((s : Site) → FirstBy (K.store_state keeper) s → ⊥) → AddsNone (K.crash_states keeper) (K.crash_states (handed_back result)) }

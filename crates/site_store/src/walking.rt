@@ -2,6 +2,7 @@
 ghost use Rattle.std.specs.Prelude.{◌≡◌, Ok, Some, Option, IfOk, IfErr, IsSome, option_map};
 ghost use Rattle.host_types.specs.Card.{card_of};
 ghost use Rattle.host_types.specs.Site.{Site};
+ghost use Rattle.page_store.specs.Work.{ReadsPages, pages_tried};
 ghost use Rattle.site_store.specs.Represented.{RepresentedBy};
 ghost use Rattle.site_store.specs.StoreReads.{IsQuickFault, StandsAt};
 ghost use Rattle.site_store.specs.Reads.{AlwaysReads, AlwaysReadsKnown};
@@ -36,6 +37,7 @@ pub fn selector_after<K: Keeper>(
     after: &Selector,
 ) -> Result<Option<Selector>, SiteOpenFault>
     ensures next { AlwaysReads K.store_state K.may_need K.crash_states keeper.old keeper.new result IsQuickFault (λ h next. (s : Site) → RepresentedBy h s → next ≡ spec.selector_after s after.now) }
+    ensures work { ReadsPages (pages_tried (K.store_state keeper.old).height) (K.store_state keeper.old).made (K.store_state keeper.new).made }
 {
     let mut key = [0; 300];
     let mut value = [0; 1024];

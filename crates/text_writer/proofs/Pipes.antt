@@ -60,22 +60,19 @@ some_is_left pipe place some none =
     closing_gives place (second_is_none pipe.ready (closing place) (ap (λ p. pipe.ready ++ given_behind p []) (sym some) ∙ none))
 
 -- a run at the front of a chunk was given
-pub run_passed : (pipe now : Piped) (place : Place) (chunk front old new : List ℕ) (at k run : ℕ) → pipe.place ≡ Some place → pipe.ready ≡ [] → now.place ≡ Some (behind_run place run) → now.ready ≡ pipe.ready → front ≡ take k chunk → run ≡ run_length place front → run ≤ length front →
-    take (at + run) new ≡ take at old ++ take run front → (more : List ℕ) → take (at + run) new ++ will_give now (drop run chunk ++ more) ≡ take at old ++ will_give pipe (chunk ++ more)
-run_passed pipe now place chunk front old new at k run some none later as_ready is so_many within given more =
-    let gives : (rest : List ℕ) → will_give pipe rest ≡ given_from place rest = λ rest. ap (λ l. l ++ given_behind pipe.place rest) none ∙ ap (λ p. given_behind p rest) some in
-    let gives_now : (rest : List ℕ) → will_give now rest ≡ given_from (behind_run place run) rest = λ rest. ap (λ l. l ++ given_behind now.place rest) (as_ready ∙ none) ∙ ap (λ p. given_behind p rest) later in
-    ap (λ l. l ++ will_give now (drop run chunk ++ more)) given
-    ∙ append_assoc (take at old) (take run front) (will_give now (drop run chunk ++ more))
-    ∙ ap (λ l. take at old ++ (take run front ++ l)) (gives_now (drop run chunk ++ more))
+pub run_passed : (place : Place) (chunk front old new : List ℕ) (at k run : ℕ) → front ≡ take k chunk → run ≡ run_length place front → run ≤ length front →
+    take (at + run) new ≡ take at old ++ take run front → (more : List ℕ) → take (at + run) new ++ given_from (behind_run place run) (drop run chunk ++ more) ≡ take at old ++ given_from place (chunk ++ more)
+run_passed place chunk front old new at k run is so_many within given more =
+    ap (λ l. l ++ given_from (behind_run place run) (drop run chunk ++ more)) given
+    ∙ append_assoc (take at old) (take run front) (given_from (behind_run place run) (drop run chunk ++ more))
     ∙ ap (λ l. take at old ++ l) (sym (run_on place chunk front more k run is so_many within))
-    ∙ ap (λ l. take at old ++ l) (sym (gives (chunk ++ more)))
 
--- a run more of the chunk
-pub run_taken : (chunk part given rest : List ℕ) (taken run : ℕ) (old now new : Piped) → Passes old chunk taken part now → rest ≡ drop taken chunk →
-    ((more : List ℕ) → given ++ will_give new (drop run rest ++ more) ≡ part ++ will_give now (rest ++ more)) → Passes old chunk (taken + run) given new
-run_taken chunk part given rest taken run old now new passes is run_given more =
-    ap (λ l. given ++ will_give new (l ++ more)) (sym (drop-drop run taken chunk) ∙ ap (drop run) (sym is))
-    ∙ run_given more
-    ∙ ap (λ l. part ++ will_give now (l ++ more)) is
-    ∙ passes more
+-- more lines of the same bytes
+pub lines_on : (p q r : Place) (rest behind part mid given : List ℕ) (taken more_taken : ℕ) → behind ≡ drop taken rest →
+    ((more : List ℕ) → mid ++ given_from q (drop taken rest ++ more) ≡ part ++ given_from p (rest ++ more)) →
+    ((more : List ℕ) → given ++ given_from r (drop more_taken behind ++ more) ≡ mid ++ given_from q (behind ++ more)) → (more : List ℕ) → given ++ given_from r (drop (taken + more_taken) rest ++ more) ≡ part ++ given_from p (rest ++ more)
+lines_on p q r rest behind part mid given taken more_taken is so_far line more =
+    ap (λ l. given ++ given_from r (l ++ more)) (sym (drop-drop more_taken taken rest) ∙ ap (drop more_taken) (sym is))
+    ∙ line more
+    ∙ ap (λ l. mid ++ given_from q (l ++ more)) is
+    ∙ so_far more

@@ -69,6 +69,11 @@ entry_line s (entries.Info title) = link_line (address s) (entries.Info title)
 entry_line s (entries.Url title url) = link_line (address s) (entries.Url title url)
 entry_line s (entries.Remote kind title selector host port) = link_line (address s) (entries.Remote kind title selector host port)
 
+-- a line that a menu may have
+abbrev pub line_bytes : Option (List ℕ) → List ℕ
+line_bytes None = []
+line_bytes (Some line) = line
+
 -- the lines, then the line that is one period
 unfoldable pub menu : List (List ℕ) → List ℕ
 menu lines = flat_map (λ line. line) lines ++ text_end

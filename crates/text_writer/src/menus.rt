@@ -1,6 +1,8 @@
 // Menus.
-ghost use Rattle.std.specs.Prelude.{◌≡◌, ◌∷◌, ◌++◌, Some, IfOk, decimal};
+ghost use Rattle.std.specs.Prelude.{◌≡◌, ◌∷◌, ◌++◌, Some, IfOk, OnOk, decimal};
+ghost use Rattle.text_writer.specs.Text.{text_end};
 ghost use Rattle.text_writer.specs.Menu as spec;
+ghost use Rattle.text_writer.specs.Menu.{line_bytes};
 
 use host_types::{Address, Bytes, Card, CardBody, Entry, LineList, Selector};
 use itoa::Buffer;
@@ -35,22 +37,22 @@ fn plus_sign(body: &CardBody) -> &'static [u8]
     }
 }
 
-/// The first four fields of a menu line, with a TAB between each two.
-fn four_fields(
-    alloc: Global,
+/// Adds the first four fields of a menu line, with a TAB between each two.
+fn add_four_fields(
+    line: &mut Vec<u8>,
     letter: u8,
     title: &[u8],
     selector: &[u8],
     host: &[u8],
     port: u16,
-) -> Result<Vec<u8>, AllocError>
-    ensures { IfOk result (λ line. line.items ≡ letter ∷ title.now ++ 9 ∷ selector.now ++ 9 ∷ host.now ++ 9 ∷ decimal port) }
+) -> Result<(), AllocError>
+    ensures { OnOk result (line.new.items ≡ line.old.items ++ letter ∷ title.now ++ 9 ∷ selector.now ++ 9 ∷ host.now ++ 9 ∷ decimal port) }
 {
     let names = title
         .len()
         .saturating_add(selector.len())
         .saturating_add(host.len());
-    let mut line = Vec::with_capacity(alloc, names.saturating_add(BESIDE))?;
+    line.reserve(names.saturating_add(BESIDE))?;
     line.push(letter)?;
     line.extend_from_slice(title)?;
     line.push(b'\t')?;
@@ -59,21 +61,21 @@ fn four_fields(
     line.extend_from_slice(host)?;
     line.push(b'\t')?;
     line.extend_from_slice(Buffer::new().format(port).as_bytes())?;
-    Ok(line)
+    Ok(())
 }
 
-/// The line of an item of this site: its letter and title, selector, host, port, and the sign of Gopher+ (RFC 1436, section 3.8).
-pub fn item_line(
-    alloc: Global,
+/// Adds the line of an item of this site: its letter and title, selector, host, port, and the sign of Gopher+ (RFC 1436, section 3.8).
+fn add_item_line(
+    line: &mut Vec<u8>,
     address: &Address<'_>,
     selector: &Selector,
     card: &Card,
-) -> Result<Bytes, AllocError>
-    ensures line { IfOk result (λ line. line ≡ spec.item_line address.now selector.now card.now) }
+) -> Result<(), AllocError>
+    ensures { OnOk result (line.new.items ≡ line.old.items ++ spec.item_line address.now selector.now card.now) }
 {
     let letter = type_letter(&card.body);
-    let mut line = four_fields(
-        alloc,
+    add_four_fields(
+        line,
         letter,
         card.title.as_bytes(),
         selector.as_bytes(),
@@ -83,7 +85,28 @@ pub fn item_line(
     line.push(b'\t')?;
     line.extend_from_slice(plus_sign(&card.body))?;
     line.extend_from_slice(b"\r\n")?;
+    Ok(())
+}
+
+/// The line of an item of this site.
+pub fn item_line(
+    alloc: Global,
+    address: &Address<'_>,
+    selector: &Selector,
+    card: &Card,
+) -> Result<Bytes, AllocError>
+    ensures line { IfOk result (λ line. line ≡ spec.item_line address.now selector.now card.now) }
+{
+    let mut line = Vec::new(alloc);
+    add_item_line(&mut line, address, selector, card)?;
     Ok(Bytes::from(line))
+}
+
+/// Whether an item has moved.
+fn is_moved(body: &CardBody) -> bool
+    ensures { result ≡ spec.is_moved body.now }
+{
+    matches!(body, CardBody::Moved { .. })
 }
 
 /// The line that a menu has for what stands at a selector; none for an item that has moved.
@@ -95,24 +118,40 @@ pub fn menu_line(
 ) -> Result<Option<Bytes>, AllocError>
     ensures line { IfOk result (λ line. line ≡ spec.found_line address.now selector.now (Some card.now)) }
 {
-    if let CardBody::Moved { .. } = &card.body {
+    if is_moved(&card.body) {
         return Ok(None);
     }
     Ok(Some(item_line(alloc, address, selector, card)?))
 }
 
-/// The line of an entry that names no item of this site; none for one that does.
-pub fn link_line(
+/// Adds to the lines of a menu the one of what stands at a selector; none for an item that has moved.
+pub fn add_menu_line(
+    lines: &mut Vec<u8>,
+    address: &Address<'_>,
+    selector: &Selector,
+    card: &Card,
+) -> Result<(), AllocError>
+    ensures line { OnOk result (lines.new.items ≡ lines.old.items ++ line_bytes (spec.found_line address.now selector.now (Some card.now))) }
+{
+    if is_moved(&card.body) {
+        return Ok(());
+    }
+    add_item_line(lines, address, selector, card)
+}
+
+/// Adds to the lines of a menu the one of an entry that names no item of this site; none for one that does.
+pub fn add_link_line(
     alloc: Global,
+    line: &mut Vec<u8>,
     address: &Address<'_>,
     entry: &Entry,
-) -> Result<Option<Bytes>, AllocError>
-    ensures line { IfOk result (λ line. line ≡ spec.link_line address.now entry.now) }
+) -> Result<(), AllocError>
+    ensures line { OnOk result (line.new.items ≡ line.old.items ++ line_bytes (spec.link_line address.now entry.now)) }
 {
-    let mut line = match entry {
-        Entry::Local(_) => return Ok(None),
-        Entry::Info(title) => four_fields(
-            alloc,
+    match entry {
+        Entry::Local(_) => return Ok(()),
+        Entry::Info(title) => add_four_fields(
+            line,
             b'i',
             title.as_bytes(),
             &[],
@@ -123,8 +162,8 @@ pub fn link_line(
             let mut selector = Vec::new(alloc);
             selector.extend_from_slice(b"URL:")?;
             selector.extend_from_slice(url.as_bytes())?;
-            four_fields(
-                alloc,
+            add_four_fields(
+                line,
                 b'h',
                 title.as_bytes(),
                 &selector,
@@ -138,17 +177,42 @@ pub fn link_line(
             selector,
             host,
             port,
-        } => four_fields(
-            alloc,
+        } => add_four_fields(
+            line,
             kind.letter(),
             title.as_bytes(),
             selector.as_bytes(),
             host.as_bytes(),
             *port,
         )?,
-    };
+    }
     line.extend_from_slice(b"\r\n")?;
+    Ok(())
+}
+
+/// The line of an entry that names no item of this site; none for one that does.
+pub fn link_line(
+    alloc: Global,
+    address: &Address<'_>,
+    entry: &Entry,
+) -> Result<Option<Bytes>, AllocError>
+    ensures line { IfOk result (λ line. line ≡ spec.link_line address.now entry.now) }
+{
+    if let Entry::Local(_) = entry {
+        return Ok(None);
+    }
+    let mut line = Vec::new(alloc);
+    add_link_line(alloc, &mut line, address, entry)?;
     Ok(Some(Bytes::from(line)))
+}
+
+/// The menu of these lines: they, and the line that is one period (RFC 1436, section 3.8).
+pub fn ended_menu(lines: Vec<u8>) -> Result<Bytes, AllocError>
+    ensures { IfOk result (λ menu. menu ≡ lines.items ++ text_end) }
+{
+    let mut menu = lines;
+    menu.extend_from_slice(END)?;
+    Ok(Bytes::from(menu))
 }
 
 /// A menu of these lines: they, and the line that is one period (RFC 1436, section 3.8).
@@ -164,6 +228,5 @@ pub fn menu(alloc: Global, lines: &LineList) -> Result<Bytes, AllocError>
     for line in lines.as_slice() {
         menu.extend_from_slice(line.as_slice())?;
     }
-    menu.extend_from_slice(END)?;
-    Ok(Bytes::from(menu))
+    ended_menu(menu)
 }

@@ -5,7 +5,8 @@ ghost use Rattle.host_types.specs.SiteState.{IsUnchangedBehind};
 ghost use Rattle.text_writer.specs.Pipe.{Piped, will_give, fresh, Passes, Ends};
 ghost use Rattle.text_writer.specs.Text.{text};
 
-use crate::place::{BODY_START, Place, Ready, after, behind_run, closing, emitted, run_length};
+use crate::passing::{copy_to, give_lines};
+use crate::place::{BODY_START, Place, Ready, after, closing, emitted};
 use std::marker::Model;
 
 /// How many bytes of the chunk were taken, and how many bytes of the text were given.
@@ -55,14 +56,13 @@ impl TextPipe {
         ensures progress { ((result.taken ≡ length chunk.now) × (self.new.ready ≡ [])) ⊎ (result.given ≡ length out.new) }
     {
         let mut given = self.give(out, 0);
-        let mut taken = 0;
+        let lines = self.pass_lines(chunk, out, given);
+        given += lines.given;
+        let mut taken = lines.taken;
         while taken < chunk.len() && self.ready.is_empty() {
             self.take_byte(chunk[taken]);
             taken += 1;
             given = self.give(out, given);
-            let run = self.pass_run(&chunk[taken..], out, given);
-            taken += run;
-            given += run;
         }
         Moved { taken, given }
     }
@@ -149,35 +149,26 @@ impl TextPipe {
         end
     }
 
-    /// Gives the next bytes that are sent as they are, as far as there is room, and says how many; none while others are ready.
-    fn pass_run(&mut self, rest: &[u8], out: &mut [u8], at: usize) -> usize
+    /// Gives what the bytes give, from the place `at` on, as long as there is room for what each of them may give; none while others are ready.
+    fn pass_lines(&mut self, chunk: &[u8], out: &mut [u8], at: usize) -> Moved
         requires { at ≤ length out.old }
-        ensures taken { result ≤ length rest.now }
-        ensures within { at + result ≤ length out.new }
-        ensures given { (more : List ℕ) → take (at + result) out.new ++ will_give self.new (drop result rest.now ++ more) ≡ take at out.old ++ will_give self.old (rest.now ++ more) }
+        ensures taken { result.taken ≤ length chunk.now }
+        ensures within { at + result.given ≤ length out.new }
+        ensures given { (more : List ℕ) → take (at + result.given) out.new ++ will_give self.new (drop result.taken chunk.now ++ more) ≡ take at out.old ++ will_give self.old (chunk.now ++ more) }
         ensures ready { self.new.ready ≡ self.old.ready }
-        ensures behind { IsUnchangedBehind (at + result) out.old out.new }
+        ensures behind { IsUnchangedBehind (at + result.given) out.old out.new }
     {
         let Some(place) = self.place else {
-            return 0;
+            return Moved { taken: 0, given: 0 };
         };
         if !self.ready.is_empty() {
-            return 0;
+            return Moved { taken: 0, given: 0 };
         }
-        let next = &rest[..rest.len().min(out.len() - at)];
-        let run = run_length(place, next);
-        copy_to(&next[..run], out, at);
-        self.place = Some(behind_run(place, run));
-        run
+        let passed = give_lines(place, chunk, out, at);
+        self.place = Some(passed.place);
+        Moved {
+            taken: passed.taken,
+            given: passed.end - at,
+        }
     }
-}
-
-/// Copies the bytes to the places from `at` on.
-fn copy_to(bytes: &[u8], out: &mut [u8], at: usize)
-    requires { at + length bytes.now ≤ length out.old }
-    ensures bytes { take (at + length bytes.now) out.new ≡ take at out.old ++ bytes.now }
-    ensures behind { IsUnchangedBehind (at + length bytes.now) out.old out.new }
-    ensures length { length out.new ≡ length out.old }
-{
-    out[at..at + bytes.len()].copy_from_slice(bytes);
 }

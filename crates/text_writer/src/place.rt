@@ -1,7 +1,8 @@
 // Where in a line a body is, and what its next byte gives.
-ghost use Rattle.std.specs.Prelude.{◌≡◌, ◌≤◌, length};
+ghost use Rattle.std.specs.Prelude.{◌≡◌, ◌<◌, ◌≤◌, ◌+◌, ◌++◌, ◌∷◌, [], length, take};
 ghost use Rattle.std.specs.List.{position_or_len};
 ghost use Rattle.arrayvec.specs.ArrayVec.{array_vec_len};
+ghost use Rattle.host_types.specs.SiteState.{IsUnchangedBehind};
 ghost use Rattle.text_writer.specs.Place as spec;
 
 use arrayvec::ArrayVec;
@@ -20,33 +21,60 @@ pub const BODY_START: Place = Place {
     held: false,
 };
 
+/// The most bytes of the text that one byte of a body gives.
+pub const MOST: usize = 2;
+
 /// Bytes of the text that are ready: at most two for a byte of the body, and six for its end.
 pub type Ready = ArrayVec<u8, 8>;
 
-/// What one byte gives: a held CR, a doubled period, a whole line end.
+/// Puts a byte at a place of the buffer, and says which place is next.
+fn put(byte: u8, out: &mut [u8], at: usize) -> usize
+    requires { at < length out.old }
+    ensures next { result ≡ at + 1 }
+    ensures bytes { take result out.new ≡ take at out.old ++ byte ∷ [] }
+    ensures behind { IsUnchangedBehind result out.old out.new }
+{
+    out[at] = byte;
+    at + 1
+}
+
+/// Gives what one byte gives, from the place `at` on, and says how far: a held CR, a doubled period, a whole line end.
+pub fn give_byte(place: Place, byte: u8, out: &mut [u8], at: usize) -> usize
+    requires { at + 2 ≤ length out.old }
+    ensures onward { at ≤ result }
+    ensures few { result ≤ at + 2 }
+    ensures bytes { take result out.new ≡ take at out.old ++ spec.emitted place byte }
+    ensures behind { IsUnchangedBehind result out.old out.new }
+{
+    match byte {
+        b'\n' => {
+            let end = put(b'\r', out, at);
+            put(b'\n', out, end)
+        }
+        b'\r' if place.held => put(b'\r', out, at),
+        b'\r' => at,
+        _ => {
+            let mut end = at;
+            if place.held {
+                end = put(b'\r', out, end);
+            } else if place.at_start && byte == b'.' {
+                end = put(b'.', out, end);
+            }
+            put(byte, out, end)
+        }
+    }
+}
+
+/// What one byte gives.
 pub fn emitted(place: Place, byte: u8) -> Ready
     ensures bytes { result.items ≡ spec.emitted place byte }
     ensures few { array_vec_len result ≤ 2 }
 {
-    let mut ready = ArrayVec::new();
-    match byte {
-        b'\n' => {
-            ready.push(b'\r');
-            ready.push(b'\n');
-        }
-        b'\r' => {
-            if place.held {
-                ready.push(b'\r');
-            }
-        }
-        _ => {
-            if place.held {
-                ready.push(b'\r');
-            } else if place.at_start && byte == b'.' {
-                ready.push(b'.');
-            }
-            ready.push(byte);
-        }
+    let mut bytes = [0; MOST];
+    let count = give_byte(place, byte, &mut bytes, 0);
+    let mut ready = Ready::new();
+    if ready.try_extend_from_slice(&bytes[..count]).is_err() {
+        unreachable!();
     }
     ready
 }

@@ -1,7 +1,7 @@
 // Commits that are stopped at each call of the device.
 use crate::batches::commit_tree;
 use crate::dice::Dice;
-use crate::made::{Sectors, disk_of, height_of, image_of, new_tree, open_tree};
+use crate::made::{Sectors, device_under, disk_of, height_of, image_of, new_tree, open_tree};
 use crate::pairs::{one_edit, pairs_of, value_of};
 use crate::trouble::Trouble;
 use common_types::Bytes;
@@ -76,7 +76,7 @@ pub fn used_image(alloc: Global, height: u16) -> Result<Sectors, Trouble> {
         }
         put(alloc, &mut keeper, &key, &[dice.roll(256) as u8; 1024])?;
     }
-    let image = image_of(alloc, &keeper.into_device())?;
+    let image = image_of(alloc, &device_under(keeper)?)?;
     match height_of(alloc, &image)? == height {
         true => Ok(image),
         false => Err(Trouble::Wrong("another height")),
@@ -222,7 +222,7 @@ fn stopped(
         Err(Trouble::Keeper(KeeperFault::Device | KeeperFault::Failed)) => false,
         Err(trouble) => return Err(trouble),
     };
-    Ok(Some((is_done, keeper.into_device().into_inner())))
+    Ok(Some((is_done, device_under(keeper)?.into_inner())))
 }
 
 /// The pairs of an image before and after a batch.

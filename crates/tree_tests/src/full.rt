@@ -1,6 +1,6 @@
 // An image that is filled until it has no room.
 use crate::batches::commit_tree;
-use crate::made::{image_of, new_tree, open_tree};
+use crate::made::{device_under, image_of, new_tree, open_tree};
 use crate::pairs::{kept_by, one_edit, pairs_of};
 use crate::trouble::Trouble;
 use cow_tree::TreeKeeper;
@@ -41,7 +41,7 @@ pub fn room(alloc: Global) -> Result<u8, Trouble> {
 
 /// The put of one pair more than there is room for. It changes neither the pairs nor the figures, and calls for no write.
 pub fn one_more(alloc: Global, pairs: u8) -> Result<(), Trouble> {
-    let disk = filled(alloc, pairs)?.into_device();
+    let disk = device_under(filled(alloc, pairs)?)?;
     let (image, calls) = (image_of(alloc, &disk)?, disk.writes_and_syncs().len());
     let mut keeper = filled(alloc, pairs)?;
     let before = kept_by(alloc, &mut keeper)?;
@@ -49,7 +49,7 @@ pub fn one_more(alloc: Global, pairs: u8) -> Result<(), Trouble> {
     if kept_by(alloc, &mut keeper)? != before || !keeper.is_usable() {
         return Err(Trouble::Wrong("a refused commit changes what is kept"));
     }
-    let disk = keeper.into_device();
+    let disk = device_under(keeper)?;
     if disk.writes_and_syncs().len() != calls || image_of(alloc, &disk)? != image {
         return Err(Trouble::Wrong("a refused commit writes"));
     }

@@ -2,7 +2,9 @@
 use crate::trouble::Trouble;
 use common_types::{Admin, Host};
 use cow_tree::TreeKeeper;
-use page_store::{Banner, FlatKeeper, Root, Slot, format_flat, slot_page, sync_all, write_page};
+use page_store::{
+    Banner, FlatKeeper, PinKeeper, Root, Slot, format_flat, slot_page, sync_all, write_page,
+};
 use sector_device::{Device, MemDisk};
 use std::alloc::Global;
 
@@ -77,6 +79,14 @@ pub fn open_tree<D: Device + Drop>(alloc: Global, device: D) -> Result<TreeKeepe
         Ok(keeper) => Ok(keeper),
         Err((fault, _)) => Err(Trouble::from(fault)),
     }
+}
+
+/// The device of a keeper, of which no pin is to be out.
+pub fn device_under<D: Device + Drop>(keeper: TreeKeeper<D>) -> Result<D, Trouble> {
+    if !keeper.is_unpinned() {
+        return Err(Trouble::Wrong("a pin is out"));
+    }
+    Ok(keeper.into_device())
 }
 
 /// The keeper of the flat pages on a device.

@@ -1,6 +1,6 @@
 // What an opening asks a disk for.
 use crate::crashes::used_image;
-use crate::made::{disk_of, open_tree};
+use crate::made::{device_under, disk_of, open_tree};
 use crate::trouble::Trouble;
 use cow_tree::TreeKeeper;
 use page_store::Keeper;
@@ -33,7 +33,7 @@ pub fn opening(alloc: Global, height: u16) -> Result<Seen, Trouble> {
     let held = pages
         .saturating_sub(2)
         .saturating_sub(keeper.figures().free);
-    let disk = keeper.into_device();
+    let disk = device_under(keeper)?;
     if disk.writes_and_syncs().len() != 1 {
         return Err(Trouble::Wrong("not one sync alone"));
     }

@@ -2,7 +2,7 @@
 use crate::batches::{commit_flat, commit_tree};
 use crate::dice::{Dice, key};
 use crate::made::{
-    Sectors, disk_of, height_of, image_of, new_flat, new_tree, open_flat, open_tree,
+    Sectors, device_under, disk_of, height_of, image_of, new_flat, new_tree, open_flat, open_tree,
 };
 use crate::pairs::{has_edits, kept_by, pairs_of};
 use crate::trouble::Trouble;
@@ -150,13 +150,13 @@ impl Run {
         for batch in &self.since {
             commit_tree(&mut tree, batch)?;
         }
-        image_of(self.alloc, &tree.into_device())
+        image_of(self.alloc, &device_under(tree)?)
     }
 
     /// Goes on with what opened from the disk of the tree, which it is seen to be.
     fn renew(&mut self, image: Sectors, again: TreeKeeper<MemDisk>) -> Result<(), Trouble> {
         let tree = mem::replace(&mut self.tree, again);
-        if image_of(self.alloc, &tree.into_device())? != image {
+        if image_of(self.alloc, &device_under(tree)?)? != image {
             return Err(Trouble::Wrong("another disk"));
         }
         self.start = image;

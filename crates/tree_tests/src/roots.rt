@@ -1,7 +1,8 @@
 // Root slots: which one opens, which one a commit writes, and torn ones.
 use crate::batches::commit_tree;
 use crate::made::{
-    Sectors, current_slot, disk_of, empty_slot, image_of, new_tree, open_tree, write_slot,
+    Sectors, current_slot, device_under, disk_of, empty_slot, image_of, new_tree, open_tree,
+    write_slot,
 };
 use crate::pairs::{one_edit, pairs_of};
 use crate::trouble::Trouble;
@@ -43,7 +44,7 @@ pub fn switched(alloc: Global) -> Result<Switch, Trouble> {
         return Err(Trouble::Wrong("the older slot opens"));
     }
     commit_tree(&mut keeper, &one_edit(alloc, b"k", Some(b"v"))?)?;
-    let left = image_of(alloc, &keeper.into_device())?;
+    let left = image_of(alloc, &device_under(keeper)?)?;
     if !has_slot_of(&left, &image, 1) {
         return Err(Trouble::Wrong("the newer slot is written"));
     }
@@ -61,10 +62,10 @@ pub fn switched(alloc: Global) -> Result<Switch, Trouble> {
 fn two_images(alloc: Global) -> Result<(Sectors, Sectors), Trouble> {
     let mut keeper = open_tree(alloc, new_tree(alloc, PAGES)?)?;
     commit_tree(&mut keeper, &one_edit(alloc, b"a", Some(b"1"))?)?;
-    let older = image_of(alloc, &keeper.into_device())?;
+    let older = image_of(alloc, &device_under(keeper)?)?;
     let mut keeper = open_tree(alloc, disk_of(alloc, &older)?)?;
     commit_tree(&mut keeper, &one_edit(alloc, b"b", Some(b"2"))?)?;
-    let newer = image_of(alloc, &keeper.into_device())?;
+    let newer = image_of(alloc, &device_under(keeper)?)?;
     Ok((older, newer))
 }
 

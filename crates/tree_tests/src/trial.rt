@@ -1,6 +1,6 @@
 // A few commits, each made again where it found no memory.
 use crate::batches::commit_tree;
-use crate::made::{new_tree, open_tree};
+use crate::made::{device_under, new_tree, open_tree};
 use crate::pairs::{one_edit, pairs_of};
 use crate::trouble::Trouble;
 use cow_tree::TreeKeeper;
@@ -62,7 +62,7 @@ fn changed(
         return Err(Trouble::Wrong("a refused commit changes the figures"));
     }
     if !keeper.is_usable() {
-        keeper = opened(alloc, keeper.into_device())?;
+        keeper = opened(alloc, device_under(keeper)?)?;
     }
     change(alloc, &mut keeper, number)?;
     Ok(keeper)

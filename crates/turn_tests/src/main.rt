@@ -5,6 +5,7 @@
 mod crowd;
 mod groups;
 mod memory_wire;
+mod old_wires;
 mod place;
 mod shy_wire;
 mod site;
@@ -15,6 +16,7 @@ use crowd::CROWD;
 use group_hub::Hub;
 use groups::{GROUP, show_no_room};
 use memory_wire::{MemoryWire, StandingClock};
+use old_wires::show_old_clients;
 use place::Place;
 use site::{NotReady, memory_hub};
 use socket_wires::{Gate, SystemClock, serve_on};
@@ -277,6 +279,7 @@ fn show_all_visits(rt: &HostRuntime) -> io::Result<()> {
 fn main(rt: HostRuntime) -> io::Result<()> {
     show_turns(&rt)?;
     show_all_visits(&rt)?;
+    show_old_clients(&rt)?;
     show_no_room(&rt)?;
     show_log_line(&rt)?;
     show_loopback(&rt)

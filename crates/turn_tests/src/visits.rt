@@ -6,7 +6,7 @@ use crate::site::{NotReady, memory_hub};
 use crate::tree::tree_hub;
 use group_hub::Hub;
 use host_types::Stamp;
-use ready_sockets::{Head, Record, log_line};
+use ready_sockets::{Head, LogForm, Record, log_line};
 use ready_turns::{Ending, Seat, dismiss, join, learn, take_turn};
 use std::alloc::Global;
 use std::io;
@@ -21,12 +21,13 @@ fn serve_round<S: SearchKeeper>(
     hub: &mut Hub<S>,
     wires: Vec<MemoryWire>,
     passes: u32,
+    place: Place,
 ) -> Result<Vec<Seat<ShyWire>>, NotReady> {
     let mut clock = StandingClock::new();
     let mut seats = Vec::new(alloc);
     let mut is_full = false;
     for wire in wires {
-        let seat = join(hub, ShyWire::new(wire));
+        let seat = join(hub, ShyWire::new(wire), place.old_clients);
         is_full |= seats.push(seat).is_err();
     }
     for _pass in 0..passes {
@@ -51,10 +52,11 @@ fn serve_rounds<S: SearchKeeper>(
     hub: &mut Hub<S>,
     rounds: Vec<Vec<MemoryWire>>,
     passes: u32,
+    place: Place,
 ) -> Result<Vec<Seat<ShyWire>>, NotReady> {
     let mut served = Vec::new(alloc);
     for wires in rounds {
-        for seat in serve_round(alloc, hub, wires, passes)? {
+        for seat in serve_round(alloc, hub, wires, passes, place)? {
             served.push(seat)?;
         }
     }
@@ -67,9 +69,10 @@ fn serve_over<S: SearchKeeper + Drop>(
     hub: Hub<S>,
     rounds: Vec<Vec<MemoryWire>>,
     passes: u32,
+    place: Place,
 ) -> Result<Vec<Seat<ShyWire>>, NotReady> {
     let mut hub = hub;
-    let served = serve_rounds(alloc, &mut hub, rounds, passes);
+    let served = serve_rounds(alloc, &mut hub, rounds, passes, place);
     let _ = hub.close();
     served
 }
@@ -82,9 +85,21 @@ fn serve(
     place: Place,
 ) -> Result<Vec<Seat<ShyWire>>, NotReady> {
     if place.is_on_disk {
-        return serve_over(alloc, tree_hub(alloc, place.is_grouped)?, rounds, passes);
+        return serve_over(
+            alloc,
+            tree_hub(alloc, place.is_grouped)?,
+            rounds,
+            passes,
+            place,
+        );
     }
-    serve_over(alloc, memory_hub(alloc, place.is_grouped)?, rounds, passes)
+    serve_over(
+        alloc,
+        memory_hub(alloc, place.is_grouped)?,
+        rounds,
+        passes,
+        place,
+    )
 }
 
 /// Prints how each session ended, and what its wire was given.
@@ -120,7 +135,7 @@ pub fn all_passes() -> u32 {
     MOST_PASSES
 }
 
-/// Prints a line of the log.
+/// Prints a line of the log in each form.
 pub fn show_log_line(rt: &HostRuntime) -> io::Result<()> {
     let mut head = Head::new();
     head.hear(b"/bo");
@@ -131,9 +146,16 @@ pub fn show_log_line(rt: &HostRuntime) -> io::Result<()> {
         selector: head.selector(),
         ending: Ending::Served,
         taken: 42,
+        stored: Some(b"post//book/1"),
     };
-    match log_line(rt.alloc(), &gone) {
-        Ok(line) => println!(rt; "{line}"),
-        Err(_) => Err(io::ErrorKind::OutOfMemory.into()),
+    for form in [LogForm::Own, LogForm::Common] {
+        let Ok(line) = log_line(rt.alloc(), form, &gone) else {
+            return Err(io::ErrorKind::OutOfMemory.into());
+        };
+        match std::str::from_utf8(&line) {
+            Ok(text) => println!(rt; "{text}")?,
+            Err(_) => println!(rt; "no text")?,
+        }
     }
+    Ok(())
 }

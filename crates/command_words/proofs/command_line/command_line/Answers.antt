@@ -13,9 +13,11 @@ returns c =
     let five = with_command _ _ c.in_ok-subcommand-4.field-0 c.in_ok-subcommand-5.field-0 c.in_ok-get.field-0 four c.in_ok-get.ensures c.in_ok-subcommand-5.ensures in
     let six = with_command _ _ c.in_ok-subcommand-5.field-0 c.in_ok-subcommand-6.field-0 c.in_ok-posts.field-0 five c.in_ok-posts.ensures c.in_ok-subcommand-6.ensures in
     let seven = with_command _ _ c.in_ok-subcommand-6.field-0 c.in_ok-subcommand-7.field-0 c.in_ok-show.field-0 six c.in_ok-show.ensures c.in_ok-subcommand-7.ensures in
-    let eight = with_command _ _ c.in_ok-subcommand-7.field-0 c.in_ok-subcommand-8.field-0 c.in_ok-check.field-0 seven c.in_ok-check.ensures c.in_ok-subcommand-8.ensures in
-    let nine = with_command _ _ c.in_ok-subcommand-8.field-0 c.in_ok-subcommand-9.field-0 c.in_ok-compact.field-0 eight c.in_ok-compact.ensures c.in_ok-subcommand-9.ensures in
-    let ten = with_command _ _ c.in_ok-subcommand-9.field-0 c.in_ok-subcommand-10.field-0 c.in_ok-upgrade.field-0 nine c.in_ok-upgrade.ensures c.in_ok-subcommand-10.ensures in
-    let eleven = with_command _ _ c.in_ok-subcommand-10.field-0 c.in_ok-subcommand-11.field-0 c.in_ok-copy.field-0 ten c.in_ok-copy.ensures c.in_ok-subcommand-11.ensures in
-    let twelve = with_command _ _ c.in_ok-subcommand-11.field-0 c.in_ok-subcommand-12.field-0 c.in_ok-replay.field-0 eleven c.in_ok-replay.ensures c.in_ok-subcommand-12.ensures in
-    IfOk-weaker c.subcommand-13.result _ _ (λ r adds. with_command _ _ c.in_ok-subcommand-12.field-0 r c.in_ok-serve.field-0 twelve c.in_ok-serve.ensures adds) c.subcommand-13.ensures
+    let eight = with_command _ _ c.in_ok-subcommand-7.field-0 c.in_ok-subcommand-8.field-0 c.in_ok-export.field-0 seven c.in_ok-export.ensures c.in_ok-subcommand-8.ensures in
+    let nine = with_command _ _ c.in_ok-subcommand-8.field-0 c.in_ok-subcommand-9.field-0 c.in_ok-import.field-0 eight c.in_ok-import.ensures c.in_ok-subcommand-9.ensures in
+    let ten = with_command _ _ c.in_ok-subcommand-9.field-0 c.in_ok-subcommand-10.field-0 c.in_ok-check.field-0 nine c.in_ok-check.ensures c.in_ok-subcommand-10.ensures in
+    let eleven = with_command _ _ c.in_ok-subcommand-10.field-0 c.in_ok-subcommand-11.field-0 c.in_ok-compact.field-0 ten c.in_ok-compact.ensures c.in_ok-subcommand-11.ensures in
+    let twelve = with_command _ _ c.in_ok-subcommand-11.field-0 c.in_ok-subcommand-12.field-0 c.in_ok-upgrade.field-0 eleven c.in_ok-upgrade.ensures c.in_ok-subcommand-12.ensures in
+    let thirteen = with_command _ _ c.in_ok-subcommand-12.field-0 c.in_ok-subcommand-13.field-0 c.in_ok-copy.field-0 twelve c.in_ok-copy.ensures c.in_ok-subcommand-13.ensures in
+    let fourteen = with_command _ _ c.in_ok-subcommand-13.field-0 c.in_ok-subcommand-14.field-0 c.in_ok-replay.field-0 thirteen c.in_ok-replay.ensures c.in_ok-subcommand-14.ensures in
+    IfOk-weaker c.subcommand-15.result _ _ (λ r adds. with_command _ _ c.in_ok-subcommand-14.field-0 r c.in_ok-serve.field-0 fourteen c.in_ok-serve.ensures adds) c.subcommand-15.ensures

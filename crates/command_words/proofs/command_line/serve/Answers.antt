@@ -17,4 +17,15 @@ returns c =
     let five = with_arg _ _ c.in_ok-arg-4.field-0 c.in_ok-arg-5.field-0 c.in_ok-conflicts_with-2.field-0 four quiet c.in_ok-arg-5.ensures in
     let fewer = may_be_missing (number_rule (codes "per-address") 1 32) c.number.result c.required-2.result c.number.ensures c.required-2.ensures in
     let places = conflicting _ c.required-2.result c.in_ok-conflicts_with-3.field-0 _ fewer c.in_ok-conflicts_with-3.ensures in
-    IfOk-weaker c.arg-6.result _ _ (λ r adds. with_arg _ _ c.in_ok-arg-5.field-0 r c.in_ok-conflicts_with-3.field-0 five places adds) c.arg-6.ensures
+    let six = with_arg _ _ c.in_ok-arg-5.field-0 c.in_ok-arg-6.field-0 c.in_ok-conflicts_with-3.field-0 five places c.in_ok-arg-6.ensures in
+    let freely = may_be_missing (number_rule (codes "posts-per-minute") 1 1000) c.number-2.result c.required-3.result c.number-2.ensures c.required-3.ensures in
+    let sparing = conflicting _ c.required-3.result c.in_ok-conflicts_with-4.field-0 _ freely c.in_ok-conflicts_with-4.ensures in
+    let seven = with_arg _ _ c.in_ok-arg-6.field-0 c.in_ok-arg-7.field-0 c.in_ok-conflicts_with-4.field-0 six sparing c.in_ok-arg-7.ensures in
+    let old_clients = conflicting _ c.flag-2.result c.in_ok-conflicts_with-5.field-0 _ c.flag-2.ensures c.in_ok-conflicts_with-5.ensures in
+    let eight = with_arg _ _ c.in_ok-arg-7.field-0 c.in_ok-arg-8.field-0 c.in_ok-conflicts_with-5.field-0 seven old_clients c.in_ok-arg-8.ensures in
+    let common_log = conflicting _ c.flag-3.result c.in_ok-conflicts_with-6.field-0 _ c.flag-3.ensures c.in_ok-conflicts_with-6.ensures in
+    let nine = with_arg _ _ c.in_ok-arg-8.field-0 c.in_ok-arg-9.field-0 c.in_ok-conflicts_with-6.field-0 eight common_log c.in_ok-arg-9.ensures in
+    let socket = conflicting _ c.socket.result c.in_ok-conflicts_with-7.field-0 _ c.socket.ensures c.in_ok-conflicts_with-7.ensures in
+    let ten = with_arg _ _ c.in_ok-arg-9.field-0 c.in_ok-arg-10.field-0 c.in_ok-conflicts_with-7.field-0 nine socket c.in_ok-arg-10.ensures in
+    let nobody = conflicting _ c.flag-4.result c.in_ok-conflicts_with-8.field-0 _ c.flag-4.ensures c.in_ok-conflicts_with-8.ensures in
+    IfOk-weaker c.arg-11.result _ _ (λ r adds. with_arg _ _ c.in_ok-arg-10.field-0 r c.in_ok-conflicts_with-8.field-0 ten nobody adds) c.arg-11.ensures

@@ -21,7 +21,9 @@ returns-in_default c =
       | in-None w ↦ without_address (found_of c.args.matches.now) (codes "listen") c.get_str.result _ c.get_str.ensures w.in-None.is w.listen-is
     ] in
     let flag = found_flag (found_of c.args.matches.now) (codes "quiet") c.get_flag-quiet.result c.get_flag-quiet.ensures.none c.get_flag-quiet.ensures.value c.get_flag-quiet.ensures.other in
-    (refl, no_rounds, address, flag, c.per_address.ensures)
+    let old_clients = found_flag (found_of c.args.matches.now) (codes "old-clients") c.get_flag.result c.get_flag.ensures.none c.get_flag.ensures.value c.get_flag.ensures.other in
+    let common_log = found_flag (found_of c.args.matches.now) (codes "common-log") c.get_flag-common_log.result c.get_flag-common_log.ensures.none c.get_flag-common_log.ensures.value c.get_flag-common_log.ensures.other in
+    (refl, no_rounds, address, flag, c.per_address.ensures, c.posts_a_minute.ensures, old_clients, common_log, c.socket_place.ensures)
 
 pub returns-in_err-get_one : goal.returns-in_err-get_one
 returns-in_err-get_one c =

@@ -4,7 +4,7 @@ use Rattle.std.proofs.lemmas.List.{take_all}
 use Rattle.std.proofs.lemmas.Result.{err_from_is_err_and}
 use Rattle.common_types.specs.CrashStates.{no_new_crash_state}
 use Rattle.sector_device.specs.Disk.{Disk}
-use Rattle.sector_device.proofs.Works.{none_made_of}
+use Rattle.sector_device.proofs.Works.{no_calls, at_most, most_then, no_more_than, none_made_of}
 use Rattle.page_store.specs.Sectors.{Image}
 use Rattle.page_store.specs.Pages.{Pair, key_of}
 use Rattle.page_store.specs.Keys.{rises}
@@ -70,6 +70,7 @@ loop-edit-init g c =
         no_new_crash_state = λ keeps. no_new_crash_state (states c.args.device.now);
       };
       reads = refl;
+      work = at_most (no_calls _);
     }
 
 pub returns-clause-made : goal.returns-clause-made
@@ -118,4 +119,11 @@ loop-edit-preserved g c =
       ledger = retires_again c.args.ledger.now c.loop-edit.ledger c.edit.new.ledger inv.ledger c.edit.ensures.reads.ledger;
       device = reads_again inv.device c.edit.ensures.reads.counted.device;
       reads = more.reads.counted.reads ∙ inv.reads;
+      work = no_more_than (most_then inv.work c.edit.ensures.work) (omega arith) (omega arith) (omega arith);
     }
+
+pub returns-in_err-draft-clause-work : goal.returns-in_err-draft-clause-work
+returns-in_err-draft-clause-work g c = no_more_than (most_then c.loop-edit.invariant.work c.edit.ensures.work) (omega (arith, c.loop-edit-test.true)) (omega arith) (omega arith)
+
+pub returns-clause-work : goal.returns-clause-work
+returns-clause-work g c = no_more_than c.loop-edit.invariant.work (omega (arith, c.loop-edit.auto)) (omega arith) (omega arith)

@@ -1,4 +1,5 @@
-use Rattle.std.proofs.Common.{◌≡◌, ◌≤◌, ◌<◌, ◌+◌, ◌^◌, List, length, take, true, IsTrue}
+use Rattle.std.proofs.Common.{◌≡◌, ◌≤◌, ◌<◌, ◌+◌, ◌*◌, ◌^◌, List, length, take, true, IsTrue}
+use Rattle.sector_device.specs.Effects.{MadeAtMost}
 use Rattle.page_store.specs.Pages.{Pair}
 use Rattle.page_store.specs.Batch.{is_map, updated}
 use Rattle.page_store.specs.DeviceEffects.{IsReadCall}
@@ -19,4 +20,5 @@ invariant-loop-edit g l = record {
   ledger : OnlyRetires l.fn.ledger l.ledger;
   device : IsReadCall g.D.Device.state (crash_states_of g.D.Device.moment g.D.Device.possible_since) l.fn.device l.device;
   reads : (g.D.Device.state l.device).failed_reads ≡ (g.D.Device.state l.fn.device).failed_reads;
+  work : MadeAtMost (8 * (most_levels * l.edit-index)) 0 0 (g.D.Device.state l.fn.device) (g.D.Device.state l.device);
 }

@@ -1,4 +1,4 @@
-use Rattle.std.proofs.Common.{◌≡◌, ◌+◌, refl, sym, ap, subst, ◌∙◌, IsTrue}
+use Rattle.std.proofs.Common.{◌≡◌, ◌+◌, Some, arith, refl, sym, ap, subst, ◌∙◌, IsTrue}
 use Rattle.common_types.specs.CrashStates.{no_new_crash_state}
 use Rattle.sector_device.proofs.Works.{none_made_of}
 use Rattle.page_store.specs.Steps.{crash_states_of}
@@ -6,11 +6,14 @@ use Rattle.tree_nodes.specs.OwnedTrees.{state_of}
 use Rattle.std.proofs.lemmas.Result.{err_from_is_err_and}
 use Rattle.sector_device.specs.Disk.{Disk}
 use Rattle.page_store.specs.Sectors.{Image}
-use Rattle.tree_nodes.specs.Steps.{RootState, needed_under, supply_step, stepped}
+use Rattle.page_store.specs.StoreState.{most_levels}
+use Rattle.tree_nodes.specs.Steps.{RootState, needed_under, depth_under, supply_step, stepped}
+use Rattle.tree_nodes.specs.Needs.{needed_level}
 use Rattle.cow_tree.specs.Drafts.{old_under, IsDraft}
 use Rattle.cow_tree.proofs.PathSteps.{read_more, all_read}
 use Rattle.cow_tree.proofs.ReadsInTurn.{reads_again}
-use Rattle.cow_tree.proofs.PathReads.{path_begins, path_goes_on, retires_again, retires_none, tells_fault, draft_more}
+use Rattle.cow_tree.proofs.WorkDone.{first_left, some_left, reads_begin, reads_on, reads_all}
+use Rattle.cow_tree.proofs.PathReads.{left_less, path_begins, path_goes_on, retires_again, retires_none, tells_fault, draft_more}
 use Rattle.cow_tree.proofs.drafts.own_path.Goals as goal
 
 pub loop-page-init : goal.loop-page-init
@@ -23,6 +26,7 @@ loop-page-init g c = record {
     no_new_crash_state = λ keeps. no_new_crash_state (crash_states_of g.D.Device.moment g.D.Device.possible_since c.args.device.now);
   };
   reads = refl;
+  work = let tree = state_of c.args.tree.now in reads_begin _ most_levels _ (first_left (needed_under c.args.key.now tree.root) tree.height (depth_under c.args.key.now tree.root) most_levels c.requires.low (omega arith));
 }
 
 pub loop-page-preserved : goal.loop-page-preserved
@@ -48,7 +52,23 @@ loop-page-preserved g c =
       ledger = retires_again c.args.ledger.now c.loop-page.ledger c.read_needed.new.ledger inv.ledger c.read_needed.ensures.reads.ledger;
       device = reads_again inv.device c.read_needed.ensures.reads.counted.device;
       reads = more.reads.counted.reads ∙ inv.reads;
+      work =
+          let key = c.args.key.now in
+          let tree = state_of c.loop-page.tree in
+          let now = state_of c.read_needed.new.tree in
+          let less = left_less (needed_under key tree.root) (needed_under key now.root) c.in-Some.page (needed_level key tree) (needed_level key now) (sym c.needed.ensures ∙ c.in-Some.is) more.down in
+          reads_on _ _ most_levels less inv.work c.read_needed.ensures.work;
     }
+
+pub returns-in_err-read_needed-clause-work : goal.returns-in_err-read_needed-clause-work
+returns-in_err-read_needed-clause-work g c =
+    let key = c.args.key.now in
+    let tree = state_of c.loop-page.tree in
+    let some : needed_under key tree.root ≡ Some c.in-Some.page = sym c.needed.ensures ∙ c.in-Some.is in
+    reads_all 0 most_levels (reads_on _ 0 most_levels (some_left (needed_under key tree.root) c.in-Some.page (needed_level key tree) some) c.loop-page.invariant.work c.read_needed.ensures.work)
+
+pub returns-clause-work : goal.returns-clause-work
+returns-clause-work g c = reads_all _ most_levels c.loop-page.invariant.work
 
 pub returns-in_err-read_needed-clause-draft : goal.returns-in_err-read_needed-clause-draft
 returns-in_err-read_needed-clause-draft g c = λ keeps edits pairs d.

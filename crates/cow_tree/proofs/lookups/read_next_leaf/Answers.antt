@@ -5,7 +5,7 @@ use Rattle.page_store.specs.Sectors.{page_of}
 use Rattle.page_store.specs.Pages.{Pair}
 use Rattle.page_store.specs.Batch.{pair_after}
 use Rattle.page_store.specs.Content.{Bounds, walk}
-use Rattle.cow_tree.specs.Work.{pages_tried}
+use Rattle.page_store.specs.Work.{pages_tried}
 use Rattle.cow_tree.specs.KeptLeaves.{IsNextLeaf}
 use Rattle.cow_tree.proofs.AnswersGiven.{answer_err}
 use Rattle.cow_tree.proofs.RootWalks.{walk_at, no_pair_after}

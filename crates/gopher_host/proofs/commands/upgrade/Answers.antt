@@ -5,7 +5,7 @@ use Rattle.host_on_disk.specs.Upgrades.{KeepsEither}
 use Rattle.image_commands.specs.Compacted.{MayHaveWritten}
 use Rattle.image_commands.specs.Upgraded.{IsUpgradedImage, IsUpgradingFault}
 use Rattle.gopher_host.specs.Faults.{ended}
-use Rattle.gopher_host.specs.ImageFiles.{Upgrades, IsUnwritten, file_crash_states}
+use Rattle.gopher_host.specs.ImageFiles.{UpgradesImage, IsUnwritten, file_crash_states}
 use Rattle.gopher_host.proofs.Ended.{ok_too, all_err_too, unless_written, answers, opened_then}
 use Rattle.gopher_host.proofs.commands.upgrade.Goals as goal
 
@@ -14,7 +14,7 @@ returns g c =
     let contents = g.W.Write.contents in
     let device = c.in_ok-device.device in
     let handed = c.upgrade_image-upgraded.result in
-    opened_then _ _ _ _ device _ _ (Upgrades contents c.args.writer.now c.print_given.new.writer c.print_given.result) c.in_ok-device.ensures.noted c.closed.ensures.left c.in_ok-device.ensures.named c.in_ok-device.ensures.opened c.in_ok-device.ensures.unused
+    opened_then _ _ _ _ device _ _ (UpgradesImage contents c.args.writer.now c.print_given.new.writer c.print_given.result) c.in_ok-device.ensures.noted c.closed.ensures.left c.in_ok-device.ensures.named c.in_ok-device.ensures.opened c.in_ok-device.ensures.unused
     (answers (λ line. ended (string_bytes line)) handed c.closed.result
     (λ left text. (line : List ℕ) × (text ≡ ended line) × IsUpgradedImage file_state file_crash_states device left line)
     (λ left fault. IsUpgradingFault (file_state device) (file_state left) fault × (IsUnwritten device left ⊎ (MayHaveWritten fault × KeepsEither file_state file_crash_states device left)))

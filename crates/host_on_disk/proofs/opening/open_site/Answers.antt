@@ -1,7 +1,10 @@
-use Rattle.std.proofs.Common.{◌∙◌, refl, subst, sym, rules, IsTrue}
+use Rattle.std.proofs.Common.{arith, ◌∙◌, refl, subst, sym, rules, IsTrue}
 use Rattle.cow_tree.specs.TreeSeen.{held}
 use Rattle.host_on_disk.proofs.Images.{one_site, kept_stands}
-use Rattle.host_on_disk.proofs.Openings.{keeper_refused, small_refused, site_refused, none_out, no_site_pins}
+use Rattle.page_store.specs.Pins.{none_out}
+use Rattle.site_store.proofs.PinsKept.{no_site_pins}
+use Rattle.host_on_disk.proofs.Openings.{keeper_refused, small_refused, site_refused}
+use Rattle.host_on_disk.proofs.OpeningRead.{opened_once, refused_once}
 use Rattle.host_on_disk.proofs.opening.open_site.Goals as goal
 
 pub returns-in-Err-clause-refused : goal.returns-in-Err-clause-refused
@@ -60,3 +63,24 @@ returns-in-Ok-open-clause-alone g c =
 
 pub returns-in-Ok-open-clause-top : goal.returns-in-Ok-open-clause-top
 returns-in-Ok-open-clause-top g c = λ honest. c.in-Ok-open.ensures.reads_only.read.same.top ∙ c.in-Ok.ensures.top honest
+
+pub into_device-requires : goal.into_device-requires
+into_device-requires g c = record { unpinned = none_out (held g.D.Device.state c.in-Ok.keeper) (held g.D.Device.state c.in-Err-open.keeper) c.in-Err-open.ensures.handed_back.read.same.out c.in-Ok.ensures.unpinned }
+
+pub returns-in-Ok-open-clause-work : goal.returns-in-Ok-open-clause-work
+returns-in-Ok-open-clause-work g c =
+    let state = g.D.Device.state in
+    let k = c.in-Ok.keeper in
+    let site = c.in-Ok-open.site in
+    let stayed = c.in-Ok-open.ensures.reads_only.read.same in
+    opened_once (state c.args.device) (state k.device) (state site.keeper.device) k.slot.root.pages (held state k) (held state site.keeper) k.fitted.least c.in-Ok.ensures.fits c.in-Ok.ensures.work c.in-Ok-open.ensures.work stayed.keys stayed.height
+
+pub returns-in-Err-clause-work_on_fault : goal.returns-in-Err-clause-work_on_fault
+returns-in-Err-clause-work_on_fault g c =
+    let made = c.in-Err.ensures.work_on_fault in
+    record { reads = made.reads.0; writes = omega (arith, made.writes.0, made.writes.1); syncs = made.syncs }
+
+pub returns-in-Err-open-clause-work_on_fault : goal.returns-in-Err-open-clause-work_on_fault
+returns-in-Err-open-clause-work_on_fault g c =
+    let state = g.D.Device.state in
+    rw c.into_device.ensures (refused_once _ (state c.args.device) (state c.in-Ok.keeper.device) (state c.in-Err-open.keeper.device) c.in-Ok.ensures.work c.in-Err-open.ensures.handed_back.read.same.calls)

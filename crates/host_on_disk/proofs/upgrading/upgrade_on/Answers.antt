@@ -1,13 +1,14 @@
 use Rattle.std.proofs.Common.{◌≡◌, ◌⊎◌, inl, inr, ⊎_elim, true, sym, ap, subst, ◌∙◌, refl, arith, IsTrue}
 use Rattle.std.specs.Prelude.{Ok}
 use Rattle.common_types.specs.CrashStates.{AddsNone, adds_none_again}
+use Rattle.page_store.specs.Pins.{none_out}
 use Rattle.page_store.specs.Steps.{crash_states_of}
 use Rattle.cow_tree.specs.KeeperLaws.{crash_states_have_the_tree}
 use Rattle.cow_tree.specs.Needs.{MayNeed}
 use Rattle.cow_tree.specs.TreeSeen.{device_of, held}
 use Rattle.site_store.specs.Upgrading.{IsUpgradeFault}
 use Rattle.host_on_disk.specs.OpenFaults.{of_site}
-use Rattle.host_on_disk.specs.Upgrades.{Upgrades, IsNewAlready, KeepsEither}
+use Rattle.host_on_disk.specs.Upgrades.{UpgradesDevice, IsNewAlready, KeepsEither}
 use Rattle.host_on_disk.proofs.Images.{kept_stands}
 use Rattle.host_on_disk.proofs.Openings.{keeper_refused, small_refused}
 use Rattle.host_on_disk.proofs.Upgraded.{first_or_second, keeps, refused, usable_or_failed, same_done}
@@ -40,7 +41,7 @@ returns-in-Ok-upgrade-clause-upgraded g c = λ honest.
     let count = c.in-Ok-upgrade.count in
     let still = opened.honest ∙ honest in
     let content = opened.content honest in
-    subst (λ d. Upgrades state states device d count ⊎ IsNewAlready state states device d count) (sym c.into_device.ensures)
+    subst (λ d. UpgradesDevice state states device d count ⊎ IsNewAlready state states device d count) (sym c.into_device.ensures)
     (⊎_elim
     (λ one.
     let done = given.done (λ two. omega (arith, one, two)) in
@@ -122,3 +123,9 @@ returns-in-Err-upgrade-clause-refused g c =
     })
     (λ two. absurd (cc (c.upgrade.ensures.already opened.usable two, c.in-Err-upgrade.is)))
     refl refl c.in-Err-upgrade.fault c.in-Err-upgrade.ensures.fault)
+
+pub into_device-requires : goal.into_device-requires
+into_device-requires g c = record { unpinned = none_out (held g.D.Device.state c.in-Ok.keeper) (held g.D.Device.state c.in-Ok-upgrade.keeper) c.in-Ok-upgrade.ensures.out c.in-Ok.ensures.unpinned }
+
+pub into_device-requires-in-Err-upgrade : goal.into_device-requires-in-Err-upgrade
+into_device-requires-in-Err-upgrade g c = record { unpinned = none_out (held g.D.Device.state c.in-Ok.keeper) (held g.D.Device.state c.in-Err-upgrade.keeper) c.in-Err-upgrade.ensures.out c.in-Ok.ensures.unpinned }

@@ -1,5 +1,5 @@
 use Rattle.std.proofs.Common.{rules, refl, inl, inr, sym, subst, ◌∙◌}
-use Rattle.host_script.specs.Lines.{IsDone}
+use Rattle.host_script.specs.Lines.{IsLineDone}
 use Rattle.group_hub.proofs.CallLaws.{hub_rests, hub_goes_on}
 use Rattle.host_script.proofs.Replays.{so_none, by_none}
 use Rattle.host_script.proofs.replaying.answer_line.Goals as goal
@@ -57,7 +57,7 @@ returns-in_err-answer-in-Event-clause-lost g c =
         record {
           command = c.in_ok-parse.field-0;
           is = c.in_ok-parse.ensures.ok;
-          done = subst (λ parsed. IsDone c.args.now c.args.now p.0 p.1.0 p.1.1 parsed) (sym c.in-Event.is ∙ c.in_ok-moment.ensures) (refl, p.1.2);
+          done = subst (λ parsed. IsLineDone c.args.now c.args.now p.0 p.1.0 p.1.1 parsed) (sym c.in-Event.is ∙ c.in_ok-moment.ensures) (refl, p.1.2);
         },
       ),
       p.1.3,

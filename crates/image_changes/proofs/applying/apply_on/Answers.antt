@@ -7,7 +7,7 @@ use Rattle.page_store.specs.Steps.{crash_states_of}
 use Rattle.site_store.specs.Seen.{seen_site}
 use Rattle.change_file.specs.Applied.{RepresentsFront}
 use Rattle.host_on_disk.specs.ImageSites.{ImageRepresents}
-use Rattle.image_changes.specs.ImageChanges.{HasMade}
+use Rattle.image_changes.specs.ImageChanges.{HasMadeChanges}
 use Rattle.image_changes.proofs.Made.{on_ok_too, err_too, reads_on_device}
 use Rattle.image_changes.proofs.applying.apply_on.Goals as goal
 
@@ -19,15 +19,15 @@ returns-clause-applied g c = λ honest.
     let changes = c.args.changes.items in
     let answer = c.apply_over-applied.result.0 in
     let over = c.apply_over-applied.ensures.applied (subst IsTrue (sym opened.honest) honest) in
-    let back = c.into_device.ensures ∙ ap (λ k. device_of k) c.into_keeper.ensures in
+    let back = c.into_device.ensures ∙ ap (λ k. device_of k) c.into_keeper.ensures.keeper in
     record {
       site = first;
       stands = opened.site honest;
       alone = opened.alone honest;
       opened = c.in-Ok.site.keeper.device;
       no_new_crash_state = opened.at_crash honest;
-      all = subst (λ d. OnOk answer (HasMade ImageRepresents (states d) first changes c.args.now)) (sym back) over.all;
-      before = λ e is other. subst (λ d. HasMade ImageRepresents (states d) first (take (e.number - 1) changes) c.args.now) (sym back) (over.before e is other);
+      all = subst (λ d. OnOk answer (HasMadeChanges ImageRepresents (states d) first changes c.args.now)) (sym back) over.all;
+      before = λ e is other. subst (λ d. HasMadeChanges ImageRepresents (states d) first (take (e.number - 1) changes) c.args.now) (sym back) (over.before e is other);
       at_crash = subst (λ d. AddsOnly (states c.in-Ok.site.keeper.device) (states d) (RepresentsFront ImageRepresents first changes c.args.now)) (sym back) over.at_crash;
     }
 
@@ -40,7 +40,7 @@ returns-clause-stopped g c = err_too c.apply_over-applied.result.0
       counted = c.in-Ok.ensures.counts;
       usable = c.in-Ok.ensures.usable;
       stops = is;
-      handed = c.into_device.ensures ∙ ap (λ k. device_of k) c.into_keeper.ensures;
+      handed = c.into_device.ensures ∙ ap (λ k. device_of k) c.into_keeper.ensures.keeper;
     })
     c.apply_over-applied.ensures.stopped
 
@@ -48,7 +48,7 @@ pub returns-clause-counts : goal.returns-clause-counts
 returns-clause-counts g c =
     let state = g.D.Device.state in
     let opened = c.in-Ok.ensures.counts in
-    let back = c.into_device.ensures ∙ ap (λ k. device_of k) c.into_keeper.ensures in
+    let back = c.into_device.ensures ∙ ap (λ k. device_of k) c.into_keeper.ensures.keeper in
     on_ok_too c.apply_over-applied.result.0
     (λ is. record {
       reads = ap (λ d. (state d).failed_reads) back ∙ is.reads ∙ opened.reads;
@@ -60,10 +60,13 @@ pub returns-clause-counts_fault : goal.returns-clause-counts_fault
 returns-clause-counts_fault g c =
     let state = g.D.Device.state in
     let opened = c.in-Ok.ensures in
-    let back = c.into_device.ensures ∙ ap (λ k. device_of k) c.into_keeper.ensures in
+    let back = c.into_device.ensures ∙ ap (λ k. device_of k) c.into_keeper.ensures.keeper in
     err_too c.apply_over-applied.result.0
     (λ e is. record {
       reads = reads_on_device _ _ e.fault _ _ _ _ opened.honest opened.counts.reads (ap (λ d. (state d).failed_reads) back) is.reads;
       writes = ap (λ d. (state d).failed_writes) back ∙ is.writes ∙ ap (λ usable. writes_after usable e.fault (state c.in-Ok.site.keeper.device).failed_writes) opened.usable ∙ ap (λ count. writes_after true e.fault count) opened.counts.writes;
     })
     c.apply_over-applied.ensures.counts_fault
+
+pub into_keeper-requires : goal.into_keeper-requires
+into_keeper-requires g c = record { unpinned = c.apply_over-applied.ensures.pins ∙ c.in-Ok.ensures.none_pinned }

@@ -1,6 +1,6 @@
-use Rattle.std.proofs.Common.{◌≡◌, ℕ, Bool, inr, true, refl, sym, ap, subst, ◌∙◌, IsTrue}
+use Rattle.std.proofs.Common.{◌≡◌, ◌⊎◌, ℕ, Bool, inr, true, refl, sym, ap, subst, ◌∙◌, IsTrue}
 use Rattle.std.specs.String.{string_bytes}
-use Rattle.host_types.specs.CrashStates.{AddsOnly}
+use Rattle.common_types.specs.CrashStates.{AddsOnly, AddsNone, adds_none_again}
 use Rattle.page_store.specs.Steps.{crash_states_of}
 use Rattle.cow_tree.specs.TreeSeen.{held, device_of, slot_of, is_open}
 use Rattle.cow_tree.specs.Compacting.{IsFilled, MayNeedFilled}
@@ -12,10 +12,10 @@ use Rattle.site_store.specs.Represented.{RepresentedBy, site_kept}
 use Rattle.site_store.specs.Seen.{seen_site}
 use Rattle.host_on_disk.specs.ImageSites.{ImageRepresents}
 use Rattle.host_on_disk.proofs.Images.{kept_stands}
-use Rattle.host_on_disk.proofs.Openings.{none_out}
-use Rattle.image_commands.specs.Compacted.{free_line, KeepsSite, IsWrittenAnew, LacksRoom, IsNotWritten}
+use Rattle.page_store.specs.Pins.{none_out}
+use Rattle.image_commands.specs.Compacted.{free_line, KeepsOneSite, IsWrittenAnew, LacksRoom, IsNotWrittenAnew, MayHaveWritten}
 use Rattle.image_commands.specs.Faults.{of_site}
-use Rattle.image_commands.proofs.NotWritten.{not_written}
+use Rattle.image_commands.proofs.NotWritten.{not_written, may_have_written}
 use Rattle.image_commands.proofs.compacting.compact_image.Goals as goal
 
 pub returns-in-Ok-free_line-clause-kept : goal.returns-in-Ok-free_line-clause-kept
@@ -24,7 +24,7 @@ returns-in-Ok-free_line-clause-kept g c = λ honest.
     let opened = c.in-Ok.ensures in
     let site = c.in-Ok.site in
     let still = subst IsTrue (sym opened.honest) honest in
-    let back = c.into_device-device.ensures ∙ ap (λ k. device_of k) c.into_keeper-keeper.ensures in
+    let back = c.into_device-device.ensures ∙ ap (λ k. device_of k) c.into_keeper-keeper.ensures.keeper in
     record {
       site = seen_site site;
       stands = opened.site honest;
@@ -41,7 +41,7 @@ returns-in-Ok-free_line-clause-shows g c = λ honest.
     let site = c.in-Ok.site in
     let written = c.compact-compacted.new.self in
     let still = subst IsTrue (sym opened.honest) honest in
-    let same = c.into_keeper-keeper.ensures in
+    let same = c.into_keeper-keeper.ensures.keeper in
     let k = c.into_keeper-keeper.result in
     let before = subst IsTrue (sym c.compact-compacted.ensures.tried.honest) still in
     let now = subst (λ x. IsTrue (state (device_of x)).honest) (sym same) before in
@@ -60,7 +60,7 @@ returns-in-Ok-free_line-clause-anew g c = λ honest.
     let site = c.in-Ok.site in
     let written = c.compact-compacted.new.self in
     let still = subst IsTrue (sym opened.honest) honest in
-    let same = c.into_keeper-keeper.ensures in
+    let same = c.into_keeper-keeper.ensures.keeper in
     let k = c.into_keeper-keeper.result in
     let before = subst IsTrue (sym c.compact-compacted.ensures.tried.honest) still in
     let now = subst (λ x. IsTrue (state (device_of x)).honest) (sym same) before in
@@ -82,7 +82,7 @@ returns-in-Err-free_line-clause-kept_on_fault g c = λ honest.
     let opened = c.in-Ok.ensures in
     let site = c.in-Ok.site in
     let still = subst IsTrue (sym opened.honest) honest in
-    let back = c.into_device-device.ensures ∙ ap (λ k. device_of k) c.into_keeper-keeper.ensures in
+    let back = c.into_device-device.ensures ∙ ap (λ k. device_of k) c.into_keeper-keeper.ensures.keeper in
     inr (record {
       site = seen_site site;
       stands = opened.site honest;
@@ -98,7 +98,7 @@ returns-in-Err-compacted-clause-kept_on_fault g c = λ honest.
     let opened = c.in-Ok.ensures in
     let site = c.in-Ok.site in
     let still = subst IsTrue (sym opened.honest) honest in
-    let back = c.into_device-device.ensures ∙ ap (λ k. device_of k) c.into_keeper-keeper.ensures in
+    let back = c.into_device-device.ensures ∙ ap (λ k. device_of k) c.into_keeper-keeper.ensures.keeper in
     inr (record {
       site = seen_site site;
       stands = opened.site honest;
@@ -117,7 +117,7 @@ returns-in-Err-compacted-clause-refused g c =
     let fault = c.in-Err-compacted.ensures.fault in
     let h0 = held state site.keeper in
     let h1 = held state written.keeper in
-    let same = c.into_keeper-keeper.ensures in
+    let same = c.into_keeper-keeper.ensures.keeper in
     let k = c.into_keeper-keeper.result in
     let needs = MayNeedFilled (slot_of site.keeper) (state (device_of site.keeper)) in
     let room : (need free : ℕ) → HasStayed h0 h1 → free ≡ h0.free → (IsTrue h0.honest → needs need) → IsTrue (state c.args.device).honest → LacksRoom (state written.keeper.device).disk.view need free =
@@ -136,4 +136,24 @@ returns-in-Err-compacted-clause-refused g c =
     let back = c.into_device-device.ensures ∙ ap (λ x. device_of x) same in
     let cause = not_written (state c.args.device) (state written.keeper.device) h0 h1 needs opened.honest opened.counts.reads opened.counts.writes refl refl (λ top honest. sym (opened.top honest) ∙ top) room fault.given fault.comes fault.reads
     (fault.writes ∙ ap (λ (u : Bool). writes_after u fault.given h0.failed_writes) opened.usable) in
-    inr (opened.large, subst (λ d. IsNotWritten (state c.args.device) (state d) c.from-in-Err-compacted.result) (sym back) (subst (IsNotWritten (state c.args.device) (state written.keeper.device)) (sym (c.from-in-Err-compacted.ensures ∙ ap of_site fault.is)) cause))
+    inr (opened.large, subst (λ d. IsNotWrittenAnew (state c.args.device) (state d) c.from-in-Err-compacted.result) (sym back) (subst (IsNotWrittenAnew (state c.args.device) (state written.keeper.device)) (sym (c.from-in-Err-compacted.ensures ∙ ap of_site fault.is)) cause))
+
+pub into_keeper-keeper-requires : goal.into_keeper-keeper-requires
+into_keeper-keeper-requires g c = record { unpinned = c.compact-compacted.ensures.pins ∙ c.in-Ok.ensures.none_pinned }
+
+pub returns-in-Err-compacted-clause-no_new_crash_state : goal.returns-in-Err-compacted-clause-no_new_crash_state
+returns-in-Err-compacted-clause-no_new_crash_state g c = λ honest.
+    let state = g.D.Device.state in
+    let states = crash_states_of g.D.Device.moment g.D.Device.possible_since in
+    let opened = c.in-Ok.ensures in
+    let site = c.in-Ok.site in
+    let written = c.compact-compacted.new.self in
+    let still = subst IsTrue (sym opened.honest) honest in
+    let fault = c.in-Err-compacted.ensures.fault in
+    let back = c.into_device-device.ensures ∙ ap (λ x. device_of x) c.into_keeper-keeper.ensures.keeper in
+    let none = λ (up : (held state written.keeper).usable ≡ true).
+    let same : AddsNone (states c.args.device) (states c.into_device-device.result) =
+    subst (λ d. AddsNone (states c.args.device) (states d)) (sym back) (adds_none_again (states c.args.device) (states site.keeper.device) (states written.keeper.device) (opened.at_crash honest) (c.in-Err-compacted.ensures.no_new_crash_state still up)) in
+    same in
+    subst (λ f. MayHaveWritten f ⊎ AddsNone (states c.args.device) (states c.into_device-device.result)) (sym (c.from-in-Err-compacted.ensures ∙ ap of_site fault.is))
+    (may_have_written (held state site.keeper) (held state written.keeper) (MayNeedFilled (slot_of site.keeper) (state (device_of site.keeper))) fault.given opened.usable fault.comes none)

@@ -14,7 +14,7 @@ loop-preserved g c =
     record {
       only = only_on disk_state disk_lacks disk_crash_states c.args.site.now c.loop.site c.list_next.new.site so_far.only next.only;
       none = c.in-Ok-Some.ensures.counts ∙ so_far.none;
-      listed = λ honest. goes_on s (disk_state c.loop.site).site c.loop.text.items c.list_next.new.text.items c.loop.after _ _ c.in-Ok-Some.next (site_kept h c.args.site.now.kept honest).valid (so_far.only.kept.site honest) c.as_ref.ensures.value c.in-Ok-Some.field-0-is (so_far.listed honest) (next.gives (subst IsTrue (sym so_far.only.kept.honest) honest));
+      listed = λ honest. goes_on c.args.form s (disk_state c.loop.site).site c.loop.text.items c.list_next.new.text.items c.loop.after _ _ c.in-Ok-Some.next (site_kept h c.args.site.now.kept honest).valid (so_far.only.kept.site honest) c.as_ref.ensures.value c.in-Ok-Some.field-0-is (so_far.listed honest) (next.gives (subst IsTrue (sym so_far.only.kept.honest) honest));
     }
 
 pub returns-in-Ok-None-clause-listing : goal.returns-in-Ok-None-clause-listing
@@ -24,7 +24,7 @@ returns-in-Ok-None-clause-listing g c =
     let h = g.K.Keeper.store_state c.args.site.now.keeper in
     let s = site_of h c.args.site.now.kept in
     record {
-      gives = λ honest. ends_all s (disk_state c.loop.site).site c.loop.text.items c.list_next.new.text.items c.loop.after _ _ (so_far.only.kept.site honest) c.as_ref.ensures.value c.in-Ok-None.field-0-is (so_far.listed honest) (next.gives (subst IsTrue (sym so_far.only.kept.honest) honest));
+      gives = λ honest. ends_all c.args.form s (disk_state c.loop.site).site c.loop.text.items c.list_next.new.text.items c.loop.after _ _ (so_far.only.kept.site honest) c.as_ref.ensures.value c.in-Ok-None.field-0-is (so_far.listed honest) (next.gives (subst IsTrue (sym so_far.only.kept.honest) honest));
       only = only_on disk_state disk_lacks disk_crash_states c.args.site.now c.loop.site c.list_next.new.site so_far.only next.only;
       fault = tt;
       counts = c.in-Ok-None.ensures.counts ∙ so_far.none;

@@ -10,5 +10,5 @@ invariant-loop g l =
     record {
       only : ReadsOnly disk_state disk_lacks disk_crash_states l.fn.site l.site;
       none : (disk_state l.site).failed_reads ≡ (disk_state l.fn.site).failed_reads;
-      listed : IsTrue (disk_state l.fn.site).honest → IsListedTo (disk_state l.fn.site).site l.text.items l.after;
+      listed : IsTrue (disk_state l.fn.site).honest → IsListedTo l.form (disk_state l.fn.site).site l.text.items l.after;
     }

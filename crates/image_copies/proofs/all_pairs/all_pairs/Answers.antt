@@ -12,7 +12,8 @@ use Rattle.cow_tree.specs.TreeState.{found_under}
 use Rattle.cow_tree.specs.TreeSeen.{held, kept_by}
 use Rattle.cow_tree.proofs.DraftsBegin.{keys_bounded}
 use Rattle.cow_tree.proofs.PairsRead.{map_more, first_few}
-use Rattle.image_copies.proofs.PairsRead.{read_again, not_read_since, pair_fits}
+use Rattle.site_store.specs.ReadLaws.{read_later}
+use Rattle.image_copies.proofs.PairsRead.{not_read_since, pair_fits}
 use Rattle.image_copies.proofs.all_pairs.all_pairs.Goals as goal
 
 pub pair_behind-requires : goal.pair_behind-requires
@@ -28,16 +29,16 @@ returns-in-Ok-None-clause-pairs g c = λ honest.
     (sym c.in-Ok-None.field-0-is ∙ c.in-Ok-None.ensures.pair (inv.only.honest ∙ honest) ∙ ap (λ (l : List Pair). pair_after mid.pairs (last_key l)) c.deref.ensures.value ∙ ap (λ (l : List Pair). pair_after l (last_key c.loop.pairs.items)) (inv.only.same.pairs honest))
 
 pub returns-in-Ok-None-clause-kept : goal.returns-in-Ok-None-clause-kept
-returns-in-Ok-None-clause-kept g c = read_again (held g.D.Device.state c.args.keeper.now) (held g.D.Device.state c.loop.keeper) (held g.D.Device.state c.pair_behind.new.keeper) c.loop.invariant.only c.in-Ok-None.ensures.kept
+returns-in-Ok-None-clause-kept g c = read_later (held g.D.Device.state c.args.keeper.now) (held g.D.Device.state c.loop.keeper) (held g.D.Device.state c.pair_behind.new.keeper) c.loop.invariant.only c.in-Ok-None.ensures.kept
 
 pub returns-in-Ok-None-clause-counted : goal.returns-in-Ok-None-clause-counted
 returns-in-Ok-None-clause-counted g c =
     let told = c.are_all.ensures.0 c.if-are_all.true in
-    let same = (read_again (held g.D.Device.state c.args.keeper.now) (held g.D.Device.state c.loop.keeper) (held g.D.Device.state c.pair_behind.new.keeper) c.loop.invariant.only c.in-Ok-None.ensures.kept).same.keys in
+    let same = (read_later (held g.D.Device.state c.args.keeper.now) (held g.D.Device.state c.loop.keeper) (held g.D.Device.state c.pair_behind.new.keeper) c.loop.invariant.only c.in-Ok-None.ensures.kept).same.keys in
     cc (told, same)
 
 pub returns-in-Ok-None-2-clause-kept : goal.returns-in-Ok-None-2-clause-kept
-returns-in-Ok-None-2-clause-kept g c = read_again (held g.D.Device.state c.args.keeper.now) (held g.D.Device.state c.loop.keeper) (held g.D.Device.state c.pair_behind.new.keeper) c.loop.invariant.only c.in-Ok-None.ensures.kept
+returns-in-Ok-None-2-clause-kept g c = read_later (held g.D.Device.state c.args.keeper.now) (held g.D.Device.state c.loop.keeper) (held g.D.Device.state c.pair_behind.new.keeper) c.loop.invariant.only c.in-Ok-None.ensures.kept
 
 pub returns-in-Ok-None-2-clause-fault : goal.returns-in-Ok-None-2-clause-fault
 returns-in-Ok-None-2-clause-fault g c = (
@@ -53,14 +54,14 @@ returns-in-Ok-None-2-clause-fault g c = (
       first_all c.loop.pairs.items old.pairs ((c.args.keeper.now.there honest).map) (inv.first honest)
       (sym c.in-Ok-None.field-0-is ∙ c.in-Ok-None.ensures.pair (inv.only.honest ∙ honest) ∙ ap (λ (l : List Pair). pair_after mid.pairs (last_key l)) c.deref.ensures.value ∙ ap (λ (l : List Pair). pair_after l (last_key c.loop.pairs.items)) (inv.only.same.pairs honest)) in
       let counted = keys_told keeper.slot (page_of view) (found_under keeper.slot view) (keeper.there honest).found_is in
-      let same = (read_again old mid (held state c.pair_behind.new.keeper) inv.only c.in-Ok-None.ensures.kept).same.keys in
+      let same = (read_later old mid (held state c.pair_behind.new.keeper) inv.only c.in-Ok-None.ensures.kept).same.keys in
       let found : c.are_all.result ≡ true = c.are_all.ensures.1 (cc (all, counted, same)) in
       let not_found = c.if-are_all.false in
       absurd (cc (found, not_found)),
 )
 
 pub returns-in-Err-clause-kept : goal.returns-in-Err-clause-kept
-returns-in-Err-clause-kept g c = read_again (held g.D.Device.state c.args.keeper.now) (held g.D.Device.state c.loop.keeper) (held g.D.Device.state c.pair_behind.new.keeper) c.loop.invariant.only c.in-Err.ensures.kept
+returns-in-Err-clause-kept g c = read_later (held g.D.Device.state c.args.keeper.now) (held g.D.Device.state c.loop.keeper) (held g.D.Device.state c.pair_behind.new.keeper) c.loop.invariant.only c.in-Err.ensures.kept
 
 pub returns-in-Err-clause-fault : goal.returns-in-Err-clause-fault
 returns-in-Err-clause-fault g c = not_read_since (held g.D.Device.state c.args.keeper.now) (held g.D.Device.state c.loop.keeper) (held g.D.Device.state c.pair_behind.new.keeper) c.in-Err.fault c.loop.invariant.only.honest c.loop.invariant.none c.in-Err.ensures.fault
@@ -93,7 +94,7 @@ loop-preserved g c =
     let few = subst (λ (o : Option Pair). IfSome o (λ p. length p.1 ≤ 1024)) c.in-Ok-Some.field-0-is next.few in
     let fits = pair_fits kept (last_key c.loop.pairs.items) c.in-Ok-Some.pair told short few in
     record {
-      only = read_again old mid (held state c.pair_behind.new.keeper) inv.only next.kept;
+      only = read_later old mid (held state c.pair_behind.new.keeper) inv.only next.kept;
       none = next.counts ∙ inv.none;
       first = λ honest.
           let found : Some c.in-Ok-Some.pair ≡ pair_after old.pairs (last_key c.loop.pairs.items) =

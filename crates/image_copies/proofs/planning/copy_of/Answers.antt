@@ -1,5 +1,5 @@
 use Rattle.std.proofs.Common.{◌≡◌, sym, subst}
-use Rattle.image_copies.specs.CopyFaults.{IsNotMade}
+use Rattle.image_copies.specs.CopyFaults.{IsNoCopyMade}
 use Rattle.image_copies.proofs.Plans.{not_made}
 use Rattle.image_copies.proofs.planning.copy_of.Goals as goal
 
@@ -15,4 +15,4 @@ returns-in-Ok-clause-copy c = λ s read. record {
 }
 
 pub returns-in-Err-clause-fault : goal.returns-in-Err-clause-fault
-returns-in-Err-clause-fault c = subst (λ f. IsNotMade c.args.count c.args.read.pairs.items f) (sym c.of_new.ensures) (not_made c.args.count c.args.read.pairs.items c.in-Err.fault c.in-Err.ensures.fault)
+returns-in-Err-clause-fault c = subst (λ f. IsNoCopyMade c.args.count c.args.read.pairs.items f) (sym c.of_new.ensures) (not_made c.args.count c.args.read.pairs.items c.in-Err.fault c.in-Err.ensures.fault)

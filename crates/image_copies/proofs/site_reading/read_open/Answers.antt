@@ -10,10 +10,11 @@ use Rattle.site_store.specs.Seen.{seen_site}
 use Rattle.image_commands.specs.Faults.{of_site, IsNotRead}
 use Rattle.host_on_disk.specs.OpenFaults.{HandsBack}
 use Rattle.image_copies.proofs.SitesRead.{shows_again, site_not_read, pairs_not_read}
+use Rattle.page_store.specs.Pins.{none_out}
 use Rattle.image_copies.proofs.site_reading.read_open.Goals as goal
 
 pub read_keeper-requires : goal.read_keeper-requires
-read_keeper-requires g c = record { usable = ap (λ k. is_open k) c.into_keeper-keeper.ensures ∙ c.figures.ensures.kept.usable ∙ c.requires.usable }
+read_keeper-requires g c = record { usable = ap (λ k. is_open k) c.into_keeper-keeper.ensures.keeper ∙ c.figures.ensures.kept.usable ∙ c.requires.usable }
 
 pub returns-in-Err-clause-refused : goal.returns-in-Err-clause-refused
 returns-in-Err-clause-refused g c =
@@ -22,7 +23,7 @@ returns-in-Err-clause-refused g c =
     let old = c.args.site in
     let now = c.figures.new.self in
     let kept = c.figures.ensures.kept in
-    let back = c.into_device.ensures ∙ ap (λ k. device_of k) c.into_keeper.ensures in
+    let back = c.into_device.ensures ∙ ap (λ k. device_of k) c.into_keeper.ensures.keeper in
     let refused : HandsBack IsNotRead state states old.keeper.device now.keeper.device (of_site c.in-Err.fault) = record {
       caused = site_not_read (state old.keeper.device) (state now.keeper.device) (site_state_of (held state old.keeper) old.kept) (site_state_of (held state now.keeper) now.kept) c.in-Err.fault refl refl refl kept.writes c.requires.usable c.requires.large c.in-Err.ensures.fault;
       honest = kept.honest;
@@ -35,7 +36,7 @@ returns-in-Ok-read_keeper-clause-read g c = λ honest.
     let state = g.D.Device.state in
     let now = c.figures.new.self in
     let kept = c.figures.ensures.kept in
-    let same = c.into_keeper-keeper.ensures in
+    let same = c.into_keeper-keeper.ensures.keeper in
     let still : IsTrue (held state now.keeper).honest = kept.honest ∙ honest in
     let shows = subst (λ k. RepresentedBy (held state k) (seen_site now)) (sym same) (site_kept (held state now.keeper) now.kept still) in
     let read = c.in-Ok-read_keeper.ensures in
@@ -48,7 +49,7 @@ pub returns-in-Ok-read_keeper-clause-rooted : goal.returns-in-Ok-read_keeper-cla
 returns-in-Ok-read_keeper-clause-rooted g c = λ honest.
     let state = g.D.Device.state in
     let kept = c.figures.ensures.kept in
-    let same = c.into_keeper-keeper.ensures in
+    let same = c.into_keeper-keeper.ensures.keeper in
     let k = c.read_keeper.new.keeper in
     let read = c.in-Ok-read_keeper.ensures in
     let still : IsTrue (held state k).honest = read.kept.honest ∙ ap (λ x. (held state x).honest) same ∙ kept.honest ∙ honest in
@@ -58,7 +59,7 @@ returns-in-Ok-read_keeper-clause-rooted g c = λ honest.
 pub returns-in-Ok-read_keeper-clause-counts : goal.returns-in-Ok-read_keeper-clause-counts
 returns-in-Ok-read_keeper-clause-counts g c =
     let state = g.D.Device.state in
-    let same = c.into_keeper-keeper.ensures in
+    let same = c.into_keeper-keeper.ensures.keeper in
     let read = c.in-Ok-read_keeper.ensures in
     let old = c.args.site.keeper in
     let counted : NothingCounted (state old.device) (state c.read_keeper.new.keeper.device) = record {
@@ -70,7 +71,7 @@ returns-in-Ok-read_keeper-clause-counts g c =
 pub returns-in-Ok-read_keeper-clause-honest : goal.returns-in-Ok-read_keeper-clause-honest
 returns-in-Ok-read_keeper-clause-honest g c =
     let state = g.D.Device.state in
-    ap (λ d. (state d).honest) c.into_device-in-Ok-read_keeper.ensures ∙ c.in-Ok-read_keeper.ensures.kept.honest ∙ ap (λ x. (held state x).honest) c.into_keeper-keeper.ensures ∙ c.figures.ensures.kept.honest
+    ap (λ d. (state d).honest) c.into_device-in-Ok-read_keeper.ensures ∙ c.in-Ok-read_keeper.ensures.kept.honest ∙ ap (λ x. (held state x).honest) c.into_keeper-keeper.ensures.keeper ∙ c.figures.ensures.kept.honest
 
 pub returns-in-Ok-read_keeper-clause-at_crash : goal.returns-in-Ok-read_keeper-clause-at_crash
 returns-in-Ok-read_keeper-clause-at_crash g c = λ honest.
@@ -78,7 +79,7 @@ returns-in-Ok-read_keeper-clause-at_crash g c = λ honest.
     let states = crash_states_of g.D.Device.moment g.D.Device.possible_since in
     let old = c.args.site.keeper in
     let now = c.figures.new.self.keeper in
-    let same = c.into_keeper-keeper.ensures in
+    let same = c.into_keeper-keeper.ensures.keeper in
     let first : AddsNone (states old.device) (states c.into_keeper-keeper.result.device) = subst (λ k. AddsNone (states old.device) (states (device_of k))) (sym same) (c.figures.ensures.at_crash honest) in
     let still : IsTrue (held state c.into_keeper-keeper.result).honest = ap (λ x. (held state x).honest) same ∙ c.figures.ensures.kept.honest ∙ honest in
     subst (λ d. AddsNone (states old.device) (states d)) (sym c.into_device-in-Ok-read_keeper.ensures) (adds_none_again _ _ _ first (c.in-Ok-read_keeper.ensures.at_crash still))
@@ -88,7 +89,7 @@ returns-in-Err-read_keeper-clause-refused g c =
     let state = g.D.Device.state in
     let states = crash_states_of g.D.Device.moment g.D.Device.possible_since in
     let old = c.args.site.keeper in
-    let same = c.into_keeper-keeper.ensures in
+    let same = c.into_keeper-keeper.ensures.keeper in
     let first = c.into_keeper-keeper.result in
     let k = c.read_keeper.new.keeper in
     let read = c.in-Err-read_keeper.ensures in
@@ -107,3 +108,19 @@ returns-in-Ok-read_keeper-clause-large g c =
     let state = g.D.Device.state in
     let fitted = c.read_keeper.new.keeper.fitted in
     subst (λ d. 128 ≤ (state d).size) (sym c.into_device-in-Ok-read_keeper.ensures) (let least = fitted.least in let fits = fitted.fits in omega (arith, least, fits))
+
+pub into_keeper-requires : goal.into_keeper-requires
+into_keeper-requires g c = record { unpinned = c.figures.ensures.kept.pins ∙ c.requires.unpinned }
+
+pub into_keeper-keeper-requires : goal.into_keeper-keeper-requires
+into_keeper-keeper-requires g c = record { unpinned = c.figures.ensures.kept.pins ∙ c.requires.unpinned }
+
+pub into_device-requires-in-Ok-read_keeper : goal.into_device-requires-in-Ok-read_keeper
+into_device-requires-in-Ok-read_keeper g c =
+    let state = g.D.Device.state in
+    record { unpinned = none_out (held state c.into_keeper-keeper.result) (held state c.read_keeper.new.keeper) c.in-Ok-read_keeper.ensures.kept.same.out c.into_keeper-keeper.ensures.unpinned }
+
+pub into_device-requires-in-Err-read_keeper : goal.into_device-requires-in-Err-read_keeper
+into_device-requires-in-Err-read_keeper g c =
+    let state = g.D.Device.state in
+    record { unpinned = none_out (held state c.into_keeper-keeper.result) (held state c.read_keeper.new.keeper) c.in-Err-read_keeper.ensures.kept.same.out c.into_keeper-keeper.ensures.unpinned }

@@ -14,7 +14,7 @@ pub returns-in-Ok-serve_over-clause-served : goal.returns-in-Ok-serve_over-claus
 returns-in-Ok-serve_over-clause-served g c =
     let state = g.D.Device.state in
     let opened = c.in-Ok.ensures in
-    let back = c.into_device-in-Ok-serve_over.ensures ∙ ap (λ k. device_of k) c.into_keeper-in-Ok-serve_over.ensures in
+    let back = c.into_device-in-Ok-serve_over.ensures ∙ ap (λ k. device_of k) c.into_keeper-in-Ok-serve_over.ensures.keeper in
     record {
       run = run_too _ _ _ _ c.args.device c.into_device-in-Ok-serve_over.result
           (λ events outcomes over. ran_on g.D.Device.state (λ d. device_of (keeper_of d)) _ _ (crash_states_of g.D.Device.moment g.D.Device.possible_since) (λ d. refl) c.args.device c.into_device-in-Ok-serve_over.result c.in-Ok.site c.in-Ok-serve_over.site true 1 events outcomes
@@ -36,7 +36,7 @@ returns-clause-refused g c =
     let state = g.D.Device.state in
     let opened = c.in-Ok.ensures in
     let same = c.in-Err-serve_over.ensures.err in
-    let back = c.into_device-in-Err-serve_over.ensures ∙ ap (λ k. device_of k) (c.into_keeper-in-Err-serve_over.ensures ∙ ap (λ d. keeper_of d) same.1) in
+    let back = c.into_device-in-Err-serve_over.ensures ∙ ap (λ k. device_of k) (c.into_keeper-in-Err-serve_over.ensures.keeper ∙ ap (λ d. keeper_of d) same.1) in
     record {
       caused = rw (same.0, back) (no_memory (state c.args.device) (state c.in-Ok.site.keeper.device) (seen_site c.in-Ok.site) opened.large opened.counts opened.site);
       honest = rw back opened.honest;

@@ -19,5 +19,5 @@ returns-clause-served g c =
     c.in-Ok.ensures.keeper c.in-Ok.ensures.world c.close.ensures.closed c.requires.usable run.calls run.at_crash)
     _ _ _ _
     -- to end the hub leaves whether its site is usable
-    (λ events outcomes served. subst (λ usable. HasServed g.L.Write.contents c.args.most c.serve_visits-ended.result usable (c.args.room.now, c.args.log.now, c.args.watch.now.read.readings) events outcomes (c.serve_visits-ended.new.room, c.serve_visits-ended.new.log, c.serve_visits-ended.new.watch.read.readings)) (sym (ap (λ (h : SiteState). h.usable) c.close.ensures.closed.keeper.same)) served)
+    (λ events outcomes served. subst (λ usable. HasServed g.L.Write.contents g.O.Office.lets_wait g.O.Office.works c.args.terms c.serve_visits-ended.result usable (c.args.room.now, c.args.log.now, c.args.watch.now.read.readings, c.args.office.now) events outcomes (c.serve_visits-ended.new.room, c.serve_visits-ended.new.log, c.serve_visits-ended.new.watch.read.readings, c.serve_visits-ended.new.office)) (sym (ap (λ (h : SiteState). h.usable) c.close.ensures.closed.keeper.same)) served)
     c.serve_visits-ended.ensures

@@ -4,8 +4,8 @@ use Rattle.ready_sockets.proofs.laws.stays_spread.Goals as goal
 
 pub returns : goal.returns
 returns g c = record {
-  at_first = λ most origin. omega arith;
-  let_in = λ most now old new es os crowd had spread. received_spread most now old.visits.items es os new.visits.items had.calls crowd had.received spread;
+  at_first = λ terms origin. omega arith;
+  let_in = λ terms now old new es os crowd had spread. received_spread terms now old.visits.items es os new.visits.items had.calls crowd had.received spread;
   by_turns = turns_spread;
-  by_rounds = rounds_spread g.L.Write.contents;
+  by_rounds = rounds_spread g.L.Write.contents g.O.Office.lets_wait g.O.Office.works;
 }

@@ -1,9 +1,9 @@
 use Rattle.std.proofs.Common.{◌≡◌, map}
 use Rattle.group_hub.specs.Calls.{HubRun}
 use Rattle.turns.specs.Runs.{HasRun}
-use Rattle.turns.proofs.Passing.{IsDoneTo}
 use Rattle.ready_sockets.specs.Rounds.{who}
-use Rattle.ready_sockets.specs.Visits.{HadTurn}
+use Rattle.ready_sockets.specs.Visits.{HadLimitedTurn}
+use Rattle.ready_sockets.proofs.PassesBeside.{IsDoneBeside}
 use Rattle.ready_sockets.proofs.serving.pass.Given as goal
 
 -- so many of them are done, and they are who they were
@@ -11,6 +11,6 @@ abbrev pub invariant-loop-visit : goal.invariant-loop-visit
 invariant-loop-visit g l =
     let s = g.S.SiteKeeper in
     record {
-      run : HasRun (HubRun s.site_state s.lacks s.crash_states s.represents) l.fn.hub l.hub (g.C.Clock.given l.fn.clock) (g.C.Clock.given l.clock) (λ es os. IsDoneTo (HadTurn l.now) l.visit-index l.fn.visits es os l.visits);
+      run : HasRun (HubRun s.site_state s.lacks s.crash_states s.represents) l.fn.hub l.hub (g.C.Clock.given l.fn.clock) (g.C.Clock.given l.clock) (λ es os. IsDoneBeside (HadLimitedTurn l.most l.now) l.visit-index (l.fn.visits, l.fn.posts.items) es os (l.visits, l.posts.items));
       clients : map who l.visits ≡ map who l.fn.visits;
     }

@@ -11,6 +11,7 @@ returns-else-has_closed-clause-gone g c = record {
   door = refl;
   may_accept = refl;
   lost = refl;
+  posts = refl;
 }
 
 pub returns-else-has_closed-clause-logged : goal.returns-else-has_closed-clause-logged
@@ -18,4 +19,4 @@ returns-else-has_closed-clause-logged g c = nobody (grind (arith, common_steps, 
 
 pub returns-then-not-is_empty-clause-logged : goal.returns-then-not-is_empty-clause-logged
 returns-then-not-is_empty-clause-logged g c = at c.now-moment.result (c.tell_crowd.new.log, c.tell_crowd.new.written.calls) c.now-moment.ensures c.tell_crowd.ensures
-    (subst (λ visits. AreTold g.L.Write.contents c.now-moment.result visits (c.tell_crowd.new.log, c.tell_crowd.new.written.calls) (c.tell_gone.new.log, c.tell_gone.new.written.calls)) c.deref.ensures.value c.tell_gone.ensures)
+    (subst (λ visits. AreTold g.L.Write.contents c.args.form c.now-moment.result visits (c.tell_crowd.new.log, c.tell_crowd.new.written.calls) (c.tell_gone.new.log, c.tell_gone.new.written.calls)) c.deref.ensures.value c.tell_gone.ensures)

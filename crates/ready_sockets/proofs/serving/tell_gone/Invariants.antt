@@ -4,4 +4,4 @@ use Rattle.ready_sockets.proofs.serving.tell_gone.Given as goal
 
 -- so many of them are told
 abbrev pub invariant-loop-visit : goal.invariant-loop-visit
-invariant-loop-visit g l = AreTold g.L.Write.contents l.moment (take l.visit-index l.visits) (l.fn.log, l.fn.written.calls) (l.log, l.written.calls)
+invariant-loop-visit g l = AreTold g.L.Write.contents l.form l.moment (take l.visit-index l.visits) (l.fn.log, l.fn.written.calls) (l.log, l.written.calls)

@@ -24,4 +24,7 @@ returns c = record {
   leaves = refl;
   ended = refl;
   not_closed = refl;
+  held_back = refl;
+  passed_on = refl;
+  no_more = refl;
 }

@@ -1,21 +1,19 @@
 use Rattle.std.proofs.Common.{◌≡◌, ◌+◌, ◌++◌, ◌∷◌, [], ◌∙◌, take, arith}
 use Rattle.std.proofs.lemmas.Grind.{common_steps}
-use Rattle.std.specs.Option.{option_to_list}
 use Rattle.text_writer.specs.Menu.{entry_line}
 use Rattle.host_types.specs.Visible.{visible}
 use Rattle.site_replies.proofs.AfterReads.{only_on, ok_gives}
-use Rattle.site_replies.proofs.Picks.{picked_next}
+use Rattle.site_replies.proofs.Picks.{line_next}
 use Rattle.site_replies.proofs.menus.lines_of.Goals as goal
 
 pub loop-entry-preserved : goal.loop-entry-preserved
 loop-entry-preserved g c =
     let site_state = g.S.SiteKeeper.site_state in
     let more : take (c.loop-entry.entry-index + 1) c.args.entries.now ≡ take c.loop-entry.entry-index c.args.entries.now ++ c.entry-item.result ∷ [] = grind (arith, common_steps) in
-    let added : c.add_any.new.lines ≡ c.loop-entry.lines ++ option_to_list c.in_ok-line.line = grind (arith, common_steps) in
     record {
-      only = only_on site_state g.S.SiteKeeper.lacks g.S.SiteKeeper.crash_states c.args.site.now c.loop-entry.site c.line_of.new.site c.loop-entry.invariant.only c.line_of.ensures.line.only;
-      none_failed = c.in_ok-line.ensures.line.counts ∙ c.loop-entry.invariant.none_failed;
+      only = only_on site_state g.S.SiteKeeper.lacks g.S.SiteKeeper.crash_states c.args.site.now c.loop-entry.site c.add_line_of.new.site c.loop-entry.invariant.only c.add_line_of.ensures.line.only;
+      none_failed = c.in_ok-add_line_of.ensures.line.counts ∙ c.loop-entry.invariant.none_failed;
       lines = λ honest.
-          picked_next (site_state c.args.site.now) (site_state c.loop-entry.site) (λ s. entry_line (visible s c.args.now)) _ _ _ c.loop-entry.lines c.add_any.new.lines c.in_ok-line.line
-          c.loop-entry.invariant.only.kept honest (c.loop-entry.invariant.lines honest) (ok_gives c.in_ok-line.line c.line_of.ensures.line c.in_ok-line.was) added more;
+          line_next (site_state c.args.site.now) (site_state c.loop-entry.site) (λ s. entry_line (visible s c.args.now)) _ _ _ c.loop-entry.lines.items c.add_line_of.new.lines.items
+          c.loop-entry.invariant.only.kept honest (c.loop-entry.invariant.lines honest) (ok_gives c.in_ok-add_line_of.field-0 c.add_line_of.ensures.line c.in_ok-add_line_of.was) more;
     }

@@ -1,5 +1,5 @@
 use Rattle.std.proofs.Common.{◌≡◌, take}
-use Rattle.std.specs.Prelude.{filter_map, IsTrue}
+use Rattle.std.specs.Prelude.{filter_map, flat_map, IsTrue}
 use Rattle.host_types.specs.Visible.{visible}
 use Rattle.site_replies.specs.Reads.{ReadsOnly}
 use Rattle.text_writer.specs.Menu.{entry_line}
@@ -12,5 +12,5 @@ invariant-loop-entry g l =
     record {
       only : ReadsOnly site_state g.S.SiteKeeper.lacks g.S.SiteKeeper.crash_states l.fn.site l.site;
       none_failed : (site_state l.site).failed_reads ≡ (site_state l.fn.site).failed_reads;
-      lines : IsTrue (site_state l.fn.site).honest → l.lines ≡ filter_map (entry_line (visible (site_state l.fn.site).site l.now)) (take l.entry-index l.entries);
+      lines : IsTrue (site_state l.fn.site).honest → l.lines.items ≡ flat_map (λ line. line) (filter_map (entry_line (visible (site_state l.fn.site).site l.now)) (take l.entry-index l.entries));
     }

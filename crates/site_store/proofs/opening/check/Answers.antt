@@ -26,3 +26,6 @@ returns-clause-whole g c =
     let first = c.in_ok-pairs.ensures in
     read_whole c.check_pairs.result (store_state c.args.keeper.now) c.deref.result.now c.banner.result.now (c.banner.ensures ∙ first.pairs.reads.only.read.same.banner)
     (ap (λ (l : List Pair). length l) c.deref.ensures.value ∙ first.counted) c.check_pairs.ensures.site
+
+pub returns-clause-work : goal.returns-clause-work
+returns-clause-work g c = on_any c.check_pairs.result c.in_ok-pairs.ensures.work

@@ -1,4 +1,4 @@
-use Rattle.std.proofs.Common.{◌≡◌, ◌≤◌, true, List, Option, Some, length, sym, ap, subst, ◌∙◌, arith}
+use Rattle.std.proofs.Common.{◌≡◌, ◌≤◌, ◌+◌, ◌*◌, ℕ, true, List, Option, Some, length, sym, ap, subst, ◌∙◌, arith}
 use Rattle.std.specs.Prelude.{IfSome}
 use Rattle.std.proofs.lemmas.List.Elements.{All-push}
 use Rattle.page_store.specs.Batch.{pair_after}
@@ -8,6 +8,8 @@ use Rattle.site_store.specs.Opening.{last_key}
 use Rattle.site_store.proofs.AfterReads.{done, fails, read_on}
 use Rattle.page_store.proofs.PairsInOrder.{first_more, first_all}
 use Rattle.std.proofs.lemmas.Bool.{false_from_ne_true}
+use Rattle.page_store.specs.Work.{ReadsPages, pages_tried}
+use Rattle.site_store.proofs.PagesSearched.{one_search_more, searched_behind, one_pair_more}
 use Rattle.site_store.proofs.opening.pairs_of.Goals as goal
 
 pub returns-in-Ok-None : goal.returns-in-Ok-None
@@ -29,6 +31,13 @@ returns-in-Ok-None g c =
           let told = c.are_all.ensures.0 c.if-are_all.true in
           let same = (read_on inv.only last.reads.only).read.same.keys in
           cc (told, same);
+      work =
+          let told = c.are_all.ensures.0 c.if-are_all.true in
+          let same = (read_on inv.only last.reads.only).read.same.keys in
+          let count : length c.loop.pairs.items ≡ (store_state c.args.keeper.now).keys = cc (told, same) in
+          let each = pages_tried (store_state c.args.keeper.now).height in
+          let searched = one_search_more (length c.loop.pairs.items) each inv.work (searched_behind (store_state c.args.keeper.now) (store_state c.loop.keeper) read c.pair_behind.ensures.work) in
+          subst (λ (n : ℕ). ReadsPages ((n + 1) * each) (store_state c.args.keeper.now).made (store_state c.pair_behind.new.keeper).made) count searched;
     }
 
 pub returns-in-Ok-None-2-clause-pairs : goal.returns-in-Ok-None-2-clause-pairs
@@ -76,6 +85,7 @@ loop-preserved g c =
           rw c.in_ok-push-in-Ok-Some.ensures.items more;
       fit = rw c.in_ok-push-in-Ok-Some.ensures.items (All-push (λ p. length p.1 ≤ 1024) c.loop.pairs.items c.in-Ok-Some.pair inv.fit (subst (λ (o : Option Pair). IfSome o (λ p. length p.1 ≤ 1024)) c.in-Ok-Some.field-0-is c.in-Ok-Some.ensures.fit));
       keys = rw c.in_ok-push-in-Ok-Some.ensures.items (All-push (λ p. length p.0 ≤ 300) c.loop.pairs.items c.in-Ok-Some.pair inv.keys (subst (λ (o : Option Pair). IfSome o (λ p. length p.0 ≤ 300)) c.in-Ok-Some.field-0-is c.in-Ok-Some.ensures.keys));
+      work = rw c.in_ok-push-in-Ok-Some.ensures.items (one_pair_more c.loop.pairs.items c.in-Ok-Some.pair (pages_tried (store_state c.args.keeper.now).height) inv.work (searched_behind (store_state c.args.keeper.now) (store_state c.loop.keeper) read c.pair_behind.ensures.work));
       shut = λ shut. let clash = next.closed (read.same.usable ∙ shut) in absurd (cc clash);
     }
 
@@ -88,4 +98,5 @@ returns g c = record {
   fit = tt;
   keys = tt;
   counted = tt;
+  work = tt;
 }

@@ -1,4 +1,5 @@
-use Rattle.std.proofs.Common.{◌≡◌, false}
+use Rattle.std.proofs.Common.{◌≡◌, ◌*◌, length, false}
+use Rattle.page_store.specs.Work.{ReadsPages, pages_tried}
 use Rattle.std.specs.Prelude.{IsTrue}
 use Rattle.site_store.specs.StoreReads.{ReadsOnly, NoneFailed}
 use Rattle.site_store.specs.Opening.{AreFirst, ValuesFit, KeysFit}
@@ -13,5 +14,6 @@ invariant-loop g l =
       first : IsTrue (store_state l.fn.keeper).honest → AreFirst l.pairs.items (store_state l.fn.keeper).pairs;
       fit : ValuesFit l.pairs.items;
       keys : KeysFit l.pairs.items;
+      work : ReadsPages (length l.pairs.items * pages_tried (store_state l.fn.keeper).height) (store_state l.fn.keeper).made (store_state l.keeper).made;
       shut : (store_state l.fn.keeper).usable ≡ false → l.counter ≡ 0;
     }

@@ -18,6 +18,7 @@ returns-then-length-gt0 g c =
           let value = sym (ap (option_map (λ n. take n buffer)) c.in-Ok-Some.field-0-is) ∙ found_there h number s stood _ c.item_key.result (look.reads.gives honest) in
           sym (ap (λ (b : Bool). b && (slice_index buffer 0 == 86)) (lt-ltb 0 c.in-Ok-Some.length c.if-length-gt0.true))
           ∙ document_found (holding h stood.pairs s) s c.args.selector.now c.item_key.result c.in-Ok-Some.length buffer (stands_there h number s stood) c.item_key.ensures value));
+      work = c.look_up_at.ensures.work;
     }
 
 pub returns-else-length-gt0 : goal.returns-else-length-gt0
@@ -32,6 +33,7 @@ returns-else-length-gt0 g c =
           let none = le-ltb 0 c.in-Ok-Some.length c.if-length-gt0.false in
           none ∙ sym (ap (λ (b : Bool). b && (slice_index buffer 0 == 86)) none)
           ∙ document_found (holding h stood.pairs s) s c.args.selector.now c.item_key.result c.in-Ok-Some.length buffer (stands_there h number s stood) c.item_key.ensures value));
+      work = c.look_up_at.ensures.work;
     }
 
 pub returns-in-Ok-None : goal.returns-in-Ok-None
@@ -43,4 +45,5 @@ returns-in-Ok-None g c =
       document = begins look (done look.reads.only look.reads.none (λ honest s stood.
           let value = sym (ap (option_map (λ n. take n c.look_up_at.new.buffer)) c.in-Ok-None.field-0-is) ∙ found_there h number s stood _ c.item_key.result (look.reads.gives honest) in
           no_document (holding h stood.pairs s) s c.args.selector.now c.item_key.result (stands_there h number s stood) c.item_key.ensures value));
+      work = c.look_up_at.ensures.work;
     }

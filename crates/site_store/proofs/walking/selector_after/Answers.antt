@@ -20,6 +20,7 @@ returns-in-Ok-Some g c =
         };
         closed = λ shut. let clash = next.closed shut in absurd (cc clash);
       };
+      work = next.work;
     }
 
 pub returns-in-Ok-None : goal.returns-in-Ok-None
@@ -32,4 +33,5 @@ returns-in-Ok-None g c =
             walked_off h s c.args.after.now c.as_bytes.result.now kept (c.as_bytes.ensures.key ∙ c.item_key.ensures) (sym (ap (option_map (λ n. (take n.0 c.next.new.key, take n.1 c.next.new.value))) c.in-Ok-None.field-0-is) ∙ next.pair honest));
         closed = λ shut. let clash = next.closed shut in absurd (cc clash);
       };
+      work = next.work;
     }

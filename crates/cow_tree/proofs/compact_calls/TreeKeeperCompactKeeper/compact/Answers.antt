@@ -24,7 +24,7 @@ use Rattle.cow_tree.proofs.TreePlans.{pinned_stay, tree_plan, way_again, one_pla
 use Rattle.cow_tree.proofs.Taken.{abandoned_again}
 use Rattle.cow_tree.proofs.CommitsWritten.{adds_weaker, old_or_new, held_pages_stay}
 use Rattle.cow_tree.proofs.TreeCommits.{is_held, may_be_written, compact_fault, either, reads_rise, fitted_now, still_under, still_there}
-use Rattle.cow_tree.proofs.WorkDone.{written, only_read}
+use Rattle.cow_tree.proofs.WorkDone.{written, enough, only_read}
 use Rattle.cow_tree.proofs.compact_calls.TreeKeeperCompactKeeper.compact.Goals as goal
 
 pub returns-then-self-clause-at_crash : goal.returns-then-self-clause-at_crash
@@ -508,11 +508,14 @@ returns-in-Err-clause-need g c = λ usable.
     let only = c.plan_compaction.ensures.reads.device.only in
     (needs_again old mid c.args.self.now.slot only, fills_again old mid c.args.self.now.slot only)
 
-pub returns-in-Ok-write_plan-clause-work : goal.returns-in-Ok-write_plan-clause-work
+pub returns-in-Ok-write_plan-clause-written : goal.returns-in-Ok-write_plan-clause-written
 unfolding returns-in-Ok-write_plan-clause-fits
-returns-in-Ok-write_plan-clause-work g c =
+returns-in-Ok-write_plan-clause-written g c =
     let n = length c.in-Ok.plan.pages.items in
-    (n, c.in-Ok.ensures.room, λ keeps. (returns-in-Ok-write_plan-clause-fits g c keeps).1, written n c.plan_compaction.ensures.reads.device.only.made c.in-Ok-write_plan.ensures.work)
+    (n, λ keeps. (returns-in-Ok-write_plan-clause-fits g c keeps).1, written n c.plan_compaction.ensures.reads.device.only.made c.in-Ok-write_plan.ensures.work)
 
-pub returns-in-Err-clause-work_on_fault : goal.returns-in-Err-clause-work_on_fault
-returns-in-Err-clause-work_on_fault g c = only_read _ c.plan_compaction.ensures.reads.device.only.made
+pub returns-in-Err-clause-work : goal.returns-in-Err-clause-work
+returns-in-Err-clause-work g c = only_read _ c.plan_compaction.ensures.reads.device.only.made
+
+pub returns-in-Ok-write_plan-clause-work : goal.returns-in-Ok-write_plan-clause-work
+returns-in-Ok-write_plan-clause-work g c = enough (length c.in-Ok.plan.pages.items) _ c.in-Ok.ensures.room (written _ c.plan_compaction.ensures.reads.device.only.made c.in-Ok-write_plan.ensures.work)

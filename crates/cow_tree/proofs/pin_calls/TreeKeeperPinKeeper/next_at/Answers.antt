@@ -8,6 +8,8 @@ use Rattle.cow_tree.specs.PinnedTrees.{found_at}
 use Rattle.cow_tree.specs.TreeState.{tree_holding}
 use Rattle.cow_tree.proofs.KeeperReads.{needs_again, has_read, read_fault, counts_rise}
 use Rattle.cow_tree.proofs.PinsMade.{pairs_there}
+use Rattle.page_store.specs.Work.{pages_tried}
+use Rattle.cow_tree.proofs.WorkDone.{pages_read, few_levels, tried_within}
 use Rattle.cow_tree.proofs.pin_calls.TreeKeeperPinKeeper.next_at.Goals as goal
 
 pub read_next-requires-clause-fits : goal.read_next-requires-clause-fits
@@ -64,3 +66,13 @@ returns-in-Err-clause-need g c =
     let d = g.D.Device in
     let k = c.args.self.now in
     needs_again (d.state k.device) (d.state c.read_next.new.device) k.slot c.in-Err.ensures.reads.device.only
+
+pub returns-in-Ok-clause-work : goal.returns-in-Ok-clause-work
+returns-in-Ok-clause-work g c =
+    let tree = c.tree_of-tree.result in
+    pages_read (pages_tried tree.height) (pages_tried 16) (tried_within tree.height 16 (few_levels tree (c.args.self.now.pins.inside c.args.pin.now tree c.tree_of-tree.ensures).rooted)) c.in-Ok.ensures.work
+
+pub returns-in-Err-clause-work : goal.returns-in-Err-clause-work
+returns-in-Err-clause-work g c =
+    let tree = c.tree_of-tree.result in
+    pages_read (pages_tried tree.height) (pages_tried 16) (tried_within tree.height 16 (few_levels tree (c.args.self.now.pins.inside c.args.pin.now tree c.tree_of-tree.ensures).rooted)) c.in-Err.ensures.work

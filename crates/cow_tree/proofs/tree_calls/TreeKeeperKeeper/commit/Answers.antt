@@ -1,4 +1,4 @@
-use Rattle.std.proofs.Common.{◌≡◌, ◌⊎◌, inl, inr, ℕ, length, refl, sym, ap, subst, ◌∙◌, arith, IsTrue}
+use Rattle.std.proofs.Common.{◌≡◌, ◌⊎◌, ◌*◌, inl, inr, ℕ, length, refl, sym, ap, subst, ◌∙◌, arith, IsTrue}
 use Rattle.common_types.specs.Counts.{counted, counted_rises}
 use Rattle.common_types.specs.CrashStates.{may_crash_to, no_new_crash_state, adds_both}
 use Rattle.sector_device.specs.Disk.{Disk}
@@ -8,7 +8,7 @@ use Rattle.page_store.specs.Commit.{IsBetween}
 use Rattle.page_store.specs.Content.{not_flat, Found}
 use Rattle.page_store.specs.Batch.{updated}
 use Rattle.page_store.specs.Steps.{crash_states_of}
-use Rattle.page_store.specs.StoreState.{SoManyPages, HasStayed}
+use Rattle.page_store.specs.StoreState.{SoManyPages, HasStayed, most_levels}
 use Rattle.cow_tree.specs.PinnedTrees.{ArePinned, AreKept, HeldPagesStay, PinnedPagesStay, PinnedStay}
 use Rattle.cow_tree.specs.Plans.{tree_commit}
 use Rattle.cow_tree.specs.TreeState.{IsFitted, IsThere, found_under, tree_holding}
@@ -23,7 +23,8 @@ use Rattle.cow_tree.proofs.TreePlans.{pinned_stay, tree_plan, way_again, one_pla
 use Rattle.cow_tree.proofs.Taken.{abandoned_again}
 use Rattle.cow_tree.proofs.CommitsWritten.{adds_weaker, old_or_new, held_pages_stay}
 use Rattle.cow_tree.proofs.TreeCommits.{version_is, starts, is_held, may_be_written, commit_fault, reads_rise, fitted_now, still_under, still_there}
-use Rattle.cow_tree.proofs.WorkDone.{written, only_read}
+use Rattle.sector_device.proofs.Works.{at_most, most_of}
+use Rattle.cow_tree.proofs.WorkDone.{written, written_less, read_less}
 use Rattle.cow_tree.proofs.tree_calls.TreeKeeperKeeper.commit.Goals as goal
 
 pub returns-then-self-clause-at_crash : goal.returns-then-self-clause-at_crash
@@ -526,11 +527,17 @@ returns-clause-tight g c = λ keeps usable shut.
 pub returns-in-Err-clause-need : goal.returns-in-Err-clause-need
 returns-in-Err-clause-need g c = λ usable. needs_again (g.D.Device.state c.args.self.now.device) (g.D.Device.state c.plan_commit.new.device) c.args.self.now.slot c.plan_commit.ensures.reads.device.only
 
-pub returns-in-Ok-write_plan-clause-work : goal.returns-in-Ok-write_plan-clause-work
+pub returns-in-Ok-write_plan-clause-written : goal.returns-in-Ok-write_plan-clause-written
 unfolding returns-in-Ok-write_plan-clause-fits
-returns-in-Ok-write_plan-clause-work g c =
+returns-in-Ok-write_plan-clause-written g c =
     let n = length c.in-Ok.plan.pages.items in
-    (n, c.in-Ok.ensures.room, λ keeps. (returns-in-Ok-write_plan-clause-fits g c keeps).1, written n c.plan_commit.ensures.reads.device.only.made c.in-Ok-write_plan.ensures.work)
+    (n, λ keeps. (returns-in-Ok-write_plan-clause-fits g c keeps).1, written n c.plan_commit.ensures.reads.device.only.made c.in-Ok-write_plan.ensures.work)
 
-pub returns-in-Err-clause-work_on_fault : goal.returns-in-Err-clause-work_on_fault
-returns-in-Err-clause-work_on_fault g c = only_read _ c.plan_commit.ensures.reads.device.only.made
+pub returns-in-Err-clause-work : goal.returns-in-Err-clause-work
+returns-in-Err-clause-work g c = read_less (most_levels * length c.args.batch.now) _ c.plan_commit.ensures.work
+
+pub returns-in-Ok-write_plan-clause-work : goal.returns-in-Ok-write_plan-clause-work
+returns-in-Ok-write_plan-clause-work g c = written_less (most_levels * length c.args.batch.now) (length c.in-Ok.plan.pages.items) _ c.in-Ok.ensures.room c.plan_commit.ensures.work (at_most c.in-Ok-write_plan.ensures.work)
+
+pub returns-clause-work : goal.returns-clause-work
+returns-clause-work g c = written_less (most_levels * length c.args.batch.now) (length c.in-Ok.plan.pages.items) _ c.in-Ok.ensures.room c.plan_commit.ensures.work (most_of c.write_plan.result c.write_plan.ensures.work)

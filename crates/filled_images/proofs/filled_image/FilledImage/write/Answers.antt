@@ -1,6 +1,7 @@
 use Rattle.std.proofs.Common.{◌≡◌, ◌≤◌, ◌*◌, ℕ, length, refl, sym, ap, ◌∙◌, arith}
 use Rattle.page_store.specs.declared.slot.Slot.{Slot}
-use Rattle.filled_images.proofs.FirstFilled.{has_filled}
+use Rattle.sector_device.proofs.Works.{no_calls, at_most, no_more_than}
+use Rattle.filled_images.proofs.FirstFilled.{has_filled, pages_counted}
 use Rattle.filled_images.proofs.filled_image.FilledImage.write.Goals as goal
 
 pub returns-in-Ok-clause-written : goal.returns-in-Ok-clause-written
@@ -24,3 +25,19 @@ returns-then-from-sectors-clause-fault g c = λ count banner pairs made.
 
 pub returns-in-Err-clause-fault : goal.returns-in-Err-clause-fault
 returns-in-Err-clause-fault g c = λ count banner pairs made. (c.in-Err.ensures.outcome.reads, c.in-Err.ensures.outcome.writes)
+
+pub returns-then-from-sectors-clause-work : goal.returns-then-from-sectors-clause-work
+returns-then-from-sectors-clause-work g c = λ count banner pairs made. no_more_than (at_most (no_calls (g.D.Device.state c.args.device.now))) (omega arith) (omega arith) (omega arith)
+
+pub returns-in-Ok-clause-work : goal.returns-in-Ok-clause-work
+returns-in-Ok-clause-work g c = λ count banner pairs made.
+    let image = c.args.self.now in
+    let many = pages_counted pairs image.pages.items image.slot.root.tree made.tree in
+    let is = c.in-Ok.ensures.work in
+    record { reads = is.reads; writes = omega (arith, is.writes, many); syncs = is.syncs }
+
+pub returns-in-Err-clause-work : goal.returns-in-Err-clause-work
+returns-in-Err-clause-work g c = λ count banner pairs made.
+    let image = c.args.self.now in
+    let many = pages_counted pairs image.pages.items image.slot.root.tree made.tree in
+    no_more_than c.in-Err.ensures.work (omega arith) (omega (arith, many)) (omega arith)

@@ -1,6 +1,6 @@
 use Rattle.std.proofs.Common.{◌≡◌, ◌+◌, ℕ, List, length, sym, ap, subst, ◌∙◌, refl, IsTrue}
 use Rattle.host_on_disk.proofs.Images.{kept_stands, one_site}
-use Rattle.image_copies.specs.CopyFaults.{of_new, IsNotWritten}
+use Rattle.image_copies.specs.CopyFaults.{of_new, IsNotCopiedWhole}
 use Rattle.image_copies.specs.CopyLines.{copied_line}
 use Rattle.image_copies.proofs.Plans.{not_written, opened_version}
 use Rattle.image_copies.proofs.site_copy.SiteCopy.write.Goals as goal
@@ -11,7 +11,7 @@ returns-in-Err-clause-fault g c = λ s count copy. (refl, refl)
 pub returns-in-Err-write-clause-fault : goal.returns-in-Err-write-clause-fault
 returns-in-Err-write-clause-fault g c = λ s count copy.
     let state = g.D.Device.state in
-    subst (λ f. IsNotWritten count (state c.args.device.now) (state c.write.new.device) f) (sym c.of_new.ensures)
+    subst (λ f. IsNotCopiedWhole count (state c.args.device.now) (state c.write.new.device) f) (sym c.of_new.ensures)
     (not_written count (state c.args.device.now) (state c.write.new.device) c.in-Err-write.fault (λ ne. ap (λ d. state d) (c.in-Err-write.ensures.unwritten ne)) (c.in-Err-write.ensures.fault count copy.banner copy.pairs copy.image))
 
 pub returns-in-Err-write-clause-unwritten : goal.returns-in-Err-write-clause-unwritten

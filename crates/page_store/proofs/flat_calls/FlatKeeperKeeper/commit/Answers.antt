@@ -21,17 +21,39 @@ returns-in-Err-clause-tried g c = record {
   top = omega (arith, c.write_plan.ensures.top);
 }
 
-pub returns-in-Ok-clause-work : goal.returns-in-Ok-clause-work
-returns-in-Ok-clause-work g c =
+pub returns-in-Ok-clause-written : goal.returns-in-Ok-clause-written
+returns-in-Ok-clause-written g c =
     let k = c.args.self.now in
     let count : length c.in_ok-plan.plan.pages.items ≡ pages_needed (updated k.pairs.items c.args.batch.now) =
     ap length c.in_ok-plan.ensures.plan.pages_are ∙ flat_pages_length _ _ (by_pages _) ∙ ap (λ (l : List Pair). pages_needed (updated l c.args.batch.now)) c.deref.ensures.value in
     let made = c.in-Ok.ensures.work in
     record { reads = made.reads; writes = omega (arith, made.writes, count); syncs = made.syncs }
 
-pub returns-in-Err-clause-work : goal.returns-in-Err-clause-work
-returns-in-Err-clause-work g c =
+pub returns-in-Err-clause-written : goal.returns-in-Err-clause-written
+returns-in-Err-clause-written g c =
     let k = c.args.self.now in
     let count : length c.in_ok-plan.plan.pages.items ≡ pages_needed (updated k.pairs.items c.args.batch.now) =
     ap length c.in_ok-plan.ensures.plan.pages_are ∙ flat_pages_length _ _ (by_pages _) ∙ ap (λ (l : List Pair). pages_needed (updated l c.args.batch.now)) c.deref.ensures.value in
     no_more_than c.in-Err.ensures.work (omega arith) (omega (arith, count)) (omega arith)
+
+pub returns-in-Ok-clause-work : goal.returns-in-Ok-clause-work
+returns-in-Ok-clause-work g c =
+    let plan = c.in_ok-plan.ensures.plan in
+    let count = ap length plan.pages_are ∙ flat_pages_length _ _ (by_pages _) in
+    let room = plan.room in
+    let made = c.in-Ok.ensures.work in
+    record {
+      reads = (omega (arith, made.reads), omega (arith, made.reads));
+      wrote = record { writes = (omega (arith, made.writes), omega (arith, made.writes, count, room)); syncs = (omega (arith, made.syncs), omega (arith, made.syncs)) };
+    }
+
+pub returns-in-Err-clause-work : goal.returns-in-Err-clause-work
+returns-in-Err-clause-work g c =
+    let plan = c.in_ok-plan.ensures.plan in
+    let count = ap length plan.pages_are ∙ flat_pages_length _ _ (by_pages _) in
+    let room = plan.room in
+    let made = c.in-Err.ensures.work in
+    record {
+      reads = (made.reads.0, omega (arith, made.reads.1));
+      wrote = record { writes = (made.writes.0, omega (arith, made.writes.1, count, room)); syncs = made.syncs };
+    }

@@ -3,6 +3,7 @@ use Rattle.std.proofs.lemmas.Result.{err_from_is_err_and}
 use Rattle.host_types.specs.AllChanges.{all_applied, one_refusal}
 use Rattle.host_types.specs.ChangesFaults.{one_fault, IsChangesFault}
 use Rattle.page_store.specs.declared.banner.Banner.{Banner}
+use Rattle.page_store.specs.Work.{nothing_at_most}
 use Rattle.site_pairs.specs.Edits.{batch_of, edits_of}
 use Rattle.site_store.specs.Lacking.{MayNeed, IsLacking}
 use Rattle.site_store.specs.Planned.{banner_after}
@@ -10,6 +11,7 @@ use Rattle.site_store.specs.Represented.{site_of, site_state_of, site_kept}
 use Rattle.site_store.proofs.StoreAsSite.{not_changed, lacks_same, none_at_crash, plan_reads_only, plan_fault_comes, plan_makes, done_made, crash_states_made, commit_fault_comes, commit_fault_of_all, one_commit_fault, keeps_written, port_written, after_port, has_tried, has_tried_reading}
 use Rattle.host_types.specs.Counting.{IsReadCounted, writes_after}
 use Rattle.host_types.specs.declared.site_fault.SiteFault.{SiteFault}
+use Rattle.site_store.proofs.PagesSearched.{wrote_behind}
 use Rattle.site_store.proofs.AfterRefusals.{lacks_behind}
 use Rattle.site_store.proofs.PinsKept.{pins_stay_written}
 use Rattle.site_store.proofs.SiteCounts.{plan_counted, plan_writes, commit_reads, commit_writes}
@@ -51,6 +53,22 @@ returns-in_err-banner-clause-at_crash g c = λ honest up.
     let d1 = c.plan_all.new.lookup in
     let reads_only = c.in-Ok.ensures.reads_only.reads_only in
     none_at_crash g.K.Keeper.has_content (store_state d.keeper) d.kept (all_applied (site_of (store_state d.keeper) d.kept) c.args.changes.items) (crash_states d.keeper) (crash_states d1.keeper) honest (reads_only.no_new_crash_state honest) (λ i left. g.met.K.Keeper.crash_states_represent d.keeper i honest up left)
+
+pub returns-in-Err-clause-work : goal.returns-in-Err-clause-work
+returns-in-Err-clause-work g c =
+    let reads_only = plan_reads_only (λ d. d.keeper) g.K.Keeper.store_state g.K.Keeper.may_need g.K.Keeper.crash_states c.args.self.now c.plan_all.new.lookup (λ s. one_refusal (all_applied s c.args.changes.items)) (one_fault c.in-Err.fault) c.in-Err.ensures.fault.cause c.in-Err.ensures.reads_only in
+    nothing_at_most reads_only.read.same.calls _
+
+pub returns-in_err-banner-clause-work : goal.returns-in_err-banner-clause-work
+returns-in_err-banner-clause-work g c = nothing_at_most c.in-Ok.ensures.reads_only.reads_only.read.same.calls _
+
+pub returns-in-Ok-write_replacements-clause-work : goal.returns-in-Ok-write_replacements-clause-work
+returns-in-Ok-write_replacements-clause-work g c =
+    wrote_behind (g.K.Keeper.store_state c.args.self.now.keeper) (g.K.Keeper.store_state c.plan_all.new.lookup.keeper) c.in-Ok.ensures.reads_only.reads_only.read c.write_replacements.ensures.work
+
+pub returns-clause-work : goal.returns-clause-work
+returns-clause-work g c =
+    wrote_behind (g.K.Keeper.store_state c.args.self.now.keeper) (g.K.Keeper.store_state c.plan_all.new.lookup.keeper) c.in-Ok.ensures.reads_only.reads_only.read c.write_replacements.ensures.work
 
 pub invariant_of-self : goal.invariant_of-self
 invariant_of-self g c =

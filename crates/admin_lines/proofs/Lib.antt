@@ -1,0 +1,5 @@
+pub mod Digits
+pub mod Beginnings
+pub mod FirstPlaces
+pub mod Lengths
+pub mod HeadsRead

@@ -1,0 +1,5 @@
+pub mod Arrivals
+pub mod Tasks
+pub mod Lines
+pub mod Requests
+pub mod Offices

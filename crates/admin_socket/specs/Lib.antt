@@ -1,0 +1,2 @@
+pub mod SocketCalls
+pub mod Listening

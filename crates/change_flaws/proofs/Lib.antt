@@ -1,0 +1,4 @@
+mod Digits
+pub mod KeyLists
+mod ToldRead
+pub mod ValueLists

@@ -1,0 +1,6 @@
+use Rattle.std.proofs.Common.{◌≡◌, ◌<◌, ◌^◌, take}
+use Rattle.common_types.specs.Digits.{number_of}
+use Rattle.change_flaws.proofs.told.number_of.Given as goal
+
+abbrev pub invariant-loop-digit : goal.invariant-loop-digit
+invariant-loop-digit l = record { value : l.number ≡ number_of (take l.digit-index l.digits); below : l.number < 10 ^ l.digit-index }

@@ -1,0 +1,47 @@
+-- What is said of a change that met a fault of the image.
+use Rattle.std.proofs.Common.{◌≡◌, ℕ, Bool, true, false, List, [], ◌∷◌, Some, ap, refl, sym, ◌∙◌, length}
+use Rattle.std.specs.Prelude.{◌==◌}
+use Rattle.host_types.specs.declared.site_fault.SiteFault.{SiteFault}
+use Rattle.host_types.specs.declared.site_fault.SiteFault.TheVariants as site
+use Rattle.gopher_host.specs.Advice.{met_by, stopped_advice}
+use Rattle.gopher_host.specs.Faults.{advice_of, change_that_met, ended, ended_if_any, met_other}
+use Rattle.gopher_host.specs.declared.fault.Fault.{Fault}
+use Rattle.gopher_host.specs.declared.fault.Fault.TheVariants.{Image, NotHad, NotMade, There, Compact, Copy, Changes, Flaw, NoChanges, Stopped, Refused, Item, NoFolder, LeftOut, Serving, Round, Script, Socket, Told, ToldOf, Reply, NotHeld}
+
+met_so : (made : ℕ) (fault : SiteFault) (number : ℕ) → met_other made fault ≡ Some number → stopped_advice made fault ≡ met_by number
+met_so made (site.Refused refused) number is = absurd (cc is)
+met_so made site.Read number is = ap met_by (cc is)
+met_so made (site.Full need free) number is = ap met_by (cc is)
+met_so made site.Spent number is = ap met_by (cc is)
+met_so made site.Deep number is = ap met_by (cc is)
+met_so made site.Failed number is = ap met_by (cc is)
+met_so made site.Memory number is = ap met_by (cc is)
+
+pub met_is_told : (fault : Fault) (number : ℕ) → change_that_met fault ≡ Some number → advice_of fault ≡ met_by number
+met_is_told (Stopped stopped) number is = met_so stopped.number stopped.fault number is
+met_is_told (Image fault) number is = absurd (cc is)
+met_is_told (NotHad lack) number is = absurd (cc is)
+met_is_told (NotMade lack) number is = absurd (cc is)
+met_is_told There number is = absurd (cc is)
+met_is_told (Compact fault) number is = absurd (cc is)
+met_is_told (Copy fault) number is = absurd (cc is)
+met_is_told (Changes fault) number is = absurd (cc is)
+met_is_told (Flaw fault line) number is = absurd (cc is)
+met_is_told NoChanges number is = absurd (cc is)
+met_is_told (Refused made refused line) number is = absurd (cc is)
+met_is_told (Item fault) number is = absurd (cc is)
+met_is_told NoFolder number is = absurd (cc is)
+met_is_told (LeftOut lines) number is = absurd (cc is)
+met_is_told (Serving fault) number is = absurd (cc is)
+met_is_told (Round fault) number is = absurd (cc is)
+met_is_told (Script fault) number is = absurd (cc is)
+met_is_told (Socket fault) number is = absurd (cc is)
+met_is_told (Told lines) number is = absurd (cc is)
+met_is_told (ToldOf lines line) number is = absurd (cc is)
+met_is_told (Reply fault) number is = absurd (cc is)
+met_is_told NotHeld number is = absurd (cc is)
+
+-- what is not empty gets a line of its own
+pub some_ended : (bytes : List ℕ) (none : Bool) → none ≡ (length bytes == 0) → none ≡ false → ended bytes ≡ ended_if_any bytes
+some_ended [] none is some = absurd (cc (sym is ∙ some))
+some_ended (b ∷ bytes) none is some = refl

@@ -1,0 +1,4 @@
+pub mod Told
+pub mod Looks
+pub mod Whole
+pub mod Exports
