@@ -1,10 +1,13 @@
--- What is said of a change that met a fault of the image.
+-- What is said of a change that met a fault of the image, and of an address that can't be listened on.
 use Rattle.std.proofs.Common.{◌≡◌, ℕ, Bool, true, false, List, [], ◌∷◌, Some, ap, refl, sym, ◌∙◌, length}
 use Rattle.std.specs.Prelude.{◌==◌}
 use Rattle.host_types.specs.declared.site_fault.SiteFault.{SiteFault}
 use Rattle.host_types.specs.declared.site_fault.SiteFault.TheVariants as site
-use Rattle.gopher_host.specs.Advice.{met_by, stopped_advice}
-use Rattle.gopher_host.specs.Faults.{advice_of, change_that_met, ended, ended_if_any, met_other}
+use Rattle.gopher_host.specs.Advice.{met_by, listener_advice, stopped_advice}
+use Rattle.gopher_host.specs.Faults.{advice_of, change_that_met, listener_of, ended, ended_if_any, met_other}
+use Rattle.image_server.specs.declared.serving.ServingFault.TheVariants as serving
+use Rattle.ready_sockets.specs.declared.listen_fault.NetCause.{NetCause}
+use Rattle.std.specs.declared.net.socket_addr.SocketAddr.{SocketAddr}
 use Rattle.gopher_host.specs.declared.fault.Fault.{Fault}
 use Rattle.gopher_host.specs.declared.fault.Fault.TheVariants.{Image, NotHad, NotMade, There, Compact, Copy, Changes, Flaw, NoChanges, Stopped, Refused, Item, NoFolder, LeftOut, Serving, Round, Script, Socket, Told, ToldOf, Reply, NotHeld}
 
@@ -40,6 +43,32 @@ met_is_told (Told lines) number is = absurd (cc is)
 met_is_told (ToldOf lines line) number is = absurd (cc is)
 met_is_told (Reply fault) number is = absurd (cc is)
 met_is_told NotHeld number is = absurd (cc is)
+
+pub listener_is_told : (fault : Fault) (at : SocketAddr) (cause : NetCause) → listener_of fault ≡ Some (at, cause) → advice_of fault ≡ listener_advice at cause
+listener_is_told (Serving (serving.Listener here why)) at cause is = let same : (here, why) ≡ (at, cause) = cc is in ap (λ r. listener_advice r.0 r.1) same
+listener_is_told (Serving (serving.Image fault)) at cause is = absurd (cc is)
+listener_is_told (Serving serving.Net) at cause is = absurd (cc is)
+listener_is_told (Image fault) at cause is = absurd (cc is)
+listener_is_told (NotHad lack) at cause is = absurd (cc is)
+listener_is_told (NotMade lack) at cause is = absurd (cc is)
+listener_is_told There at cause is = absurd (cc is)
+listener_is_told (Compact fault) at cause is = absurd (cc is)
+listener_is_told (Copy fault) at cause is = absurd (cc is)
+listener_is_told (Changes fault) at cause is = absurd (cc is)
+listener_is_told (Flaw fault line) at cause is = absurd (cc is)
+listener_is_told NoChanges at cause is = absurd (cc is)
+listener_is_told (Stopped stopped) at cause is = absurd (cc is)
+listener_is_told (Refused made refused line) at cause is = absurd (cc is)
+listener_is_told (Item fault) at cause is = absurd (cc is)
+listener_is_told NoFolder at cause is = absurd (cc is)
+listener_is_told (LeftOut lines) at cause is = absurd (cc is)
+listener_is_told (Round fault) at cause is = absurd (cc is)
+listener_is_told (Script fault) at cause is = absurd (cc is)
+listener_is_told (Socket fault) at cause is = absurd (cc is)
+listener_is_told (Told lines) at cause is = absurd (cc is)
+listener_is_told (ToldOf lines line) at cause is = absurd (cc is)
+listener_is_told (Reply fault) at cause is = absurd (cc is)
+listener_is_told NotHeld at cause is = absurd (cc is)
 
 -- what is not empty gets a line of its own
 pub some_ended : (bytes : List ℕ) (none : Bool) → none ≡ (length bytes == 0) → none ≡ false → ended bytes ≡ ended_if_any bytes

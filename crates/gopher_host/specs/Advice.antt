@@ -1,5 +1,7 @@
--- What the program says to do about an image that is not had, a file of changes, a change, an item, or a port.
+-- What the program says to do about an image that is not had, a file of changes, a change, an item, or an address.
 use Rattle.std.specs.Prelude.{ℕ, List, [], ◌++◌, codes, decimal}
+use Rattle.std.specs.Net.Text.{socket_text}
+use Rattle.std.specs.declared.net.socket_addr.SocketAddr.{SocketAddr}
 use Rattle.common_types.specs.declared.refused.Refused.{Refused}
 use Rattle.common_types.specs.declared.refused.Refused.TheVariants as refused
 use Rattle.host_types.specs.declared.site_fault.SiteFault.{SiteFault}
@@ -14,6 +16,8 @@ use Rattle.admin_socket.specs.declared.listening.SocketFault.{SocketFault}
 use Rattle.admin_socket.specs.declared.listening.SocketFault.TheVariants as socket
 use Rattle.image_items.specs.declared.fault.ItemFault.{ItemFault}
 use Rattle.image_items.specs.declared.fault.ItemFault.TheVariants as item
+use Rattle.ready_sockets.specs.declared.listen_fault.NetCause.{NetCause}
+use Rattle.ready_sockets.specs.declared.listen_fault.NetCause.TheVariants as causes
 
 -- of an image that is not had, by what stands at its name
 abbrev pub lack_advice : Lack → List ℕ
@@ -64,8 +68,15 @@ item_advice item.NoDocument = codes "The command `get` writes documents; `show` 
 item_advice item.NoView = codes "Without --view the first view is written."
 item_advice item.NoBoard = codes "The command `show` tells what an item is; a board is listed as a menu."
 
-abbrev pub net_advice : List ℕ
-net_advice = codes "The address is not one of this machine, its port is taken, or one below 1024 wants a right that the program does not have."
+-- of an address that can't be listened on
+abbrev pub cause_advice : NetCause → List ℕ
+cause_advice causes.Taken = codes "another program listens there."
+cause_advice causes.Elsewhere = codes "this machine has no such address."
+cause_advice causes.Forbidden = codes "the program may not listen there: a port below 1024 wants a right of its own."
+cause_advice causes.Other = codes "the system gives no listener there."
+
+abbrev pub listener_advice : SocketAddr → NetCause → List ℕ
+listener_advice at cause = socket_text at ++ codes ": " ++ cause_advice cause
 
 abbrev pub folder_advice : List ℕ
 folder_advice = codes "Give the name of a folder that can be read."

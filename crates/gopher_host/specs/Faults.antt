@@ -1,6 +1,7 @@
 -- What the program says of a fault: one line, a second one where there is something to do about it, and one about the change that was refused.
 use Rattle.std.specs.Prelude.{◌⊎◌, ℕ, List, [], ◌∷◌, ◌++◌, Option, Some, None, codes, string_bytes}
 use Rattle.std.specs.Io.KnownBytes.{Appends}
+use Rattle.std.specs.declared.net.socket_addr.SocketAddr.{SocketAddr}
 use Rattle.host_types.specs.declared.site_fault.SiteFault.{SiteFault}
 use Rattle.host_types.specs.declared.site_fault.SiteFault.TheVariants as site
 use Rattle.change_file.specs.Printed.{file_line}
@@ -18,13 +19,14 @@ use Rattle.image_items.specs.ItemLines.{item_line}
 use Rattle.printed_names.specs.Names.{change_line, refused_name}
 use Rattle.image_server.specs.Lines.{serving_line, round_line}
 use Rattle.image_server.specs.declared.serving.ServingFault.TheVariants as serving
+use Rattle.ready_sockets.specs.declared.listen_fault.NetCause.{NetCause}
 use Rattle.admin_lines.specs.declared.reply.ReplyFault.{ReplyFault}
 use Rattle.admin_lines.specs.declared.reply.ReplyFault.TheVariants as reply
 use Rattle.admin_socket.specs.declared.listening.SocketFault.{SocketFault}
 use Rattle.admin_socket.specs.declared.listening.SocketFault.TheVariants as socket
 use Rattle.change_file.specs.declared.fault.ApplyFault.{ApplyFault}
 use Rattle.change_file.specs.declared.fault.ChangeFileFault.TheVariants as file
-use Rattle.gopher_host.specs.Advice.{lack_advice, making_advice, refused_advice, stopped_advice, file_advice, item_advice, net_advice, folder_advice, socket_advice, reply_advice}
+use Rattle.gopher_host.specs.Advice.{lack_advice, making_advice, refused_advice, stopped_advice, file_advice, item_advice, listener_advice, folder_advice, socket_advice, reply_advice}
 use Rattle.gopher_host.specs.declared.fault.Fault.{Fault}
 use Rattle.gopher_host.specs.declared.fault.Fault.TheVariants.{Image, NotHad, NotMade, There, Compact, Copy, Changes, Flaw, NoChanges, Stopped, Refused, Item, NoFolder, LeftOut, Serving, Round, Script, Socket, Told, ToldOf, Reply, NotHeld}
 
@@ -101,7 +103,8 @@ advice_of (Item fault) = item_advice fault
 advice_of NoFolder = folder_advice
 advice_of (LeftOut lines) = []
 advice_of (Serving (serving.Image fault)) = advice (of_opening fault)
-advice_of (Serving serving.Net) = net_advice
+advice_of (Serving (serving.Listener at cause)) = listener_advice at cause
+advice_of (Serving serving.Net) = codes "The server could not wait for its clients any more."
 advice_of (Round fault) = []
 advice_of (Script fault) = []
 advice_of (Socket fault) = socket_advice fault
@@ -124,6 +127,11 @@ met_other number other = Some number
 abbrev pub change_that_met : Fault → Option ℕ
 change_that_met (Stopped stopped) = met_other stopped.number stopped.fault
 change_that_met other = None
+
+-- where no listener was had, and why
+abbrev pub listener_of : Fault → Option (SocketAddr × NetCause)
+listener_of (Serving (serving.Listener at cause)) = Some (at, cause)
+listener_of other = None
 
 -- a line of its own, where there is anything to say
 abbrev pub ended_if_any : List ℕ → List ℕ

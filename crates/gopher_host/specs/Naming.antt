@@ -8,7 +8,6 @@ use Rattle.host_types.specs.declared.site_fault.SiteFault.TheVariants as site
 use Rattle.change_file.specs.Tables.{◌>>=◌}
 use Rattle.change_flaws.specs.Refusals as flaws
 use Rattle.change_flaws.specs.Told.{refusal_told}
-use Rattle.gopher_host.specs.Faults.{memory_fault}
 use Rattle.gopher_host.specs.declared.fault.Fault.{Fault}
 use Rattle.gopher_host.specs.declared.fault.Fault.TheVariants as faults
 
@@ -53,12 +52,12 @@ HasLine (Some said) fault number refused now = (line : String Global) × (string
 abbrev pub HasAny : {E : Type 0} → Result (Option (String Global)) E → Fault → ℕ → Refused → Fault → Type 0
 HasAny (Ok (Some line)) fault number refused now = now ≡ with_line fault number refused line
 HasAny (Ok None) fault number refused now = now ≡ fault
-HasAny (Err _) fault number refused now = now ≡ memory_fault
+HasAny (Err _) fault number refused now = now ≡ fault
 
--- The fault has the line where there is one, or there was no memory for it. A fault that says of no change that it was refused stays as it is.
+-- The fault has the line where there is one, or stays as it is: where there was no memory for the line. So does a fault that says of no change that it was refused.
 abbrev pub TellsItemOf : (ℕ → Refused → Option (List ℕ)) → Option (ℕ × Refused) → Fault → Fault → Type 0
 TellsItemOf line None fault now = now ≡ fault
-TellsItemOf line (Some r) fault now = (now ≡ memory_fault) ⊎ HasLine (line r.0 r.1) fault r.0 r.1 now
+TellsItemOf line (Some r) fault now = (now ≡ fault) ⊎ HasLine (line r.0 r.1) fault r.0 r.1 now
 
 abbrev pub TellsItem : (ℕ → Refused → Option (List ℕ)) → Fault → Fault → Type 0
 TellsItem line fault now = TellsItemOf line (refusal_of fault) fault now

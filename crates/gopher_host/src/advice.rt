@@ -1,4 +1,4 @@
-// What to do about an image that is not had, a file of changes, a change, an item, or the administrators' socket.
+// What to do about an image that is not had, a file of changes, a change, an item, an address, or the administrators' socket.
 ghost use Rattle.std.specs.Prelude.{◌≡◌};
 ghost use Rattle.gopher_host.specs.Advice as spec;
 
@@ -8,6 +8,7 @@ use change_file::ChangeFileFault;
 use common_types::Refused;
 use file_names::Lack;
 use image_items::ItemFault;
+use ready_sockets::NetCause;
 
 /// About an image that is not had.
 pub fn lack_advice(lack: Lack) -> &'static str
@@ -93,6 +94,20 @@ pub fn item_advice(fault: ItemFault) -> &'static str
         ItemFault::NoBoard => {
             "The command `show` tells what an item is; a board is listed as a menu."
         }
+    }
+}
+
+/// About an address that can't be listened on.
+pub fn cause_advice(cause: NetCause) -> &'static str
+    ensures { result.now ≡ spec.cause_advice cause }
+{
+    match cause {
+        NetCause::Taken => "another program listens there.",
+        NetCause::Elsewhere => "this machine has no such address.",
+        NetCause::Forbidden => {
+            "the program may not listen there: a port below 1024 wants a right of its own."
+        }
+        NetCause::Other => "the system gives no listener there.",
     }
 }
 

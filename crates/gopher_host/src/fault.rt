@@ -3,14 +3,14 @@ ghost use Rattle.std.specs.Prelude.{◌≡◌, None, IfOk, OnOk};
 ghost use Rattle.std.specs.Io.KnownBytes.{Appends};
 ghost use Rattle.std.specs.Process.{exit_status};
 ghost use Rattle.std.specs.String.{string_bytes};
-ghost use Rattle.gopher_host.specs.Advice.{met_by};
+ghost use Rattle.gopher_host.specs.Advice.{met_by, listener_advice};
 ghost use Rattle.gopher_host.specs.Faults as spec;
-ghost use Rattle.gopher_host.specs.Faults.{ended, output_fault, memory_fault, line_of, advice_of, item_of, change_that_met, ended_if_any, TellsLine, TellsFault};
+ghost use Rattle.gopher_host.specs.Faults.{ended, output_fault, memory_fault, line_of, advice_of, item_of, change_that_met, listener_of, ended_if_any, TellsLine, TellsFault};
 ghost use Rattle.gopher_host.specs.declared.fault.Fault.TheVariants as faults;
 
 use crate::advice::{
-    file_advice, item_advice, lack_advice, making_advice, refused_advice, reply_advice,
-    socket_advice,
+    cause_advice, file_advice, item_advice, lack_advice, making_advice, refused_advice,
+    reply_advice, socket_advice,
 };
 use admin_lines::ReplyFault;
 use admin_socket::SocketFault;
@@ -26,10 +26,12 @@ use image_items::{ItemFault, item_line};
 use image_server::{ServingFault, round_line, serving_line};
 use page_store::KeeperFault;
 use printed_names::{change_line, refused_name};
+use ready_sockets::NetCause;
 use socket_wires::ServeFault;
 use std::alloc::{AllocError, Global};
 use std::io;
 use std::io::Write;
+use std::net::SocketAddr;
 use std::process::ExitCode;
 
 /// Why the program ends with status 1.
@@ -110,6 +112,13 @@ fn tell_met<W: Write>(number: u64, writer: &mut W) -> io::Result<()>
         writer,
         "Change {number} met this; those before it are made."
     )
+}
+
+/// Writes where no listener was had, and why.
+fn tell_no_listener<W: Write>(at: SocketAddr, cause: NetCause, writer: &mut W) -> io::Result<()>
+    ensures { OnOk result (Appends (W.contents writer.old) (W.contents writer.new) (ended (listener_advice at cause))) }
+{
+    writeln!(writer, "{at}: {}", cause_advice(cause))
 }
 
 impl From<ImageFault> for Fault {
@@ -215,9 +224,19 @@ impl Fault {
         }
     }
 
-    /// What to do about it where no change met it, or nothing.
+    /// Where no listener was had, and why.
+    fn no_listener(&self) -> Option<(SocketAddr, NetCause)>
+        ensures { result ≡ listener_of self.now }
+    {
+        match self {
+            Fault::Serving(ServingFault::Listener(at, cause)) => Some((*at, *cause)),
+            _ => None,
+        }
+    }
+
+    /// What to do about it where no change met it and it names no address, or nothing.
     fn advice(&self) -> &str
-        ensures { change_that_met self.now ≡ None → result.now ≡ advice_of self.now }
+        ensures { change_that_met self.now ≡ None → listener_of self.now ≡ None → result.now ≡ advice_of self.now }
     {
         match self {
             Fault::Image(fault) => advice(*fault),
@@ -233,7 +252,7 @@ impl Fault {
             Fault::Copy(fault) => copy_advice(*fault),
             Fault::Serving(ServingFault::Image(fault)) => advice(ImageFault::from(*fault)),
             Fault::Serving(ServingFault::Net) => {
-                "The address is not one of this machine, its port is taken, or one below 1024 wants a right that the program does not have."
+                "The server could not wait for its clients any more."
             }
             Fault::Changes(fault) => file_advice(*fault),
             Fault::Flaw(_, line) => line.as_str(),
@@ -250,7 +269,8 @@ impl Fault {
             Fault::NotHeld => {
                 "The server that has the image did not hold still for long enough while it was read: try again."
             }
-            Fault::LeftOut(_)
+            Fault::Serving(ServingFault::Listener(..))
+            | Fault::LeftOut(_)
             | Fault::Round(_)
             | Fault::Script(_)
             | Fault::Told(_)
@@ -284,6 +304,9 @@ impl Fault {
     {
         if let Some(number) = self.met_by() {
             return tell_met(number, writer);
+        }
+        if let Some((at, cause)) = self.no_listener() {
+            return tell_no_listener(at, cause, writer);
         }
         let advice = self.advice();
         if advice.is_empty() {

@@ -47,7 +47,7 @@ fn with_any(
     match line {
         Ok(Some(line)) => with_line(fault, number, refused, line),
         Ok(None) => fault,
-        Err(_) => Fault::of_memory(),
+        Err(_) => fault,
     }
 }
 

@@ -7,7 +7,7 @@ use Rattle.page_store.specs.declared.fault.KeeperFault.TheVariants.{Failed}
 use Rattle.image_commands.specs.Faults.{of_opening}
 use Rattle.image_commands.specs.FaultLines.{fault_line}
 use Rattle.image_server.specs.declared.serving.ServingFault.{ServingFault}
-use Rattle.image_server.specs.declared.serving.ServingFault.TheVariants.{Image, Net}
+use Rattle.image_server.specs.declared.serving.ServingFault.TheVariants.{Image, Listener, Net}
 
 abbrev pub served_line : ℕ → List ℕ
 served_line served = codes "served " ++ decimal served
@@ -19,4 +19,5 @@ round_line rounds.Memory = codes "memory"
 
 abbrev pub serving_line : ServingFault → List ℕ
 serving_line (Image fault) = fault_line (of_opening fault)
+serving_line (Listener at cause) = codes "net"
 serving_line Net = codes "net"

@@ -26,7 +26,7 @@ use Rattle.socket_wires.specs.Rounds.{IsServing}
 use Rattle.socket_wires.specs.declared.gate.Taken.{Taken}
 use Rattle.socket_wires.specs.declared.serving.ServeFault.{ServeFault}
 use Rattle.image_server.specs.declared.serving.ServingFault.{ServingFault}
-use Rattle.image_server.specs.declared.serving.ServingFault.TheVariants.{Image, Net}
+use Rattle.image_server.specs.declared.serving.ServingFault.TheVariants.{Image, Listener, Net}
 
 -- A site is handed to a hub whose sessions count from 1, rounds are served by it, by these events and of the connections that were taken, and the hub ends: the pins that its sessions still held are given back, and the site is handed back with nothing else changed.
 pub record ServesOver {S L Pin : Type 0} (ghosts : _) (site_state : S → SiteState) (lacks : S → Changes → SiteFault → Type 0) (crash_states : S → CrashStates L) (stands : L → Site → Type 0) (together rounds : ℕ) (result : Result ℕ ServeFault) (taken_before taken_now : List Taken) (old : S) (es : List Event) (os : List Outcome) (new : S) : Type 0 where
@@ -54,10 +54,11 @@ pub record ServedOver {S L Pin : Type 0} (ghosts : _) (site_state : S → SiteSt
 pub record ServedImage {D S L Pin : Type 0} (ghosts : _) (state : D → State) (device : S → D) (site_state : S → SiteState) (lacks : S → Changes → SiteFault → Type 0) (site_crash_states : S → CrashStates L) (stands : L → Site → Type 0) (crash_states : D → CrashStates Content) (together rounds : ℕ) (result : Result ℕ ServeFault) (old new : D) (told_before told_now : List ℕ) : Type 0 where
   pub run : HasRun (OnImage true state device site_state lacks site_crash_states stands crash_states) old new told_before told_now (λ es os. ServesImage {Pin = Pin} ghosts state device site_state lacks site_crash_states stands together rounds result old es os new)
 
--- The image's own fault, by its cause; or the port can't be listened on, and then the image was opened and nothing failed.
+-- The image's own fault, by its cause; or an address can't be listened on, and then the image was opened and nothing failed. Waits fail only where clients were served.
 abbrev pub IsServingFault : State → State → ServingFault → Type 0
 IsServingFault old new (Image fault) = IsOpeningFault old new fault
-IsServingFault old new Net = NothingCounted old new
+IsServingFault old new (Listener at cause) = NothingCounted old new
+IsServingFault old new Net = ⊥
 
 -- what is known of serving that ended
 abbrev pub of_visits : VisitFault → ServingFault

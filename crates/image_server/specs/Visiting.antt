@@ -20,6 +20,7 @@ use Rattle.host_on_disk.specs.declared.open_fault.OpenFault.TheVariants as openi
 use Rattle.ready_sockets.specs.Offices.{WorksOf}
 use Rattle.ready_sockets.specs.Rounds.{HasServed, Premises}
 use Rattle.ready_sockets.specs.Visits.{IsFresh}
+use Rattle.ready_sockets.specs.declared.listen_fault.NetCause.{NetCause}
 use Rattle.ready_sockets.specs.declared.pace.Pace.{Pace}
 use Rattle.ready_sockets.specs.declared.room.Room.{Room}
 use Rattle.ready_sockets.specs.declared.stopwatch.Reading.{Reading}
@@ -27,7 +28,7 @@ use Rattle.ready_sockets.specs.declared.terms.Terms.{Terms}
 use Rattle.ready_sockets.specs.declared.room.VisitFault.{VisitFault}
 use Rattle.image_server.specs.Starting.{TellsStart}
 use Rattle.image_server.specs.declared.serving.ServingFault.{ServingFault}
-use Rattle.image_server.specs.declared.serving.ServingFault.TheVariants.{Image, Net}
+use Rattle.image_server.specs.declared.serving.ServingFault.TheVariants.{Image, Listener, Net}
 
 -- the address that is given, or else this port on 127.0.0.1
 abbrev pub IsGivenOrOwn : Option SocketAddr → ℕ → SocketAddr → Type 0
@@ -71,9 +72,10 @@ abbrev pub VisitedImage : {D S L Log O X : Type 0} → (Log → Option (List ℕ
 VisitedImage contents lets_wait works state device site_state lacks site_crash_states stands crash_states terms listen result old new before now told_before told_now =
     HasRun (OnImage true state device site_state lacks site_crash_states stands crash_states) old new told_before told_now (λ es os. ServesClients contents lets_wait works terms listen state device site_state old new before now result es os)
 
--- What was asked of the system where no client is served: `Net` comes where a listener was not had; lack of memory before one was asked for, or behind one that was had; all else before.
-abbrev pub IsAskedInVain : {C : Type 0} → (SocketAddr → C) → (SocketAddr → C) → State → Option SocketAddr → List C → List C → ServingFault → Type 0
-IsAskedInVain had not_had device address before now Net = (at : SocketAddr) × IsPlace device address at × (now ≡ before ++ not_had at ∷ [])
+-- What was asked of the system where no client is served: `Listener` comes where none was had at that address, for that cause; lack of memory before one was asked for, or behind one that was had; all else before.
+abbrev pub IsAskedInVain : {C : Type 0} → (SocketAddr → C) → (SocketAddr → NetCause → C) → State → Option SocketAddr → List C → List C → ServingFault → Type 0
+IsAskedInVain had not_had device address before now (Listener at cause) = IsPlace device address at × (now ≡ before ++ not_had at cause ∷ [])
+IsAskedInVain had not_had device address before now Net = ⊥
 IsAskedInVain had not_had device address before now (Image opening.Memory) = (now ≡ before) ⊎ IsListened had device address before now
 IsAskedInVain had not_had device address before now (Image opening.BadRecord) = now ≡ before
 IsAskedInVain had not_had device address before now (Image (opening.Keeper fault)) = now ≡ before

@@ -37,6 +37,6 @@ pub fn serving_line(alloc: Global, fault: ServingFault) -> Result<String, AllocE
 {
     match fault {
         ServingFault::Image(fault) => fault_line(alloc, ImageFault::from(fault)),
-        ServingFault::Net => String::from_str(alloc, "net"),
+        ServingFault::Listener(..) | ServingFault::Net => String::from_str(alloc, "net"),
     }
 }

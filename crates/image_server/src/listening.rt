@@ -4,8 +4,8 @@ ghost use Rattle.std.specs.Borrow.{ftrue};
 ghost use Rattle.image_server.specs.Listening.{listen_call};
 ghost use Rattle.image_server.specs.declared.listening.ListenCall.{ListenCall as Call};
 
+use ready_sockets::NetCause;
 use socket_wires::Gate;
-use std::io;
 use std::marker::Model;
 use std::net::{Net, SocketAddr, TcpListener, TcpStream};
 
@@ -14,8 +14,8 @@ use std::net::{Net, SocketAddr, TcpListener, TcpStream};
 pub enum ListenCall {
     /// One at this address was had.
     Listened(SocketAddr),
-    /// One at this address was not had.
-    NotListened(SocketAddr),
+    /// One at this address was not had, and why.
+    NotListened(SocketAddr, NetCause),
 }
 
 /// The listeners that were asked for, in order. Only clauses read it, and it takes no memory.
@@ -51,12 +51,12 @@ impl ListenLog {
     }
 }
 
-/// Asks for a listener at an address, and notes whether it was had. That it asks for the one that it notes no clause can say, so it is one call long.
+/// Asks for a listener at an address, and notes whether it was had, or why not. That it asks for the one that it notes no clause can say, so it is one call long.
 pub(crate) fn listen<R: Net<Listener = TcpListener, Stream = TcpStream>>(
     net: &R,
     at: SocketAddr,
     asked: &mut ListenLog,
-) -> io::Result<Gate>
+) -> Result<Gate, NetCause>
     ensures asked { asked.new.calls ≡ asked.old.calls ++ listen_call at result ∷ [] }
     ensures untaken { IfOk result (λ gate. gate.taken.calls ≡ []) }
 {
@@ -66,8 +66,9 @@ pub(crate) fn listen<R: Net<Listener = TcpListener, Stream = TcpStream>>(
             Ok(Gate::new(listener))
         }
         Err(error) => {
-            asked.note(ListenCall::NotListened(at));
-            Err(error)
+            let cause = NetCause::of(error.kind());
+            asked.note(ListenCall::NotListened(at, cause));
+            Err(cause)
         }
     }
 }

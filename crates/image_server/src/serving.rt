@@ -15,20 +15,23 @@ use cow_tree::TreeKeeper;
 use group_hub::Hub;
 use host_on_disk::{OpenFault, open_site};
 use host_types::SiteKeeper;
+use ready_sockets::NetCause;
 use sector_device::Device;
 use site_store::DiskSite;
 use socket_wires::{Gate, ServeFault, serve_on};
 use std::alloc::Global;
-use std::net::{Net, TcpListener, TcpStream};
+use std::net::{Net, SocketAddr, TcpListener, TcpStream};
 use turns::Clock;
 use word_index::SearchKeeper;
 
-/// Why nothing is served.
+/// Why nothing is served, or serving ended.
 #[derive(Clone, Copy, Debug, PartialEq, Eq)]
 pub enum ServingFault {
     /// The image is not opened as a site.
     Image(OpenFault),
-    /// The site's port can't be listened on.
+    /// This address can't be listened on, and why.
+    Listener(SocketAddr, NetCause),
+    /// No socket could be waited for.
     Net,
 }
 
@@ -81,8 +84,12 @@ pub fn serve_image<D: Device, R: Net<Listener = TcpListener, Stream = TcpStream>
         Err((fault, device)) => return Err((ServingFault::Image(fault), device)),
     };
     let at = given_or_own(None, site.front().port);
-    let Ok(mut gate) = listen(net, at, asked) else {
-        return Err((ServingFault::Net, site.into_keeper().into_device()));
+    let mut gate = match listen(net, at, asked) {
+        Ok(gate) => gate,
+        Err(cause) => return Err((
+            ServingFault::Listener(at, cause),
+            site.into_keeper().into_device(),
+        )),
     };
     match serve_over(alloc, site, &mut gate, clock, together, rounds) {
         Ok((served, site)) => Ok((served, site.into_keeper().into_device())),

@@ -16,7 +16,9 @@ use group_hub::Hub;
 use host_on_disk::{OpenFault, open_site};
 use host_types::SiteKeeper;
 use page_store::KeeperFault;
-use ready_sockets::{DoorLog, Office, Room, Stopwatch, Terms, VisitFault, serve_visits};
+use ready_sockets::{
+    DoorLog, ListenFault, Office, Room, Stopwatch, Terms, VisitFault, serve_visits,
+};
 use sector_device::Device;
 use site_store::DiskSite;
 use std::alloc::Global;
@@ -109,12 +111,14 @@ pub fn serve_clients<D: Device, R: Net + Time, C: Clock, L: Write, O: Office>(
     let at = given_or_own(address, front.port);
     let mut room = match Room::open(alloc, rt, at, asked) {
         Ok(room) => room,
-        Err(VisitFault::Memory) => return Err((
+        Err(ListenFault::Memory) => return Err((
             ServingFault::Image(OpenFault::Memory),
             site.into_keeper().into_device(),
         )),
-        Err(VisitFault::Net) => return Err((ServingFault::Net, site.into_keeper().into_device())),
-        Err(VisitFault::Failed) => unreachable!(),
+        Err(ListenFault::Net(cause)) => return Err((
+            ServingFault::Listener(at, cause),
+            site.into_keeper().into_device(),
+        )),
     };
     tell_start(alloc, &front, at, log);
     match visits_over(alloc, site, rt, watch, &mut room, office, clock, log, terms) {

@@ -12,8 +12,9 @@ use Rattle.ready_sockets.specs.declared.door_log.DoorKind.{DoorKind}
 use Rattle.ready_sockets.specs.declared.door_log.DoorKind.TheVariants as kinds
 use Rattle.ready_sockets.specs.declared.door_log.Missed.{Missed}
 use Rattle.ready_sockets.specs.declared.door_log.Missed.TheVariants.{Refused, Unwatched}
-use Rattle.ready_sockets.specs.declared.room.VisitFault.{VisitFault}
-use Rattle.ready_sockets.specs.declared.room.VisitFault.TheVariants as faults
+use Rattle.ready_sockets.specs.declared.listen_fault.NetCause.{NetCause}
+use Rattle.ready_sockets.specs.declared.listen_fault.ListenFault.{ListenFault}
+use Rattle.ready_sockets.specs.declared.listen_fault.ListenFault.TheVariants as faults
 
 -- what a listener is watched for: that somebody comes
 abbrev pub for_reading : Interest
@@ -28,11 +29,11 @@ abbrev pub is_nobody : Missed → Bool
 is_nobody (Refused WouldBlock) = true
 is_nobody missed = false
 
--- A listener that was asked for at an address, and that waits are to tell of, in an interest: it was had, or not. A wait, with its patience in nanoseconds or none where it has no end, that ended with some events, or that failed. And a connection that was asked for: a
+-- A listener that was asked for at an address, and that waits are to tell of, in an interest: it was had, or not, and why. A wait, with its patience in nanoseconds or none where it has no end, that ended with some events, or that failed. And a connection that was asked for: a
 -- client of this address came, and waits are to tell of it under this token and in this interest; or none was had, and why.
 pub data DoorCall : Type 0 where
   ListenedFor : SocketAddr → Interest → DoorCall
-  NotListened : SocketAddr → DoorCall
+  NotListened : SocketAddr → NetCause → DoorCall
   Waited : Option ℕ → List Event → DoorCall
   WaitFailed : Option ℕ → DoorCall
   Came : IpAddr → Token → Interest → DoorCall
@@ -45,17 +46,21 @@ Listened address = ListenedFor address for_reading
 -- a call that is noted by its kind and the events of the last wait
 abbrev pub call_of : DoorKind → List Event → DoorCall
 call_of (kinds.Listened address interest) events = ListenedFor address interest
-call_of (kinds.NotListened address) events = NotListened address
+call_of (kinds.NotListened address cause) events = NotListened address cause
 call_of (kinds.Waited patience) events = Waited (option_map as_nanos patience) events
 call_of (kinds.WaitFailed patience) events = WaitFailed (option_map as_nanos patience)
 call_of (kinds.Came from token interest) events = Came from token interest
 call_of (kinds.NotHad missed) events = NotHad missed
 
--- what was asked of the system for a listener at an address; where memory is lacking, nothing was
-abbrev pub listen_calls : {W : Type 0} → SocketAddr → Result W VisitFault → List DoorCall
+-- a listener that was asked for at an address, by whether it was had
+abbrev pub listen_call : {W : Type 0} → SocketAddr → Result W NetCause → DoorCall
+listen_call address (Ok _) = Listened address
+listen_call address (Err cause) = NotListened address cause
+
+-- what was asked of the system where a room was to be opened; where memory is lacking, nothing was
+abbrev pub listen_calls : {W : Type 0} → SocketAddr → Result W ListenFault → List DoorCall
 listen_calls address (Ok _) = Listened address ∷ []
-listen_calls address (Err faults.Net) = NotListened address ∷ []
-listen_calls address (Err faults.Failed) = []
+listen_calls address (Err (faults.Net cause)) = NotListened address cause ∷ []
 listen_calls address (Err faults.Memory) = []
 
 -- a wait, by how it ended

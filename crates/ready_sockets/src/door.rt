@@ -1,11 +1,11 @@
 // The calls of the system at the door: a listener, waits, and connections that are taken. `listen`, `wait` and `take` note each of their calls. That they make the call
 // which they note, no clause can say: so each is short, and tests on real connections hold it.
-ghost use Rattle.std.specs.Prelude.{◌≡◌, ◌++◌, ◌≤◌, IfErr, IfSome};
-ghost use Rattle.ready_sockets.specs.DoorCalls.{for_reading, listen_calls};
-ghost use Rattle.ready_sockets.specs.declared.room.VisitFault.TheVariants.{Net as NoSocket};
+ghost use Rattle.std.specs.Prelude.{◌≡◌, ◌++◌, [], ◌∷◌, ◌≤◌, IfOk};
+ghost use Rattle.ready_sockets.specs.DoorCalls.{for_reading, listen_call};
 
 use crate::Desk;
 use crate::door_log::{DoorKind, DoorLog, Missed};
+use crate::listen_fault::{ListenFault, NetCause};
 use crate::room::VisitFault;
 use mio::net::{TcpListener, TcpStream};
 use mio::{Events, Interest, Poll, Token};
@@ -27,37 +27,34 @@ pub(crate) const OFFICE_WIRE: Token = Token(2);
 const FIRST: usize = 3;
 
 /// A listener at an address, and the wait for whoever is ready, which tells of it in this interest.
-fn listener_at<R: Net>(rt: &R, address: SocketAddr) -> Option<(Poll, TcpListener, Interest)>
-    ensures { IfSome result (λ had. had.2 ≡ for_reading) }
+fn listener_at<R: Net>(rt: &R, address: SocketAddr) -> io::Result<(Poll, TcpListener, Interest)>
+    ensures { IfOk result (λ had. had.2 ≡ for_reading) }
 {
-    let (Ok(poll), Ok(mut listener)) = (Poll::new(rt), TcpListener::bind(rt, address)) else {
-        return None;
-    };
+    let poll = Poll::new(rt)?;
+    let mut listener = TcpListener::bind(rt, address)?;
     let readable = Interest::READABLE;
-    match poll.registry().register(&mut listener, LISTENER, readable) {
-        Ok(()) => Some((poll, listener, readable)),
-        Err(_) => None,
-    }
+    poll.registry().register(&mut listener, LISTENER, readable)?;
+    Ok((poll, listener, readable))
 }
 
-/// Asks for a listener at an address, and notes whether it was had.
+/// Asks for a listener at an address, and notes whether it was had, or why it was not.
 fn listen<R: Net>(
     rt: &R,
     address: SocketAddr,
     events: &Events,
     asked: &mut DoorLog,
-) -> Result<(Poll, TcpListener), VisitFault>
-    ensures asked { asked.new.calls ≡ asked.old.calls ++ listen_calls address result }
-    ensures fault { IfErr result (λ fault. fault ≡ NoSocket) }
+) -> Result<(Poll, TcpListener), NetCause>
+    ensures { asked.new.calls ≡ asked.old.calls ++ listen_call address result ∷ [] }
 {
     match listener_at(rt, address) {
-        Some((poll, listener, interest)) => {
+        Ok((poll, listener, interest)) => {
             asked.note(DoorKind::Listened(address, interest), events);
             Ok((poll, listener))
         }
-        None => {
-            asked.note(DoorKind::NotListened(address), events);
-            Err(VisitFault::Net)
+        Err(error) => {
+            let cause = NetCause::of(error.kind());
+            asked.note(DoorKind::NotListened(address, cause), events);
+            Err(cause)
         }
     }
 }
@@ -74,7 +71,7 @@ pub(crate) struct Door {
 }
 
 impl Door {
-    ghost use Rattle.std.specs.Prelude.{◌≡◌, ◌⊎◌, [], ◌∷◌, ◌++◌, option_map, IfOk, IfErr};
+    ghost use Rattle.std.specs.Prelude.{◌≡◌, [], ◌∷◌, ◌++◌, option_map, IfOk, IfErr};
     ghost use Rattle.std.specs.Duration.{as_nanos};
     ghost use Rattle.mio.specs.Events.{items};
     ghost use Rattle.ready_sockets.specs.DoorCalls.{both_ways, listen_calls, wait_call, take_call};
@@ -88,15 +85,17 @@ impl Door {
         address: SocketAddr,
         most: usize,
         asked: &mut DoorLog,
-    ) -> Result<Door, VisitFault>
+    ) -> Result<Door, ListenFault>
         ensures asked { asked.new.calls ≡ asked.old.calls ++ listen_calls address result }
         ensures made { IfOk result (λ door. door.made.calls ≡ []) }
-        ensures fault { IfErr result (λ fault. (fault ≡ faults.Memory) ⊎ (fault ≡ faults.Net)) }
     {
         let Ok(events) = Events::with_capacity(alloc, most) else {
-            return Err(VisitFault::Memory);
+            return Err(ListenFault::Memory);
         };
-        let (poll, listener) = listen(rt, address, &events, asked)?;
+        let (poll, listener) = match listen(rt, address, &events, asked) {
+            Ok(had) => had,
+            Err(cause) => return Err(ListenFault::Net(cause)),
+        };
         Ok(Door {
             poll,
             events,

@@ -4,6 +4,7 @@ ghost use Rattle.std.specs.Borrow.{ftrue};
 ghost use Rattle.mio.specs.Events.{items};
 ghost use Rattle.ready_sockets.specs.DoorCalls.{DoorCall, call_of, is_nobody};
 
+use crate::listen_fault::NetCause;
 use mio::{Events, Interest, Token};
 use std::io::ErrorKind;
 use std::marker::Model;
@@ -36,8 +37,8 @@ impl Missed {
 pub(crate) enum DoorKind {
     /// A listener at this address was had, and waits tell of it in this interest.
     Listened(SocketAddr, Interest),
-    /// A listener at this address was not had.
-    NotListened(SocketAddr),
+    /// A listener at this address was not had, and why.
+    NotListened(SocketAddr, NetCause),
     /// A wait with this patience ended.
     Waited(Option<Duration>),
     /// A wait with this patience failed.

@@ -9,6 +9,7 @@ mod head;
 mod laws;
 mod limits;
 mod lines;
+mod listen_fault;
 mod office;
 mod pace;
 mod posts;
@@ -33,6 +34,7 @@ pub use limits::{
     LONGEST_LINE, LONGEST_REQUEST, LONGEST_SILENCE, LONGEST_VISIT, is_over, longest_stay,
 };
 pub use lines::{Record, log_line};
+pub use listen_fault::{ListenFault, NetCause};
 pub use office::{NoOffice, Office};
 pub use pace::Pace;
 pub use posts::{MOST_POSTS, RecentPost, RecentPosts};

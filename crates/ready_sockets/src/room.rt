@@ -3,6 +3,7 @@ ghost use Rattle.std.specs.Prelude.{◌≤◌, vec_len, vec_capacity};
 
 use crate::door::{Door, LISTENER};
 use crate::door_log::DoorLog;
+use crate::listen_fault::ListenFault;
 use crate::posts::RecentPosts;
 use crate::visit::Visit;
 use crate::waking::{all_wait, at_most_a_tick, is_called, names_office, wake_called, was_in_vain};
@@ -23,10 +24,10 @@ const MOST_SOCKETS: usize = MOST_VISITS + 3;
 /// How many seconds a wait lasts while somebody is in or may be at the door, at most.
 pub(crate) const TICK: u64 = 1;
 
-/// Why serving can't begin, or ends.
+/// Why serving ends.
 #[derive(Clone, Copy, Debug, PartialEq, Eq, Error)]
 pub enum VisitFault {
-    /// A socket could not be listened on or waited for.
+    /// No socket could be waited for.
     #[error("net")]
     Net,
     /// A write or a sync of what the site is kept on has failed.
@@ -60,19 +61,18 @@ impl Room {
     ghost use Rattle.ready_sockets.specs.Visits.{has_gone, woken, own_patience, patience, asks, HasAsked, IsFresh, HasWoken, HasWaited, HasNotWaited};
     ghost use Rattle.ready_sockets.specs.declared.room.VisitFault.TheVariants as faults;
 
-    /// Listens at an address, with nobody in. Whether a listener was had there is noted.
+    /// Listens at an address, with nobody in. Whether a listener was had there is noted, or why not.
     pub fn open<R: Net>(
         alloc: Global,
         rt: &R,
         address: SocketAddr,
         asked: &mut DoorLog,
-    ) -> Result<Room, VisitFault>
+    ) -> Result<Room, ListenFault>
         ensures asked { asked.new.calls ≡ asked.old.calls ++ listen_calls address result }
         ensures fresh { IfOk result (λ room. IsFresh room) }
-        ensures fault { IfErr result (λ fault. (fault ≡ faults.Memory) ⊎ (fault ≡ faults.Net)) }
     {
         let Ok(visits) = Vec::with_capacity(alloc, MOST_VISITS) else {
-            return Err(VisitFault::Memory);
+            return Err(ListenFault::Memory);
         };
         let door = Door::open(alloc, rt, address, MOST_SOCKETS, asked)?;
         Ok(Room {

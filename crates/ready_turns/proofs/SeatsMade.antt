@@ -25,7 +25,7 @@ use Rattle.ready_turns.specs.declared.seat.Stage.{Stage}
 use Rattle.ready_turns.specs.declared.seat.Ending.{Ending}
 use Rattle.ready_turns.specs.declared.seat.Ending.TheVariants.{Served, Failed}
 use Rattle.ready_turns.specs.declared.seat.Stage.TheVariants as stages
-use Rattle.ready_turns.specs.Seats.{SeatState, at, state_of, leaving, has_left, joined_state, refused_state, heard_state, learned_state, drawn_state, draw_room, most_drawn, is_held, IsAdapted, TellsUnless, HearsPiece, Listens, KeepsClient, HasTurn, HasKept, Asks, Draws, Replies, Writes, Finishes, Takes, Follows, WhereReady, Acts, Turn, LearnsAt, Learns, DismissedAt, Dismissed, TurnedDownAt, TurnedDown, For}
+use Rattle.ready_turns.specs.Seats.{SeatState, at, state_of, leaving, has_left, joined_state, refused_state, heard_state, learned_state, drawn_state, draw_room, draw_size, most_drawn, is_held, IsAdapted, TellsUnless, HearsPiece, Listens, KeepsClient, HasTurn, HasKept, Asks, Draws, Replies, Writes, Finishes, Takes, Follows, WhereReady, Acts, Turn, LearnsAt, Learns, DismissedAt, Dismissed, TurnedDownAt, TurnedDown, For}
 
 abbrev ok_of : {E : Type 0} → Option ℕ → Result (Option ℕ) E
 ok_of field = Ok field
@@ -90,7 +90,7 @@ drawn_made old new id room outcome part after size few adapted is = record {
 }
 
 -- where all is sent as it comes
-pub room_through : (old : Adapting) → is_through old.answers ≡ true → draw_room old ≡ 4096
+pub room_through : (old : Adapting) → is_through old.answers ≡ true → draw_room old ≡ draw_size
 room_through old through = ap most_drawn through
 
 pub room_adapted : (old : Adapting) → is_through old.answers ≡ false → draw_room old ≡ 500
@@ -175,7 +175,7 @@ pub learned_fault : (id : ℕ) (result : Result Drawn HubFault) (fault : HubFaul
 learned_fault id result fault buffer after size is so = asked_made id (draw_outcome result buffer) after (draws_few 0 result buffer size) (so ∙ sym (ap (λ r. learned_state id (draw_outcome r buffer)) is))
 
 -- the text fits
-pub later_fits : (text : List ℕ) → text ≡ error_reply true TryAgainLater [] → length text ≤ 4096
+pub later_fits : (text : List ℕ) → text ≡ error_reply true TryAgainLater [] → length text ≤ draw_size
 unfolding plus_error words_of digits
 later_fits text is = let size : length text ≡ 27 = ap length is in omega (arith, size)
 

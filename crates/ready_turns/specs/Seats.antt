@@ -125,8 +125,11 @@ abbrev pub Waits : WireCall → SeatState → Trace → SeatState → Type 0
 Waits call before t after = (t ≡ trace (call ∷ []) [] []) × (after ≡ at before.stage before.unsent true)
 
 -- how many bytes are drawn in a turn, at most: fewer where they are adapted
+abbrev pub draw_size : ℕ
+draw_size = 16384
+
 abbrev pub most_drawn : Bool → ℕ
-most_drawn true = 4096
+most_drawn true = draw_size
 most_drawn false = 500
 
 abbrev pub draw_room : Adapting → ℕ

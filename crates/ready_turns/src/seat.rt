@@ -1,6 +1,6 @@
 // A wire and the session on it.
 ghost use Rattle.std.specs.Prelude.{◌≡◌, ◌≤◌, false, [], length, Option, Some, None};
-ghost use Rattle.ready_turns.specs.Seats.{at, acts, has_left, ending_of, is_waiting, state_of};
+ghost use Rattle.ready_turns.specs.Seats.{at, acts, draw_size, has_left, ending_of, is_waiting, state_of};
 
 use crate::unsent::Unsent;
 use old_clients::ClientAdapter;
@@ -121,7 +121,7 @@ impl<W> Seat<W> {
 
     /// From here on the session is so far, with these bytes to be sent.
     pub(crate) fn become_stage(&mut self, stage: Stage, unsent: &[u8])
-        requires { length unsent.now ≤ 4096 }
+        requires { length unsent.now ≤ draw_size }
         ensures state { state_of self.new ≡ at stage unsent.now false }
         ensures wire { self.new.wire ≡ self.old.wire }
         ensures client { self.new.client ≡ self.old.client }

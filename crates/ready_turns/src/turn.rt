@@ -11,7 +11,7 @@ ghost use Rattle.ready_turns.specs.Seats.{at, state_of, has_left, joined_state, 
 
 use crate::ReadyWire;
 use crate::seat::{Ending, Seat, Stage};
-use crate::unsent::{ROOM, Unsent};
+use crate::unsent::{DRAW_SIZE, Unsent};
 use crate::writing::write_on;
 use group_hub::Hub;
 use group_world::{Drawn, HubFault, InputStatus};
@@ -139,7 +139,7 @@ fn draw_adapted<S: SearchKeeper, W>(hub: &mut Hub<S>, seat: &mut Seat<W>, id: u6
     ensures wire { seat.new.wire ≡ seat.old.wire }
 {
     let mut drawn = [0; SHARE];
-    let mut part = [0; ROOM];
+    let mut part = [0; DRAW_SIZE];
     match hub.draw(id, &mut drawn) {
         Ok(Drawn::Bytes(count)) => {
             let given = seat.client.answer(&drawn[..count.min(SHARE)], &mut part);

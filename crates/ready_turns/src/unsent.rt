@@ -5,6 +5,7 @@ ghost use Rattle.group_hub.specs.Calls.{HubCall};
 ghost use Rattle.group_world.specs.declared.event.Event.TheVariants.{Draw};
 ghost use Rattle.group_world.specs.Outcomes.{draw_outcome};
 ghost use Rattle.turns.specs.Turns.{drawn_bytes};
+ghost use Rattle.ready_turns.specs.Seats.{draw_size};
 
 use group_hub::Hub;
 use group_world::{Drawn, HubFault};
@@ -12,12 +13,12 @@ use std::marker::Model;
 use word_index::SearchKeeper;
 
 /// How many bytes are drawn in a turn, at most.
-pub const ROOM: usize = 4096;
+pub const DRAW_SIZE: usize = 16_384;
 
 /// The bytes of a draw that are to be sent yet, where they were drawn. They are seen as those of an `ArrayVec`.
 #[derive(Drop)]
 pub(crate) struct Unsent {
-    room: [u8; ROOM],
+    room: [u8; DRAW_SIZE],
     start: usize,
     end: usize,
 }
@@ -27,16 +28,16 @@ impl Model for Unsent {
 
     ghost view = { λ u. record { items = drop u.start (take u.end u.room) } };
 
-    ghost invariant = { λ u. (u.start ≤ u.end) × (u.end ≤ 4096) };
+    ghost invariant = { λ u. (u.start ≤ u.end) × (u.end ≤ draw_size) };
 }
 
 /// How many bytes were drawn, but no more than there is room for.
 fn count_of(drawn: &Result<Drawn, HubFault>) -> usize
-    ensures few { result ≤ 4096 }
-    ensures front { (room : List ℕ) → length room ≡ 4096 → take result room ≡ drawn_bytes (draw_outcome drawn.now room) }
+    ensures few { result ≤ draw_size }
+    ensures front { (room : List ℕ) → length room ≡ draw_size → take result room ≡ drawn_bytes (draw_outcome drawn.now room) }
 {
     match drawn {
-        Ok(Drawn::Bytes(count)) => (*count).min(ROOM),
+        Ok(Drawn::Bytes(count)) => (*count).min(DRAW_SIZE),
         _ => 0,
     }
 }
@@ -47,7 +48,7 @@ impl Unsent {
         ensures { result.items ≡ [] }
     {
         Unsent {
-            room: [0; ROOM],
+            room: [0; DRAW_SIZE],
             start: 0,
             end: 0,
         }
@@ -69,7 +70,7 @@ impl Unsent {
 
     /// These bytes in place of those.
     pub fn fill(&mut self, bytes: &[u8])
-        requires { length bytes.now ≤ 4096 }
+        requires { length bytes.now ≤ draw_size }
         ensures { self.new.items ≡ bytes.now }
     {
         self.room[..bytes.len()].copy_from_slice(bytes);
@@ -86,9 +87,9 @@ impl Unsent {
 
     /// The bytes of one draw in place of those.
     pub fn draw<S: SearchKeeper>(&mut self, hub: &mut Hub<S>, id: u64) -> Result<Drawn, HubFault>
-        ensures call { HubCall S.site_state S.lacks S.crash_states S.represents hub.old (Draw id 4096) (draw_outcome result self.new.items) hub.new }
+        ensures call { HubCall S.site_state S.lacks S.crash_states S.represents hub.old (Draw id draw_size) (draw_outcome result self.new.items) hub.new }
         ensures bytes { self.new.items ≡ drawn_bytes (draw_outcome result self.new.items) }
-        ensures few { length self.new.items ≤ 4096 }
+        ensures few { length self.new.items ≤ draw_size }
     {
         let drawn = hub.draw(id, &mut self.room);
         let count = count_of(&drawn);

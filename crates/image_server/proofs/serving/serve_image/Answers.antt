@@ -43,12 +43,12 @@ returns-clause-refused g c =
       no_new_crash_state = rw back opened.at_crash;
     }
 
-pub returns-in_default-clause-asked : goal.returns-in_default-clause-asked
-returns-in_default-clause-asked g c =
+pub returns-in-Err-listen-clause-asked : goal.returns-in-Err-listen-clause-asked
+returns-in-Err-listen-clause-asked g c =
     let opened = c.in-Ok.ensures in
     let place = place_of (g.D.Device.state c.args.device) None c.given_or_own-at.result c.given_or_own.inside.port (seen_site c.in-Ok.site) c.given_or_own-at.ensures opened.site
     (λ honest. ap (λ a. a.port) (c.given_or_own.view_is) ∙ ap (λ a. a.port) (c.front.ensures (subst IsTrue (sym opened.honest) honest))) in
-    (c.given_or_own-at.result, place, c.in_default.ensures.asked)
+    (place, c.in-Err-listen.ensures.asked)
 
 pub returns-clause-asked : goal.returns-clause-asked
 returns-clause-asked g c =
