@@ -20,7 +20,7 @@ use Rattle.turns.specs.WireCalls.{WireCall, Read, ReadFailed, ReadWaited, Wrote,
 use Rattle.group_world.specs.declared.event.Event.TheVariants as events
 use Rattle.group_world.specs.declared.fault.HubFault.{HubFault}
 use Rattle.turns.specs.Turns.{Trace, trace, nothing, IsTold, once, again, heard_event, heard_reply, drawn_bytes}
-use Rattle.ready_turns.specs.Seats.{SeatState, at, has_left, leaving, joined_state, refused_state, heard_state, learned_state, drawn_state, is_held, IsAdapted, TellsUnless, Listens, Asks, Replies, Writes, Finishes, Takes, Follows, WhereReady, Acts, Turn, LearnsAt, Learns, DismissedAt, Dismissed, TurnedDownAt, TurnedDown, is_waiting}
+use Rattle.ready_turns.specs.Seats.{SeatState, at, has_left, leaving, joined_state, refused_state, heard_state, learned_state, drawn_state, is_held, IsAdapted, TellsUnless, Listens, AsksWhatCame, DrawsOrWrites, WritesOn, Finishes, ActsInHub, LeavesIfOver, WhereReady, Acts, SeatTurn, LearnsAt, LearnsWhatCame, DismissedAt, Dismissed, TurnedDownAt, TurnedDown, is_waiting}
 use Rattle.ready_turns.specs.declared.seat.Stage.{Stage}
 use Rattle.ready_turns.specs.declared.seat.Stage.TheVariants as stages
 use Rattle.ready_turns.specs.declared.seat.Ending.{Ending}
@@ -198,14 +198,14 @@ CountsApart t = (id : ℕ) (outcome : Outcome) → all_due (t.events ++ events.L
 abbrev Leads : Adapting → SeatState → Trace → Adapting → SeatState → Type 0
 Leads old before t new after = (due : List ℕ) (calls : List WireCall) → IsGiven old due calls before → IsGiven new (due ++ all_due t.events t.outcomes) (calls ++ t.calls) after
 
-takes_due : (old new : Adapting) (id : ℕ) (Does : Trace → SeatState → Type 0) (before after : SeatState) (t : Trace) → ((done : Trace) → Does done after → Leads old before done new after) → ((done : Trace) → Does done after → CountsApart done) → Takes id Does t after → Leads old before t new after
+takes_due : (old new : Adapting) (id : ℕ) (Does : Trace → SeatState → Type 0) (before after : SeatState) (t : Trace) → ((done : Trace) → Does done after → Leads old before done new after) → ((done : Trace) → Does done after → CountsApart done) → ActsInHub id Does t after → Leads old before t new after
 takes_due old new id Does before after t leads apart takes due calls given =
     subst (λ (u : Trace). IsGiven new (due ++ all_due u.events u.outcomes) (calls ++ u.calls) after) (sym takes.is) (follows (has_left after.stage) refl takes.follows)
   where
     first : IsGiven new (due ++ all_due takes.done.events takes.done.outcomes) (calls ++ takes.done.calls) after
     first = leads takes.done takes.does due calls given
 
-    follows : (left : Bool) → left ≡ has_left after.stage → Follows id left takes.rest → IsGiven new (due ++ all_due (takes.done.events ++ takes.rest.events) (takes.done.outcomes ++ takes.rest.outcomes)) (calls ++ (takes.done.calls ++ takes.rest.calls)) after
+    follows : (left : Bool) → left ≡ has_left after.stage → LeavesIfOver id left takes.rest → IsGiven new (due ++ all_due (takes.done.events ++ takes.rest.events) (takes.done.outcomes ++ takes.rest.outcomes)) (calls ++ (takes.done.calls ++ takes.rest.calls)) after
     follows true is f = subst (λ (r : Trace). IsGiven new (due ++ all_due (takes.done.events ++ r.events) (takes.done.outcomes ++ r.outcomes)) (calls ++ (takes.done.calls ++ r.calls)) after) (sym f.1)
         (subst (λ (l : List WireCall). IsGiven new (due ++ all_due (takes.done.events ++ events.Leave id ∷ []) (takes.done.outcomes ++ f.0 ∷ [])) (calls ++ l) after) (sym (append-nil takes.done.calls))
         (subst (λ (l : List ℕ). IsGiven new l (calls ++ takes.done.calls) after) (append_assoc due (all_due takes.done.events takes.done.outcomes) (due_by f.0 ++ []) ∙ ap (λ (l : List ℕ). due ++ l) (sym (apart takes.done takes.does id f.0)))
@@ -324,7 +324,7 @@ sends_due client before after piece rest t unsent is after_is = one_call client 
           };
     })
 
-writes_due : (client : Adapting) (before after : SeatState) (t : Trace) → Writes before t after → Leads client before t client after
+writes_due : (client : Adapting) (before after : SeatState) (t : Trace) → WritesOn before t after → Leads client before t client after
 writes_due client before after t does = ⊎_elim
     (λ s. sends_due client before after s.piece s.rest t s.unsent s.is s.after_is)
     (λ more. ⊎_elim
@@ -333,21 +333,21 @@ writes_due client before after t does = ⊎_elim
     more)
     does
 
-replies_due : (old new : Adapting) (id : ℕ) (unsent : List ℕ) (t : Trace) (after : SeatState) → Replies old new id unsent t after → Leads old (at (stages.Replying id) unsent false) t new after
+replies_due : (old new : Adapting) (id : ℕ) (unsent : List ℕ) (t : Trace) (after : SeatState) → DrawsOrWrites old new id unsent t after → Leads old (at (stages.Replying id) unsent false) t new after
 replies_due old new id [] t after d due calls given = subst (λ (u : Trace). IsGiven new (due ++ all_due u.events u.outcomes) (calls ++ u.calls) after) (sym d.is)
     (subst (λ (l : List WireCall). IsGiven new (due ++ (due_by d.outcome ++ [])) l after) (sym (append-nil calls))
     (subst (λ (l : List ℕ). IsGiven new (due ++ l) calls after) (sym (append-nil (due_by d.outcome)))
     (subst (λ s. IsGiven new (due ++ due_by d.outcome) calls s) (sym d.after_is) (drawn_given old new due calls id d.outcome d.part d.adapted given.given))))
 replies_due old new id (b ∷ bytes) t after w due calls given = kept_due old new (at (stages.Replying id) (b ∷ bytes) false) after t w.0 (writes_due old (at (stages.Replying id) (b ∷ bytes) false) after t w.1) due calls given
 
-writes_apart : (before after : SeatState) (t : Trace) → Writes before t after → CountsApart t
+writes_apart : (before after : SeatState) (t : Trace) → WritesOn before t after → CountsApart t
 writes_apart before after t does = ⊎_elim (λ s. apart_none t _ s.is) (λ more. ⊎_elim (λ f. ⊎_elim (λ failed. apart_none t _ failed) (λ none. apart_none t _ none) f.0) (λ w. apart_none t _ w.0) more) does
 
-replies_apart : (old new : Adapting) (id : ℕ) (unsent : List ℕ) (t : Trace) (after : SeatState) → Replies old new id unsent t after → CountsApart t
+replies_apart : (old new : Adapting) (id : ℕ) (unsent : List ℕ) (t : Trace) (after : SeatState) → DrawsOrWrites old new id unsent t after → CountsApart t
 replies_apart old new id [] t after d = apart_one t [] _ id d.outcome d.is
 replies_apart old new id (b ∷ bytes) t after w = writes_apart (at (stages.Replying id) (b ∷ bytes) false) after t w.1
 
-asks_due : (client : Adapting) (id : ℕ) (unsent : List ℕ) (waits : Bool) (t : Trace) (after : SeatState) → Asks id t after → Leads client (at (stages.Waiting id) unsent waits) t client after
+asks_due : (client : Adapting) (id : ℕ) (unsent : List ℕ) (waits : Bool) (t : Trace) (after : SeatState) → AsksWhatCame id t after → Leads client (at (stages.Waiting id) unsent waits) t client after
 asks_due client id unsent waits t after a due calls given =
     let first = given.hears refl in
     subst (λ (u : Trace). IsGiven client (due ++ all_due u.events u.outcomes) (calls ++ u.calls) after) (sym a.is)
@@ -356,7 +356,7 @@ asks_due client id unsent waits t after a due calls given =
     (subst (λ (l : List ℕ). IsGiven client l calls after) (sym (append-nil (due_by a.outcome)))
     (subst (λ s. IsGiven client (due_by a.outcome) calls s) (sym a.after_is) (learned_given client calls id a.outcome first.fresh first.none_written a.none)))))
 
-asks_apart : (id : ℕ) (t : Trace) (after : SeatState) → Asks id t after → CountsApart t
+asks_apart : (id : ℕ) (t : Trace) (after : SeatState) → AsksWhatCame id t after → CountsApart t
 asks_apart id t after a = apart_one t [] 0 id a.outcome a.is
 
 closes_due : (client : Adapting) (before after : SeatState) (ending : Ending) (t : Trace) → t ≡ trace (Closed ∷ []) [] [] → after ≡ at (stages.Closed ending) [] false → Leads client before t client after
@@ -369,7 +369,7 @@ finishes_due client ending (b ∷ bytes) t after w = writes_due client (leaving 
 acts_due : (old new : Adapting) (stage : Stage) (unsent : List ℕ) (t : Trace) (after : SeatState) → Acts old new stage unsent t after → Leads old (at stage unsent false) t new after
 acts_due old new (stages.Listening id) unsent t after a = takes_due old new id (Listens old new id unsent) (at (stages.Listening id) unsent false) after t (λ done does. listens_due old new id unsent done after does) (λ done does. listens_apart old new id unsent done after does) a
 acts_due old new (stages.Waiting id) unsent t after a = kept_due old new (at (stages.Waiting id) unsent false) after t a.0 (rests_due old (at (stages.Waiting id) unsent false) after t a.1.0 a.1.1)
-acts_due old new (stages.Replying id) unsent t after a = takes_due old new id (Replies old new id unsent) (at (stages.Replying id) unsent false) after t (λ done does. replies_due old new id unsent done after does) (λ done does. replies_apart old new id unsent done after does) a
+acts_due old new (stages.Replying id) unsent t after a = takes_due old new id (DrawsOrWrites old new id unsent) (at (stages.Replying id) unsent false) after t (λ done does. replies_due old new id unsent done after does) (λ done does. replies_apart old new id unsent done after does) a
 acts_due old new (stages.Leaving ending) unsent t after a = kept_due old new (leaving ending unsent) after t a.0 (finishes_due old ending unsent t after a.1)
 acts_due old new (stages.Closed ending) unsent t after a = kept_due old new (at (stages.Closed ending) unsent false) after t a.0 (rests_due old (at (stages.Closed ending) unsent false) after t a.1.0 a.1.1)
 
@@ -377,19 +377,19 @@ ready_due : (old new : Adapting) (waits : Bool) (stage : Stage) (unsent : List �
 ready_due old new true stage unsent t after r = kept_due old new (at stage unsent true) after t r.0 (rests_due old (at stage unsent true) after t r.1.0 r.1.1)
 ready_due old new false stage unsent t after a = acts_due old new stage unsent t after a
 
-pub turn_due : (old new : Adapting) (before after : SeatState) (t : Trace) → Turn old new before t after → (due : List ℕ) (calls : List WireCall) → IsGiven old due calls before → IsGiven new (due ++ all_due t.events t.outcomes) (calls ++ t.calls) after
+pub turn_due : (old new : Adapting) (before after : SeatState) (t : Trace) → SeatTurn old new before t after → (due : List ℕ) (calls : List WireCall) → IsGiven old due calls before → IsGiven new (due ++ all_due t.events t.outcomes) (calls ++ t.calls) after
 turn_due old new before after t turn = ready_due old new before.waits before.stage before.unsent t after turn
 
 -- ---- what came of a post
 
 learns_at_due : (client : Adapting) (stage : Stage) (unsent : List ℕ) (waits : Bool) (t : Trace) (after : SeatState) → LearnsAt stage (at stage unsent waits) t after → Leads client (at stage unsent waits) t client after
-learns_at_due client (stages.Waiting id) unsent waits t after l = takes_due client client id (Asks id) (at (stages.Waiting id) unsent waits) after t (λ done does. asks_due client id unsent waits done after does) (λ done does. asks_apart id done after does) l
+learns_at_due client (stages.Waiting id) unsent waits t after l = takes_due client client id (AsksWhatCame id) (at (stages.Waiting id) unsent waits) after t (λ done does. asks_due client id unsent waits done after does) (λ done does. asks_apart id done after does) l
 learns_at_due client (stages.Listening id) unsent waits t after l = rests_due client (at (stages.Listening id) unsent waits) after t l.0 l.1
 learns_at_due client (stages.Replying id) unsent waits t after l = rests_due client (at (stages.Replying id) unsent waits) after t l.0 l.1
 learns_at_due client (stages.Leaving ending) unsent waits t after l = rests_due client (at (stages.Leaving ending) unsent waits) after t l.0 l.1
 learns_at_due client (stages.Closed ending) unsent waits t after l = rests_due client (at (stages.Closed ending) unsent waits) after t l.0 l.1
 
-pub learning_due : (client : Adapting) (before after : SeatState) (t : Trace) → Learns before t after → (due : List ℕ) (calls : List WireCall) → IsGiven client due calls before → IsGiven client (due ++ all_due t.events t.outcomes) (calls ++ t.calls) after
+pub learning_due : (client : Adapting) (before after : SeatState) (t : Trace) → LearnsWhatCame before t after → (due : List ℕ) (calls : List WireCall) → IsGiven client due calls before → IsGiven client (due ++ all_due t.events t.outcomes) (calls ++ t.calls) after
 learning_due client before after t l = learns_at_due client before.stage before.unsent before.waits t after l
 
 -- ---- a dismissal

@@ -15,7 +15,7 @@ use Rattle.old_clients.specs.Clients.{Adapting, HasHeard, IsHeard, fresh_client}
 use Rattle.old_clients.specs.Streams.{Hearing, will_pass}
 use Rattle.turns.specs.WireCalls.{WireCall, Read, ReadFailed, ReadWaited, Wrote, WriteFailed, WriteWaited, Closed}
 use Rattle.turns.specs.Turns.{Trace, trace, nothing, IsTold, once, again, heard_event}
-use Rattle.ready_turns.specs.Seats.{SeatState, at, has_left, leaving, is_held, IsAdapted, TellsUnless, Listens, Asks, Replies, Writes, Finishes, Takes, Follows, WhereReady, Acts, Turn, LearnsAt, Learns, DismissedAt, Dismissed, TurnedDownAt, TurnedDown}
+use Rattle.ready_turns.specs.Seats.{SeatState, at, has_left, leaving, is_held, IsAdapted, TellsUnless, Listens, AsksWhatCame, DrawsOrWrites, WritesOn, Finishes, ActsInHub, LeavesIfOver, WhereReady, Acts, SeatTurn, LearnsAt, LearnsWhatCame, DismissedAt, Dismissed, TurnedDownAt, TurnedDown}
 use Rattle.ready_turns.specs.declared.seat.Stage.{Stage}
 use Rattle.ready_turns.specs.declared.seat.Stage.TheVariants as stages
 use Rattle.ready_turns.specs.declared.seat.Ending.{Ending}
@@ -105,7 +105,7 @@ listens old_client old new id unsent t after does = ⊎_elim
     more)
     does
 
-writes : (old_client : Bool) (old new : Adapting) (before after : SeatState) (t : Trace) → new ≡ old → Writes before t after → Leads old_client old t new × TellsApart t.events
+writes : (old_client : Bool) (old new : Adapting) (before after : SeatState) (t : Trace) → new ≡ old → WritesOn before t after → Leads old_client old t new × TellsApart t.events
 writes old_client old new before after t same does = ⊎_elim
     (λ s. one _ s.is refl)
     (λ more. ⊎_elim
@@ -122,19 +122,19 @@ asks_kept old new (outcomes.Drawn bytes) part adapted = adapted.asks
 asks_kept old new outcomes.Finished part adapted = adapted.asks
 asks_kept old new outcome part adapted = ap (λ c. c.asks) adapted.1
 
-replies : (old_client : Bool) (old new : Adapting) (id : ℕ) (unsent : List ℕ) (t : Trace) (after : SeatState) → Replies old new id unsent t after → Leads old_client old t new × TellsApart t.events
+replies : (old_client : Bool) (old new : Adapting) (id : ℕ) (unsent : List ℕ) (t : Trace) (after : SeatState) → DrawsOrWrites old new id unsent t after → Leads old_client old t new × TellsApart t.events
 replies old_client old new id [] t after d = (quiet_by old_client old new t _ d.is (asks_kept old new d.outcome d.part d.adapted) refl refl, subst (λ (u : Trace). TellsApart u.events) (sym d.is) (λ leaving. refl))
 replies old_client old new id (b ∷ bytes) t after w = writes old_client old new (at (stages.Replying id) (b ∷ bytes) false) after t w.0 w.1
 
 -- a departure in the same turn tells nothing
-takes : (old_client : Bool) (old new : Adapting) (id : ℕ) (Does : Trace → SeatState → Type 0) (t : Trace) (after : SeatState) → ((done : Trace) → Does done after → Leads old_client old done new × TellsApart done.events) → Takes id Does t after → Leads old_client old t new
+takes : (old_client : Bool) (old new : Adapting) (id : ℕ) (Does : Trace → SeatState → Type 0) (t : Trace) (after : SeatState) → ((done : Trace) → Does done after → Leads old_client old done new × TellsApart done.events) → ActsInHub id Does t after → Leads old_client old t new
 takes old_client old new id Does t after leads took told calls tells =
     subst (λ (u : Trace). Tells old_client new (told ++ all_told u.events) (calls ++ u.calls)) (sym took.is) (follows (has_left after.stage) took.follows)
   where
     done : Leads old_client old took.done new × TellsApart took.done.events
     done = leads took.done took.does
 
-    follows : (left : Bool) → Follows id left took.rest → Tells old_client new (told ++ all_told (took.done.events ++ took.rest.events)) (calls ++ (took.done.calls ++ took.rest.calls))
+    follows : (left : Bool) → LeavesIfOver id left took.rest → Tells old_client new (told ++ all_told (took.done.events ++ took.rest.events)) (calls ++ (took.done.calls ++ took.rest.calls))
     follows true f = subst (λ (r : Trace). Tells old_client new (told ++ all_told (took.done.events ++ r.events)) (calls ++ (took.done.calls ++ r.calls))) (sym f.1)
         (subst (λ (l : List WireCall). Tells old_client new (told ++ all_told (took.done.events ++ events.Leave id ∷ [])) (calls ++ l)) (sym (append-nil took.done.calls))
         (subst (λ (l : List ℕ). Tells old_client new (told ++ l) (calls ++ took.done.calls)) (sym (done.1 id)) (done.0 told calls tells)))
@@ -149,7 +149,7 @@ finishes old_client old new ending (b ∷ bytes) t after same w = (writes old_cl
 acts : (old_client : Bool) (old new : Adapting) (stage : Stage) (unsent : List ℕ) (t : Trace) (after : SeatState) → Acts old new stage unsent t after → Leads old_client old t new
 acts old_client old new (stages.Listening id) unsent t after a = takes old_client old new id (Listens old new id unsent) t after (λ done does. listens old_client old new id unsent done after does) a
 acts old_client old new (stages.Waiting id) unsent t after a = quiet_by old_client old new t _ a.1.0 (stays old new a.0) refl refl
-acts old_client old new (stages.Replying id) unsent t after a = takes old_client old new id (Replies old new id unsent) t after (λ done does. replies old_client old new id unsent done after does) a
+acts old_client old new (stages.Replying id) unsent t after a = takes old_client old new id (DrawsOrWrites old new id unsent) t after (λ done does. replies old_client old new id unsent done after does) a
 acts old_client old new (stages.Leaving ending) unsent t after a = finishes old_client old new ending unsent t after a.0 a.1
 acts old_client old new (stages.Closed ending) unsent t after a = quiet_by old_client old new t _ a.1.0 (stays old new a.0) refl refl
 
@@ -157,19 +157,19 @@ ready : (old_client : Bool) (old new : Adapting) (waits : Bool) (before : SeatSt
 ready old_client old new true before t after r = quiet_by old_client old new t _ r.1.0 (stays old new r.0) refl refl
 ready old_client old new false before t after a = acts old_client old new before.stage before.unsent t after a
 
-pub turn_tells : (old_client : Bool) (old new : Adapting) (before after : SeatState) (t : Trace) → Turn old new before t after → Leads old_client old t new
+pub turn_tells : (old_client : Bool) (old new : Adapting) (before after : SeatState) (t : Trace) → SeatTurn old new before t after → Leads old_client old t new
 turn_tells old_client old new before after t turn = ready old_client old new before.waits before t after turn
 
 -- ---- what came of a post, and a dismissal
 
 learns_at : (old_client : Bool) (client : Adapting) (stage : Stage) (before after : SeatState) (t : Trace) → LearnsAt stage before t after → Leads old_client client t client
-learns_at old_client client (stages.Waiting id) before after t l = takes old_client client client id (Asks id) t after (λ done does. (quiet_by old_client client client done _ does.is refl refl refl, subst (λ (u : Trace). TellsApart u.events) (sym does.is) (λ leaving. refl))) l
+learns_at old_client client (stages.Waiting id) before after t l = takes old_client client client id (AsksWhatCame id) t after (λ done does. (quiet_by old_client client client done _ does.is refl refl refl, subst (λ (u : Trace). TellsApart u.events) (sym does.is) (λ leaving. refl))) l
 learns_at old_client client (stages.Listening id) before after t l = quiet_by old_client client client t _ l.0 refl refl refl
 learns_at old_client client (stages.Replying id) before after t l = quiet_by old_client client client t _ l.0 refl refl refl
 learns_at old_client client (stages.Leaving ending) before after t l = quiet_by old_client client client t _ l.0 refl refl refl
 learns_at old_client client (stages.Closed ending) before after t l = quiet_by old_client client client t _ l.0 refl refl refl
 
-pub learning_tells : (old_client : Bool) (client : Adapting) (before after : SeatState) (t : Trace) → Learns before t after → Leads old_client client t client
+pub learning_tells : (old_client : Bool) (client : Adapting) (before after : SeatState) (t : Trace) → LearnsWhatCame before t after → Leads old_client client t client
 learning_tells old_client client before after t l = learns_at old_client client before.stage before after t l
 
 dismissed_at : (old_client : Bool) (client : Adapting) (stage : Stage) (before after : SeatState) (t : Trace) → DismissedAt stage before t after → Leads old_client client t client

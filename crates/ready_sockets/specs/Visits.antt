@@ -15,7 +15,7 @@ use Rattle.turns.specs.Turns.{StepOf, Both, InOrder, IsFlushed, Times}
 use Rattle.turns.specs.WireCalls.{Closed}
 use Rattle.turns.specs.declared.wire.WireFault.{WireFault}
 use Rattle.old_clients.specs.Clients.{fresh_client}
-use Rattle.ready_turns.specs.Seats.{HasTurn, HasKept, Learns, Dismissed, TurnedDown, IsSeated, acts, is_waiting, ending_of, joined_state, state_of}
+use Rattle.ready_turns.specs.Seats.{HasTurn, HasKept, LearnsWhatCame, Dismissed, TurnedDown, IsSeated, acts, is_waiting, ending_of, joined_state, state_of}
 use Rattle.ready_turns.specs.Tries.{write_try}
 use Rattle.ready_turns.specs.declared.seat.Seat.{Seat}
 use Rattle.ready_sockets.specs.DoorCalls.{DoorCall, Waited, WaitFailed, Came, NotHad, both_ways, is_nobody}
@@ -117,7 +117,7 @@ HadPass most now old es os new = InOrderBeside (HadLimitedTurn most now) old.0 o
 
 -- Where its post waited its session learns what came of it, and else nothing is done.
 pub record Learned (old : Visit) (es : List Event) (os : List Outcome) (new : Visit) : Type 0 where
-  pub learns : HasKept (λ (socket : ReadySocket). socket.made.calls) Learns old.seat es os new.seat
+  pub learns : HasKept (λ (socket : ReadySocket). socket.made.calls) LearnsWhatCame old.seat es os new.seat
   pub came : new.came ≡ old.came
   pub moved : new.moved ≡ old.moved
 

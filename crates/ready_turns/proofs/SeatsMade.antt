@@ -25,7 +25,7 @@ use Rattle.ready_turns.specs.declared.seat.Stage.{Stage}
 use Rattle.ready_turns.specs.declared.seat.Ending.{Ending}
 use Rattle.ready_turns.specs.declared.seat.Ending.TheVariants.{Served, Failed}
 use Rattle.ready_turns.specs.declared.seat.Stage.TheVariants as stages
-use Rattle.ready_turns.specs.Seats.{SeatState, at, state_of, leaving, has_left, joined_state, refused_state, heard_state, learned_state, drawn_state, draw_room, draw_size, most_drawn, is_held, IsAdapted, TellsUnless, HearsPiece, Listens, KeepsClient, HasTurn, HasKept, Asks, Draws, Replies, Writes, Finishes, Takes, Follows, WhereReady, Acts, Turn, LearnsAt, Learns, DismissedAt, Dismissed, TurnedDownAt, TurnedDown, For}
+use Rattle.ready_turns.specs.Seats.{SeatState, at, state_of, leaving, has_left, joined_state, refused_state, heard_state, learned_state, drawn_state, draw_room, draw_size, most_drawn, is_held, IsAdapted, TellsUnless, HearsPiece, Listens, KeepsClient, HasTurn, HasKept, AsksWhatCame, Draws, DrawsOrWrites, WritesOn, Finishes, ActsInHub, LeavesIfOver, WhereReady, Acts, SeatTurn, LearnsAt, LearnsWhatCame, DismissedAt, Dismissed, TurnedDownAt, TurnedDown, DoneFor}
 
 abbrev ok_of : {E : Type 0} → Option ℕ → Result (Option ℕ) E
 ok_of field = Ok field
@@ -49,7 +49,7 @@ pub at_same : (stage other : Stage) (u v : List ℕ) (w x : Bool) → stage ≡ 
 at_same stage other u v w x is are same = ap (λ s. at s u w) is ∙ ap (λ l. at other l w) are ∙ ap (λ b. at other v b) same
 
 -- a write that took some
-pub sent_some : (before : SeatState) (count : ℕ) (old new : List WireCall) (after : SeatState) → (count ≡ 0 → ⊥) → count ≤ length before.unsent → new ≡ old ++ Wrote before.unsent count ∷ [] → after ≡ at before.stage (drop count before.unsent) false → HasMade old new (λ made. Writes before (trace made [] []) after)
+pub sent_some : (before : SeatState) (count : ℕ) (old new : List WireCall) (after : SeatState) → (count ≡ 0 → ⊥) → count ≤ length before.unsent → new ≡ old ++ Wrote before.unsent count ∷ [] → after ≡ at before.stage (drop count before.unsent) false → HasMade old new (λ made. WritesOn before (trace made [] []) after)
 sent_some before count old new after some within called is = (
   Wrote before.unsent count ∷ [],
   called,
@@ -64,16 +64,16 @@ sent_some before count old new after some within called is = (
 )
 
 -- what is to be sent, where there is some
-pub replies_more : (old new : Adapting) (id : ℕ) (unsent : List ℕ) (t : Trace) (before after : SeatState) → new ≡ old → (unsent ≡ [] → ⊥) → before ≡ at (stages.Replying id) unsent false → Writes before t after → Replies old new id unsent t after
+pub replies_more : (old new : Adapting) (id : ℕ) (unsent : List ℕ) (t : Trace) (before after : SeatState) → new ≡ old → (unsent ≡ [] → ⊥) → before ≡ at (stages.Replying id) unsent false → WritesOn before t after → DrawsOrWrites old new id unsent t after
 replies_more old new id [] t before after kept some is w = absurd (some refl)
-replies_more old new id (b ∷ bytes) t before after kept some is w = (kept, subst (λ s. Writes s t after) is w)
+replies_more old new id (b ∷ bytes) t before after kept some is w = (kept, subst (λ s. WritesOn s t after) is w)
 
-pub replies_anew : (old new : Adapting) (id : ℕ) (unsent : List ℕ) (t : Trace) (after : SeatState) → unsent ≡ [] → Draws old new id t after → Replies old new id unsent t after
-replies_anew old new id unsent t after none d = subst (λ u. Replies old new id u t after) (sym none) d
+pub replies_anew : (old new : Adapting) (id : ℕ) (unsent : List ℕ) (t : Trace) (after : SeatState) → unsent ≡ [] → Draws old new id t after → DrawsOrWrites old new id unsent t after
+replies_anew old new id unsent t after none d = subst (λ u. DrawsOrWrites old new id u t after) (sym none) d
 
-pub finishes_more : (ending : Ending) (unsent : List ℕ) (t : Trace) (before after : SeatState) → (unsent ≡ [] → ⊥) → before ≡ leaving ending unsent → Writes before t after → Finishes ending unsent t after
+pub finishes_more : (ending : Ending) (unsent : List ℕ) (t : Trace) (before after : SeatState) → (unsent ≡ [] → ⊥) → before ≡ leaving ending unsent → WritesOn before t after → Finishes ending unsent t after
 finishes_more ending [] t before after some is w = absurd (some refl)
-finishes_more ending (b ∷ bytes) t before after some is w = subst (λ s. Writes s t after) is w
+finishes_more ending (b ∷ bytes) t before after some is w = subst (λ s. WritesOn s t after) is w
 
 pub joined_at : (result : Result ℕ HubFault) (stage : Stage) (unsent : List ℕ) → at stage [] false ≡ joined_state (join_outcome result) → unsent ≡ [] → at stage unsent false ≡ joined_state (join_outcome result)
 joined_at result stage unsent is none = ap (λ u. at stage u false) none ∙ is
@@ -159,11 +159,11 @@ none_of : (bytes : List ℕ) → length bytes ≤ 0 → bytes ≡ []
 none_of [] few = refl
 none_of (b ∷ bytes) few = absurd (omega (arith, few))
 
-asked_made : (id : ℕ) (outcome : Outcome) (after : SeatState) → length (drawn_bytes outcome) ≤ 0 → after ≡ learned_state id outcome → Asks id (trace [] (events.Draw id 0 ∷ []) (outcome ∷ [])) after
+asked_made : (id : ℕ) (outcome : Outcome) (after : SeatState) → length (drawn_bytes outcome) ≤ 0 → after ≡ learned_state id outcome → AsksWhatCame id (trace [] (events.Draw id 0 ∷ []) (outcome ∷ [])) after
 asked_made id outcome after few is = record { outcome = outcome; none = none_of (drawn_bytes outcome) few; is = refl; after_is = is }
 
 -- a session whose post waited, and its reply stands
-pub learned_well : (id : ℕ) (result : Result Drawn HubFault) (d : Drawn) (buffer : List ℕ) (after : SeatState) → length buffer ≡ 0 → result ≡ Ok d → after ≡ at (stages.Replying id) [] false → Asks id (trace [] (events.Draw id 0 ∷ []) (draw_outcome result buffer ∷ [])) after
+pub learned_well : (id : ℕ) (result : Result Drawn HubFault) (d : Drawn) (buffer : List ℕ) (after : SeatState) → length buffer ≡ 0 → result ≡ Ok d → after ≡ at (stages.Replying id) [] false → AsksWhatCame id (trace [] (events.Draw id 0 ∷ []) (draw_outcome result buffer ∷ [])) after
 learned_well id result d buffer after size is so = asked_made id (draw_outcome result buffer) after (draws_few 0 result buffer size) (so ∙ sym (ap (λ r. learned_state id (draw_outcome r buffer)) is ∙ replies d))
   where
     replies : (d : Drawn) → learned_state id (drawn_outcome d buffer) ≡ at (stages.Replying id) [] false
@@ -171,7 +171,7 @@ learned_well id result d buffer after size is so = asked_made id (draw_outcome r
     replies drawn.Finished = refl
 
 -- or a fault
-pub learned_fault : (id : ℕ) (result : Result Drawn HubFault) (fault : HubFault) (buffer : List ℕ) (after : SeatState) → length buffer ≡ 0 → result ≡ Err fault → after ≡ refused_state fault → Asks id (trace [] (events.Draw id 0 ∷ []) (draw_outcome result buffer ∷ [])) after
+pub learned_fault : (id : ℕ) (result : Result Drawn HubFault) (fault : HubFault) (buffer : List ℕ) (after : SeatState) → length buffer ≡ 0 → result ≡ Err fault → after ≡ refused_state fault → AsksWhatCame id (trace [] (events.Draw id 0 ∷ []) (draw_outcome result buffer ∷ [])) after
 learned_fault id result fault buffer after size is so = asked_made id (draw_outcome result buffer) after (draws_few 0 result buffer size) (so ∙ sym (ap (λ r. learned_state id (draw_outcome r buffer)) is))
 
 -- the text fits
@@ -181,7 +181,7 @@ later_fits text is = let size : length text ≡ 27 = ap length is in omega (arit
 
 -- ---- turns
 
-pub turn_of : {W : Type 0} (old new : Seat W) (stage : Stage) (t : Trace) → old.waits ≡ false → old.stage ≡ stage → Acts old.client new.client stage old.unsent.items t (state_of new) → Turn old.client new.client (state_of old) t (state_of new)
+pub turn_of : {W : Type 0} (old new : Seat W) (stage : Stage) (t : Trace) → old.waits ≡ false → old.stage ≡ stage → Acts old.client new.client stage old.unsent.items t (state_of new) → SeatTurn old.client new.client (state_of old) t (state_of new)
 turn_of old new stage t ready is acts = subst (λ b. WhereReady old.client new.client (not b) (state_of old) t (state_of new)) (sym ready) (subst (λ s. Acts old.client new.client s old.unsent.items t (state_of new)) (sym is) acts)
 
 -- one that rests
@@ -190,8 +190,8 @@ rested calls seat waits = record { made = []; calls_are = sym (append-nil (calls
 
 -- a turn is what is done, and what follows
 pub took : {W : Type 0} (calls : W → List WireCall) (old new : Seat W) (stage : Stage) (id : ℕ) (Does : Trace → SeatState → Type 0) (es fs : List Event) (os ps : List Outcome) → old.waits ≡ false → old.stage ≡ stage →
-    ((t : Trace) → Takes id Does t (state_of new) → Acts old.client new.client stage old.unsent.items t (state_of new)) →
-    HasMade (calls old.wire) (calls new.wire) (λ made. Does (trace made es os) (state_of new)) → Follows id (has_left new.stage) (trace [] fs ps) → HasTurn calls old (es ++ fs) (os ++ ps) new
+    ((t : Trace) → ActsInHub id Does t (state_of new) → Acts old.client new.client stage old.unsent.items t (state_of new)) →
+    HasMade (calls old.wire) (calls new.wire) (λ made. Does (trace made es os) (state_of new)) → LeavesIfOver id (has_left new.stage) (trace [] fs ps) → HasTurn calls old (es ++ fs) (os ++ ps) new
 took calls old new stage id Does es fs os ps ready is acts first second = record {
   made = first.0;
   calls_are = first.1;
@@ -224,7 +224,7 @@ still_waits calls seat id ready is = record {
 
 -- ---- what came of a post
 
-pub learned : {W : Type 0} (calls : W → List WireCall) (old new : Seat W) (id : ℕ) (es fs : List Event) (os ps : List Outcome) → old.stage ≡ stages.Waiting id → new.wire ≡ old.wire → new.client ≡ old.client → Asks id (trace [] es os) (state_of new) → Follows id (has_left new.stage) (trace [] fs ps) → HasKept calls Learns old (es ++ fs) (os ++ ps) new
+pub learned : {W : Type 0} (calls : W → List WireCall) (old new : Seat W) (id : ℕ) (es fs : List Event) (os ps : List Outcome) → old.stage ≡ stages.Waiting id → new.wire ≡ old.wire → new.client ≡ old.client → AsksWhatCame id (trace [] es os) (state_of new) → LeavesIfOver id (has_left new.stage) (trace [] fs ps) → HasKept calls LearnsWhatCame old (es ++ fs) (os ++ ps) new
 learned calls old new id es fs os ps is wire client first second = (
   record {
     made = [];
@@ -234,7 +234,7 @@ learned calls old new id es fs os ps is wire client first second = (
   client,
 )
 
-pub learns_nothing : {W : Type 0} (calls : W → List WireCall) (seat : Seat W) → ((id : ℕ) → seat.stage ≡ stages.Waiting id → ⊥) → HasKept calls Learns seat [] [] seat
+pub learns_nothing : {W : Type 0} (calls : W → List WireCall) (seat : Seat W) → ((id : ℕ) → seat.stage ≡ stages.Waiting id → ⊥) → HasKept calls LearnsWhatCame seat [] [] seat
 learns_nothing calls seat other = (record { made = []; calls_are = sym (append-nil (calls seat.wire)); does = rests seat.stage (state_of seat) other }, refl)
   where
     rests : (stage : Stage) (state : SeatState) → ((id : ℕ) → stage ≡ stages.Waiting id → ⊥) → LearnsAt stage state nothing state

@@ -110,7 +110,7 @@ pub record HearsPiece (old new : Adapting) (id : ℕ) (piece : List ℕ) (es : L
   pub told : TellsUnless (is_held piece passed) id passed es os after
 
 -- One read into room for 512 bytes, which are heard.
-pub record Hears (old new : Adapting) (id : ℕ) (t : Trace) (after : SeatState) : Type 0 where
+pub record HearsRead (old new : Adapting) (id : ℕ) (t : Trace) (after : SeatState) : Type 0 where
   pub piece : List ℕ
   pub room : length piece ≤ 512
   pub calls_are : t.calls ≡ Read 512 piece ∷ []
@@ -151,7 +151,7 @@ pub record Draws (old new : Adapting) (id : ℕ) (t : Trace) (after : SeatState)
   pub after_is : after ≡ drawn_state id outcome part
 
 -- A session whose post waited is asked by a draw of no bytes.
-pub record Asks (id : ℕ) (t : Trace) (after : SeatState) : Type 0 where
+pub record AsksWhatCame (id : ℕ) (t : Trace) (after : SeatState) : Type 0 where
   pub outcome : Outcome
   pub none : drawn_bytes outcome ≡ []
   pub is : t ≡ trace [] (events.Draw id 0 ∷ []) (outcome ∷ [])
@@ -170,24 +170,24 @@ pub record Sends (before : SeatState) (t : Trace) (after : SeatState) : Type 0 w
 abbrev pub FailsToSend : List ℕ → Trace → SeatState → Type 0
 FailsToSend unsent t after = ((t ≡ trace (WriteFailed unsent ∷ []) [] []) ⊎ (t ≡ trace (Wrote unsent 0 ∷ []) [] [])) × (after ≡ leaving Cut [])
 
-abbrev pub Writes : SeatState → Trace → SeatState → Type 0
-Writes before t after = Sends before t after ⊎ FailsToSend before.unsent t after ⊎ Waits (WriteWaited before.unsent) before t after
+abbrev pub WritesOn : SeatState → Trace → SeatState → Type 0
+WritesOn before t after = Sends before t after ⊎ FailsToSend before.unsent t after ⊎ Waits (WriteWaited before.unsent) before t after
 
 -- What follows in the same turn: a session that goes no further leaves the hub.
-abbrev pub Follows : ℕ → Bool → Trace → Type 0
-Follows id true t = (outcome : Outcome) × (t ≡ trace [] (events.Leave id ∷ []) (outcome ∷ []))
-Follows id false t = t ≡ nothing
+abbrev pub LeavesIfOver : ℕ → Bool → Trace → Type 0
+LeavesIfOver id true t = (outcome : Outcome) × (t ≡ trace [] (events.Leave id ∷ []) (outcome ∷ []))
+LeavesIfOver id false t = t ≡ nothing
 
 -- One turn of a session in the hub: what it does, and what follows.
-pub record Takes (id : ℕ) (Does : Trace → SeatState → Type 0) (t : Trace) (after : SeatState) : Type 0 where
+pub record ActsInHub (id : ℕ) (Does : Trace → SeatState → Type 0) (t : Trace) (after : SeatState) : Type 0 where
   pub done : Trace
   pub rest : Trace
   pub is : t ≡ then done rest
   pub does : Does done after
-  pub follows : Follows id (has_left after.stage) rest
+  pub follows : LeavesIfOver id (has_left after.stage) rest
 
-abbrev pub Rests : SeatState → Trace → SeatState → Type 0
-Rests before t after = (t ≡ nothing) × (after ≡ before)
+abbrev pub StaysAtRest : SeatState → Trace → SeatState → Type 0
+StaysAtRest before t after = (t ≡ nothing) × (after ≡ before)
 
 -- the wire is closed
 abbrev pub Closes : Ending → Trace → SeatState → Type 0
@@ -199,41 +199,41 @@ KeepsClient old new P = (new ≡ old) × P
 
 -- A session that hears makes one read.
 abbrev pub Listens : Adapting → Adapting → ℕ → List ℕ → Trace → SeatState → Type 0
-Listens old new id unsent t after = Hears old new id t after ⊎ KeepsClient old new (FailsToRead t after) ⊎ KeepsClient old new (Waits (ReadWaited 512) (at (stages.Listening id) unsent false) t after)
+Listens old new id unsent t after = HearsRead old new id t after ⊎ KeepsClient old new (FailsToRead t after) ⊎ KeepsClient old new (Waits (ReadWaited 512) (at (stages.Listening id) unsent false) t after)
 
 -- One that is replied to makes one draw, or one write of what is to be sent.
-abbrev pub Replies : Adapting → Adapting → ℕ → List ℕ → Trace → SeatState → Type 0
-Replies old new id [] t after = Draws old new id t after
-Replies old new id (b ∷ bytes) t after = KeepsClient old new (Writes (at (stages.Replying id) (b ∷ bytes) false) t after)
+abbrev pub DrawsOrWrites : Adapting → Adapting → ℕ → List ℕ → Trace → SeatState → Type 0
+DrawsOrWrites old new id [] t after = Draws old new id t after
+DrawsOrWrites old new id (b ∷ bytes) t after = KeepsClient old new (WritesOn (at (stages.Replying id) (b ∷ bytes) false) t after)
 
 -- One that has left makes one write of what is to be sent, and then its wire is closed.
 abbrev pub Finishes : Ending → List ℕ → Trace → SeatState → Type 0
 Finishes ending [] t after = Closes ending t after
-Finishes ending (b ∷ bytes) t after = Writes (leaving ending (b ∷ bytes)) t after
+Finishes ending (b ∷ bytes) t after = WritesOn (leaving ending (b ∷ bytes)) t after
 
 -- One turn of a session that doesn't rest.
 abbrev pub Acts : Adapting → Adapting → Stage → List ℕ → Trace → SeatState → Type 0
-Acts old new (stages.Listening id) unsent t after = Takes id (Listens old new id unsent) t after
-Acts old new (stages.Waiting id) unsent t after = KeepsClient old new (Rests (at (stages.Waiting id) unsent false) t after)
-Acts old new (stages.Replying id) unsent t after = Takes id (Replies old new id unsent) t after
+Acts old new (stages.Listening id) unsent t after = ActsInHub id (Listens old new id unsent) t after
+Acts old new (stages.Waiting id) unsent t after = KeepsClient old new (StaysAtRest (at (stages.Waiting id) unsent false) t after)
+Acts old new (stages.Replying id) unsent t after = ActsInHub id (DrawsOrWrites old new id unsent) t after
 Acts old new (stages.Leaving ending) unsent t after = KeepsClient old new (Finishes ending unsent t after)
-Acts old new (stages.Closed ending) unsent t after = KeepsClient old new (Rests (at (stages.Closed ending) unsent false) t after)
+Acts old new (stages.Closed ending) unsent t after = KeepsClient old new (StaysAtRest (at (stages.Closed ending) unsent false) t after)
 
 abbrev pub WhereReady : Adapting → Adapting → Bool → SeatState → Trace → SeatState → Type 0
 WhereReady old new true before t after = Acts old new before.stage before.unsent t after
-WhereReady old new false before t after = KeepsClient old new (Rests before t after)
+WhereReady old new false before t after = KeepsClient old new (StaysAtRest before t after)
 
 -- One turn of a session, from how its client's adapter was to how it is.
-abbrev pub Turn : Adapting → Adapting → SeatState → Trace → SeatState → Type 0
-Turn old new before t after = WhereReady old new (not before.waits) before t after
+abbrev pub SeatTurn : Adapting → Adapting → SeatState → Trace → SeatState → Type 0
+SeatTurn old new before t after = WhereReady old new (not before.waits) before t after
 
 abbrev pub LearnsAt : Stage → SeatState → Trace → SeatState → Type 0
-LearnsAt (stages.Waiting id) before t after = Takes id (Asks id) t after
-LearnsAt stage before t after = Rests before t after
+LearnsAt (stages.Waiting id) before t after = ActsInHub id (AsksWhatCame id) t after
+LearnsAt stage before t after = StaysAtRest before t after
 
 -- What is done for a session once the posts that wait were made: one whose post waited learns what came of it.
-abbrev pub Learns : SeatState → Trace → SeatState → Type 0
-Learns before t after = LearnsAt before.stage before t after
+abbrev pub LearnsWhatCame : SeatState → Trace → SeatState → Type 0
+LearnsWhatCame before t after = LearnsAt before.stage before t after
 
 -- the session leaves the hub, and its wire is closed
 abbrev pub LeavesLate : ℕ → Trace → SeatState → Type 0
@@ -244,7 +244,7 @@ DismissedAt (stages.Listening id) before t after = LeavesLate id t after
 DismissedAt (stages.Waiting id) before t after = LeavesLate id t after
 DismissedAt (stages.Replying id) before t after = LeavesLate id t after
 DismissedAt (stages.Leaving ending) before t after = Closes Late t after
-DismissedAt (stages.Closed ending) before t after = Rests before t after
+DismissedAt (stages.Closed ending) before t after = StaysAtRest before t after
 
 -- What is done for a session whose time is over.
 abbrev pub Dismissed : SeatState → Trace → SeatState → Type 0
@@ -256,7 +256,7 @@ LeavesUnmade id t after = (outcome : Outcome) × (t ≡ trace [] (events.Leave i
 
 abbrev pub TurnedDownAt : Stage → SeatState → Trace → SeatState → Type 0
 TurnedDownAt (stages.Waiting id) before t after = LeavesUnmade id t after
-TurnedDownAt stage before t after = Rests before t after
+TurnedDownAt stage before t after = StaysAtRest before t after
 
 -- What is done for a session whose post is not to be made.
 abbrev pub TurnedDown : SeatState → Trace → SeatState → Type 0
@@ -265,18 +265,18 @@ TurnedDown before t after = TurnedDownAt before.stage before t after
 -- ---- seats
 
 -- This is done for a seat.
-pub record For {W : Type 0} (calls : W → List WireCall) (Does : SeatState → Trace → SeatState → Type 0) (old : Seat W) (es : List Event) (os : List Outcome) (new : Seat W) : Type 0 where
+pub record DoneFor {W : Type 0} (calls : W → List WireCall) (Does : SeatState → Trace → SeatState → Type 0) (old : Seat W) (es : List Event) (os : List Outcome) (new : Seat W) : Type 0 where
   pub made : List WireCall
   pub calls_are : calls new.wire ≡ calls old.wire ++ made
   pub does : Does (state_of old) (trace made es os) (state_of new)
 
 -- One turn was had by a seat.
 abbrev pub HasTurn : {W : Type 0} → (W → List WireCall) → Seat W → List Event → List Outcome → Seat W → Type 0
-HasTurn calls old es os new = For calls (Turn old.client new.client) old es os new
+HasTurn calls old es os new = DoneFor calls (SeatTurn old.client new.client) old es os new
 
 -- And this was done for a seat, whose client's adapter stays.
 abbrev pub HasKept : {W : Type 0} → (W → List WireCall) → (SeatState → Trace → SeatState → Type 0) → Seat W → List Event → List Outcome → Seat W → Type 0
-HasKept calls Does old es os new = For calls Does old es os new × (new.client ≡ old.client)
+HasKept calls Does old es os new = DoneFor calls Does old es os new × (new.client ≡ old.client)
 
 -- A session joins on a wire, of which no call is made, for a client of which nothing came.
 pub record IsSeated {W : Type 0} (wire : W) (old_client : Bool) (es : List Event) (os : List Outcome) (seat : Seat W) : Type 0 where

@@ -7,7 +7,7 @@ ghost use Rattle.turns.specs.Runs.{HasRun};
 ghost use Rattle.turns.specs.WireCalls.{HasMade, Closed};
 ghost use Rattle.turns.specs.Turns.{trace};
 ghost use Rattle.ready_turns.specs.declared.seat.Stage.TheVariants as Stage;
-ghost use Rattle.ready_turns.specs.Seats.{at, state_of, has_left, joined_state, refused_state, heard_state, HearsPiece, Listens, Asks, Draws, Replies, Follows, Finishes, Learns, Dismissed, TurnedDown, IsSeated, HasTurn, HasKept};
+ghost use Rattle.ready_turns.specs.Seats.{at, state_of, has_left, joined_state, refused_state, heard_state, HearsPiece, Listens, AsksWhatCame, Draws, DrawsOrWrites, LeavesIfOver, Finishes, LearnsWhatCame, Dismissed, TurnedDown, IsSeated, HasTurn, HasKept};
 
 use crate::ReadyWire;
 use crate::seat::{Ending, Seat, Stage};
@@ -167,7 +167,7 @@ fn draw<S: SearchKeeper, W>(hub: &mut Hub<S>, seat: &mut Seat<W>, id: u64)
 
 /// Where a session is whose post waited, once the posts were made: its reply stands, or its post is left, and its client is to hear of that.
 fn ask<S: SearchKeeper, W>(hub: &mut Hub<S>, seat: &mut Seat<W>, id: u64)
-    ensures run { HasRun (HubRun S.site_state S.lacks S.crash_states S.represents) hub.old hub.new [] [] (λ es os. Asks id (trace [] es os) (state_of seat.new)) }
+    ensures run { HasRun (HubRun S.site_state S.lacks S.crash_states S.represents) hub.old hub.new [] [] (λ es os. AsksWhatCame id (trace [] es os) (state_of seat.new)) }
     ensures wire { seat.new.wire ≡ seat.old.wire }
     ensures client { seat.new.client ≡ seat.old.client }
 {
@@ -179,7 +179,7 @@ fn ask<S: SearchKeeper, W>(hub: &mut Hub<S>, seat: &mut Seat<W>, id: u64)
 
 /// A session that goes no further leaves the hub.
 fn follow<S: SearchKeeper>(hub: &mut Hub<S>, stage: Stage, id: u64)
-    ensures { HasRun (HubRun S.site_state S.lacks S.crash_states S.represents) hub.old hub.new [] [] (λ es os. Follows id (has_left stage) (trace [] es os)) }
+    ensures { HasRun (HubRun S.site_state S.lacks S.crash_states S.represents) hub.old hub.new [] [] (λ es os. LeavesIfOver id (has_left stage) (trace [] es os)) }
 {
     if stage.has_left() {
         let _ = hub.leave(id);
@@ -190,7 +190,7 @@ fn follow<S: SearchKeeper>(hub: &mut Hub<S>, stage: Stage, id: u64)
 fn reply<S: SearchKeeper, W: ReadyWire>(hub: &mut Hub<S>, seat: &mut Seat<W>, id: u64)
     requires stage { seat.old.stage ≡ Stage.Replying id }
     requires ready { seat.old.waits ≡ false }
-    ensures { HasRun (HubRun S.site_state S.lacks S.crash_states S.represents) hub.old hub.new [] [] (λ es os. HasMade (W.calls seat.old.wire) (W.calls seat.new.wire) (λ made. Replies seat.old.client seat.new.client id seat.old.unsent.items (trace made es os) (state_of seat.new))) }
+    ensures { HasRun (HubRun S.site_state S.lacks S.crash_states S.represents) hub.old hub.new [] [] (λ es os. HasMade (W.calls seat.old.wire) (W.calls seat.new.wire) (λ made. DrawsOrWrites seat.old.client seat.new.client id seat.old.unsent.items (trace made es os) (state_of seat.new))) }
 {
     if seat.unsent.is_empty() {
         draw(hub, seat, id);
@@ -251,7 +251,7 @@ pub fn take_turn<S: SearchKeeper, W: ReadyWire, C: Clock>(
 
 /// A session whose post waited learns what came of it, once the posts that wait were made.
 pub fn learn<S: SearchKeeper, W: ReadyWire>(hub: &mut Hub<S>, seat: &mut Seat<W>)
-    ensures { HasRun (HubRun S.site_state S.lacks S.crash_states S.represents) hub.old hub.new [] [] (λ es os. HasKept W.calls Learns seat.old es os seat.new) }
+    ensures { HasRun (HubRun S.site_state S.lacks S.crash_states S.represents) hub.old hub.new [] [] (λ es os. HasKept W.calls LearnsWhatCame seat.old es os seat.new) }
 {
     match seat.stage {
         Stage::Waiting(id) => {

@@ -2,7 +2,7 @@
 ghost use Rattle.std.specs.Prelude.{◌≡◌, false, []};
 ghost use Rattle.turns.specs.WireCalls.{HasMade};
 ghost use Rattle.turns.specs.Turns.{trace};
-ghost use Rattle.ready_turns.specs.Seats.{at, state_of, Writes};
+ghost use Rattle.ready_turns.specs.Seats.{at, state_of, WritesOn};
 
 use crate::ReadyWire;
 use crate::seat::{Ending, Seat, Stage};
@@ -10,7 +10,7 @@ use crate::seat::{Ending, Seat, Stage};
 /// One write of what is to be sent.
 pub(crate) fn write_on<W: ReadyWire>(seat: &mut Seat<W>)
     requires { seat.old.waits ≡ false }
-    ensures made { HasMade (W.calls seat.old.wire) (W.calls seat.new.wire) (λ made. Writes (state_of seat.old) (trace made [] []) (state_of seat.new)) }
+    ensures made { HasMade (W.calls seat.old.wire) (W.calls seat.new.wire) (λ made. WritesOn (state_of seat.old) (trace made [] []) (state_of seat.new)) }
     ensures client { seat.new.client ≡ seat.old.client }
 {
     match seat.wire.write(seat.unsent.as_slice()) {

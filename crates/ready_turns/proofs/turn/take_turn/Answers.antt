@@ -1,6 +1,6 @@
 use Rattle.turns.proofs.Runnings.{run_none, run_both, untold}
 use Rattle.ready_turns.specs.declared.seat.Stage.TheVariants as stages
-use Rattle.ready_turns.specs.Seats.{Listens, Replies}
+use Rattle.ready_turns.specs.Seats.{Listens, DrawsOrWrites}
 use Rattle.ready_turns.proofs.SeatsMade.{rested, took, finished, still_waits, nothing_left}
 use Rattle.ready_turns.proofs.turn.take_turn.Goals as goal
 
@@ -13,7 +13,7 @@ returns-in-Listening g c = run_both _ _ _ _ g.met.S.SiteKeeper.crash_states_repr
 
 pub returns-in-Replying : goal.returns-in-Replying
 returns-in-Replying g c = run_both _ _ _ _ g.met.S.SiteKeeper.crash_states_represent _ _ _ _ _ _ _ _ _ (untold _ _ _ _ _ c.reply.ensures) (untold _ _ _ _ _ c.follow-in-Replying.ensures)
-    (λ es fs os ps p q. took g.W.ReadyWire.calls c.args.seat.now c.reply.new.seat (stages.Replying c.in-Replying.id) c.in-Replying.id (Replies c.args.seat.now.client c.reply.new.seat.client c.in-Replying.id c.args.seat.now.unsent.items) es fs os ps c.if-seat.false c.in-Replying.is (λ t h. h) p q)
+    (λ es fs os ps p q. took g.W.ReadyWire.calls c.args.seat.now c.reply.new.seat (stages.Replying c.in-Replying.id) c.in-Replying.id (DrawsOrWrites c.args.seat.now.client c.reply.new.seat.client c.in-Replying.id c.args.seat.now.unsent.items) es fs os ps c.if-seat.false c.in-Replying.is (λ t h. h) p q)
 
 pub returns-in-Leaving : goal.returns-in-Leaving
 returns-in-Leaving g c = untold _ _ _ _ _ (run_none _ _ _ _ g.met.S.SiteKeeper.crash_states_represent _ _ _ (finished g.W.ReadyWire.calls c.args.seat.now c.finish.new.seat c.in-Leaving.ending c.if-seat.false c.in-Leaving.is c.finish.ensures.client c.finish.ensures.made))
