@@ -8,13 +8,13 @@ use Rattle.host_types.specs.AllChanges.{Changes}
 use Rattle.common_types.specs.declared.refused.Refused.{Refused}
 use Rattle.group_world.specs.Step.{made_or}
 use Rattle.group_world.specs.Laws.{all_made, and_more}
-use Rattle.group_world.specs.CrashStates.{Commit, with_changes, with_commits, in_one_step, one_by_one}
+use Rattle.group_world.specs.CrashStates.{CommitOfChanges, with_changes, with_commits, in_one_step, one_by_one}
 use Rattle.group_world.proofs.Stored.{right_make}
 use Rattle.accepted_changes.specs.Accepted.{changes_of}
 
 -- ---- the changes of commits
 
-pub changes_of_both : (a b : List Commit) → changes_of (a ++ b) ≡ changes_of a ++ changes_of b
+pub changes_of_both : (a b : List CommitOfChanges) → changes_of (a ++ b) ≡ changes_of a ++ changes_of b
 changes_of_both [] b = refl
 changes_of_both (c ∷ a) b = ap (λ (l : Changes). c ++ l) (changes_of_both a b) ∙ sym (append_assoc c (changes_of a) (changes_of b))
 
@@ -30,7 +30,7 @@ with_both : (s : Site) (a b : Changes) → with_changes s (a ++ b) ≡ with_chan
 with_both s [] b = refl
 with_both s (c ∷ a) b = with_both (made_or s (apply s c.0 c.1)) a b
 
-pub with_all : (s : Site) (commits : List Commit) → with_commits s commits ≡ with_changes s (changes_of commits)
+pub with_all : (s : Site) (commits : List CommitOfChanges) → with_commits s commits ≡ with_changes s (changes_of commits)
 with_all s [] = refl
 with_all s (c ∷ commits) = with_all (with_changes s c) commits ∙ sym (with_both s c (changes_of commits))
 
@@ -62,7 +62,7 @@ both_are_right s t u (c ∷ a) b is later = by (λ v made. both_are_right v t u 
     by both (Err refused) made = absurd (cc made)
 
 -- the first so many commits of some whose changes are all right
-pub first_commits_are_right : (s t : Site) (commits : List Commit) (n : ℕ) → all_made s (changes_of commits) ≡ Some t → AreRight s (changes_of (take n commits))
+pub first_commits_are_right : (s t : Site) (commits : List CommitOfChanges) (n : ℕ) → all_made s (changes_of commits) ≡ Some t → AreRight s (changes_of (take n commits))
 first_commits_are_right s t commits n is =
     let parts : changes_of commits ≡ changes_of (take n commits) ++ changes_of (drop n commits) = ap changes_of (sym (take-append-drop n commits)) ∙ changes_of_both (take n commits) (drop n commits) in
     first_are_right s t (changes_of (take n commits)) (changes_of (drop n commits)) (ap (all_made s) (sym parts) ∙ is)

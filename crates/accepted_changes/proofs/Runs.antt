@@ -7,7 +7,7 @@ use Rattle.host_types.specs.Site.{Site}
 use Rattle.host_types.specs.AllChanges.{Changes}
 use Rattle.group_world.specs.World.{World}
 use Rattle.group_world.specs.Laws.{all_made}
-use Rattle.group_world.specs.CrashStates.{Commit, Link, IsRightlyStored, with_changes, with_commits, acknowledged, in_flight, accepted}
+use Rattle.group_world.specs.CrashStates.{CommitOfChanges, Link, IsRightlyStored, with_changes, with_commits, acknowledged, in_flight, accepted}
 use Rattle.group_world.specs.declared.event.Event.{Event}
 use Rattle.group_world.specs.declared.event.Outcome.{Outcome}
 use Rattle.group_world.proofs.Stored.{what_is_stored_is_right}
@@ -49,7 +49,7 @@ module _ {D : Type 0} where
   none_later w (e ∷ es) (o ∷ os) (l ∷ ls) run failed =
       let none = (right w e o l run.0).none failed in
       let later = none_later l.world es os ls run.1 none.2 in
-      (ap (λ (x : List Commit). x ++ acknowledged ls) none.0 ∙ later.0, ap (λ (x : List Commit). x ++ in_flight ls) none.1 ∙ later.1)
+      (ap (λ (x : List CommitOfChanges). x ++ acknowledged ls) none.0 ∙ later.0, ap (λ (x : List CommitOfChanges). x ++ in_flight ls) none.1 ∙ later.1)
   none_later w [] [] (l ∷ ls) run failed = absurd run
   none_later w [] (o ∷ os) [] run failed = absurd run
   none_later w [] (o ∷ os) (l ∷ ls) run failed = absurd run
@@ -59,10 +59,10 @@ module _ {D : Type 0} where
 
   -- the accepted commits are those of the first call, with what was in flight in it, and those of the others
   accepted_are : (w : World) (es : List Event) (os : List Outcome) (l : Link D) (ls : List (Link D)) → (l.stored.flying ≡ []) ⊎ (l.world.failed ≡ true) → IsRunFrom l.world es os ls → accepted (l ∷ ls) ≡ (l.stored.commits ++ l.stored.flying) ++ accepted ls
-  accepted_are w es os l ls (inl none) run = rw none (append_assoc l.stored.commits (acknowledged ls) (in_flight ls) ∙ ap (λ (x : List Commit). x ++ (acknowledged ls ++ in_flight ls)) (sym (append-nil l.stored.commits)))
+  accepted_are w es os l ls (inl none) run = rw none (append_assoc l.stored.commits (acknowledged ls) (in_flight ls) ∙ ap (λ (x : List CommitOfChanges). x ++ (acknowledged ls ++ in_flight ls)) (sym (append-nil l.stored.commits)))
   accepted_are w es os l ls (inr failed) run =
       let later = none_later l.world es os ls run failed in
-      rw (later.0, later.1) (ap (λ (x : List Commit). x ++ (l.stored.flying ++ [])) (append-nil l.stored.commits) ∙ sym (append_assoc l.stored.commits l.stored.flying []))
+      rw (later.0, later.1) (ap (λ (x : List CommitOfChanges). x ++ (l.stored.flying ++ [])) (append-nil l.stored.commits) ∙ sym (append_assoc l.stored.commits l.stored.flying []))
 
   pub accepted_right : (w : World) (es : List Event) (os : List Outcome) (ls : List (Link D)) → IsRunFrom w es os ls → (t : Site) × (all_made w.site (changes_of (accepted ls)) ≡ Some t)
   accepted_right w [] [] [] run = (w.site, refl)
@@ -70,16 +70,16 @@ module _ {D : Type 0} where
     where
       by : (l.stored.flying ≡ []) ⊎ (l.world.failed ≡ true) → (t : Site) × (all_made l.world.site (changes_of (accepted ls)) ≡ Some t) → (t : Site) × (all_made w.site (changes_of (accepted (l ∷ ls))) ≡ Some t)
       by (inl none) later =
-          let those : accepted (l ∷ ls) ≡ l.stored.commits ++ accepted ls = accepted_are w es os l ls (inl none) run.1 ∙ ap (λ (x : List Commit). (l.stored.commits ++ x) ++ accepted ls) none ∙ ap (λ (x : List Commit). x ++ accepted ls) (append-nil l.stored.commits) in (
+          let those : accepted (l ∷ ls) ≡ l.stored.commits ++ accepted ls = accepted_are w es os l ls (inl none) run.1 ∙ ap (λ (x : List CommitOfChanges). (l.stored.commits ++ x) ++ accepted ls) none ∙ ap (λ (x : List CommitOfChanges). x ++ accepted ls) (append-nil l.stored.commits) in (
             later.0,
-            ap (λ (x : List Commit). all_made w.site (changes_of x)) those ∙ ap (all_made w.site) (changes_of_both l.stored.commits (accepted ls))
+            ap (λ (x : List CommitOfChanges). all_made w.site (changes_of x)) those ∙ ap (all_made w.site) (changes_of_both l.stored.commits (accepted ls))
                 ∙ both_are_right w.site l.world.site later.0 (changes_of l.stored.commits) (changes_of (accepted ls)) (sure w e o l run.0) later.1,
           )
       by (inr failed) others =
           let later = none_later l.world es os ls run.1 failed in
-          let nothing : accepted ls ≡ [] = ap (λ (x : List Commit). x ++ in_flight ls) later.0 ∙ later.1 in
-          let those : accepted (l ∷ ls) ≡ l.stored.commits ++ l.stored.flying = accepted_are w es os l ls (inr failed) run.1 ∙ ap (λ (x : List Commit). (l.stored.commits ++ l.stored.flying) ++ x) nothing ∙ append-nil (l.stored.commits ++ l.stored.flying) in
-          (_, ap (λ (x : List Commit). all_made w.site (changes_of x)) those ∙ stored_right (Unit {0}) w e o l.world l.stored run.0.stored)
+          let nothing : accepted ls ≡ [] = ap (λ (x : List CommitOfChanges). x ++ in_flight ls) later.0 ∙ later.1 in
+          let those : accepted (l ∷ ls) ≡ l.stored.commits ++ l.stored.flying = accepted_are w es os l ls (inr failed) run.1 ∙ ap (λ (x : List CommitOfChanges). (l.stored.commits ++ l.stored.flying) ++ x) nothing ∙ append-nil (l.stored.commits ++ l.stored.flying) in
+          (_, ap (λ (x : List CommitOfChanges). all_made w.site (changes_of x)) those ∙ stored_right (Unit {0}) w e o l.world l.stored run.0.stored)
   accepted_right w [] [] (l ∷ ls) run = absurd run
   accepted_right w [] (o ∷ os) [] run = absurd run
   accepted_right w [] (o ∷ os) (l ∷ ls) run = absurd run
@@ -95,27 +95,27 @@ module _ {D : Type 0} where
 
   -- ---- in order
 
-  front : (ls : List (Link D)) (k : ℕ) → (rest : List Commit) × (acknowledged ls ≡ acknowledged (take k ls) ++ rest)
+  front : (ls : List (Link D)) (k : ℕ) → (rest : List CommitOfChanges) × (acknowledged ls ≡ acknowledged (take k ls) ++ rest)
   front [] zero = ([], refl)
   front [] (suc k) = ([], refl)
   front (l ∷ ls) zero = (acknowledged (l ∷ ls), refl)
-  front (l ∷ ls) (suc k) = (let behind = front ls k in (behind.0, ap (λ (x : List Commit). l.stored.commits ++ x) behind.1 ∙ sym (append_assoc l.stored.commits (acknowledged (take k ls)) behind.0)))
+  front (l ∷ ls) (suc k) = (let behind = front ls k in (behind.0, ap (λ (x : List CommitOfChanges). l.stored.commits ++ x) behind.1 ∙ sym (append_assoc l.stored.commits (acknowledged (take k ls)) behind.0)))
 
   first_are : (ls : List (Link D)) (k : ℕ) → take (length (acknowledged (take k ls))) (accepted ls) ≡ acknowledged (take k ls)
   first_are ls k =
       let before = acknowledged (take k ls) in
       let f = front ls k in
-      ap (take (length before)) (ap (λ (x : List Commit). x ++ in_flight ls) f.1 ∙ append_assoc before f.0 (in_flight ls)) ∙ take-append_seam before (f.0 ++ in_flight ls)
+      ap (take (length before)) (ap (λ (x : List CommitOfChanges). x ++ in_flight ls) f.1 ∙ append_assoc before f.0 (in_flight ls)) ∙ take-append_seam before (f.0 ++ in_flight ls)
 
   one_at_most : (w : World) (es : List Event) (os : List Outcome) (ls : List (Link D)) → IsRunFrom w es os ls → length (in_flight ls) ≤ 1
   one_at_most w [] [] [] run = omega arith
   one_at_most w (e ∷ es) (o ∷ os) (l ∷ ls) run = by (right w e o l run.0).one (one_at_most l.world es os ls run.1)
     where
       by : (l.stored.flying ≡ []) ⊎ (l.world.failed ≡ true) → length (in_flight ls) ≤ 1 → length (l.stored.flying ++ in_flight ls) ≤ 1
-      by (inl none) few = subst (λ (x : List Commit). length (x ++ in_flight ls) ≤ 1) (sym none) few
+      by (inl none) few = subst (λ (x : List CommitOfChanges). length (x ++ in_flight ls) ≤ 1) (sym none) few
       by (inr failed) few =
           let later = none_later l.world es os ls run.1 failed in
-          subst (λ (x : List Commit). length (l.stored.flying ++ x) ≤ 1) (sym later.1) (subst (λ (x : List Commit). length x ≤ 1) (sym (append-nil l.stored.flying)) (stored_flies (Unit {0}) w e o l.world l.stored run.0.stored))
+          subst (λ (x : List CommitOfChanges). length (l.stored.flying ++ x) ≤ 1) (sym later.1) (subst (λ (x : List CommitOfChanges). length x ≤ 1) (sym (append-nil l.stored.flying)) (stored_flies (Unit {0}) w e o l.world l.stored run.0.stored))
   one_at_most w [] [] (l ∷ ls) run = absurd run
   one_at_most w [] (o ∷ os) [] run = absurd run
   one_at_most w [] (o ∷ os) (l ∷ ls) run = absurd run
@@ -127,5 +127,5 @@ module _ {D : Type 0} where
   accepted_are_in_order = record {
     first = first_are;
     one = one_at_most;
-    none_after = λ old events outcomes links run failed. (let none = none_later old events outcomes links run failed in ap (λ (x : List Commit). x ++ in_flight links) none.0 ∙ none.1);
+    none_after = λ old events outcomes links run failed. (let none = none_later old events outcomes links run failed in ap (λ (x : List CommitOfChanges). x ++ in_flight links) none.0 ∙ none.1);
   }

@@ -7,7 +7,7 @@ use Rattle.host_types.specs.AllChanges.{Changes}
 use Rattle.group_world.specs.World.{World}
 use Rattle.group_world.specs.Run.{changes_in}
 use Rattle.group_world.specs.PlainHubs.{IsPlain}
-use Rattle.group_world.specs.CrashStates.{Commit, Link, Stored, in_one_step, one_by_one, changes_at, stored_singly, IsStored, acknowledged, in_flight, accepted}
+use Rattle.group_world.specs.CrashStates.{CommitOfChanges, Link, Stored, in_one_step, one_by_one, changes_at, stored_singly, IsStored, acknowledged, in_flight, accepted}
 use Rattle.group_world.specs.declared.event.Event.{Event}
 use Rattle.group_world.specs.declared.event.Outcome.{Outcome}
 use Rattle.group_world.specs.declared.event.Outcome.TheVariants.{Joined, More, Ready, Finished, Waiting, Drawn, Gone, Done, Flushed, Fault}
@@ -17,10 +17,10 @@ use Rattle.group_world.proofs.Stored.{whole_of, whole_is}
 use Rattle.host_on_disk.specs.Headline.{IsRunFrom}
 use Rattle.accepted_changes.specs.Laws.{EachIsOneChange}
 
-abbrev Single : Commit → Type 0
+abbrev Single : CommitOfChanges → Type 0
 Single c = length c ≡ 1
 
-abbrev Singles : List Commit → Type 0
+abbrev Singles : List CommitOfChanges → Type 0
 Singles commits = All Single commits
 
 -- one change at most is one commit of one change, or none

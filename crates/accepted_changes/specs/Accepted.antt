@@ -4,10 +4,10 @@ use Rattle.host_types.specs.Site.{Site}
 use Rattle.host_types.specs.AllChanges.{Changes, all_applied}
 use Rattle.group_world.specs.World.{World}
 use Rattle.group_world.specs.Continuing.{last_of}
-use Rattle.group_world.specs.CrashStates.{Commit, Link}
+use Rattle.group_world.specs.CrashStates.{CommitOfChanges, Link}
 
 -- the changes of some commits, in their order
-abbrev pub changes_of : List Commit → Changes
+abbrev pub changes_of : List CommitOfChanges → Changes
 changes_of [] = []
 changes_of (c ∷ commits) = c ++ changes_of commits
 
@@ -16,7 +16,7 @@ abbrev pub world_behind : {D : Type 0} → World → List (Link D) → World
 world_behind w links = last_of w (map (λ l. l.world) links)
 
 -- What is left represents a site: that of the changes of the first so many commits, made in turn, of which none is refused. There are at least so many.
-pub record HoldsAcknowledged {L : Type 0} (stands : L → Site → Type 0) (first : Site) (commits : List Commit) (least : ℕ) (left : L) : Type 0 where
+pub record HoldsAcknowledged {L : Type 0} (stands : L → Site → Type 0) (first : Site) (commits : List CommitOfChanges) (least : ℕ) (left : L) : Type 0 where
   pub count : ℕ
   pub site : Site
   pub at_least : least ≤ count

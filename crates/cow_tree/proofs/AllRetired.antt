@@ -24,7 +24,7 @@ use Rattle.tree_loading.proofs.RootsMade.{filled_pages, filled_reaches, filled_o
 use Rattle.cow_tree.specs.Opening.{bounds_under}
 use Rattle.page_store.specs.declared.fault.KeeperFault.{KeeperFault}
 use Rattle.page_store.specs.declared.fault.KeeperFault.TheVariants as faults
-use Rattle.cow_tree.specs.Drafts.{bytes_in, old_under, one_if, IsDraft, IsCounted, OnlyRetires, Tells}
+use Rattle.cow_tree.specs.Drafts.{bytes_in, old_under, one_if, IsDraft, IsCounted, OnlyRetires, TellsDraft}
 use Rattle.cow_tree.specs.declared.drafts.Draft.{Draft}
 use Rattle.cow_tree.specs.TreeState.{found_under}
 use Rattle.cow_tree.specs.Plans.{levels_under, levels_of, IsPlanned, IsRoomFault}
@@ -170,7 +170,7 @@ filled_counted slot view pairs ledger draft map few marked dead untaken is keys 
 
 -- ---- what is known of a plan of filled pages
 
-pub told_again : {T : Type 0} (r : Result T KeeperFault) (P : T → Type 0) (free : ℕ) (N : ℕ → Type 0) → IfErr r (IsRoomFault free N) → Tells (Unit {0}) r P → Tells ⊥ r P
+pub told_again : {T : Type 0} (r : Result T KeeperFault) (P : T → Type 0) (free : ℕ) (N : ℕ → Type 0) → IfErr r (IsRoomFault free N) → TellsDraft (Unit {0}) r P → TellsDraft ⊥ r P
 told_again (Ok x) P free N fault answered = answered
 told_again (Err e) P free N fault answered = room_told ⊥ e P P free N fault answered
 

@@ -18,7 +18,7 @@ use Rattle.cow_tree.specs.PinnedTrees.{HeldPagesStay}
 use Rattle.cow_tree.specs.TreeState.{found_under}
 use Rattle.cow_tree.specs.Opening.{bounds_under}
 use Rattle.cow_tree.specs.Plans.{tree_commit}
-use Rattle.cow_tree.specs.Committed.{TreeHas, MayBeWritten, IsCommitted, is_tree_version}
+use Rattle.cow_tree.specs.Committed.{TreeHas, MayWritePlan, IsCommitted, is_tree_version}
 use Rattle.cow_tree.specs.declared.plans.Plan.{Plan}
 use Rattle.cow_tree.proofs.Openings.{tree_is}
 use Rattle.cow_tree.proofs.Finding.{tree_inside}
@@ -44,7 +44,7 @@ adds_weaker old new P Q f a = record {
   now = λ c left. f c (a.now c left);
 }
 
-module _ (view : Image) (crash_states : CrashStates Image) (slot : Slot) (ledger : LedgerState) (plan : Plan) (w : MayBeWritten view crash_states slot ledger plan) where
+module _ (view : Image) (crash_states : CrashStates Image) (slot : Slot) (ledger : LedgerState) (plan : Plan) (w : MayWritePlan view crash_states slot ledger plan) where
   abbrev pub the_commit : Commit
   the_commit = tree_commit slot view plan.slot w.planned.found
 

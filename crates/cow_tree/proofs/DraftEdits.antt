@@ -24,7 +24,7 @@ use Rattle.tree_nodes.specs.OwnedTrees.{state_of}
 use Rattle.tree_nodes.proofs.KeyOrder.{both_true}
 use Rattle.tree_nodes.proofs.KeysKnown.{leaf_knows}
 use Rattle.tree_nodes.proofs.LevelsCome.{levels_put, levels_deep}
-use Rattle.cow_tree.specs.Drafts.{old_under, IsDraft, IsCounted, IsPutFault, Tells, MayBeTooDeep, keys_with, keys_without}
+use Rattle.cow_tree.specs.Drafts.{old_under, IsDraft, IsCounted, IsPutFault, TellsDraft, MayBeTooDeep, keys_with, keys_without}
 use Rattle.cow_tree.specs.declared.drafts.Draft.{Draft}
 use Rattle.cow_tree.proofs.DraftSteps.{old_is, put_draft, delete_draft}
 use Rattle.cow_tree.proofs.KeyCounts.{keys_after_put, keys_after_delete}
@@ -73,7 +73,7 @@ module _ (slot : Slot) (image : Image) (edits : ℕ) (pairs : List Pair) (ledger
 
   pub put_told : (value w : List ℕ) (r : Result Draft KeeperFault) → edit.value ≡ Some w → value ≡ w → length pairs < 2 ^ 64 - 1 → IfOk r (λ x. state_of x.tree ≡ put_under key value tree.root tree.height) → IfOk r (λ x. x.keys ≡ keys_with (has_under key tree.root) keys)
       → IfOk r (λ x. (state_of x.tree).height ≤ most_levels) → IfErr r (IsPutFault (put_under key value tree.root tree.height)) → (now : RootState) → put_under key value tree.root tree.height ≡ now
-      → Tells (MayBeTooDeep slot (edits + 1) × (most_levels < now.height)) r (IsCounted slot image (edits + 1) (edited pairs edit) ledger)
+      → TellsDraft (MayBeTooDeep slot (edits + 1) × (most_levels < now.height)) r (IsCounted slot image (edits + 1) (edited pairs edit) ledger)
   put_told value w (Ok x) is v small made count low fault now now_is =
       let same = edited_put pairs edit key value w k is v in
       let height = ap (λ (s : RootState). s.height) made in

@@ -25,7 +25,7 @@ use Rattle.tree_pages.proofs.ChangesReach.{page_reaches}
 use Rattle.tree_pages.proofs.LevelsReached.{walk_below}
 use Rattle.tree_pages.proofs.Counted.{among_some, among_none, among_once}
 use Rattle.cow_tree.specs.Opening.{bounds_under}
-use Rattle.cow_tree.specs.TreeState.{IsFitted, IsThere, found_under}
+use Rattle.cow_tree.specs.TreeState.{FitsTree, IsThere, found_under}
 use Rattle.cow_tree.specs.Drafts.{bytes_in, root_under, one_if, IsDraft}
 use Rattle.cow_tree.proofs.Taken.{untaken_at_rest}
 use Rattle.cow_tree.proofs.Reaching.{AreWithin, among_within, distinct_are_fresh, fresh_few}
@@ -119,7 +119,7 @@ once n ns distinct =
       | inr f ↦ among_none n ns f ∙ ap one_if (sym f)
     ]
 
-module _ (sectors : ℕ) (slot : Slot) (image : Image) (ledger : LedgerState) (fit : IsFitted sectors slot ledger) (there : IsThere image slot ledger) where
+module _ (sectors : ℕ) (slot : Slot) (image : Image) (ledger : LedgerState) (fit : FitsTree sectors slot ledger) (there : IsThere image slot ledger) where
   abbrev found : Found
   found = found_under slot image
 

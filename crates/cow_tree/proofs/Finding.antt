@@ -13,7 +13,7 @@ use Rattle.page_store.specs.Content.{Found, Bounds, fan, walk, joined, nothing_f
 use Rattle.page_store.specs.declared.slot.Slot.{Slot}
 use Rattle.page_store.proofs.Fields.{bind_some, bind_again, test_passed}
 use Rattle.tree_nodes.proofs.KeyOrder.{both_true}
-use Rattle.cow_tree.specs.Walks.{IsWalked, IsBroken, Tells}
+use Rattle.cow_tree.specs.Walks.{IsWalked, IsBroken, TellsWalk}
 use Rattle.cow_tree.specs.Opening.{bounds_under, IsReached, Finds}
 use Rattle.cow_tree.specs.declared.page_fault.PageFault.{PageFault}
 use Rattle.cow_tree.specs.declared.page_fault.PageFault.TheVariants.{Device, Damaged}
@@ -130,6 +130,6 @@ module _ (slot : Slot) (a : ℕ → List ℕ) (new : LedgerState) where
             | inr f ↦ f
           ]))
 
-  pub finds_fault : (T : Type 0) (e : PageFault) → Tells tree first new (Err e) → Finds {T = T} (tree_found slot a) slot new (Err e)
+  pub finds_fault : (T : Type 0) (e : PageFault) → TellsWalk tree first new (Err e) → Finds {T = T} (tree_found slot a) slot new (Err e)
   finds_fault T Device h = tt
   finds_fault T (Damaged page) h = is_damaged h

@@ -6,7 +6,7 @@ use Rattle.page_alloc.specs.LedgerState.{LedgerState, Mark, has_page, have_page,
 use Rattle.page_store.specs.Sectors.{Image}
 use Rattle.page_store.specs.Content.{is_among}
 use Rattle.page_store.specs.declared.slot.Slot.{Slot}
-use Rattle.cow_tree.specs.PinnedTrees.{found_at, seal_of, pins_from, keep_page, AreKept}
+use Rattle.cow_tree.specs.PinnedTrees.{found_at, seal_of, pins_from, keep_page, PinnedTreesAreKept}
 use Rattle.cow_tree.specs.declared.tree_root.TreeRoot.{TreeRoot}
 use Rattle.cow_tree.specs.TreeState.{IsAtRest, IsThere, found_under, unreached}
 use Rattle.cow_tree.proofs.Taken.{untaken_at_rest}
@@ -20,8 +20,8 @@ same_count : (f g : ℕ → Bool) (n : ℕ) → ((k : ℕ) → k < n → f k ≡
 same_count f g zero each = refl
 same_count f g (suc n) each = rw (each n (omega arith), same_count f g n (λ k lt. each k (omega (arith, lt)))) refl
 
-module _ (image : Image) (slot : Slot) (ledger : LedgerState) (trees : List (Option TreeRoot)) (rest : IsAtRest slot ledger) (seals : ledger.pins ≡ map seal_of trees) (kept : AreKept image ledger trees) (there : IsThere image slot ledger) where
-  pinned_have : (some : List (Option TreeRoot)) → AreKept image ledger some → (n : ℕ) → have_page ledger (pinned (map seal_of some)) n ≡ keep_page image some n
+module _ (image : Image) (slot : Slot) (ledger : LedgerState) (trees : List (Option TreeRoot)) (rest : IsAtRest slot ledger) (seals : ledger.pins ≡ map seal_of trees) (kept : PinnedTreesAreKept image ledger trees) (there : IsThere image slot ledger) where
+  pinned_have : (some : List (Option TreeRoot)) → PinnedTreesAreKept image ledger some → (n : ℕ) → have_page ledger (pinned (map seal_of some)) n ≡ keep_page image some n
   pinned_have [] k n = refl
   pinned_have (None ∷ some) k n = pinned_have some (λ number tree is. k (suc number) tree is) n
   pinned_have (Some tree ∷ some) k n =

@@ -16,7 +16,7 @@ use Rattle.page_store.specs.StoreState.{NeedsTheSame, HasRead, IsReadFault}
 use Rattle.page_store.specs.Compaction.{CompactsTheSame}
 use Rattle.page_store.specs.declared.slot.Slot.{Slot}
 use Rattle.cow_tree.specs.Walks.{CountsPages}
-use Rattle.cow_tree.specs.Ways.{IsAnswer}
+use Rattle.cow_tree.specs.Ways.{AnswersBy}
 use Rattle.cow_tree.specs.Opening.{fault_of, bounds_under}
 use Rattle.cow_tree.specs.Needs.{MayNeed, NeedsThis}
 use Rattle.cow_tree.specs.Compacting.{MayNeedFilled, NeedsFilled}
@@ -49,7 +49,7 @@ module _ (old new : State) (slot : Slot) (ledger : LedgerState) (top : ℕ) (usa
     writes = only.writes;
   }
 
-  pub read_fault : (T : Type 0) (e : PageFault) (P : T → Type 0) → CountsPages {T = T} (Err e) old.failed_reads new.failed_reads → (IsTrue old.honest → IsAnswer {T = T} (Err e) P)
+  pub read_fault : (T : Type 0) (e : PageFault) (P : T → Type 0) → CountsPages {T = T} (Err e) old.failed_reads new.failed_reads → (IsTrue old.honest → AnswersBy {T = T} (Err e) P)
       → IsReadFault (tree_holding old slot ledger top usable trees) (tree_holding new slot ledger top usable trees) (fault_of e)
   read_fault T Device P counts answered = counts
   read_fault T (Damaged page) P counts answered = lies old.honest answered

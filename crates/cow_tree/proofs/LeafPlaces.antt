@@ -14,7 +14,7 @@ use Rattle.page_store.proofs.DecodedPages.{pair_sizes}
 use Rattle.tree_nodes.specs.PageViews.{pairs_in, then_more}
 use Rattle.tree_nodes.proofs.KeyOrder.{below_upto, itself, not_back, upto_upto}
 use Rattle.tree_nodes.proofs.SizesRead.{some_is, number_size, piece_size, pair_read}
-use Rattle.cow_tree.specs.KeptLeaves.{begins_by, has_next, next_in, TellsAsAll, IsWalked, IsReached}
+use Rattle.cow_tree.specs.KeptLeaves.{begins_by, has_next, next_in, TellsAsAll, IsWalkedPast, IsReachedAfter}
 use Rattle.cow_tree.proofs.LeafBytes.{number_rest, piece_rest, then_rest}
 
 -- ---- bytes
@@ -86,7 +86,7 @@ pair_there bytes entries rest at left size p long inside is read some =
 
 -- ---- keys
 
-pub walked_nowhere : (key : List ℕ) (pairs : List Pair) → IsWalked key pairs pairs
+pub walked_nowhere : (key : List ℕ) (pairs : List Pair) → IsWalkedPast key pairs pairs
 walked_nowhere key pairs = record { tells = λ other above. refl; begins = λ other above begins. begins }
 
 -- the first isn't above a key
@@ -97,7 +97,7 @@ skipped : (key : List ℕ) (p : Pair) (others : List Pair) → precedes key p.0 
 skipped key p others upto = ap (λ (b : Bool). cond b (Some p) (pair_after others key)) upto
 
 -- One pair more that isn't above the key.
-pub walked_on : (key : List ℕ) (p : Pair) (others here pairs : List Pair) → here ≡ p ∷ others → precedes key p.0 ≡ false → IsWalked key here pairs → IsWalked key others pairs
+pub walked_on : (key : List ℕ) (p : Pair) (others here pairs : List Pair) → here ≡ p ∷ others → precedes key p.0 ≡ false → IsWalkedPast key here pairs → IsWalkedPast key others pairs
 walked_on key p others here pairs is upto w = record {
   tells = λ other above. w.tells other above ∙ ap (λ (l : List Pair). pair_after l other) is ∙ skipped other p others (upto_upto p.0 key other upto above);
   begins = λ other above begins. w.begins other above (upto_begins other p others here is (upto_upto p.0 key other upto above));
@@ -107,14 +107,14 @@ itself_upto : (key : List ℕ) → precedes key key ≡ false
 itself_upto key = itself key
 
 -- The walk has come to the pair after the key.
-pub found_here : (key : List ℕ) (p : Pair) (others here pairs : List Pair) → here ≡ p ∷ others → precedes key p.0 ≡ true → IsWalked key here pairs → IsReached key p here pairs
+pub found_here : (key : List ℕ) (p : Pair) (others here pairs : List Pair) → here ≡ p ∷ others → precedes key p.0 ≡ true → IsWalkedPast key here pairs → IsReachedAfter key p here pairs
 found_here key p others here pairs is above w = record { walked = w; others = others; first = is; above = above }
 
-pub found_nowhere : (key : List ℕ) (here pairs : List Pair) → here ≡ [] → IsWalked key here pairs → pair_after pairs key ≡ None
+pub found_nowhere : (key : List ℕ) (here pairs : List Pair) → here ≡ [] → IsWalkedPast key here pairs → pair_after pairs key ≡ None
 found_nowhere key here pairs none w = w.tells key (itself_upto key) ∙ ap (λ (l : List Pair). pair_after l key) none
 
 -- what the walk began with has that pair after the key
-pub reached_pair : (key : List ℕ) (found : Pair) (later pairs : List Pair) → IsReached key found later pairs → pair_after pairs key ≡ Some found
+pub reached_pair : (key : List ℕ) (found : Pair) (later pairs : List Pair) → IsReachedAfter key found later pairs → pair_after pairs key ≡ Some found
 reached_pair key found later pairs r =
     r.walked.tells key (itself_upto key) ∙ ap (λ (l : List Pair). pair_after l key) r.first ∙ ap (λ (b : Bool). cond b (Some found) (pair_after r.others key)) r.above
 
@@ -123,7 +123,7 @@ not_true true h = absurd (cc h)
 not_true false h = refl
 
 -- What begins with the pair after a key tells as all do, where what the walk began with does.
-pub reached_tells : (key : List ℕ) (found : Pair) (later from pairs : List Pair) → IsReached key found later from → TellsAsAll from pairs → TellsAsAll later pairs
+pub reached_tells : (key : List ℕ) (found : Pair) (later from pairs : List Pair) → IsReachedAfter key found later from → TellsAsAll from pairs → TellsAsAll later pairs
 reached_tells key found later from pairs r t other begins =
     let upto : precedes other found.0 ≡ false = not_true (precedes other found.0) (sym (ap (begins_by other) r.first) ∙ begins) in
     let above : precedes other key ≡ false = not_back key other (below_upto key found.0 other r.above upto) in

@@ -15,7 +15,7 @@ use Rattle.page_store.specs.Pages.{Pair, Child, Place, child_key, child_at, entr
 use Rattle.page_store.specs.Batch.{value_at, pair_after}
 use Rattle.page_store.specs.Content.{Found, Bounds, place_in, joined, nothing_found, low_of, high_of, fan, walk}
 use Rattle.page_store.proofs.Fields.{bind_some, test_passed}
-use Rattle.tree_nodes.specs.Valid.{IsFilled}
+use Rattle.tree_nodes.specs.Valid.{IsFilledLeaf}
 use Rattle.tree_nodes.proofs.KeyOrder.{both_true, by_bool, less_is, greater_is, not_back, below_below, below_upto, between_parts}
 use Rattle.tree_nodes.proofs.JoinedPairs.{AllKeys, keys_joined, keys_wider, follows}
 use Rattle.tree_nodes.proofs.WalksWithinBounds.{some_is, children_is, walk_wider, walk_within, not_below_nothing}
@@ -50,7 +50,7 @@ or_none None = refl
 or_none (Some p) = refl
 
 -- the first of pairs that are all above a key
-first_above : (key : List ℕ) (xs : List Pair) → IsFilled xs → AllKeys (precedes key) xs → (p : Pair) × (pair_after xs key ≡ Some p)
+first_above : (key : List ℕ) (xs : List Pair) → IsFilledLeaf xs → AllKeys (precedes key) xs → (p : Pair) × (pair_after xs key ≡ Some p)
 first_above key [] f h = absurd f
 first_above key (x ∷ xs) f h = (x, ap (λ (b : Bool). cond b (Some x) (pair_after xs key)) h.0)
 

@@ -12,7 +12,7 @@ use Rattle.page_store.specs.declared.slot.Slot.{Slot}
 use Rattle.page_store.specs.declared.fault.KeeperFault.TheVariants.{Small}
 use Rattle.page_store.proofs.Fields.{bind_some, bind_again}
 use Rattle.cow_tree.specs.Walks.{CountsPages}
-use Rattle.cow_tree.specs.Opening.{fault_of, IsReached, Finds, AreWhole, IsReadAs, MayName, IsNamed, IsOpenFault}
+use Rattle.cow_tree.specs.Opening.{fault_of, IsReached, Finds, LivePagesAreWhole, IsImageOfSlot, MayName, IsNamed, IsTreeOpenFault}
 use Rattle.cow_tree.specs.NamedWalks.{tree_or_name}
 use Rattle.cow_tree.specs.PinnedTrees.{or_nothing}
 use Rattle.cow_tree.specs.TreeState.{found_under}
@@ -54,7 +54,7 @@ pub under_is : (image : Image) (slot : Slot) (found : Found) → content image �
 under_is image slot found e version = ap or_nothing (tree_is image slot found e version).1
 
 -- what the walk answers of the tree is known of the image
-pub holds_now : (image : Image) (slot : Slot) (ledger : LedgerState) → current image ≡ Some slot → IsTrue (is_tree_version slot.root.banner.version) → IsReached (tree_found slot (page_of image)) slot ledger → AreWhole image ledger → IsReadAs image slot ledger
+pub holds_now : (image : Image) (slot : Slot) (ledger : LedgerState) → current image ≡ Some slot → IsTrue (is_tree_version slot.root.banner.version) → IsReached (tree_found slot (page_of image)) slot ledger → LivePagesAreWhole image ledger → IsImageOfSlot image slot ledger
 holds_now image slot ledger now version r whole = record {
   found = r.found;
   content_is = content_is image slot (Some r.found) now version r.is;
@@ -65,13 +65,13 @@ holds_now image slot ledger now version r whole = record {
 }
 
 -- of the image as it is read now
-pub under_now : (now image : Image) (slot : Slot) (ledger : LedgerState) → now ≡ image → IsTrue (is_tree_version slot.root.banner.version) → (h : IsReadAs image slot ledger) → found_under slot now ≡ h.found
+pub under_now : (now image : Image) (slot : Slot) (ledger : LedgerState) → now ≡ image → IsTrue (is_tree_version slot.root.banner.version) → (h : IsImageOfSlot image slot ledger) → found_under slot now ≡ h.found
 under_now now image slot ledger same version h = ap (found_under slot) same ∙ under_is image slot h.found h.content_is version
 
-pub durable_content : (now image : Image) (slot : Slot) (ledger : LedgerState) → now ≡ image → IsTrue (is_tree_version slot.root.banner.version) → IsReadAs image slot ledger → content now ≡ Some (slot, found_under slot now)
+pub durable_content : (now image : Image) (slot : Slot) (ledger : LedgerState) → now ≡ image → IsTrue (is_tree_version slot.root.banner.version) → IsImageOfSlot image slot ledger → content now ≡ Some (slot, found_under slot now)
 durable_content now image slot ledger same version h = ap content same ∙ h.content_is ∙ ap (λ (x : Found). some_content (slot, x)) (sym (under_now now image slot ledger same version h))
 
-pub has_content : (image now : Image) (slot : Slot) (ledger : LedgerState) → now ≡ image → IsTrue (is_tree_version slot.root.banner.version) → IsReadAs image slot ledger → HasContent image (found_under slot now).pairs slot.root.banner
+pub has_content : (image now : Image) (slot : Slot) (ledger : LedgerState) → now ≡ image → IsTrue (is_tree_version slot.root.banner.version) → IsImageOfSlot image slot ledger → HasContent image (found_under slot now).pairs slot.root.banner
 has_content image now slot ledger same version h =
     ap pairs_and_banner h.content_is
     ∙ ap (λ (x : Found). pairs_and_banner (Some (slot, x))) (sym (under_is image slot h.found h.content_is version) ∙ ap (found_under slot) (sym same))
@@ -90,7 +90,7 @@ walk_not_small (Damaged page) is = absurd (cc is)
 
 pub walk_fault : (T : Type 0) (old mid new : State) (slot : Slot) (ledger : LedgerState) (e : PageFault) → 128 ≤ old.size → (IsTrue old.honest → IsTrue mid.honest) → (IsTrue old.honest → mid.disk.view ≡ old.disk.view) → (IsTrue old.honest → current old.disk.view ≡ Some slot)
     → IsTrue (is_tree_version slot.root.banner.version) → NothingCounted old mid → CountsPages {T = T} (Err e) mid.failed_reads new.failed_reads → new.failed_writes ≡ mid.failed_writes → MayName slot e
-    → (IsTrue mid.honest → Finds {T = T} (tree_found slot (page_of mid.disk.view)) slot ledger (Err e)) → (IsTrue mid.honest → IsNamed (tree_or_name slot (page_of mid.disk.view)) e) → IsOpenFault old new (fault_of e)
+    → (IsTrue mid.honest → Finds {T = T} (tree_found slot (page_of mid.disk.view)) slot ledger (Err e)) → (IsTrue mid.honest → IsNamed (tree_or_name slot (page_of mid.disk.view)) e) → IsTreeOpenFault old new (fault_of e)
 walk_fault T old mid new slot ledger Device large keeps view now version a reads writes named answered is = (large, inl (reads ∙ ap counted a.reads, writes ∙ a.writes))
 walk_fault T old mid new slot ledger (Damaged page) large keeps view now version a reads writes named answered is = (
   large,

@@ -12,7 +12,7 @@ use Rattle.tree_nodes.proofs.KeyOrder.{both_true}
 use Rattle.tree_nodes.proofs.PageForm.{leaf_told, branch_told}
 use Rattle.tree_nodes.proofs.PageHeads.{leaf_headed, branch_headed}
 use Rattle.tree_nodes.proofs.WalksWithinBounds.{some_is}
-use Rattle.cow_tree.specs.Ways.{pages_around, is_page_or_none, are_inside, around_in, IsOnWay, IsAnswer}
+use Rattle.cow_tree.specs.Ways.{pages_around, is_page_or_none, are_inside, around_in, IsOnWay, AnswersBy}
 use Rattle.cow_tree.specs.declared.page_fault.PageFault.{PageFault}
 use Rattle.cow_tree.specs.declared.page_fault.PageFault.TheVariants.{Damaged}
 use Rattle.cow_tree.proofs.OnTheWay.{branch_way, branch_keys, no_page, around_inside}
@@ -57,7 +57,7 @@ module _ (a : ℕ → List ℕ) (bounds : Bounds) (page : ℕ) (found : Found) w
 
   -- what looking a value up there answers
   pub value_answered : (bytes : List ℕ) → a page ≡ bytes → length bytes ≤ 4096 → walk a bounds 0 page [] None ≡ Some found → (key : List ℕ) (shown : Option ℕ → Option (List ℕ)) (r : Result (Option ℕ) PageFault)
-      → IfOk r (λ x. shown x ≡ value_at (entries_by_head pair_at bytes) key) → IfErr r (λ e. (e ≡ Damaged page) × (has_head (place_in bounds 0 page) bytes ≡ false)) → IsAnswer r (λ x. shown x ≡ value_at found.pairs key)
+      → IfOk r (λ x. shown x ≡ value_at (entries_by_head pair_at bytes) key) → IfErr r (λ e. (e ≡ Damaged page) × (has_head (place_in bounds 0 page) bytes ≡ false)) → AnswersBy r (λ x. shown x ≡ value_at found.pairs key)
   value_answered bytes is size e key shown (Ok x) value fault = value ∙ ap (λ (l : List Pair). value_at l key) (pairs_told bytes is e)
   value_answered bytes is size e key shown (Err f) value fault = let both = sym fault.1 ∙ leaf_head_told bytes is size e in absurd (cc both)
 
@@ -115,6 +115,6 @@ module _ (a : ℕ → List ℕ) (bounds : Bounds) (page : ℕ) (found : Found) w
             absurd (cc some)
 
     -- what reading along it answers
-    pub around_answered : (r : Result (ℕ × Option ℕ) PageFault) → IfOk r (λ around. around_in (place_in bounds level page) key bytes ≡ Some around) → IfErr r (λ e. (e ≡ Damaged page) × (around_in (place_in bounds level page) key bytes ≡ None)) → IsAnswer r (IsOnWay a bounds (level - 1) key found)
+    pub around_answered : (r : Result (ℕ × Option ℕ) PageFault) → IfOk r (λ around. around_in (place_in bounds level page) key bytes ≡ Some around) → IfErr r (λ e. (e ≡ Damaged page) × (around_in (place_in bounds level page) key bytes ≡ None)) → AnswersBy r (IsOnWay a bounds (level - 1) key found)
     around_answered (Ok around) read fault = around_told around read
     around_answered (Err f) read fault = absurd (around_said fault.1)

@@ -12,12 +12,12 @@ use Rattle.tree_nodes.specs.Image.{old_of}
 use Rattle.tree_nodes.specs.Supply.{tree_in, path_depth}
 use Rattle.tree_nodes.specs.Valid.{IsOld}
 use Rattle.tree_nodes.specs.Steps.{RootState, IsValidRoot, needed_under, depth_under, stepped, supply_step, where_needed, read_under}
-use Rattle.tree_nodes.specs.Needs.{needed_level, ShowsNeeded, IsReadFault}
+use Rattle.tree_nodes.specs.Needs.{needed_level, ShowsNeeded, IsNodeReadFault}
 use Rattle.tree_nodes.specs.declared.fault.NodeFault.TheVariants.{Damaged}
 use Rattle.tree_nodes.proofs.SupplyKeepsPairs.{supply_tree}
 use Rattle.page_store.specs.declared.fault.KeeperFault.{KeeperFault}
 use Rattle.page_store.specs.declared.fault.KeeperFault.TheVariants as faults
-use Rattle.cow_tree.specs.Drafts.{IsDraft, IsOnPath, OnlyMarks, OnlyRetires, Tells}
+use Rattle.cow_tree.specs.Drafts.{IsDraft, IsOnPath, OnlyMarks, OnlyRetires, TellsDraft}
 use Rattle.tree_nodes.proofs.PathsDown.{leads_down}
 use Rattle.cow_tree.proofs.DraftSteps.{needed_low}
 
@@ -82,7 +82,7 @@ needed_opens old o state key n v need = go state.root state.height v need
         let read : old.opened (height - 1 - path_depth key tree) n ≡ Some s.0 = ap (λ (l : ℕ). old.opened l n) level ∙ s.1 in
         rw read refl
 
-pub not_damaged : (needed : Option ℕ) (n m : ℕ) (read : ℕ → Option Tree) → needed ≡ Some n → IsSome (read n) → IsSomeAnd needed (λ page. IsReadFault page (read page) (Damaged m)) → ⊥
+pub not_damaged : (needed : Option ℕ) (n m : ℕ) (read : ℕ → Option Tree) → needed ≡ Some n → IsSome (read n) → IsSomeAnd needed (λ page. IsNodeReadFault page (read page) (Damaged m)) → ⊥
 not_damaged None n m read is some answered = absurd (cc is)
 not_damaged (Some k) n m read is some answered =
     let same : k ≡ n = some_is k n is in
@@ -109,7 +109,7 @@ pub retires_none : (a : LedgerState) → OnlyRetires a a
 retires_none a = record { marks = record { lives = refl; size = refl; generation = refl; pins = refl }; free = refl }
 
 -- what is known of a fault says nothing of an answer
-pub tells_fault : {T U : Type 0} (deep more : Type 0) (e : KeeperFault) (P : T → Type 0) (Q : U → Type 0) → (deep → more) → Tells deep (Err e) P → Tells more (Err e) Q
+pub tells_fault : {T U : Type 0} (deep more : Type 0) (e : KeeperFault) (P : T → Type 0) (Q : U → Type 0) → (deep → more) → TellsDraft deep (Err e) P → TellsDraft more (Err e) Q
 tells_fault deep more faults.Device P Q f h = h
 tells_fault deep more faults.NoImage P Q f h = h
 tells_fault deep more faults.Version P Q f h = h

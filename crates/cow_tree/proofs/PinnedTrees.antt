@@ -17,7 +17,7 @@ use Rattle.page_store.specs.Content.{Found, Bounds, walk, tree_of, is_among}
 use Rattle.page_store.proofs.Fields.{test_passed}
 use Rattle.page_store.proofs.ReachedPages.{walk-local}
 use Rattle.cow_tree.specs.Drafts.{OnlyMarks}
-use Rattle.cow_tree.specs.PinnedTrees.{or_nothing, bounds_at, tree_at, found_at, seal_of, pins_from, IsKeptTree, AreKept, HeldPagesStay, PinnedStay}
+use Rattle.cow_tree.specs.PinnedTrees.{or_nothing, bounds_at, tree_at, found_at, seal_of, pins_from, IsKeptTree, PinnedTreesAreKept, HeldPagesStay, PinnedStay}
 use Rattle.cow_tree.specs.declared.tree_root.TreeRoot.{TreeRoot}
 use Rattle.cow_tree.proofs.Finding.{tree_inside}
 use Rattle.cow_tree.proofs.Reaching.{among_within}
@@ -163,7 +163,7 @@ tree-local a b bounds (suc level) page found e stay =
     let t = test_passed test (walk a bounds level page [] None) found e in
     ap (λ (c : Bool). where_true c (walk b bounds level page [] None)) t.0 ∙ walk-local a b bounds level page [] None found t.1 stay
 
-module _ (a b : Image) (s : LedgerState) (trees : List (Option TreeRoot)) (seals : s.pins ≡ map seal_of trees) (stay : HeldPagesStay s (page_of a) (page_of b)) (kept : AreKept a s trees) (k : ℕ) (tree : TreeRoot) (is : get_or trees k None ≡ Some tree) where
+module _ (a b : Image) (s : LedgerState) (trees : List (Option TreeRoot)) (seals : s.pins ≡ map seal_of trees) (stay : HeldPagesStay s (page_of a) (page_of b)) (kept : PinnedTreesAreKept a s trees) (k : ℕ) (tree : TreeRoot) (is : get_or trees k None ≡ Some tree) where
   abbrev there : IsKeptTree a s tree
   there = kept k tree is
 
@@ -188,7 +188,7 @@ module _ (a b : Image) (s : LedgerState) (trees : List (Option TreeRoot)) (seals
 
 -- ---- a ledger in which the pinned generations have their pages
 
-pub kept_by_ledger : (a : Image) (old new : LedgerState) (trees : List (Option TreeRoot)) → ((k : ℕ) (tree : TreeRoot) → get_or trees k None ≡ Some tree → (n : ℕ) → has_page new tree.seal n ≡ has_page old tree.seal n) → AreKept a old trees → AreKept a new trees
+pub kept_by_ledger : (a : Image) (old new : LedgerState) (trees : List (Option TreeRoot)) → ((k : ℕ) (tree : TreeRoot) → get_or trees k None ≡ Some tree → (n : ℕ) → has_page new tree.seal n ≡ has_page old tree.seal n) → PinnedTreesAreKept a old trees → PinnedTreesAreKept a new trees
 kept_by_ledger a old new trees same kept k tree is = record { found_is = (kept k tree is).found_is; has = λ n. same k tree is n ∙ (kept k tree is).has n }
 
 no_page : (s : LedgerState) (seal n : ℕ) → length s.lives ≤ n → has_page s seal n ≡ false

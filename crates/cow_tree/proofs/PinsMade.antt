@@ -17,8 +17,8 @@ use Rattle.page_store.specs.Pins.{is_out, IsPinned, IsUnpinned}
 use Rattle.page_store.specs.Pages.{Pair}
 use Rattle.page_store.specs.declared.slot.Slot.{Slot}
 use Rattle.cow_tree.specs.Opening.{IsRooted}
-use Rattle.cow_tree.specs.PinnedTrees.{or_nothing, found_at, tree_under, seal_of, pins_from, IsInside, ArePinned, IsKeptTree, AreKept}
-use Rattle.cow_tree.specs.TreeState.{IsAtRest, IsFitted, IsThere, found_under, tree_holding}
+use Rattle.cow_tree.specs.PinnedTrees.{or_nothing, found_at, tree_under, seal_of, pins_from, IsInside, ArePinned, IsKeptTree, PinnedTreesAreKept}
+use Rattle.cow_tree.specs.TreeState.{IsAtRest, FitsTree, IsThere, found_under, tree_holding}
 use Rattle.cow_tree.specs.declared.tree_root.TreeRoot.{TreeRoot}
 use Rattle.cow_tree.proofs.PinnedTrees.{Pin, out_at, pairs_of_pin, one_more, one_less, room_left, all_out, seal_at, seals_set}
 use Rattle.cow_tree.proofs.RootWalks.{found_tree}
@@ -62,8 +62,8 @@ within trees number tree is =
 
 -- ---- other pins in the ledger
 
-pub fitted_with : (sectors : ℕ) (slot : Slot) (old new : LedgerState) (pins : List (Option ℕ)) → new ≡ record old { pins = pins } → IsFitted sectors slot old → IsFitted sectors slot new
-fitted_with sectors slot old new pins is fit = subst (λ (l : LedgerState). IsFitted sectors slot l) (sym is) (record {
+pub fitted_with : (sectors : ℕ) (slot : Slot) (old new : LedgerState) (pins : List (Option ℕ)) → new ≡ record old { pins = pins } → FitsTree sectors slot old → FitsTree sectors slot new
+fitted_with sectors slot old new pins is fit = subst (λ (l : LedgerState). FitsTree sectors slot l) (sym is) (record {
   number = fit.number;
   least = fit.least;
   most = fit.most;
@@ -151,7 +151,7 @@ module _ (slot : Slot) (old : LedgerState) (trees : List (Option TreeRoot)) (num
       here : (k : ℕ) → k ≡ number → get_or more k None ≡ Some (tree_under slot)
       here k e = ap (λ (m : ℕ). get_or more m None) e ∙ get_or-set_same trees number (Some (tree_under slot)) None lower
 
-  pub kept_more : (image : Image) → IsThere image slot old → AreKept image old trees → AreKept image (pinning number old) more
+  pub kept_more : (image : Image) → IsThere image slot old → PinnedTreesAreKept image old trees → PinnedTreesAreKept image (pinning number old) more
   kept_more image there kept k tree is =
       let one : IsKeptTree image old tree =
       elim (cases_eq k number) [
@@ -262,7 +262,7 @@ module _ (pages : ℕ) (old : LedgerState) (trees : List (Option TreeRoot)) (num
         ];
   }
 
-  pub kept_less : (image : Image) → AreKept image old trees → AreKept image (unpinned number old) fewer
+  pub kept_less : (image : Image) → PinnedTreesAreKept image old trees → PinnedTreesAreKept image (unpinned number old) fewer
   kept_less image kept k tree is =
       elim (cases_eq k number) [
         | inl e ↦ absurd (cc (sym (gone k e) ∙ is))

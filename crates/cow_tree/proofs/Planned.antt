@@ -18,7 +18,7 @@ use Rattle.page_store.specs.declared.commit.NewPage.{NewPage}
 use Rattle.page_store.specs.declared.slot.Slot.{Slot}
 use Rattle.page_store.proofs.OtherHalfCommits.{greatest_ge, seals_after}
 use Rattle.cow_tree.specs.TreeState.{found_under, IsThere}
-use Rattle.cow_tree.specs.Plans.{tree_commit, IsHeld, IsPlan, HasNext}
+use Rattle.cow_tree.specs.Plans.{tree_commit, IsHeld, IsTreePlan, LeadsToNext}
 use Rattle.cow_tree.proofs.TreesAreMaps.{found_map}
 use Rattle.cow_tree.proofs.Openings.{tree_is, under_is}
 use Rattle.cow_tree.proofs.Reaching.{AreWithin, among_within}
@@ -26,7 +26,7 @@ use Rattle.cow_tree.proofs.Finding.{tree_inside}
 use Rattle.cow_tree.proofs.RootWalks.{found_tree}
 use Rattle.cow_tree.specs.Opening.{bounds_under}
 
-pub is_ready : (view : Image) (slot : Slot) (top : ℕ) (ledger : LedgerState) (pages : List NewPage) (new : Slot) (found : Found) → IsHeld view slot top ledger → IsPlan view slot top pages new found → IsReady (tree_commit slot view new found) pages view
+pub is_ready : (view : Image) (slot : Slot) (top : ℕ) (ledger : LedgerState) (pages : List NewPage) (new : Slot) (found : Found) → IsHeld view slot top ledger → IsTreePlan view slot top pages new found → IsReady (tree_commit slot view new found) pages view
 is_ready view slot top ledger pages new found h p = record {
   content = h.content_is;
   free = p.free;
@@ -43,7 +43,7 @@ is_ready view slot top ledger pages new found h p = record {
   under = p.under;
 }
 
-module _ (view now : Image) (slot : Slot) (top : ℕ) (ledger : LedgerState) (pages : List NewPage) (new : Slot) (found : Found) (crash_states : CrashStates Image) (plan : IsPlan view slot top pages new found) (done : IsDone (tree_commit slot view new found) pages crash_states view now) where
+module _ (view now : Image) (slot : Slot) (top : ℕ) (ledger : LedgerState) (pages : List NewPage) (new : Slot) (found : Found) (crash_states : CrashStates Image) (plan : IsTreePlan view slot top pages new found) (done : IsDone (tree_commit slot view new found) pages crash_states view now) where
   -- what a ledger says of the pages of the generation that it goes on to
   abbrev Advances : Type 0
   Advances = (n : ℕ) → n < length ledger.lives → has_page (advanced new.seal ledger) new.seal n ≡ has_page_next ledger n
@@ -79,7 +79,7 @@ module _ (view now : Image) (slot : Slot) (top : ℕ) (ledger : LedgerState) (pa
   and_true true = refl
   and_true false = refl
 
-  has : (n : ℕ) → HasNext view ledger pages new found → Advances → has_page (advanced new.seal ledger) new.seal n ≡ is_among n found.pages
+  has : (n : ℕ) → LeadsToNext view ledger pages new found → Advances → has_page (advanced new.seal ledger) new.seal n ≡ is_among n found.pages
   has n next advances =
       elim (cases_lt n (length ledger.lives)) [
         | inl lt ↦ advances n lt ∙ next.next n
@@ -88,10 +88,10 @@ module _ (view now : Image) (slot : Slot) (top : ℕ) (ledger : LedgerState) (pa
             ap (lives_at new.seal) none ∙ sym (not_among n (let size = next.size in omega (arith, size, le)))
       ]
 
-  now_alive : HasNext view ledger pages new found → Advances → (n : ℕ) → is_alive (advanced new.seal ledger) n ≡ is_among n found.pages
+  now_alive : LeadsToNext view ledger pages new found → Advances → (n : ℕ) → is_alive (advanced new.seal ledger) n ≡ is_among n found.pages
   now_alive next advances n = ap (λ (m : Mark). has_page (advanced new.seal ledger) new.seal n && not (is_retired m)) (unmarked_get ledger.marks n) ∙ and_true (has_page (advanced new.seal ledger) new.seal n) ∙ has n next advances
 
-  pub now_there : HasNext view ledger pages new found → Advances → IsThere now new (advanced new.seal ledger)
+  pub now_there : LeadsToNext view ledger pages new found → Advances → IsThere now new (advanced new.seal ledger)
   now_there next advances = record {
     found_is = now_tree;
     map = found_map new (page_of now) (found_under new now) now_tree;

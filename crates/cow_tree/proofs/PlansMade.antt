@@ -33,10 +33,10 @@ use Rattle.tree_pages.proofs.Fitted.{written_whole, patched_whole}
 use Rattle.cow_tree.specs.Opening.{bounds_under}
 use Rattle.cow_tree.specs.TreeState.{found_under}
 use Rattle.page_store.specs.declared.edit.Edit.{Edit}
-use Rattle.cow_tree.specs.Needs.{NeedsPages, StaysLow, drafted}
-use Rattle.cow_tree.specs.Drafts.{old_under, bytes_in, one_if, most_nodes, OnlyMarks, Tells, IsDraft}
-use Rattle.cow_tree.specs.Taken.{Takes, taking_all}
-use Rattle.cow_tree.specs.Plans.{levels_under, IsHeld, IsPlan, IsPlannedAt, IsRootWritten, IsRootInside, IsRoomFault, IsPlanFault}
+use Rattle.cow_tree.specs.Needs.{NeedsTreePages, StaysLow, drafted}
+use Rattle.cow_tree.specs.Drafts.{old_under, bytes_in, one_if, most_nodes, OnlyMarks, TellsDraft, IsDraft}
+use Rattle.cow_tree.specs.Taken.{TakesPages, taking_all}
+use Rattle.cow_tree.specs.Plans.{levels_under, IsHeld, IsTreePlan, IsPlannedAt, IsRootWritten, IsRootInside, IsRoomFault, IsTreePlanFault}
 use Rattle.cow_tree.proofs.Reaching.{count_most}
 use Rattle.cow_tree.proofs.PageCounts.{numbers_length}
 use Rattle.cow_tree.proofs.Taken.{free_inside, free_unheld, taken_was_free, taken_once, next_are, taking_marks, alive_still, free_not_held}
@@ -71,7 +71,7 @@ unfolding content_under tree_found
 empty_content slot bytes version height root keys = tree_as slot.root.banner.version slot bytes version ∙ rw (height, root, keys) refl
 
 module _ (view : Image) (slot : Slot) (top edits : ℕ) (pairs : List Pair) (ledger now : LedgerState) (tree : RootState) (given : List ℕ) (new : Slot) (pages : List NewPage) (h : IsHeld view slot top ledger) (d : IsDraft slot view edits 0 pairs ledger tree)
-    (lives : length ledger.lives ≡ slot.root.pages) (most : slot.root.pages ≤ 65536) (t : Takes (owned_under tree.root) ledger now given) (number : new.number ≡ 1 - slot.number) (seal : new.seal ≡ top + 1) (last : new.seal < 2 ^ 64) (version : IsTrue (is_tree_version new.root.banner.version))
+    (lives : length ledger.lives ≡ slot.root.pages) (most : slot.root.pages ≤ 65536) (t : TakesPages (owned_under tree.root) ledger now given) (number : new.number ≡ 1 - slot.number) (seal : new.seal ≡ top + 1) (last : new.seal < 2 ^ 64) (version : IsTrue (is_tree_version new.root.banner.version))
     (size : new.root.pages ≡ slot.root.pages) (keys : new.root.keys ≡ length pairs) where
   marks_fit : length ledger.marks ≡ length ledger.lives
   marks_fit = d.alive.marked ∙ sym lives
@@ -132,7 +132,7 @@ module _ (view : Image) (slot : Slot) (top edits : ℕ) (pairs : List Pair) (led
       let some : 1 ≤ times n given = subst (λ (l : List ℕ). 1 ≤ times n l) are (among_some n (numbers pages) among) in
       ap (λ (s : LedgerState). is_held s n) t.taken ∙ held_again ledger (taking_all ledger given) (taking_marks ledger given) n ∙ free_not_held ledger n (taken_was_free ledger given t.free n some)
 
-  plan_of : (found : Found) → numbers pages ≡ given → content_under new bytes ≡ Some found → IsPlan view slot top pages new found
+  plan_of : (found : Found) → numbers pages ≡ given → content_under new bytes ≡ Some found → IsTreePlan view slot top pages new found
   plan_of found are under = record { free = free_of_old are; number = number; seal = seal; version = version; under = under }
 
   -- ---- a tree without pairs
@@ -279,7 +279,7 @@ pub made_root : (count seal height : ℕ) (given : List ℕ) (r : Option Tree) (
 made_root count seal height given None pages n w some = absurd (some w.1)
 made_root count seal height given (Some root) pages n w some = w.2
 
-pub given_inside : (ledger now : LedgerState) (count pages : ℕ) (given : List ℕ) → Takes count ledger now given → length ledger.lives ≡ pages → (m : ℕ) → 1 ≤ times m given → IsTreePage pages m
+pub given_inside : (ledger now : LedgerState) (count pages : ℕ) (given : List ℕ) → TakesPages count ledger now given → length ledger.lives ≡ pages → (m : ℕ) → 1 ≤ times m given → IsTreePage pages m
 given_inside ledger now count pages given t lives m some =
     let inside = free_inside ledger m (taken_was_free ledger given t.free m some) in
     (inside.0, omega (arith, inside.1, lives))
@@ -310,7 +310,7 @@ root_is_inside view slot edits more pairs ledger tree d (Some (page m)) is =
     one_is false le = absurd (omega (arith, le))
 
 -- numbers that were taken are pages of the image, each at its place
-pub numbers_inside : (ledger now : LedgerState) (count pages : ℕ) (given : List ℕ) → Takes count ledger now given → length ledger.lives ≡ pages → (i d : ℕ) → i < length given → IsTreePage pages (get_or given i d)
+pub numbers_inside : (ledger now : LedgerState) (count pages : ℕ) (given : List ℕ) → TakesPages count ledger now given → length ledger.lives ≡ pages → (i d : ℕ) → i < length given → IsTreePage pages (get_or given i d)
 numbers_inside ledger now count pages given t lives i d lt = given_inside ledger now count pages given t lives (get_or given i d) (at given i d lt)
   where
     at : (ns : List ℕ) (k e : ℕ) → k < length ns → 1 ≤ times (get_or ns k e) ns
@@ -332,10 +332,10 @@ pub few_nodes : (slot : Slot) (view : Image) (edits : ℕ) (pairs : List Pair) (
 few_nodes slot view edits pairs ledger tree d = let f = d.few in omega (arith, f)
 
 -- what the tree after a batch owns is what a commit of it needs
-pub needs_pages : (slot : Slot) (view : Image) (batch : List Edit) (tree : RootState) (need : ℕ) → tree ≡ drafted slot view batch → need ≡ min (owned_under tree.root) (2 ^ 64 - 1) → owned_under tree.root ≤ most_nodes slot (length batch) → StaysLow slot view batch → NeedsPages slot view batch need
+pub needs_pages : (slot : Slot) (view : Image) (batch : List Edit) (tree : RootState) (need : ℕ) → tree ≡ drafted slot view batch → need ≡ min (owned_under tree.root) (2 ^ 64 - 1) → owned_under tree.root ≤ most_nodes slot (length batch) → StaysLow slot view batch → NeedsTreePages slot view batch need
 needs_pages slot view batch tree need made is few low = record { exact = is ∙ ap (λ (s : RootState). min (owned_under s.root) (2 ^ 64 - 1)) made; most = omega (arith, is, few); low = low }
 
-pub room_fault : (e : KeeperFault) (free left : ℕ) (P Q : ℕ → Type 0) → left ≡ free → ((n : ℕ) → P n → Q n) → IsRoomFault left P e → IsPlanFault free Q e
+pub room_fault : (e : KeeperFault) (free left : ℕ) (P Q : ℕ → Type 0) → left ≡ free → ((n : ℕ) → P n → Q n) → IsRoomFault left P e → IsTreePlanFault free Q e
 room_fault faults.Device free left P Q is f h = absurd h
 room_fault faults.NoImage free left P Q is f h = absurd h
 room_fault faults.Version free left P Q is f h = absurd h
@@ -359,7 +359,7 @@ room_reads faults.Failed free P before now h is = is
 room_reads faults.Memory free P before now h is = is
 room_reads faults.Deep free P before now h is = is
 
-pub room_told : {T U : Type 0} (deep : Type 0) (e : KeeperFault) (P : T → Type 0) (Q : U → Type 0) (free : ℕ) (N : ℕ → Type 0) → IsRoomFault free N e → Tells (Unit {0}) (Err e) P → Tells deep (Err e) Q
+pub room_told : {T U : Type 0} (deep : Type 0) (e : KeeperFault) (P : T → Type 0) (Q : U → Type 0) (free : ℕ) (N : ℕ → Type 0) → IsRoomFault free N e → TellsDraft (Unit {0}) (Err e) P → TellsDraft deep (Err e) Q
 room_told deep faults.Device P Q free N h answered = tt
 room_told deep faults.NoImage P Q free N h answered = tt
 room_told deep faults.Version P Q free N h answered = tt

@@ -15,7 +15,7 @@ use Rattle.tree_nodes.proofs.KeyOrder.{both_true}
 use Rattle.page_store.specs.declared.slot.Slot.{Slot}
 use Rattle.page_store.specs.Sectors.{Image, page_of}
 use Rattle.cow_tree.specs.Walks.{OnlyHolds, HoldsWhole}
-use Rattle.cow_tree.specs.Opening.{AreWhole}
+use Rattle.cow_tree.specs.Opening.{LivePagesAreWhole}
 use Rattle.cow_tree.specs.TreeState.{IsAtRest}
 use Rattle.cow_tree.specs.Reached.{are_fresh, holding_all}
 
@@ -271,7 +271,7 @@ pub wholes_again : {image : Image} {a b c : LedgerState} → HoldsWhole image a 
 wholes_again first second = record { each = λ m t. elim (second.each m t) [ inl before ↦ first.each m before | inr long ↦ inr long ] }
 
 -- of a new ledger, all pages that are alive
-pub all_whole : (image : Image) (pages generation : ℕ) (first now : LedgerState) → first ≡ fresh pages generation → HoldsWhole image first now → AreWhole image now
+pub all_whole : (image : Image) (pages generation : ℕ) (first now : LedgerState) → first ≡ fresh pages generation → HoldsWhole image first now → LivePagesAreWhole image now
 all_whole image pages generation first now is w m t =
     elim (w.each m t) [
       | inl before ↦ let none : is_alive first m ≡ false = ap (λ (s : LedgerState). is_alive s m) is ∙ not_alive pages generation m in absurd (cc (before, none))

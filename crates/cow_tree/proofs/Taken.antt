@@ -12,7 +12,7 @@ use Rattle.tree_nodes.proofs.KeyOrder.{both_true, not_both}
 use Rattle.tree_pages.specs.Reached.{times}
 use Rattle.tree_pages.proofs.Counted.{first_or_later}
 use Rattle.cow_tree.specs.Drafts.{OnlyMarks}
-use Rattle.cow_tree.specs.Taken.{taking_all, are_free, Takes}
+use Rattle.cow_tree.specs.Taken.{taking_all, are_free, TakesPages}
 
 -- ---- a page that is free
 
@@ -207,10 +207,10 @@ taken_both s [] ys = refl
 taken_both s (x ∷ xs) ys = taken_both (taking x s) xs ys
 
 -- none of no pages
-pub takes_none : (s : LedgerState) → Takes 0 s s []
+pub takes_none : (s : LedgerState) → TakesPages 0 s s []
 takes_none s = record { count_is = refl; free = refl; taken = refl }
 
-pub takes_more : (count : ℕ) (old mid new : LedgerState) (ns : List ℕ) (page : ℕ) → Takes count old mid ns → is_free mid page ≡ true → new ≡ taking page mid → Takes (count + 1) old new (ns ++ (page ∷ []))
+pub takes_more : (count : ℕ) (old mid new : LedgerState) (ns : List ℕ) (page : ℕ) → TakesPages count old mid ns → is_free mid page ≡ true → new ≡ taking page mid → TakesPages (count + 1) old new (ns ++ (page ∷ []))
 takes_more count old mid new ns page takes free is = record {
   count_is = let more = length-append ns (page ∷ []) in let counted = takes.count_is in omega (arith, more, counted);
   free = free_both old ns (page ∷ []) ∙ both (are_free old ns) (is_free (taking_all old ns) page && true) takes.free (both (is_free (taking_all old ns) page) true (sym (ap (λ (s : LedgerState). is_free s page) takes.taken) ∙ free) refl);

@@ -23,11 +23,11 @@ use Rattle.page_store.specs.declared.fault.KeeperFault.{KeeperFault}
 use Rattle.page_store.specs.declared.fault.KeeperFault.TheVariants as faults
 use Rattle.page_store.proofs.ReachedPages.{content_under-local}
 use Rattle.cow_tree.specs.PinnedTrees.{or_nothing}
-use Rattle.cow_tree.specs.TreeState.{IsFitted, IsThere, IsDurable, found_under}
-use Rattle.cow_tree.specs.Drafts.{Tells, OnlyMarks}
-use Rattle.cow_tree.specs.Plans.{IsHeld, Starts, IsMade, IsPlan, HasNext, IsPlanned, IsPlanFault}
+use Rattle.cow_tree.specs.TreeState.{FitsTree, IsThere, IsDurable, found_under}
+use Rattle.cow_tree.specs.Drafts.{TellsDraft, OnlyMarks}
+use Rattle.cow_tree.specs.Plans.{IsHeld, Starts, IsMade, IsTreePlan, LeadsToNext, IsPlanned, IsTreePlanFault}
 use Rattle.cow_tree.specs.Compacting.{IsFillFault}
-use Rattle.cow_tree.specs.Committed.{is_tree_version, MayBeWritten}
+use Rattle.cow_tree.specs.Committed.{is_tree_version, MayWritePlan}
 use Rattle.cow_tree.specs.declared.plans.Plan.{Plan}
 use Rattle.cow_tree.proofs.Openings.{content_is}
 use Rattle.cow_tree.specs.KeysCounted.{keys_told}
@@ -40,7 +40,7 @@ version_is version h = h
 
 -- ---- before
 
-pub starts : (sectors : ℕ) (slot : Slot) (view : Image) (ledger : LedgerState) → IsFitted sectors slot ledger → IsThere view slot ledger → Starts slot view (found_under slot view).pairs ledger
+pub starts : (sectors : ℕ) (slot : Slot) (view : Image) (ledger : LedgerState) → FitsTree sectors slot ledger → IsThere view slot ledger → Starts slot view (found_under slot view).pairs ledger
 starts sectors slot view ledger fit there = record {
   draft = begins sectors slot view ledger fit there;
   keys = keys_told slot (page_of view) (found_under slot view) there.found_is;
@@ -52,7 +52,7 @@ and_true : (b : Bool) → (b && true) ≡ b
 and_true true = refl
 and_true false = refl
 
-pub is_held : (sectors : ℕ) (slot : Slot) (disk : Disk) (ledger : LedgerState) (top : ℕ) → IsFitted sectors slot ledger → IsThere disk.view slot ledger → IsDurable disk slot top → slot.seal ≤ top → IsHeld disk.view slot top ledger
+pub is_held : (sectors : ℕ) (slot : Slot) (disk : Disk) (ledger : LedgerState) (top : ℕ) → FitsTree sectors slot ledger → IsThere disk.view slot ledger → IsDurable disk slot top → slot.seal ≤ top → IsHeld disk.view slot top ledger
 is_held sectors slot disk ledger top fit there durable sealed = record {
   content_is = content_is disk.view slot (Some (found_under slot disk.view)) durable.current_is fit.version there.found_is;
   held = λ n.
@@ -62,15 +62,15 @@ is_held sectors slot disk ledger top fit there durable sealed = record {
 }
 
 abbrev pub may_be_written : (view mid : Image) (states : CrashStates Image) (slot : Slot) (ledger now : LedgerState) (top : ℕ) (plan : Plan) (pairs : List Pair) → IsHeld view slot top ledger → OnlyMarks ledger now → IsPlanned view slot top pairs now plan
-    → IsTrue (is_tree_version slot.root.banner.version) → mid ≡ view → AllAre states mid → MayBeWritten mid states slot now plan
+    → IsTrue (is_tree_version slot.root.banner.version) → mid ≡ view → AllAre states mid → MayWritePlan mid states slot now plan
 may_be_written view mid states slot ledger now top plan pairs held marks planned version same sure = record {
   top = top;
   pairs = pairs;
   held = subst (λ (v : Image). IsHeld v slot top now) (sym same) (held_still view slot top ledger now marks held);
   planned = record {
     found = planned.found;
-    plan_is = subst (λ (v : Image). IsPlan v slot top plan.pages.items plan.slot planned.found) (sym same) planned.plan_is;
-    next = subst (λ (v : Image). HasNext v now plan.pages.items plan.slot planned.found) (sym same) planned.next;
+    plan_is = subst (λ (v : Image). IsTreePlan v slot top plan.pages.items plan.slot planned.found) (sym same) planned.plan_is;
+    next = subst (λ (v : Image). LeadsToNext v now plan.pages.items plan.slot planned.found) (sym same) planned.next;
     pairs_are = planned.pairs_are;
     reaches = planned.reaches;
   };
@@ -85,7 +85,7 @@ lies true h = absurd (h refl)
 lies false h = refl
 
 pub commit_fault : {T : Type 0} (old new : StoreState) (edits : ℕ) (may : CommitNeed → Type 0) (slot : Slot) (deep : Type 0) (P : T → Type 0) (N : ℕ → Type 0) (e : KeeperFault) → HasStayed old new → CountsReads {T = T} (Err e) old.failed_reads new.failed_reads
-    → (IsTrue old.honest → Tells {T = T} deep (Err e) P) → (deep → MayBeDeep old edits × may TooManyLevels) → IsPlanFault old.free N e → ((n : ℕ) → N n → IsTrue old.honest → may (SoManyPages n)) → IsCommitFault old new edits may e
+    → (IsTrue old.honest → TellsDraft {T = T} deep (Err e) P) → (deep → MayBeDeep old edits × may TooManyLevels) → IsTreePlanFault old.free N e → ((n : ℕ) → N n → IsTrue old.honest → may (SoManyPages n)) → IsCommitFault old new edits may e
 commit_fault old new edits may slot deep P N faults.Device stayed reads answered levels fault need = (stayed, reads)
 commit_fault old new edits may slot deep P N faults.NoImage stayed reads answered levels fault need = absurd fault
 commit_fault old new edits may slot deep P N faults.Version stayed reads answered levels fault need = absurd fault
@@ -99,7 +99,7 @@ commit_fault old new edits may slot deep P N faults.Deep stayed reads answered l
 
 -- a compaction that is refused
 pub compact_fault : {T : Type 0} (old new : StoreState) (may : ℕ → Type 0) (P : T → Type 0) (N : ℕ → Type 0) (e : KeeperFault) → HasStayed old new → CountsReads {T = T} (Err e) old.failed_reads new.failed_reads
-    → (IsTrue old.honest → Tells {T = T} ⊥ (Err e) P) → IsFillFault old.free N e → ((n : ℕ) → N n → IsTrue old.honest → may n) → IsCompactFault old new may e
+    → (IsTrue old.honest → TellsDraft {T = T} ⊥ (Err e) P) → IsFillFault old.free N e → ((n : ℕ) → N n → IsTrue old.honest → may n) → IsCompactFault old new may e
 compact_fault old new may P N faults.Device stayed reads answered fault need = (stayed, reads)
 compact_fault old new may P N faults.NoImage stayed reads answered fault need = absurd fault
 compact_fault old new may P N faults.Version stayed reads answered fault need = absurd fault
@@ -143,7 +143,7 @@ unmarked_length : (marks : List Mark) → length (unmarked marks) ≡ length mar
 unmarked_length [] = refl
 unmarked_length (mark ∷ marks) = ap suc (unmarked_length marks)
 
-pub fitted_now : (sectors now : ℕ) (slot : Slot) (ledger mid : LedgerState) (seal : ℕ) (banner : Banner) (plan : Plan) → IsFitted sectors slot ledger → OnlyMarks ledger mid → IsMade slot seal banner plan → IsTrue (is_tree_version banner.version) → 0 < banner.port → now ≡ sectors → IsFitted now plan.slot (advanced plan.slot.seal mid)
+pub fitted_now : (sectors now : ℕ) (slot : Slot) (ledger mid : LedgerState) (seal : ℕ) (banner : Banner) (plan : Plan) → FitsTree sectors slot ledger → OnlyMarks ledger mid → IsMade slot seal banner plan → IsTrue (is_tree_version banner.version) → 0 < banner.port → now ≡ sectors → FitsTree now plan.slot (advanced plan.slot.seal mid)
 fitted_now sectors now slot ledger mid seal banner plan fit marks made version port size = record {
   number = let n = made.number in omega (arith, n);
   least = let a = made.size in let b = fit.least in omega (arith, a, b);

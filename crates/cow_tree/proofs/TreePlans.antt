@@ -13,7 +13,7 @@ use Rattle.page_store.specs.declared.commit.NewPage.{NewPage}
 use Rattle.page_store.specs.declared.slot.Slot.{Slot}
 use Rattle.tree_pages.proofs.Counted.{among_some, among_none}
 use Rattle.cow_tree.specs.Drafts.{OnlyMarks, one_if}
-use Rattle.cow_tree.specs.PinnedTrees.{bounds_at, found_at, seal_of, keep_page, AreKept, HeldPagesStay, PinnedPagesStay}
+use Rattle.cow_tree.specs.PinnedTrees.{bounds_at, found_at, seal_of, keep_page, PinnedTreesAreKept, HeldPagesStay, PinnedPagesStay}
 use Rattle.cow_tree.specs.Plans.{tree_commit, IsHeld, IsPlanned}
 use Rattle.cow_tree.specs.TreeState.{IsAtRest, IsThere, found_under}
 use Rattle.cow_tree.specs.Committed.{TreePlan, WritesOnePlan}
@@ -26,7 +26,7 @@ use Rattle.cow_tree.proofs.FreePages.{held_is}
 use Rattle.cow_tree.proofs.PlansMade.{held_still}
 
 -- no pinned tree has a root slot
-pub pinned_low : (image : Image) (ledger : LedgerState) (trees : List (Option TreeRoot)) → AreKept image ledger trees → (n : ℕ) → IsTrue (keep_page image trees n) → 2 ≤ n
+pub pinned_low : (image : Image) (ledger : LedgerState) (trees : List (Option TreeRoot)) → PinnedTreesAreKept image ledger trees → (n : ℕ) → IsTrue (keep_page image trees n) → 2 ≤ n
 pinned_low image ledger [] kept n keep = absurd (cc keep)
 pinned_low image ledger (None ∷ trees) kept n keep = pinned_low image ledger trees (λ number tree is. kept (suc number) tree is) n keep
 pinned_low image ledger (Some tree ∷ trees) kept n keep =
@@ -47,7 +47,7 @@ pub neither : (a b : Bool) → (a || b) ≡ false → a ≡ false
 neither true b h = absurd (cc h)
 neither false b h = refl
 
-module _ (view : Image) (slot : Slot) (ledger : LedgerState) (trees : List (Option TreeRoot)) (rest : IsAtRest slot ledger) (seals : ledger.pins ≡ map seal_of trees) (kept : AreKept view ledger trees) (there : IsThere view slot ledger) where
+module _ (view : Image) (slot : Slot) (ledger : LedgerState) (trees : List (Option TreeRoot)) (rest : IsAtRest slot ledger) (seals : ledger.pins ≡ map seal_of trees) (kept : PinnedTreesAreKept view ledger trees) (there : IsThere view slot ledger) where
   -- what no generation in use loses, no pinned tree loses
   pub pinned_stay : (now : Image) → HeldPagesStay ledger (page_of view) (page_of now) → PinnedPagesStay trees view now
   pinned_stay now stay n keep =

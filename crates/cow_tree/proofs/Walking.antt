@@ -9,7 +9,7 @@ use Rattle.page_store.specs.Pages.{Pair, Child, leaf_of, branch_of}
 use Rattle.page_store.proofs.Fields.{bind_some}
 use Rattle.page_store.specs.Content.{Found, Bounds, fan, walk, joined, nothing_found, low_of, high_of, place_in}
 use Rattle.cow_tree.specs.Reached.{are_fresh, holding_all}
-use Rattle.cow_tree.specs.Walks.{IsWalked, IsBroken, IsWalkedTo, with_front, Tells}
+use Rattle.cow_tree.specs.Walks.{IsWalked, IsBroken, IsWalkedTo, with_front, TellsWalk}
 use Rattle.cow_tree.specs.declared.page_fault.PageFault.{PageFault}
 use Rattle.cow_tree.specs.declared.page_fault.PageFault.TheVariants.{Device, Damaged}
 use Rattle.cow_tree.proofs.Reaching.{fresh_both, held_both}
@@ -84,7 +84,7 @@ module _ (under : ℕ → List ℕ → Option (List ℕ) → Option Found) (low 
 
   -- a child answered a fault
   pub breaks_off : (e : PageFault) (count : ℕ) (now new end : LedgerState) (child : Child) (rest : List Child) → IsWalkedTo (fan under low high) children (child ∷ rest) old now count
-      → Tells (under child.page (low_of low child.key) (high_of rest high)) now new (Err e) → Tells (fan under low high children) old end (Err e)
+      → TellsWalk (under child.page (low_of low child.key) (high_of rest high)) now new (Err e) → TellsWalk (fan under low high children) old end (Err e)
   breaks_off Device count now new end child rest so_far one = tt
   breaks_off (Damaged page) count now new end child rest so_far one = breaks count now child rest so_far one
 
@@ -175,7 +175,7 @@ no_branch a bounds (suc level) page low high old ne e = branch_none a bounds lev
 
 -- what is known of a branch's children is known of the branch
 pub tells_branch : (r : Result ℕ PageFault) (a : ℕ → List ℕ) (bounds : Bounds) (level page : ℕ) (low : List ℕ) (high : Option (List ℕ)) (old now new : LedgerState) (children : List Child) → level ≢ 0 → is_free old page ≡ true → now ≡ holding page old
-    → branch_of (place_in bounds level page) low high (a page) ≡ Some children → Tells (fan (walk a bounds (level - 1)) low high children) now new r → Tells (walk a bounds level page low high) old new r
+    → branch_of (place_in bounds level page) low high (a page) ≡ Some children → TellsWalk (fan (walk a bounds (level - 1)) low high children) now new r → TellsWalk (walk a bounds level page low high) old new r
 tells_branch r a bounds zero page low high old now new children ne free held e h = absurd (ne refl)
 tells_branch (Ok count) a bounds (suc level) page low high old now new children ne free held e h =
     let less : suc level - 1 ≡ level = omega arith in

@@ -15,7 +15,7 @@ use Rattle.page_store.specs.declared.slot.Slot.{Slot}
 use Rattle.tree_pages.specs.Reached.{times}
 use Rattle.cow_tree.specs.PinnedTrees.{keep_page, PinnedPagesStay}
 use Rattle.cow_tree.specs.TreeState.{IsThere, found_under}
-use Rattle.cow_tree.specs.Plans.{tree_commit, IsHeld, IsPlan, IsPlanned}
+use Rattle.cow_tree.specs.Plans.{tree_commit, IsHeld, IsTreePlan, IsPlanned}
 use Rattle.cow_tree.specs.declared.plans.Plan.{Plan}
 use Rattle.cow_tree.specs.declared.tree_root.TreeRoot.{TreeRoot}
 
@@ -24,7 +24,7 @@ abbrev pub TreeHas : Image → List Pair → Banner → Type 0
 TreeHas image pairs banner = HasContent image pairs banner × IsTrue (is_tree_version banner.version)
 
 -- A plan that may be written on an image that is sure, of a tree whose pages the ledger has.
-pub record MayBeWritten (view : Image) (crash_states : CrashStates Image) (slot : Slot) (ledger : LedgerState) (plan : Plan) : Type 0 where
+pub record MayWritePlan (view : Image) (crash_states : CrashStates Image) (slot : Slot) (ledger : LedgerState) (plan : Plan) : Type 0 where
   pub top : ℕ
   pub pairs : List Pair
   pub held : IsHeld view slot top ledger
@@ -46,7 +46,7 @@ pub record TreePlan (view : Image) (slot : Slot) (top : ℕ) (trees : List (Opti
   pub pages : List NewPage
   pub new : Slot
   pub found : Found
-  pub plan_is : IsPlan view slot top pages new found
+  pub plan_is : IsTreePlan view slot top pages new found
   pub banner_is : new.root.banner ≡ banner
   pub pairs_are : found.pairs ≡ pairs
   pub unpinned : (n : ℕ) → IsTrue (is_among n (numbers pages)) → keep_page view trees n ≡ false

@@ -28,7 +28,7 @@ abbrev pub MayNeedFilled : Slot → State → ℕ → Type 0
 MayNeedFilled slot state need = IsTrue state.honest → NeedsFilled slot state.disk.view need
 
 -- The tree under a slot of an image is in filled pages: it has as many levels, and as many pages as nodes, as the filled tree of its pairs.
-pub record IsFilled (slot : Slot) (image : Image) : Type 0 where
+pub record IsFilledTree (slot : Slot) (image : Image) : Type 0 where
   pub levels : slot.root.height ≡ (filled (found_under slot image).pairs).height
   pub pages : length (found_under slot image).pages ≡ owned_under (filled (found_under slot image).pairs).root
 

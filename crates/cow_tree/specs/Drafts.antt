@@ -72,11 +72,11 @@ pub record OnlyRetires (old new : LedgerState) : Type 0 where
   pub free : free_count new ≡ free_count old
 
 -- What is known of a step of a commit on an honest device: nothing is damaged, and levels are too many only where this holds.
-abbrev pub Tells : {T : Type 0} → Type 0 → Result T KeeperFault → (T → Type 0) → Type 0
-Tells deep (Ok x) P = P x
-Tells deep (Err faults.Deep) P = deep
-Tells deep (Err (faults.Damaged page)) P = ⊥
-Tells deep (Err other) P = Unit {0}
+abbrev pub TellsDraft : {T : Type 0} → Type 0 → Result T KeeperFault → (T → Type 0) → Type 0
+TellsDraft deep (Ok x) P = P x
+TellsDraft deep (Err faults.Deep) P = deep
+TellsDraft deep (Err (faults.Damaged page)) P = ⊥
+TellsDraft deep (Err other) P = Unit {0}
 
 -- Only reads were made of a device; one that failed was counted, and nothing else.
 pub record IsCountedRead {T D : Type 0} (state : D → State) (crash_states : D → CrashStates Image) (old new : D) (result : Result T KeeperFault) : Type 0 where

@@ -59,13 +59,13 @@ abbrev pub TellsAsAll : List Pair → List Pair → Type 0
 TellsAsAll later pairs = (key : List ℕ) → IsTrue (begins_by key later) → IsTrue (begins_by key pairs) × (pair_after pairs key ≡ pair_after later key)
 
 -- These pairs without some in front that aren't above a key: the later ones tell as all do what is after that key, and after each above it.
-pub record IsWalked (key : List ℕ) (later pairs : List Pair) : Type 0 where
+pub record IsWalkedPast (key : List ℕ) (later pairs : List Pair) : Type 0 where
   pub tells : (other : List ℕ) → precedes other key ≡ false → pair_after pairs other ≡ pair_after later other
   pub begins : (other : List ℕ) → precedes other key ≡ false → IsTrue (begins_by other later) → IsTrue (begins_by other pairs)
 
 -- The later ones begin with the pair after the key.
-pub record IsReached (key : List ℕ) (found : Pair) (later pairs : List Pair) : Type 0 where
-  pub walked : IsWalked key later pairs
+pub record IsReachedAfter (key : List ℕ) (found : Pair) (later pairs : List Pair) : Type 0 where
+  pub walked : IsWalkedPast key later pairs
   pub others : List Pair
   pub first : later ≡ found ∷ others
   pub above : IsTrue (precedes key found.0)

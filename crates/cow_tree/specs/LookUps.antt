@@ -9,26 +9,26 @@ use Rattle.page_store.specs.Batch.{value_at, pair_after}
 use Rattle.page_store.specs.Content.{Found, Bounds}
 use Rattle.page_store.specs.StoreState.{IsFilled}
 use Rattle.cow_tree.specs.KeptLeaves.{IsNextLeaf, IsKeptLeaf}
-use Rattle.cow_tree.specs.Walks.{ReadsPages}
-use Rattle.cow_tree.specs.Ways.{IsAnswer}
+use Rattle.cow_tree.specs.Walks.{ReadsTreePages}
+use Rattle.cow_tree.specs.Ways.{AnswersBy}
 use Rattle.cow_tree.specs.declared.page_fault.PageFault.{PageFault}
 
 -- A call that looks up the value at a key: it only reads pages, an honest device's tree has the value that it answers, and it fills the buffer with it from the front.
-pub record LooksUp {D : Type 0} (state : D → State) (crash_states : D → CrashStates Image) (tree : (ℕ → List ℕ) → Option Found) (key : List ℕ) (old new : D) (before after : List ℕ) (result : Result (Option ℕ) PageFault) : Type 0 where
+pub record LooksUpValue {D : Type 0} (state : D → State) (crash_states : D → CrashStates Image) (tree : (ℕ → List ℕ) → Option Found) (key : List ℕ) (old new : D) (before after : List ℕ) (result : Result (Option ℕ) PageFault) : Type 0 where
   pub within : IfOk result (λ found. IfSome found (λ n. n ≤ 1024))
-  pub value : IsTrue (state old).honest → (found : Found) → tree (page_of (state old).disk.view) ≡ Some found → IsAnswer result (λ size. option_map (λ n. take n after) size ≡ value_at found.pairs key)
+  pub value : IsTrue (state old).honest → (found : Found) → tree (page_of (state old).disk.view) ≡ Some found → AnswersBy result (λ size. option_map (λ n. take n after) size ≡ value_at found.pairs key)
   pub buffer : IsFilled (λ n. n) result before after
-  pub reads : ReadsPages state crash_states old new result
+  pub reads : ReadsTreePages state crash_states old new result
 
 -- A call that reads the leaf of the pair after a key: it only reads pages, on an honest device the leaf tells that pair of the tree, and the answer is whether the leaf has one. On every device the leaf has a pair.
 pub record ReadsNextLeaf {D : Type 0} (state : D → State) (crash_states : D → CrashStates Image) (is_tree : (ℕ → List ℕ) → Found → Type 0) (bounds : Bounds) (key : List ℕ) (old new : D) (leaf_now : List Pair) (result : Result Bool PageFault) : Type 0 where
-  pub leaf : IsTrue (state old).honest → (found : Found) → is_tree (page_of (state old).disk.view) found → IsAnswer result (λ there. IsNextLeaf (page_of (state old).disk.view) bounds key found leaf_now)
+  pub leaf : IsTrue (state old).honest → (found : Found) → is_tree (page_of (state old).disk.view) found → AnswersBy result (λ there. IsNextLeaf (page_of (state old).disk.view) bounds key found leaf_now)
   pub there : IfOk result (λ there. there ≡ is_some (pair_after leaf_now key))
   pub some : OnOk result (leaf_now ≡ [] → ⊥)
-  pub reads : ReadsPages state crash_states old new result
+  pub reads : ReadsTreePages state crash_states old new result
 
 -- A call that keeps the leaf of the pair after a key: it only reads pages, and on an honest device it tells that pair of the tree and keeps then a leaf of the tree or nothing.
 pub record KeepsNext {T D : Type 0} (state : D → State) (crash_states : D → CrashStates Image) (is_tree : (ℕ → List ℕ) → Found → Type 0) (bounds : Bounds) (key : List ℕ) (old new : D) (kept_now : List Pair) (answered : T → Option Pair) (result : Result T PageFault) : Type 0 where
-  pub pair : IsTrue (state old).honest → (found : Found) → is_tree (page_of (state old).disk.view) found → IsAnswer result (λ x. answered x ≡ pair_after found.pairs key)
+  pub pair : IsTrue (state old).honest → (found : Found) → is_tree (page_of (state old).disk.view) found → AnswersBy result (λ x. answered x ≡ pair_after found.pairs key)
   pub kept : IsTrue (state old).honest → (found : Found) → is_tree (page_of (state old).disk.view) found → IsKeptLeaf (page_of (state old).disk.view) bounds found kept_now
-  pub reads : ReadsPages state crash_states old new result
+  pub reads : ReadsTreePages state crash_states old new result

@@ -6,7 +6,7 @@ use Rattle.page_store.specs.StoreState.{CommitNeed, SoManyPages, TooManyLevels, 
 use Rattle.page_store.specs.declared.edit.Edit.{Edit}
 use Rattle.page_store.specs.declared.slot.Slot.{Slot}
 use Rattle.tree_nodes.specs.Tree.{OldPages}
-use Rattle.tree_nodes.specs.Steps.{RootState, Step, put_step, delete_step, supply_step, stepped, after_steps}
+use Rattle.tree_nodes.specs.Steps.{RootState, NodeStep, put_step, delete_step, supply_step, stepped, after_steps}
 use Rattle.tree_nodes.specs.Growth.{owned_under}
 use Rattle.cow_tree.specs.Drafts.{old_under, root_under, most_nodes}
 
@@ -14,7 +14,7 @@ use Rattle.cow_tree.specs.Drafts.{old_under, root_under, most_nodes}
 abbrev pub path_read : OldPages → List ℕ → ℕ → RootState → RootState
 path_read old key times tree = after_steps old tree (replicate times (supply_step key))
 
-abbrev pub change_step : List ℕ → Option (List ℕ) → Step
+abbrev pub change_step : List ℕ → Option (List ℕ) → NodeStep
 change_step key (Some value) = put_step key value
 change_step key None = delete_step key
 
@@ -39,13 +39,13 @@ abbrev pub GetsTooDeep : Slot → Image → List Edit → Type 0
 GetsTooDeep slot image batch = (front : ℕ) × (most_levels < (drafted slot image (take front batch)).height)
 
 -- A commit of a batch needs so many pages, and on no way there too many levels.
-pub record NeedsPages (slot : Slot) (image : Image) (batch : List Edit) (need : ℕ) : Type 0 where
+pub record NeedsTreePages (slot : Slot) (image : Image) (batch : List Edit) (need : ℕ) : Type 0 where
   pub exact : need ≡ pages_needed slot image batch
   pub most : need ≤ most_nodes slot (length batch)
   pub low : StaysLow slot image batch
 
 abbrev pub NeedsThis : Slot → Image → List Edit → CommitNeed → Type 0
-NeedsThis slot image batch (SoManyPages need) = NeedsPages slot image batch need
+NeedsThis slot image batch (SoManyPages need) = NeedsTreePages slot image batch need
 NeedsThis slot image batch TooManyLevels = GetsTooDeep slot image batch
 
 -- the same on a device in this state, which has to be honest

@@ -32,12 +32,12 @@ abbrev pub IsRooted : Root → Type 0
 IsRooted root = 0 < root.height → (root.height ≤ 16) × (2 ≤ root.tree) × (root.tree < root.pages)
 
 -- the slot itself, or a page of its image
-abbrev pub MayBeNamed : Slot → ℕ → Type 0
-MayBeNamed slot page = (page ≡ slot.number) ⊎ ((2 ≤ page) × (page < slot.root.pages))
+abbrev pub MayNamePage : Slot → ℕ → Type 0
+MayNamePage slot page = (page ≡ slot.number) ⊎ ((2 ≤ page) × (page < slot.root.pages))
 
 abbrev pub MayName : Slot → PageFault → Type 0
 MayName slot Device = Unit {0}
-MayName slot (Damaged page) = MayBeNamed slot page
+MayName slot (Damaged page) = MayNamePage slot page
 
 -- a page that is damaged is the one that is named
 abbrev pub IsNamed : Result Found ℕ → PageFault → Type 0
@@ -59,16 +59,16 @@ Finds what slot ledger (Err Device) = Unit {0}
 Finds what slot ledger (Err (Damaged page)) = what ≡ None
 
 -- each page that is alive is a whole page of the image
-abbrev pub AreWhole : Image → LedgerState → Type 0
-AreWhole image ledger = (n : ℕ) → IsTrue (is_alive ledger n) → length (page_of image n) ≡ 4096
+abbrev pub LivePagesAreWhole : Image → LedgerState → Type 0
+LivePagesAreWhole image ledger = (n : ℕ) → IsTrue (is_alive ledger n) → length (page_of image n) ≡ 4096
 
 -- An image has a content of this slot, and the ledger has exactly its pages, each of them whole.
-pub record IsReadAs (image : Image) (slot : Slot) (ledger : LedgerState) : Type 0 where
+pub record IsImageOfSlot (image : Image) (slot : Slot) (ledger : LedgerState) : Type 0 where
   pub found : Found
   pub content_is : content image ≡ Some (slot, found)
   pub ledger_is : ledger ≡ holding_all (fresh slot.root.pages slot.seal) found.pages
   pub alive : (n : ℕ) → is_alive ledger n ≡ is_among n found.pages
-  pub whole : AreWhole image ledger
+  pub whole : LivePagesAreWhole image ledger
   pub keys : slot.root.keys ≡ length found.pairs
 
 -- the current slot is of a tree
@@ -87,28 +87,28 @@ pub record IsSlotOpened (old new : State) (crash_states : CrashStates Image) (sl
   pub top_is : IsTrue old.honest → greatest_seal old.disk.view 16 ≡ top
 
 -- What was opened.
-pub record IsOpened (old new : State) (crash_states : CrashStates Image) (slot : Slot) (ledger : LedgerState) (top : ℕ) : Type 0 where
+pub record IsOpenedTree (old new : State) (crash_states : CrashStates Image) (slot : Slot) (ledger : LedgerState) (top : ℕ) : Type 0 where
   pub all : IsTrue old.honest → AllAre crash_states new.disk.view
   pub view : IsTrue old.honest → new.disk.view ≡ old.disk.view
-  pub holds : IsTrue old.honest → IsReadAs old.disk.view slot ledger
+  pub holds : IsTrue old.honest → IsImageOfSlot old.disk.view slot ledger
   pub top_is : IsTrue old.honest → greatest_seal old.disk.view 16 ≡ top
 
 -- Why no current slot of a tree was found, by the image that was read.
-abbrev pub IsSlotFault : State → KeeperFault → Type 0
-IsSlotFault old faults.Device = Unit {0}
-IsSlotFault old faults.NoImage = IsTrue old.honest → current old.disk.view ≡ None
-IsSlotFault old faults.Version = IsTrue old.honest → IsOther old.disk.view
-IsSlotFault old other = ⊥
+abbrev pub IsTreeSlotFault : State → KeeperFault → Type 0
+IsTreeSlotFault old faults.Device = Unit {0}
+IsTreeSlotFault old faults.NoImage = IsTrue old.honest → current old.disk.view ≡ None
+IsTreeSlotFault old faults.Version = IsTrue old.honest → IsOther old.disk.view
+IsTreeSlotFault old other = ⊥
 
 -- Why an opening was refused, by the image as it was read before it. No two of these hold of one image, but for a device that fails and for lack of memory.
-abbrev pub IsOpenFault : State → State → KeeperFault → Type 0
-IsOpenFault old new faults.Small = old.size < 128
-IsOpenFault old new faults.Device = (128 ≤ old.size) × OneCounted old new
-IsOpenFault old new faults.NoImage = (128 ≤ old.size) × (IsTrue old.honest → current old.disk.view ≡ None)
-IsOpenFault old new faults.Version = (128 ≤ old.size) × (IsTrue old.honest → IsOther old.disk.view)
-IsOpenFault old new (faults.Damaged page) = (128 ≤ old.size) × (IsTrue old.honest → (slot : Slot) × IsTree old.disk.view slot × (content old.disk.view ≡ None) × MayBeNamed slot page × (tree_or_name slot (page_of old.disk.view) ≡ Err page))
-IsOpenFault old new faults.Memory = (128 ≤ old.size) × (IsTrue old.honest → (slot : Slot) × IsTree old.disk.view slot)
-IsOpenFault old new other = ⊥
+abbrev pub IsTreeOpenFault : State → State → KeeperFault → Type 0
+IsTreeOpenFault old new faults.Small = old.size < 128
+IsTreeOpenFault old new faults.Device = (128 ≤ old.size) × OneCounted old new
+IsTreeOpenFault old new faults.NoImage = (128 ≤ old.size) × (IsTrue old.honest → current old.disk.view ≡ None)
+IsTreeOpenFault old new faults.Version = (128 ≤ old.size) × (IsTrue old.honest → IsOther old.disk.view)
+IsTreeOpenFault old new (faults.Damaged page) = (128 ≤ old.size) × (IsTrue old.honest → (slot : Slot) × IsTree old.disk.view slot × (content old.disk.view ≡ None) × MayNamePage slot page × (tree_or_name slot (page_of old.disk.view) ≡ Err page))
+IsTreeOpenFault old new faults.Memory = (128 ≤ old.size) × (IsTrue old.honest → (slot : Slot) × IsTree old.disk.view slot)
+IsTreeOpenFault old new other = ⊥
 
 -- What a refusal leaves: all that was there is made sure of, but where the device is too small, or where the sync failed and was counted. So the sync comes before each read.
 abbrev pub LeavesSynced : State → State → CrashStates Image → KeeperFault → Type 0

@@ -65,8 +65,8 @@ pub record IsKeptTree (image : Image) (ledger : LedgerState) (tree : TreeRoot) :
   pub has : (n : ℕ) → has_page ledger tree.seal n ≡ is_among n (found_at tree image).pages
 
 -- Each tree that a pin keeps stands in the image.
-abbrev pub AreKept : Image → LedgerState → List (Option TreeRoot) → Type 0
-AreKept image ledger trees = (number : ℕ) (tree : TreeRoot) → slice_index_or trees number None ≡ Some tree → IsKeptTree image ledger tree
+abbrev pub PinnedTreesAreKept : Image → LedgerState → List (Option TreeRoot) → Type 0
+PinnedTreesAreKept image ledger trees = (number : ℕ) (tree : TreeRoot) → slice_index_or trees number None ≡ Some tree → IsKeptTree image ledger tree
 
 -- Each page that one of these trees has in an image has the same bytes in another.
 abbrev pub PinnedPagesStay : List (Option TreeRoot) → Image → Image → Type 0

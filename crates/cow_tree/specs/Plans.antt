@@ -34,7 +34,7 @@ pub record IsHeld (view : Image) (slot : Slot) (top : ℕ) (ledger : LedgerState
   pub seals : greatest_seal view 16 ≤ top
 
 -- New pages that go to places which are no page of the tree under the slot, and a root of the next seal over them, for the other slot.
-pub record IsPlan (view : Image) (slot : Slot) (top : ℕ) (pages : List NewPage) (new : Slot) (found : Found) : Type 0 where
+pub record IsTreePlan (view : Image) (slot : Slot) (top : ℕ) (pages : List NewPage) (new : Slot) (found : Found) : Type 0 where
   pub free : AreFree (found_under slot view) pages
   pub number : new.number ≡ 1 - slot.number
   pub seal : new.seal ≡ top + 1
@@ -42,7 +42,7 @@ pub record IsPlan (view : Image) (slot : Slot) (top : ℕ) (pages : List NewPage
   pub under : content_under new (patched pages (page_of view)) ≡ Some found
 
 -- The next generation has exactly the pages of the new tree, all of them whole: those that are alive, and those that were taken. No generation in use has a page that is written.
-pub record HasNext (view : Image) (ledger : LedgerState) (pages : List NewPage) (new : Slot) (found : Found) : Type 0 where
+pub record LeadsToNext (view : Image) (ledger : LedgerState) (pages : List NewPage) (new : Slot) (found : Found) : Type 0 where
   pub size : length ledger.lives ≡ new.root.pages
   pub next : (n : ℕ) → has_page_next ledger n ≡ is_among n found.pages
   pub whole : (n : ℕ) → IsTrue (is_among n found.pages) → length (patched pages (page_of view) n) ≡ 4096
@@ -58,8 +58,8 @@ pub record Starts (slot : Slot) (view : Image) (pairs : List Pair) (ledger : Led
 -- Pages and a root over them that may be committed, after which the tree has these pairs, and as its pages the new ones and those that are alive, each once.
 pub record IsPlannedAt (view : Image) (slot : Slot) (top : ℕ) (pairs : List Pair) (ledger : LedgerState) (pages : List NewPage) (new : Slot) : Type 0 where
   pub found : Found
-  pub plan_is : IsPlan view slot top pages new found
-  pub next : HasNext view ledger pages new found
+  pub plan_is : IsTreePlan view slot top pages new found
+  pub next : LeadsToNext view ledger pages new found
   pub pairs_are : found.pairs ≡ pairs
   pub reaches : (n : ℕ) → times n found.pages ≡ times n (numbers pages) + one_if (is_alive ledger n)
 
@@ -96,13 +96,13 @@ IsRoomFault free may_need (faults.Full need left) = (left ≡ free) × (free < n
 IsRoomFault free may_need other = IsTreeFault other
 
 -- the faults of a plan, where so many pages are free and so many at most may be needed
-abbrev pub IsPlanFault : ℕ → (ℕ → Type 0) → KeeperFault → Type 0
-IsPlanFault free may_need faults.Device = Unit {0}
-IsPlanFault free may_need (faults.Damaged n) = Unit {0}
-IsPlanFault free may_need faults.Deep = Unit {0}
-IsPlanFault free may_need faults.Memory = Unit {0}
-IsPlanFault free may_need (faults.Full need left) = (left ≡ free) × (free < need) × may_need need
-IsPlanFault free may_need other = ⊥
+abbrev pub IsTreePlanFault : ℕ → (ℕ → Type 0) → KeeperFault → Type 0
+IsTreePlanFault free may_need faults.Device = Unit {0}
+IsTreePlanFault free may_need (faults.Damaged n) = Unit {0}
+IsTreePlanFault free may_need faults.Deep = Unit {0}
+IsTreePlanFault free may_need faults.Memory = Unit {0}
+IsTreePlanFault free may_need (faults.Full need left) = (left ≡ free) × (free < need) × may_need need
+IsTreePlanFault free may_need other = ⊥
 
 -- A tree's root stands at this page once these pages are written, of numbers of a list; the page is one of the image.
 abbrev pub IsRootWritten : ℕ → ℕ → List ℕ → ℕ → Option Tree → List NewPage → ℕ → Type 0

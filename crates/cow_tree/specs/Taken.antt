@@ -14,7 +14,7 @@ are_free s [] = true
 are_free s (n ∷ ns) = is_free s n && are_free (taking n s) ns
 
 -- Pages that were free are taken, so many.
-pub record Takes (count : ℕ) (old new : LedgerState) (numbers : List ℕ) : Type 0 where
+pub record TakesPages (count : ℕ) (old new : LedgerState) (numbers : List ℕ) : Type 0 where
   pub count_is : length numbers ≡ count
   pub free : are_free old numbers ≡ true
   pub taken : new ≡ taking_all old numbers

@@ -10,7 +10,7 @@ use Rattle.page_store.specs.Batch.{is_map}
 use Rattle.page_store.specs.Content.{is_tree_version, Found, tree_found, is_among}
 use Rattle.page_store.specs.StoreState.{StoreState}
 use Rattle.page_store.specs.declared.slot.Slot.{Slot}
-use Rattle.cow_tree.specs.Opening.{IsRooted, AreWhole}
+use Rattle.cow_tree.specs.Opening.{IsRooted, LivePagesAreWhole}
 use Rattle.cow_tree.specs.PinnedTrees.{or_nothing, pins_from, keep_page}
 use Rattle.cow_tree.specs.declared.tree_root.TreeRoot.{TreeRoot}
 
@@ -31,7 +31,7 @@ pub record IsFittedSlot (slot : Slot) : Type 0 where
   pub rooted : IsRooted slot.root
 
 -- a slot of an image of a tree on a device of so many sectors, and the ledger of its pages
-pub record IsFitted (sectors : ℕ) (slot : Slot) (ledger : LedgerState) : Type 0 where
+pub record FitsTree (sectors : ℕ) (slot : Slot) (ledger : LedgerState) : Type 0 where
   pub number : slot.number < 2
   pub least : 16 ≤ slot.root.pages
   pub most : slot.root.pages ≤ 65536
@@ -54,7 +54,7 @@ pub record IsThere (image : Image) (slot : Slot) (ledger : LedgerState) : Type 0
   pub found_is : tree_found slot (page_of image) ≡ Some (found_under slot image)
   pub map : is_map (found_under slot image).pairs ≡ true
   pub alive : (n : ℕ) → is_alive ledger n ≡ is_among n (found_under slot image).pages
-  pub whole : AreWhole image ledger
+  pub whole : LivePagesAreWhole image ledger
 
 -- Each image of the disk is what reads give; the slot is current there, and no seal is above the top.
 pub record IsDurable (disk : Disk) (slot : Slot) (top : ℕ) : Type 0 where

@@ -27,10 +27,10 @@ pub record IsBroken (what : Option Found) (old : LedgerState) : Type 0 where
   pub each : (found : Found) → what ≡ Some found → are_fresh old found.pages ≡ false
 
 -- what a walk tells, by what stands there
-abbrev pub Tells : Option Found → LedgerState → LedgerState → Result ℕ PageFault → Type 0
-Tells what old new (Ok count) = IsWalked what old new count
-Tells what old new (Err Device) = Unit {0}
-Tells what old new (Err (Damaged page)) = IsBroken what old
+abbrev pub TellsWalk : Option Found → LedgerState → LedgerState → Result ℕ PageFault → Type 0
+TellsWalk what old new (Ok count) = IsWalked what old new count
+TellsWalk what old new (Err Device) = Unit {0}
+TellsWalk what old new (Err (Damaged page)) = IsBroken what old
 
 -- The pages of a list are those that are held.
 pub record AreHeld (held : LedgerState) (reached : List ℕ) : Type 0 where
@@ -68,7 +68,7 @@ CountsPages (Err Device) before now = now ≡ counted before
 CountsPages (Err (Damaged page)) before now = now ≡ before
 
 -- What a call that reads pages does to a device.
-pub record ReadsPages {T D : Type 0} (state : D → State) (crash_states : D → CrashStates Image) (old new : D) (result : Result T PageFault) : Type 0 where
+pub record ReadsTreePages {T D : Type 0} (state : D → State) (crash_states : D → CrashStates Image) (old new : D) (result : Result T PageFault) : Type 0 where
   pub device : IsReadCall state crash_states old new
   pub reads : CountsPages result (state old).failed_reads (state new).failed_reads
 
@@ -77,7 +77,7 @@ pub record WalksPages {T D : Type 0} (state : D → State) (crash_states : D →
   pub whole : IsTrue (state old).honest → OnOk result (HoldsWhole (state old).disk.view before after)
   pub ledger : OnlyHolds before after
   pub named : IfErr result may_name
-  pub reads : ReadsPages state crash_states old new result
+  pub reads : ReadsTreePages state crash_states old new result
 
 -- what was found in front of more
 abbrev pub with_front : Found → Option Found → Option Found

@@ -32,10 +32,10 @@ around_in place key bytes = do
   where_true (are_inside place.pages around) (Some around)
 
 -- An answer from the pages of a tree, of which none is damaged.
-abbrev pub IsAnswer : {T : Type 0} → Result T PageFault → (T → Type 0) → Type 0
-IsAnswer (Ok x) P = P x
-IsAnswer (Err Device) P = Unit {0}
-IsAnswer (Err (Damaged page)) P = ⊥
+abbrev pub AnswersBy : {T : Type 0} → Result T PageFault → (T → Type 0) → Type 0
+AnswersBy (Ok x) P = P x
+AnswersBy (Err Device) P = Unit {0}
+AnswersBy (Err (Damaged page)) P = ⊥
 
 -- the pair after a key that stands at and under a page, which is a part of a tree, or nothing where there is no page
 abbrev pub IsNext : (ℕ → List ℕ) → Bounds → ℕ → List ℕ → Option ℕ → Found → Option Pair → Type 0

@@ -6,7 +6,7 @@ ghost use Rattle.page_store.specs.Keys.{precedes};
 ghost use Rattle.page_store.specs.Content.{Found, tree_found};
 ghost use Rattle.page_store.specs.Batch.{is_pair, is_map, pair_after};
 ghost use Rattle.page_store.specs.PairsInOrder.{last_key};
-ghost use Rattle.cow_tree.specs.Drafts.{Tells};
+ghost use Rattle.cow_tree.specs.Drafts.{TellsDraft};
 ghost use Rattle.cow_tree.specs.KeptLeaves.{IsKeptLeaf};
 ghost use Rattle.cow_tree.specs.Opening.{IsRooted, bounds_under};
 ghost use Rattle.cow_tree.specs.Compacting.{most_pairs, ReadsPairs};
@@ -41,7 +41,7 @@ fn pair_behind<D: Device>(
     requires fits { 8 * slot.now.root.pages ≤ (D.state device.old).size }
     requires rooted { IsRooted slot.now.root }
     ensures pair { IsTrue (D.state device.old).honest → (found : Found) → tree_found slot.now (page_of (D.state device.old).disk.view) ≡ Some found → IsKeptLeaf (page_of (D.state device.old).disk.view) (bounds_under slot.now) found kept.old →
-        Tells ⊥ result (λ next. next ≡ pair_after found.pairs (last_key pairs.now)) }
+        TellsDraft ⊥ result (λ next. next ≡ pair_after found.pairs (last_key pairs.now)) }
     ensures kept { IsTrue (D.state device.old).honest → (found : Found) → tree_found slot.now (page_of (D.state device.old).disk.view) ≡ Some found → IsKeptLeaf (page_of (D.state device.old).disk.view) (bounds_under slot.now) found kept.old →
         IsKeptLeaf (page_of (D.state device.old).disk.view) (bounds_under slot.now) found kept.new }
     ensures rises { IfOk result (λ next. IfSome next (λ p. (precedes (last_key pairs.now) p.0 ≡ true) × (is_pair p ≡ true))) }
@@ -67,7 +67,7 @@ pub(crate) fn all_pairs<D: Device>(
     requires fits { 8 * slot.now.root.pages ≤ (D.state device.old).size }
     requires rooted { IsRooted slot.now.root }
     ensures pairs { IsTrue (D.state device.old).honest → (found : Found) → tree_found slot.now (page_of (D.state device.old).disk.view) ≡ Some found → length found.pairs ≤ most_pairs →
-        Tells ⊥ result (λ pairs. pairs.items ≡ found.pairs) }
+        TellsDraft ⊥ result (λ pairs. pairs.items ≡ found.pairs) }
     ensures map { IfOk result (λ pairs. is_map pairs.items ≡ true) }
     ensures few { IfOk result (λ pairs. length pairs.items ≤ most_pairs) }
     ensures counted { IfOk result (λ pairs. length pairs.items ≡ slot.now.root.keys) }

@@ -11,7 +11,7 @@ ghost use Rattle.cow_tree.specs.PinnedTrees.{HeldPagesStay, PinnedStay};
 ghost use Rattle.cow_tree.specs.TreeState.{found_under};
 ghost use Rattle.page_store.specs.Commit.{IsBetween};
 ghost use Rattle.cow_tree.specs.Plans.{tree_commit};
-ghost use Rattle.cow_tree.specs.Committed.{MayBeWritten, IsCommitted};
+ghost use Rattle.cow_tree.specs.Committed.{MayWritePlan, IsCommitted};
 
 use crate::plans::Plan;
 use page_alloc::Ledger;
@@ -29,14 +29,14 @@ pub(crate) fn write_plan<D: Device>(
     requires slot { 8 * plan.now.slot.number + 8 ≤ (D.state device.old).size }
     requires page { IsSlotPage (D.state device.old).size plan.now.slot plan.now.root }
     requires later { ledger.old.generation < plan.now.slot.seal }
-    requires planned { IsTrue (D.state device.old).honest → MayBeWritten (D.state device.old).disk.view (crash_states_of D.moment D.possible_since device.old) slot.now ledger.old plan.now }
-    ensures done { IsTrue (D.state device.old).honest → (w : MayBeWritten (D.state device.old).disk.view (crash_states_of D.moment D.possible_since device.old) slot.now ledger.old plan.now) →
+    requires planned { IsTrue (D.state device.old).honest → MayWritePlan (D.state device.old).disk.view (crash_states_of D.moment D.possible_since device.old) slot.now ledger.old plan.now }
+    ensures done { IsTrue (D.state device.old).honest → (w : MayWritePlan (D.state device.old).disk.view (crash_states_of D.moment D.possible_since device.old) slot.now ledger.old plan.now) →
         OnOk result (IsCommitted (D.state device.new).disk.view (crash_states_of D.moment D.possible_since device.new) plan.now ledger.new w.planned.found) }
-    ensures kept { IsTrue (D.state device.old).honest → MayBeWritten (D.state device.old).disk.view (crash_states_of D.moment D.possible_since device.old) slot.now ledger.old plan.now →
+    ensures kept { IsTrue (D.state device.old).honest → MayWritePlan (D.state device.old).disk.view (crash_states_of D.moment D.possible_since device.old) slot.now ledger.old plan.now →
         OnErr result (Agree (found_under slot.now (D.state device.old).disk.view).pages (page_of (D.state device.old).disk.view) (page_of (D.state device.new).disk.view)) }
-    ensures held { IsTrue (D.state device.old).honest → MayBeWritten (D.state device.old).disk.view (crash_states_of D.moment D.possible_since device.old) slot.now ledger.old plan.now →
+    ensures held { IsTrue (D.state device.old).honest → MayWritePlan (D.state device.old).disk.view (crash_states_of D.moment D.possible_since device.old) slot.now ledger.old plan.now →
         HeldPagesStay ledger.old (page_of (D.state device.old).disk.view) (page_of (D.state device.new).disk.view) }
-    ensures at_crash { IsTrue (D.state device.old).honest → (w : MayBeWritten (D.state device.old).disk.view (crash_states_of D.moment D.possible_since device.old) slot.now ledger.old plan.now) →
+    ensures at_crash { IsTrue (D.state device.old).honest → (w : MayWritePlan (D.state device.old).disk.view (crash_states_of D.moment D.possible_since device.old) slot.now ledger.old plan.now) →
         AddsOnly (crash_states_of D.moment D.possible_since device.old) (crash_states_of D.moment D.possible_since device.new) (IsBetween (tree_commit slot.now (D.state device.old).disk.view plan.now.slot w.planned.found) plan.now.pages.items (D.state device.old).disk.view) }
     ensures advanced { OnOk result (ledger.new ≡ advanced plan.now.slot.seal ledger.old) }
     ensures pinned { OnOk result (PinnedStay ledger.old ledger.new) }

@@ -9,7 +9,7 @@ ghost use Rattle.page_store.specs.StoreState.{HasTried, NeedsTheSame, last_gener
 ghost use Rattle.page_store.specs.Steps.{crash_states_of};
 ghost use Rattle.page_store.specs.declared.fault.KeeperFault.TheVariants.{Failed, Spent};
 ghost use Rattle.cow_tree.specs.Needs.{MayNeed};
-ghost use Rattle.cow_tree.specs.Compacting.{MayNeedFilled, IsFilled};
+ghost use Rattle.cow_tree.specs.Compacting.{MayNeedFilled, IsFilledTree};
 ghost use Rattle.cow_tree.specs.Committed.{TreeHas, WritesOnePlan, WritesNoPinnedPage};
 ghost use Rattle.cow_tree.specs.TreeSeen.{held, device_of, slot_of, top_of, pinned_by};
 
@@ -22,13 +22,13 @@ use sector_device::Device;
 impl<D: Device> CompactKeeper for TreeKeeper<D> {
     ghost compact_need = { λ k need. MayNeedFilled (slot_of k) (D.state (device_of k)) need };
 
-    ghost is_filled = { λ k. IsFilled (slot_of k) (D.state (device_of k)).disk.view };
+    ghost is_filled = { λ k. IsFilledTree (slot_of k) (D.state (device_of k)).disk.view };
 
     ghost few_pages = { λ k n honest need. (need honest).most };
 
     fn compact(&mut self) -> Result<(), KeeperFault>
         ensures done { OnOk result (IsCompacted (held D.state self.old) (held D.state self.new)) }
-        ensures filled { IsTrue (held D.state self.old).honest → OnOk result (IsFilled (slot_of self.new) (D.state (device_of self.new)).disk.view) }
+        ensures filled { IsTrue (held D.state self.old).honest → OnOk result (IsFilledTree (slot_of self.new) (D.state (device_of self.new)).disk.view) }
         ensures fits { IsTrue (held D.state self.old).honest → OnOk result ((n : ℕ) × MayNeedFilled (slot_of self.old) (D.state (device_of self.old)) n × (n ≤ (held D.state self.old).free)) }
         ensures fault { IfErr result (IsCompactFault (held D.state self.old) (held D.state self.new) (MayNeedFilled (slot_of self.old) (D.state (device_of self.old)))) }
         ensures need { IfErr result (λ e. (held D.state self.new).usable ≡ (held D.state self.old).usable → NeedsTheSame (MayNeed (slot_of self.old) (D.state (device_of self.old))) (MayNeed (slot_of self.new) (D.state (device_of self.new)))

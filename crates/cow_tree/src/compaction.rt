@@ -6,8 +6,8 @@ ghost use Rattle.page_store.specs.Batch.{is_map};
 ghost use Rattle.page_store.specs.Steps.{crash_states_of};
 ghost use Rattle.tree_nodes.specs.Growth.{owned_under};
 ghost use Rattle.tree_loading.specs.Filled.{filled};
-ghost use Rattle.cow_tree.specs.TreeState.{IsFitted, IsFittedSlot, IsThere};
-ghost use Rattle.cow_tree.specs.Drafts.{IsCountedRead, OnlyMarks, OnlyRetires, Tells};
+ghost use Rattle.cow_tree.specs.TreeState.{FitsTree, IsFittedSlot, IsThere};
+ghost use Rattle.cow_tree.specs.Drafts.{IsCountedRead, OnlyMarks, OnlyRetires, TellsDraft};
 ghost use Rattle.cow_tree.specs.Plans.{IsHeld, IsPlanned, IsMade, IsRoomFault};
 ghost use Rattle.cow_tree.specs.Compacting.{most_pairs, NeedsFilled, IsFillPlan, IsFillFault};
 
@@ -57,7 +57,7 @@ fn plan_pairs(
     ensures keys { IfOk result (λ plan. plan.slot.root.keys ≡ length pairs.items) }
     ensures none { (n : ℕ) → IfOk result (λ plan. is_alive ledger.new n ≡ false) }
     ensures planned { (view : Image) (top : ℕ) → IsHeld view slot.now top ledger.old → ((n : ℕ) → is_taken (mark_of ledger.old n) ≡ false) → seal ≡ top + 1 →
-        Tells ⊥ result (IsPlanned view slot.now top pairs.items ledger.new) }
+        TellsDraft ⊥ result (IsPlanned view slot.now top pairs.items ledger.new) }
     ensures marks { OnlyMarks ledger.old ledger.new }
     ensures fault { IfErr result (IsRoomFault (free_count ledger.old) (λ need. need ≡ owned_under (filled pairs.items).root)) }
 {
@@ -77,13 +77,13 @@ pub(crate) fn plan_compaction<D: Device>(
     slot: &Slot,
     seal: u64,
 ) -> Result<Plan, KeeperFault>
-    requires fitted { IsFitted (D.state device.old).size slot.now ledger.old }
+    requires fitted { FitsTree (D.state device.old).size slot.now ledger.old }
     requires later { slot.now.seal < seal }
     ensures made { IfOk result (IsMade slot.now seal slot.now.root.banner) }
     ensures keys { IfOk result (λ plan. plan.slot.root.keys ≡ slot.now.root.keys) }
     ensures room { IfOk result (λ plan. length plan.pages.items ≤ free_count ledger.old) }
     ensures planned { IsTrue (D.state device.old).honest → (top : ℕ) → IsHeld (D.state device.old).disk.view slot.now top ledger.old → IsThere (D.state device.old).disk.view slot.now ledger.old → seal ≡ top + 1 →
-        Tells ⊥ result (λ plan. IsFillPlan (D.state device.old).disk.view slot.now top ledger.new plan × NeedsFilled slot.now (D.state device.old).disk.view (length plan.pages.items)) }
+        TellsDraft ⊥ result (λ plan. IsFillPlan (D.state device.old).disk.view slot.now top ledger.new plan × NeedsFilled slot.now (D.state device.old).disk.view (length plan.pages.items)) }
     ensures marks { OnlyMarks ledger.old ledger.new }
     ensures refused { OnErr result (ledger.new ≡ ledger.old) }
     ensures fault { IfErr result (IsFillFault (free_count ledger.old) (λ need. IsTrue (D.state device.old).honest → IsThere (D.state device.old).disk.view slot.now ledger.old → NeedsFilled slot.now (D.state device.old).disk.view need)) }

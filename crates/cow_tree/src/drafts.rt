@@ -12,7 +12,7 @@ ghost use Rattle.tree_nodes.specs.Needs.{needed_level};
 ghost use Rattle.tree_nodes.specs.OwnedTrees.{state_of};
 ghost use Rattle.cow_tree.specs.Opening.{IsRooted};
 ghost use Rattle.cow_tree.specs.Needs.{path_read, edit_made, drafted, StaysLow, GetsTooDeep};
-ghost use Rattle.cow_tree.specs.Drafts.{old_under, IsDraft, IsCounted, ReadsToDraft, Tells, IsPutFault, MayBeTooDeep, keys_with, keys_without, root_under};
+ghost use Rattle.cow_tree.specs.Drafts.{old_under, IsDraft, IsCounted, ReadsToDraft, TellsDraft, IsPutFault, MayBeTooDeep, keys_with, keys_without, root_under};
 
 use crate::opening_walk::load_page;
 use crate::page_bounds::bounds_of;
@@ -46,7 +46,7 @@ fn read_needed<D: Device>(
     requires fits { 8 * slot.now.root.pages ≤ (D.state device.old).size }
     requires pages { length ledger.old.lives ≡ slot.now.root.pages }
     ensures draft { IsTrue (D.state device.old).honest → (edits read : ℕ) (pairs : List Pair) → IsDraft slot.now (D.state device.old).disk.view edits read pairs ledger.old (state_of tree.old) →
-        Tells ⊥ result (λ done. IsDraft slot.now (D.state device.old).disk.view edits (read + 1) pairs ledger.new (state_of tree.new)) }
+        TellsDraft ⊥ result (λ done. IsDraft slot.now (D.state device.old).disk.view edits (read + 1) pairs ledger.new (state_of tree.new)) }
     ensures read { IsTrue (D.state device.old).honest → OnOk result (state_of tree.new ≡ stepped (old_under slot.now (D.state device.old).disk.view) (state_of tree.old) (supply_step key.now)) }
     ensures down { OnOk result ((n : ℕ) → needed_under key.now (state_of tree.new).root ≡ Some n → needed_level key.now (state_of tree.new) < needed_level key.now (state_of tree.old)) }
     ensures height { OnOk result ((state_of tree.new).height ≡ (state_of tree.old).height) }
@@ -83,7 +83,7 @@ fn own_path<D: Device>(
     requires pages { length ledger.old.lives ≡ slot.now.root.pages }
     requires low { (state_of tree.old).height ≤ most_levels }
     ensures draft { IsTrue (D.state device.old).honest → (edits : ℕ) (pairs : List Pair) → IsDraft slot.now (D.state device.old).disk.view edits 0 pairs ledger.old (state_of tree.old) →
-        Tells ⊥ result (λ done. IsDraft slot.now (D.state device.old).disk.view edits slot.now.root.height pairs ledger.new (state_of tree.new)) }
+        TellsDraft ⊥ result (λ done. IsDraft slot.now (D.state device.old).disk.view edits slot.now.root.height pairs ledger.new (state_of tree.new)) }
     ensures owned { OnOk result (needed_under key.now (state_of tree.new).root ≡ None) }
     ensures path { IsTrue (D.state device.old).honest → (edits : ℕ) (pairs : List Pair) → IsDraft slot.now (D.state device.old).disk.view edits 0 pairs ledger.old (state_of tree.old) →
         OnOk result (state_of tree.new ≡ path_read (old_under slot.now (D.state device.old).disk.view) key.now slot.now.root.height (state_of tree.old)) }
@@ -177,7 +177,7 @@ impl Draft {
         requires low { (state_of self.tree).height ≤ most_levels }
         requires sizes { IsTrue (is_edit edit.now) }
         ensures draft { IsTrue (D.state device.old).honest → (edits : ℕ) (pairs : List Pair) → IsCounted slot.now (D.state device.old).disk.view edits pairs ledger.old self →
-            length pairs < 2 ^ 64 - 1 → Tells (MayBeTooDeep slot.now (edits + 1) × (most_levels < (edit_made (old_under slot.now (D.state device.old).disk.view) slot.now.root.height (state_of self.tree) edit.now).height)) result
+            length pairs < 2 ^ 64 - 1 → TellsDraft (MayBeTooDeep slot.now (edits + 1) × (most_levels < (edit_made (old_under slot.now (D.state device.old).disk.view) slot.now.root.height (state_of self.tree) edit.now).height)) result
             (IsCounted slot.now (D.state device.old).disk.view (edits + 1) (edited pairs edit.now) ledger.new) }
         ensures made { IsTrue (D.state device.old).honest → (edits : ℕ) (pairs : List Pair) → IsCounted slot.now (D.state device.old).disk.view edits pairs ledger.old self →
             IfOk result (λ draft. state_of draft.tree ≡ edit_made (old_under slot.now (D.state device.old).disk.view) slot.now.root.height (state_of self.tree) edit.now) }
@@ -210,7 +210,7 @@ pub(crate) fn draft_batch<D: Device>(
     requires rooted { IsRooted slot.now.root }
     requires batch { IsTrue (is_batch batch.now) }
     ensures draft { IsTrue (D.state device.old).honest → (pairs : List Pair) → IsDraft slot.now (D.state device.old).disk.view 0 0 pairs ledger.old (root_under slot.now) → slot.now.root.keys ≡ length pairs → is_map pairs ≡ true →
-        length pairs + length batch.now < 2 ^ 64 → Tells (MayBeTooDeep slot.now (length batch.now) × GetsTooDeep slot.now (D.state device.old).disk.view batch.now) result
+        length pairs + length batch.now < 2 ^ 64 → TellsDraft (MayBeTooDeep slot.now (length batch.now) × GetsTooDeep slot.now (D.state device.old).disk.view batch.now) result
         (IsCounted slot.now (D.state device.old).disk.view (length batch.now) (updated pairs batch.now) ledger.new) }
     ensures made { IsTrue (D.state device.old).honest → (pairs : List Pair) → IsDraft slot.now (D.state device.old).disk.view 0 0 pairs ledger.old (root_under slot.now) → slot.now.root.keys ≡ length pairs → is_map pairs ≡ true →
         length pairs + length batch.now < 2 ^ 64 → IfOk result (λ draft. (state_of draft.tree ≡ drafted slot.now (D.state device.old).disk.view batch.now) × StaysLow slot.now (D.state device.old).disk.view batch.now) }

@@ -9,9 +9,9 @@ ghost use Rattle.page_store.specs.Batch.{pair_after};
 ghost use Rattle.page_store.specs.StoreState.{IsFilled};
 ghost use Rattle.page_store.specs.Content.{place_in};
 ghost use Rattle.tree_nodes.specs.PageViews.{bounds_of, pairs_in};
-ghost use Rattle.cow_tree.specs.KeptLeaves.{begins_by, next_in, pairs_from, CopiesPair, IsReached};
-ghost use Rattle.cow_tree.specs.Ways.{IsAnswer};
-ghost use Rattle.cow_tree.specs.Walks.{ReadsPages};
+ghost use Rattle.cow_tree.specs.KeptLeaves.{begins_by, next_in, pairs_from, CopiesPair, IsReachedAfter};
+ghost use Rattle.cow_tree.specs.Ways.{AnswersBy};
+ghost use Rattle.cow_tree.specs.Walks.{ReadsTreePages};
 ghost use Rattle.cow_tree.specs.declared.page_fault.PageFault.{PageFault as PageFaultValue};
 
 use crate::opening_walk::{count_pairs, load_page};
@@ -90,9 +90,9 @@ impl KeptLeaf {
         requires fits { 8 * bounds.pages ≤ (D.state device.old).size }
         requires most { page < bounds.pages }
         ensures pairs { IsTrue (D.state device.old).honest → (pairs : List Pair) → leaf_of (place_in (bounds_of bounds) 0 page) [] None (page_of (D.state device.old).disk.view page) ≡ Some pairs →
-            IsAnswer result (λ done. self.new ≡ pairs) }
+            AnswersBy result (λ done. self.new ≡ pairs) }
         ensures some { OnOk result (self.new ≡ [] → ⊥) }
-        ensures reads { ReadsPages D.state (crash_states_of D.moment D.possible_since) device.old device.new result }
+        ensures reads { ReadsTreePages D.state (crash_states_of D.moment D.possible_since) device.old device.new result }
         ensures work { MadeIfOk result 8 0 0 (D.state device.old) (D.state device.new) }
     {
         self.last.left = 0;
@@ -199,7 +199,7 @@ fn place_after<'a>(
     key: &[u8],
 ) -> Option<(Place, &'a [u8], &'a [u8])>
     ensures reached { MatchOption result (pair_after (pairs_from bytes.now from.at from.left) key.now ≡ None)
-        (λ x. IsReached key.now (x.1.now, x.2.now) (pairs_from bytes.now x.0.at x.0.left) (pairs_from bytes.now from.at from.left)) }
+        (λ x. IsReachedAfter key.now (x.1.now, x.2.now) (pairs_from bytes.now x.0.at x.0.left) (pairs_from bytes.now from.at from.left)) }
     ensures sizes { IfSome result (λ x. (length x.1.now ≤ 300) × (length x.2.now ≤ 1024)) }
 {
     let mut place = from;
@@ -236,7 +236,7 @@ fn copy_from(
 ) -> Option<(Place, (usize, usize))>
     ensures within { IfSome result (λ x. (x.1.0 ≤ 300) × (x.1.1 ≤ 1024)) }
     ensures reached { MatchOption result (pair_after (pairs_from bytes.now from.at from.left) after.now ≡ None)
-        (λ x. IsReached after.now (take x.1.0 key.new, take x.1.1 value.new) (pairs_from bytes.now x.0.at x.0.left) (pairs_from bytes.now from.at from.left)) }
+        (λ x. IsReachedAfter after.now (take x.1.0 key.new, take x.1.1 value.new) (pairs_from bytes.now x.0.at x.0.left) (pairs_from bytes.now from.at from.left)) }
     ensures key { IsFilled {E = PageFaultValue} (λ x. x.1.0) (Ok result) key.old key.new }
     ensures value { IsFilled {E = PageFaultValue} (λ x. x.1.1) (Ok result) value.old value.new }
 {

@@ -6,7 +6,7 @@ ghost use Rattle.page_store.specs.Content.{tree_found};
 ghost use Rattle.page_store.specs.Batch.{pair_after};
 ghost use Rattle.page_store.specs.StoreState.{IsFilled};
 ghost use Rattle.page_store.specs.Work.{pages_tried};
-ghost use Rattle.cow_tree.specs.LookUps.{LooksUp, KeepsNext};
+ghost use Rattle.cow_tree.specs.LookUps.{LooksUpValue, KeepsNext};
 ghost use Rattle.cow_tree.specs.KeptLeaves.{IsKeptLeaf, has_next};
 ghost use Rattle.cow_tree.specs.Opening.{IsRooted, bounds_under};
 ghost use Rattle.cow_tree.specs.PinnedTrees.{IsRootedAt, bounds_at, tree_at};
@@ -27,7 +27,7 @@ pub(crate) fn find_value<D: Device>(
 ) -> Result<Option<usize>, PageFault>
     requires fits { 8 * tree.pages ≤ (D.state device.old).size }
     requires rooted { IsRootedAt tree }
-    ensures found { LooksUp D.state (crash_states_of D.moment D.possible_since) (λ pages. tree_at tree pages) key.now device.old device.new buffer.old buffer.new result }
+    ensures found { LooksUpValue D.state (crash_states_of D.moment D.possible_since) (λ pages. tree_at tree pages) key.now device.old device.new buffer.old buffer.new result }
     ensures work { MadeIfOk result (8 * tree.height) 0 0 (D.state device.old) (D.state device.new) }
 {
     if tree.height == 0 {

@@ -13,10 +13,10 @@ ghost use Rattle.page_store.specs.Opening.{ReadsToOpen, MadeToOpen};
 ghost use Rattle.page_store.specs.Content.{is_tree_version, tree_of, tree_found, HasContent};
 ghost use Rattle.page_store.specs.declared.fault.KeeperFault.TheVariants.{Small, Memory};
 ghost use Rattle.cow_tree.specs.NamedWalks.{root_or_name, tree_or_name};
-ghost use Rattle.cow_tree.specs.Walks.{Tells, Names, WalksPages};
-ghost use Rattle.cow_tree.specs.Opening.{bounds_under, IsRooted, MayName, IsNamed, Finds, AreWhole, IsReadAs, IsSlotOpened, IsOpened, IsSlotFault, IsOpenFault, LeavesSynced};
+ghost use Rattle.cow_tree.specs.Walks.{TellsWalk, Names, WalksPages};
+ghost use Rattle.cow_tree.specs.Opening.{bounds_under, IsRooted, MayName, IsNamed, Finds, LivePagesAreWhole, IsImageOfSlot, IsSlotOpened, IsOpenedTree, IsTreeSlotFault, IsTreeOpenFault, LeavesSynced};
 ghost use Rattle.cow_tree.specs.Work.{ReadsEachOnce};
-ghost use Rattle.cow_tree.specs.TreeState.{IsAtRest, IsFitted};
+ghost use Rattle.cow_tree.specs.TreeState.{IsAtRest, FitsTree};
 ghost use Rattle.cow_tree.specs.TreeSeen.{device_of, slot_of, ledger_of, top_of, is_open, held};
 
 use crate::TreeKeeper;
@@ -44,7 +44,7 @@ fn tree_slot<D: Device>(device: &mut D) -> Result<(Slot, u64), KeeperFault>
     ensures fits { IfOk result (λ found. IsFoundSlot (D.state device.old).size found.0) }
     ensures version { IfOk result (λ found. IsTrue (is_tree_version found.0.root.banner.version)) }
     ensures sealed { IfOk result (λ found. found.0.seal ≤ found.1) }
-    ensures fault { IfErr result (IsSlotFault (D.state device.old)) }
+    ensures fault { IfErr result (IsTreeSlotFault (D.state device.old)) }
     ensures device { IsReadCall D.state (crash_states_of D.moment D.possible_since) device.old device.new }
     ensures reads { CountsReads result (D.state device.old).failed_reads (D.state device.new).failed_reads }
     ensures work { MadeIfOk result 16 0 0 (D.state device.old) (D.state device.new) }
@@ -74,7 +74,7 @@ fn open_slot<D: Device>(device: &mut D) -> Result<(Slot, u64), KeeperFault>
     ensures version { IfOk result (λ found. IsTrue (is_tree_version found.0.root.banner.version)) }
     ensures sealed { IfOk result (λ found. found.0.seal ≤ found.1) }
     ensures large { IfOk result (λ found. 128 ≤ (D.state device.old).size) }
-    ensures opens { ReadsToOpen D.state (crash_states_of D.moment D.possible_since) device.old device.new IsOpenFault result }
+    ensures opens { ReadsToOpen D.state (crash_states_of D.moment D.possible_since) device.old device.new IsTreeOpenFault result }
     ensures synced { IfErr result (LeavesSynced (D.state device.old) (D.state device.new) (crash_states_of D.moment D.possible_since device.new)) }
     ensures work { OnOk result (MadeExactly 16 0 1 (D.state device.old) (D.state device.new)) }
     ensures work_on_fault { IfErr result (λ e. MadeAtMost (D.state device.old).size 0 1 (D.state device.old) (D.state device.new)) }
@@ -93,7 +93,7 @@ fn open_slot<D: Device>(device: &mut D) -> Result<(Slot, u64), KeeperFault>
 fn count_tree<D: Device>(device: &mut D, ledger: &mut Ledger, slot: &Slot) -> Result<u64, PageFault>
     requires pages { length ledger.old.lives ≡ slot.now.root.pages }
     requires fits { 8 * slot.now.root.pages ≤ (D.state device.old).size }
-    ensures answered { IsTrue (D.state device.old).honest → Tells (tree_of (page_of (D.state device.old).disk.view) (bounds_under slot.now) slot.now.root.height slot.now.root.tree) ledger.old ledger.new result }
+    ensures answered { IsTrue (D.state device.old).honest → TellsWalk (tree_of (page_of (D.state device.old).disk.view) (bounds_under slot.now) slot.now.root.height slot.now.root.tree) ledger.old ledger.new result }
     ensures named { IfErr result (Names (D.state device.old) (λ bytes. root_or_name slot.now.number bytes (bounds_under slot.now) slot.now.root.height slot.now.root.tree) ledger.old) }
     ensures rooted { OnOk result (IsRooted slot.now.root) }
     ensures walks { WalksPages D.state (crash_states_of D.moment D.possible_since) device.old device.new ledger.old ledger.new (MayName slot.now) result }
@@ -132,7 +132,7 @@ fn walk_slot<D: Device>(device: &mut D, ledger: &mut Ledger, slot: &Slot) -> Res
     ensures found { IsTrue (D.state device.old).honest → Finds (tree_found slot.now (page_of (D.state device.old).disk.view)) slot.now ledger.new result }
     ensures named { IsTrue (D.state device.old).honest → IfErr result (IsNamed (tree_or_name slot.now (page_of (D.state device.old).disk.view))) }
     ensures rooted { OnOk result (IsRooted slot.now.root) }
-    ensures whole { IsTrue (D.state device.old).honest → OnOk result (AreWhole (D.state device.old).disk.view ledger.new) }
+    ensures whole { IsTrue (D.state device.old).honest → OnOk result (LivePagesAreWhole (D.state device.old).disk.view ledger.new) }
     ensures rest { IsAtRest slot.now ledger.new }
     ensures unpinned { ledger.new.pins ≡ replicate 32 None }
     ensures walks { WalksPages D.state (crash_states_of D.moment D.possible_since) device.old device.new ledger.old ledger.new (MayName slot.now) result }
@@ -159,12 +159,12 @@ fn new_ledger(alloc: Global, slot: &Slot) -> Result<Ledger, KeeperFault>
 
 /// Finds the current slot of an image of a tree, which of its pages are held and the greatest seal, and tests everything.
 fn open_parts<D: Device>(alloc: Global, device: &mut D) -> Result<(Slot, Ledger, u64), KeeperFault>
-    ensures opened { IfOk result (λ parts. IsOpened (D.state device.old) (D.state device.new) (crash_states_of D.moment D.possible_since device.new) parts.0 parts.1 parts.2) }
-    ensures fitted { IfOk result (λ parts. IsFitted (D.state device.old).size parts.0 parts.1) }
+    ensures opened { IfOk result (λ parts. IsOpenedTree (D.state device.old) (D.state device.new) (crash_states_of D.moment D.possible_since device.new) parts.0 parts.1 parts.2) }
+    ensures fitted { IfOk result (λ parts. FitsTree (D.state device.old).size parts.0 parts.1) }
     ensures unpinned { IfOk result (λ parts. parts.1.pins ≡ replicate 32 None) }
     ensures sealed { IfOk result (λ parts. parts.0.seal ≤ parts.2) }
     ensures large { IfOk result (λ parts. 128 ≤ (D.state device.old).size) }
-    ensures opens { ReadsToOpen D.state (crash_states_of D.moment D.possible_since) device.old device.new IsOpenFault result }
+    ensures opens { ReadsToOpen D.state (crash_states_of D.moment D.possible_since) device.old device.new IsTreeOpenFault result }
     ensures synced { IfErr result (LeavesSynced (D.state device.old) (D.state device.new) (crash_states_of D.moment D.possible_since device.new)) }
     ensures work { IfOk result (λ parts. MadeToOpen (16 + 8 * (parts.0.root.pages - 2)) (D.state device.old) (D.state device.new)) }
     ensures work_on_fault { IfErr result (λ e. MadeAtMost (D.state device.old).size 0 1 (D.state device.old) (D.state device.new)) }
@@ -185,7 +185,7 @@ impl<D: Device> TreeKeeper<D> {
     pub fn open(alloc: Global, device: D) -> Result<TreeKeeper<D>, (KeeperFault, D)>
         ensures content { IsTrue (D.state device).honest → IfOk result (λ k. HasContent (D.state device).disk.view (held D.state k).pairs (held D.state k).banner) }
         // The slot is the current one, the ledger has exactly the pages of its tree, each of them whole, and there are as many pairs as the slot says.
-        ensures holds { IsTrue (D.state device).honest → IfOk result (λ k. IsReadAs (D.state device).disk.view (slot_of k) (ledger_of k)) }
+        ensures holds { IsTrue (D.state device).honest → IfOk result (λ k. IsImageOfSlot (D.state device).disk.view (slot_of k) (ledger_of k)) }
         ensures top { IsTrue (D.state device).honest → IfOk result (λ k. top_of k ≡ greatest_seal (D.state device).disk.view 16) }
         ensures usable { IfOk result (λ k. is_open k ≡ true) }
         ensures unpinned { IfOk result (λ k. (held D.state k).pins ≡ []) }
@@ -196,7 +196,7 @@ impl<D: Device> TreeKeeper<D> {
         // One sync, and each page of the image is read once at most.
         ensures work { IfOk result (λ k. MadeToOpen (16 + 8 * ((slot_of k).root.pages - 2)) (D.state device) (D.state (device_of k))) }
         ensures work_on_fault { IfErr result (λ e. MadeAtMost (D.state device).size 0 1 (D.state device) (D.state e.1)) }
-        ensures fault { IfErr result (λ e. IsOpenFault (D.state device) (D.state e.1) e.0) }
+        ensures fault { IfErr result (λ e. IsTreeOpenFault (D.state device) (D.state e.1) e.0) }
         ensures counts_fault { IfErr result (λ e. CountsRefusal e.0 (D.state device) (D.state e.1)) }
         ensures small { IfErr result (λ e. e.0 ≡ Small → e.1 ≡ device) }
         // Nothing is written: a crash within the call leaves what one before it might have left.

@@ -11,7 +11,7 @@ ghost use Rattle.page_store.specs.Batch.{is_pair};
 ghost use Rattle.page_store.specs.Content.{place_in, walk, fan, low_of, high_of};
 ghost use Rattle.tree_nodes.specs.PageViews.{bounds_of, pairs_in, children_in};
 ghost use Rattle.cow_tree.specs.NamedWalks.{walk_or_name, fan_or_name};
-ghost use Rattle.cow_tree.specs.Walks.{Tells, Names, NamesInside, OnlyHolds, ReadsPages, WalksPages};
+ghost use Rattle.cow_tree.specs.Walks.{TellsWalk, Names, NamesInside, OnlyHolds, ReadsTreePages, WalksPages};
 ghost use Rattle.cow_tree.specs.Work.{ReadsEachOnce};
 ghost use Rattle.cow_tree.specs.declared.page_fault.PageFault.TheVariants.{Device as NoRead, Damaged};
 
@@ -30,7 +30,7 @@ pub(crate) fn load_page<D: Device>(
     requires { 8 * page + 8 ≤ (D.state device.old).size }
     ensures page { IsTrue (D.state device.old).honest → IfOk result (λ done. page_of (D.state device.old).disk.view page ≡ bytes.new) }
     ensures fault { IfErr result (λ e. e ≡ NoRead) }
-    ensures reads { ReadsPages D.state (crash_states_of D.moment D.possible_since) device.old device.new result }
+    ensures reads { ReadsTreePages D.state (crash_states_of D.moment D.possible_since) device.old device.new result }
     ensures work { MadeIfOk result 8 0 0 (D.state device.old) (D.state device.new) }
 {
     match fill_page(device, page, bytes) {
@@ -134,7 +134,7 @@ fn walk_children<D: Device>(
     requires pages { length ledger.old.lives ≡ bounds.pages }
     requires fits { 8 * bounds.pages ≤ (D.state device.old).size }
     requires inside { list_all (is_inside bounds.pages) (children_in branch.now.count branch.now.entries.now) ≡ true }
-    ensures answered { IsTrue (D.state device.old).honest → Tells (fan (walk (page_of (D.state device.old).disk.view) (bounds_of bounds) level) low.now (option_copied high.entry) (children_in branch.now.count branch.now.entries.now)) ledger.old ledger.new result }
+    ensures answered { IsTrue (D.state device.old).honest → TellsWalk (fan (walk (page_of (D.state device.old).disk.view) (bounds_of bounds) level) low.now (option_copied high.entry) (children_in branch.now.count branch.now.entries.now)) ledger.old ledger.new result }
     ensures named { IfErr result (Names (D.state device.old) (λ bytes. fan_or_name (walk_or_name bytes (bounds_of bounds) level) low.now (option_copied high.entry) (children_in branch.now.count branch.now.entries.now)) ledger.old) }
     ensures walks { WalksPages D.state (crash_states_of D.moment D.possible_since) device.old device.new ledger.old ledger.new (NamesInside bounds.pages) result }
     ensures work { ReadsEachOnce (D.state device.old) (D.state device.new) ledger.old ledger.new }
@@ -166,7 +166,7 @@ pub(crate) fn walk_tree<D: Device>(
     requires fits { 8 * bounds.pages ≤ (D.state device.old).size }
     requires least { 2 ≤ page }
     requires most { page < bounds.pages }
-    ensures answered { IsTrue (D.state device.old).honest → Tells (walk (page_of (D.state device.old).disk.view) (bounds_of bounds) level page low.now (option_copied high.entry)) ledger.old ledger.new result }
+    ensures answered { IsTrue (D.state device.old).honest → TellsWalk (walk (page_of (D.state device.old).disk.view) (bounds_of bounds) level page low.now (option_copied high.entry)) ledger.old ledger.new result }
     ensures named { IfErr result (Names (D.state device.old) (λ bytes. walk_or_name bytes (bounds_of bounds) level page low.now (option_copied high.entry)) ledger.old) }
     ensures walks { WalksPages D.state (crash_states_of D.moment D.possible_since) device.old device.new ledger.old ledger.new (NamesInside bounds.pages) result }
     ensures work { ReadsEachOnce (D.state device.old) (D.state device.new) ledger.old ledger.new }

@@ -8,10 +8,10 @@ ghost use Rattle.page_store.specs.StoreState.{IsFilled};
 ghost use Rattle.page_store.specs.Content.{Found, place_in, walk};
 ghost use Rattle.page_store.specs.Pages.{pair_at};
 ghost use Rattle.tree_nodes.specs.PageViews.{bounds_of, pairs_in, children_in, entries_by_head, has_head};
-ghost use Rattle.cow_tree.specs.LookUps.{LooksUp, ReadsNextLeaf};
+ghost use Rattle.cow_tree.specs.LookUps.{LooksUpValue, ReadsNextLeaf};
 ghost use Rattle.page_store.specs.Work.{pages_tried};
-ghost use Rattle.cow_tree.specs.Walks.{ReadsPages};
-ghost use Rattle.cow_tree.specs.Ways.{pages_around, are_inside, around_in, IsAnswer, IsOnWay};
+ghost use Rattle.cow_tree.specs.Walks.{ReadsTreePages};
+ghost use Rattle.cow_tree.specs.Ways.{pages_around, are_inside, around_in, AnswersBy, IsOnWay};
 ghost use Rattle.cow_tree.specs.declared.page_fault.PageFault.TheVariants.{Damaged};
 
 use crate::kept_leaf::KeptLeaf;
@@ -83,10 +83,10 @@ fn children_around<D: Device>(
     requires fits { 8 * bounds.pages ≤ (D.state device.old).size }
     requires most { page < bounds.pages }
     ensures way { IsTrue (D.state device.old).honest → (found : Found) → walk (page_of (D.state device.old).disk.view) (bounds_of bounds) level page [] None ≡ Some found →
-        IsAnswer result (IsOnWay (page_of (D.state device.old).disk.view) (bounds_of bounds) (level - 1) key.now found) }
+        AnswersBy result (IsOnWay (page_of (D.state device.old).disk.view) (bounds_of bounds) (level - 1) key.now found) }
     ensures first { IfOk result (λ around. around.0 < bounds.pages) }
     ensures second { IfOk result (λ around. IfSome around.1 (λ page. page < bounds.pages)) }
-    ensures reads { ReadsPages D.state (crash_states_of D.moment D.possible_since) device.old device.new result }
+    ensures reads { ReadsTreePages D.state (crash_states_of D.moment D.possible_since) device.old device.new result }
     ensures work { MadeIfOk result 8 0 0 (D.state device.old) (D.state device.new) }
 {
     let mut bytes = [0; 4096];
@@ -135,7 +135,7 @@ fn get_in_leaf<D: Device>(
 ) -> Result<Option<usize>, PageFault>
     requires fits { 8 * bounds.pages ≤ (D.state device.old).size }
     requires most { page < bounds.pages }
-    ensures found { LooksUp D.state (crash_states_of D.moment D.possible_since) (λ pages. walk pages (bounds_of bounds) 0 page [] None) key.now device.old device.new buffer.old buffer.new result }
+    ensures found { LooksUpValue D.state (crash_states_of D.moment D.possible_since) (λ pages. walk pages (bounds_of bounds) 0 page [] None) key.now device.old device.new buffer.old buffer.new result }
     ensures work { MadeIfOk result 8 0 0 (D.state device.old) (D.state device.new) }
 {
     let mut bytes = [0; 4096];
@@ -171,7 +171,7 @@ pub(crate) fn get_under<D: Device>(
 ) -> Result<Option<usize>, PageFault>
     requires fits { 8 * bounds.pages ≤ (D.state device.old).size }
     requires most { page < bounds.pages }
-    ensures found { LooksUp D.state (crash_states_of D.moment D.possible_since) (λ pages. walk pages (bounds_of bounds) level page [] None) key.now device.old device.new buffer.old buffer.new result }
+    ensures found { LooksUpValue D.state (crash_states_of D.moment D.possible_since) (λ pages. walk pages (bounds_of bounds) level page [] None) key.now device.old device.new buffer.old buffer.new result }
     ensures work { MadeIfOk result (8 * (level + 1)) 0 0 (D.state device.old) (D.state device.new) }
 {
     if level == 0 {

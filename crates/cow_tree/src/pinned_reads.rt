@@ -7,8 +7,8 @@ ghost use Rattle.page_store.specs.Content.{Found};
 ghost use Rattle.page_store.specs.Batch.{pair_after};
 ghost use Rattle.page_store.specs.StoreState.{IsFilled};
 ghost use Rattle.page_store.specs.Work.{pages_tried};
-ghost use Rattle.cow_tree.specs.Walks.{ReadsPages};
-ghost use Rattle.cow_tree.specs.Ways.{IsAnswer};
+ghost use Rattle.cow_tree.specs.Walks.{ReadsTreePages};
+ghost use Rattle.cow_tree.specs.Ways.{AnswersBy};
 ghost use Rattle.cow_tree.specs.PinnedTrees.{IsRootedAt, tree_at};
 
 use crate::kept_leaf::KeptLeaf;
@@ -29,10 +29,10 @@ pub(crate) fn read_next<D: Device>(
     requires rooted { IsRootedAt tree }
     ensures within { IfOk result (λ found. IfSome found (λ n. (n.0 ≤ 300) × (n.1 ≤ 1024))) }
     ensures pair { IsTrue (D.state device.old).honest → (found : Found) → tree_at tree (page_of (D.state device.old).disk.view) ≡ Some found →
-        IsAnswer result (λ sizes. option_map (λ n. (take n.0 key.new, take n.1 value.new)) sizes ≡ pair_after found.pairs after.now) }
+        AnswersBy result (λ sizes. option_map (λ n. (take n.0 key.new, take n.1 value.new)) sizes ≡ pair_after found.pairs after.now) }
     ensures key { IsFilled (λ n. n.0) result key.old key.new }
     ensures value { IsFilled (λ n. n.1) result value.old value.new }
-    ensures reads { ReadsPages D.state (crash_states_of D.moment D.possible_since) device.old device.new result }
+    ensures reads { ReadsTreePages D.state (crash_states_of D.moment D.possible_since) device.old device.new result }
     ensures work { MadeAtMost (8 * pages_tried tree.height) 0 0 (D.state device.old) (D.state device.new) }
 {
     let mut leaf = KeptLeaf::none();

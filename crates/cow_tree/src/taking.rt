@@ -2,7 +2,7 @@
 ghost use Rattle.std.specs.Prelude.{◌≤◌, IfOk};
 ghost use Rattle.page_alloc.specs.LedgerState.{free_count};
 ghost use Rattle.cow_tree.specs.Drafts.{OnlyMarks};
-ghost use Rattle.cow_tree.specs.Taken.{Takes};
+ghost use Rattle.cow_tree.specs.Taken.{TakesPages};
 
 use page_alloc::Ledger;
 use std::alloc::{AllocError, Global};
@@ -14,7 +14,7 @@ pub(crate) fn take_pages(
     count: usize,
 ) -> Result<Vec<u32>, AllocError>
     requires room { count ≤ free_count ledger.old }
-    ensures taken { IfOk result (λ numbers. Takes count ledger.old ledger.new numbers.items) }
+    ensures taken { IfOk result (λ numbers. TakesPages count ledger.old ledger.new numbers.items) }
     ensures marks { OnlyMarks ledger.old ledger.new }
 {
     let mut pages = Vec::with_capacity(alloc, count)?;

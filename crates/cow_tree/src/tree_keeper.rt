@@ -3,8 +3,8 @@ ghost use Rattle.std.specs.Prelude.{◌≤◌, IsTrue};
 ghost use Rattle.page_store.specs.Sectors.{page_of};
 ghost use Rattle.cow_tree.specs.KeptLeaves.{IsKeptLeaf};
 ghost use Rattle.cow_tree.specs.Opening.{bounds_under};
-ghost use Rattle.cow_tree.specs.PinnedTrees.{ArePinned, AreKept};
-ghost use Rattle.cow_tree.specs.TreeState.{IsFitted, IsThere, IsDurable, found_under};
+ghost use Rattle.cow_tree.specs.PinnedTrees.{ArePinned, PinnedTreesAreKept};
+ghost use Rattle.cow_tree.specs.TreeState.{FitsTree, IsThere, IsDurable, found_under};
 
 use crate::kept_leaf::KeptLeaf;
 use crate::tree_root::TreeRoot;
@@ -28,11 +28,11 @@ pub struct TreeKeeper<D: Device> {
     pub(crate) usable: bool,
     pub(crate) kept: KeptLeaf,
     pub(crate) pinned: [Option<TreeRoot>; 32],
-    ghost fitted: { IsFitted (D.state device).size slot ledger },
+    ghost fitted: { FitsTree (D.state device).size slot ledger },
     ghost sealed: { slot.seal ≤ top },
     ghost pins: { ArePinned slot.root.pages ledger pinned },
     ghost there: { IsTrue (D.state device).honest → IsThere (D.state device).disk.view slot ledger },
-    ghost pins_there: { IsTrue (D.state device).honest → AreKept (D.state device).disk.view ledger pinned },
+    ghost pins_there: { IsTrue (D.state device).honest → PinnedTreesAreKept (D.state device).disk.view ledger pinned },
     ghost durable: { IsTrue (D.state device).honest → IsTrue usable → IsDurable (D.state device).disk slot top },
     ghost leaf: { IsTrue (D.state device).honest → IsKeptLeaf (page_of (D.state device).disk.view) (bounds_under slot) (found_under slot (D.state device).disk.view) kept },
 }

@@ -34,7 +34,7 @@ use Rattle.cow_tree.specs.Formatting.{IsFirstWritten}
 use Rattle.cow_tree.specs.TreeState.{found_under, unreached}
 use Rattle.cow_tree.specs.PinnedTrees.{or_nothing}
 use Rattle.cow_tree.specs.Plans.{IsRootInside}
-use Rattle.cow_tree.specs.Compacting.{most_pairs, IsFilled}
+use Rattle.cow_tree.specs.Compacting.{most_pairs, IsFilledTree}
 use Rattle.cow_tree.proofs.AllRetired.{filled_bounded}
 use Rattle.cow_tree.proofs.PageCounts.{numbers_length, same_length, all_pages}
 use Rattle.cow_tree.proofs.RootsPlaced.{valid_root_fits, root_inside}

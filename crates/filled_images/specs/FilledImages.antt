@@ -19,7 +19,7 @@ use Rattle.tree_nodes.specs.Tree.{Tree}
 use Rattle.tree_pages.specs.Written.{AddsTree, AllFit}
 use Rattle.tree_loading.specs.Filled.{filled}
 use Rattle.cow_tree.specs.TreeState.{unreached}
-use Rattle.cow_tree.specs.Compacting.{IsFilled}
+use Rattle.cow_tree.specs.Compacting.{IsFilledTree}
 use Rattle.filled_images.specs.declared.filled_image.FilledImage.{FilledImage}
 
 -- how many pages these pairs take, filled
@@ -62,7 +62,7 @@ IsNotMade count pairs faults.Memory = Unit {0}
 pub record HasFilled (count : ℕ) (banner : Banner) (pairs : List Pair) (free : ℕ) (image : Image) : Type 0 where
   pub content : HasContent image pairs banner
   pub first : IsFirst count image
-  pub filled_is : IsFilled first.slot image
+  pub filled_is : IsFilledTree first.slot image
   pub free_is : free ≡ unreached first.slot [] image
 
 -- Why it is not written: the device is too small for so many pages, or a write or a sync failed.

@@ -17,7 +17,7 @@ use Rattle.host_types.specs.declared.menu.LinkKind.{LinkKind}
 use Rattle.host_types.specs.declared.menu.LinkKind.TheVariants as links
 use Rattle.gophermap.specs.declared.fault.LineFault.{LineFault}
 use Rattle.gophermap.specs.declared.fault.LineFault.TheVariants as faults
-use Rattle.gophermap.specs.Line.{Place, Line, Info, Title, Link, Entry, Comment, Listing, End, named, host_of, port_of, kind_of, entry, typed, is_tab, of_fields, line_of}
+use Rattle.gophermap.specs.Line.{MapPlace, Line, Info, Title, Link, Entry, Comment, Listing, End, named, host_of, port_of, kind_of, entry, typed, is_tab, of_fields, line_of}
 use Rattle.gophermap.specs.Laws.{fits, host_fits, port_fits, place_fits}
 use Rattle.gophermap.specs.Spelling.{spelled, host_field, port_field, has_spelling}
 
@@ -189,7 +189,7 @@ two letter title selector comment mark tab cr t s =
     rw (stays _ whole, comment, mark) (ap of_fields parts)
 
 -- an item
-entry_back : (kind : LinkKind) (title selector : List ℕ) (place : Place) → is_title title ≡ true → is_selector selector ≡ true → place_fits place ≡ true → nat_lt 0 (length selector) ≡ true → entry kind title selector (host_field place.host) (port_field place.port) ≡ Ok (Entry kind title selector place)
+entry_back : (kind : LinkKind) (title selector : List ℕ) (place : MapPlace) → is_title title ≡ true → is_selector selector ≡ true → place_fits place ≡ true → nat_lt 0 (length selector) ≡ true → entry kind title selector (host_field place.host) (port_field place.port) ≡ Ok (Entry kind title selector place)
 entry_back kind title [] place t s p some = absurd (cc some)
 entry_back kind title (b ∷ bs) place t s p some =
     let host = left_true (host_fits place.host) (port_fits place.port) p in
@@ -230,7 +230,7 @@ plain_title title h = plain_field title (right_true (nat_le (length title) 69) (
 plain_selector : (selector : List ℕ) → is_selector selector ≡ true → IsPlain selector
 plain_selector selector h = plain_field selector (right_true (nat_le (length selector) 255) (is_field selector) h)
 
-item_back : (kind : LinkKind) (title selector : List ℕ) (place : Place) → is_title title ≡ true → is_selector selector ≡ true → place_fits place ≡ true → nat_lt 0 (length selector) ≡ true → (link_letter kind == 104 && is_url_name selector) ≡ false
+item_back : (kind : LinkKind) (title selector : List ℕ) (place : MapPlace) → is_title title ≡ true → is_selector selector ≡ true → place_fits place ≡ true → nat_lt 0 (length selector) ≡ true → (link_letter kind == 104 && is_url_name selector) ≡ false
     → line_of (spelled (Entry kind title selector place)) ≡ Ok (Entry kind title selector place)
 item_back kind title selector place t s p some no_link =
     let l = letters kind in

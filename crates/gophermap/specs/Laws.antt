@@ -2,7 +2,7 @@
 use Rattle.std.specs.Prelude.{◌≡◌, ℕ, ◌&&◌, Bool, true, false, List, ◌++◌, codes, nat_lt, Option, Some, None, Ok, Err}
 use Rattle.std.specs.List.{list_all}
 use Rattle.host_types.specs.Items.{is_title, is_selector, is_host, is_link}
-use Rattle.gophermap.specs.Line.{Place, Line, ReadLine, Info, Title, Link, Entry, Comment, Listing, End, line_of, lines_of}
+use Rattle.gophermap.specs.Line.{MapPlace, Line, ReadLine, Info, Title, Link, Entry, Comment, Listing, End, line_of, lines_of}
 
 -- ---- limits
 
@@ -14,7 +14,7 @@ abbrev pub port_fits : Option ℕ → Bool
 port_fits None = true
 port_fits (Some port) = nat_lt 0 port && nat_lt port 65536
 
-abbrev pub place_fits : Place → Bool
+abbrev pub place_fits : MapPlace → Bool
 place_fits place = host_fits place.host && port_fits place.port
 
 -- the names are such as the types of the site take, and a port is one

@@ -16,7 +16,7 @@ use Rattle.gophermap.specs.declared.fault.LineFault.{LineFault}
 use Rattle.gophermap.specs.declared.fault.LineFault.TheVariants as faults
 
 -- Where an item lies. Where host or port is none, it is the one of the server that gives the menu.
-pub record Place : Type 0 where
+pub record MapPlace : Type 0 where
   pub host : Option (List ℕ)
   pub port : Option ℕ
 
@@ -25,7 +25,7 @@ pub data Line : Type 0 where
   Info : (title : List ℕ) → Line
   Title : (title : List ℕ) → Line
   Link : (title url : List ℕ) → Line
-  Entry : (kind : LinkKind) (title selector : List ℕ) (place : Place) → Line
+  Entry : (kind : LinkKind) (title selector : List ℕ) (place : MapPlace) → Line
   Comment : Line
   Listing : Line
   End : Line
@@ -73,7 +73,7 @@ abbrev pub port_of : List ℕ → Result (Option ℕ) LineFault
 port_of [] = Ok None
 port_of (b ∷ bs) = if is_port (b ∷ bs) then Ok (Some (number_of (b ∷ bs))) else Err faults.Port
 
-abbrev pub place_of : List ℕ → List ℕ → Result Place LineFault
+abbrev pub place_of : List ℕ → List ℕ → Result MapPlace LineFault
 place_of host port = do
   h ← host_of host
   p ← port_of port

@@ -3,13 +3,13 @@ use Rattle.std.specs.Prelude.{◌≡◌, ℕ, ◌++◌, List, [], ◌∷◌, cod
 use Rattle.common_types.specs.declared.refused.Refused.TheVariants.{BadName, TooLong}
 use Rattle.host_types.specs.declared.menu.LinkKind.TheVariants as links
 use Rattle.gophermap.specs.declared.fault.LineFault.TheVariants as faults
-use Rattle.gophermap.specs.Line.{Place, Info, Title, Link, Entry, Comment, Listing, End, line_of, lines_of}
+use Rattle.gophermap.specs.Line.{MapPlace, Info, Title, Link, Entry, Comment, Listing, End, line_of, lines_of}
 
 -- on the server that gives the menu
-abbrev pub here : Place
+abbrev pub here : MapPlace
 here = record { host = None; port = None }
 
-abbrev pub at : List ℕ → ℕ → Place
+abbrev pub at : List ℕ → ℕ → MapPlace
 at host port = record { host = Some host; port = Some port }
 
 pub record LineExamples : Type 0 where

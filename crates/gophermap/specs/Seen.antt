@@ -8,9 +8,9 @@ use Rattle.gophermap.specs.declared.fault.LineFault.{LineFault}
 use Rattle.gophermap.specs.declared.line.Place.{Place as LentPlace}
 use Rattle.gophermap.specs.declared.line.Line.{Line as LentLine}
 use Rattle.gophermap.specs.declared.line.Line.TheVariants as lent
-use Rattle.gophermap.specs.Line.{Place, Line, ReadLine, Info, Title, Link, Entry, Comment, Listing, End, is_tab}
+use Rattle.gophermap.specs.Line.{MapPlace, Line, ReadLine, Info, Title, Link, Entry, Comment, Listing, End, is_tab}
 
-abbrev pub place_seen : LentPlace → Place
+abbrev pub place_seen : LentPlace → MapPlace
 place_seen p = record { host = option_copied p.host; port = p.port }
 
 abbrev pub line_seen : LentLine → Line
@@ -26,7 +26,7 @@ line_seen lent.End = End
 abbrev pub seen : Result LentLine LineFault → ReadLine
 seen read = result_map_both line_seen (λ f. f) read
 
-abbrev pub place_result : Result LentPlace LineFault → Result Place LineFault
+abbrev pub place_result : Result LentPlace LineFault → Result MapPlace LineFault
 place_result read = result_map_both place_seen (λ f. f) read
 
 -- a name that was read
@@ -42,6 +42,6 @@ fields None = []
 fields (Some bytes) = slice_split is_tab bytes
 
 -- The first of some lines is given, and the others are left; or there was none.
-abbrev pub Gives : List ReadLine → Option (Result LentLine LineFault) → List ReadLine → Type 0
-Gives old None new = (old ≡ []) × (new ≡ [])
-Gives old (Some line) new = old ≡ seen line ∷ new
+abbrev pub GivesFirstLine : List ReadLine → Option (Result LentLine LineFault) → List ReadLine → Type 0
+GivesFirstLine old None new = (old ≡ []) × (new ≡ [])
+GivesFirstLine old (Some line) new = old ≡ seen line ∷ new

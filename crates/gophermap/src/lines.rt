@@ -3,7 +3,7 @@ ghost use Rattle.std.specs.Prelude.{◌≡◌, [], if◌then◌else◌};
 ghost use Rattle.gophermap.specs.Line as spec;
 ghost use Rattle.gophermap.specs.Laws as laws;
 ghost use Rattle.gophermap.specs.Line.{lines_of};
-ghost use Rattle.gophermap.specs.Seen.{Gives, seen};
+ghost use Rattle.gophermap.specs.Seen.{GivesFirstLine, seen};
 
 use crate::fields::first_line;
 use crate::{Line, LineFault, read_line};
@@ -48,7 +48,7 @@ impl<'a> Lines<'a> {
     /// The next line, where there is one. One that is refused does not end the reading.
     #[tactic(auto, using(crate::proofs::Parts::goes_on))]
     pub fn next(&mut self) -> Option<Result<Line<'a>, LineFault>>
-        ensures { Gives self.old result self.new }
+        ensures { GivesFirstLine self.old result self.new }
     {
         if self.left.is_empty() {
             return None;

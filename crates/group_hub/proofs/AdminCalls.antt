@@ -15,7 +15,7 @@ use Rattle.host_types.specs.declared.site_fault.SiteFault.TheVariants as faults
 use Rattle.group_world.specs.World.{World, Phase}
 use Rattle.group_world.specs.Step.{changed, made_or}
 use Rattle.group_world.specs.Run.{valid_one, IsFaulty}
-use Rattle.group_world.specs.Calls.{IsLacking, IsUnspent}
+use Rattle.group_world.specs.Calls.{IsKeeperLacking, IsUnspent}
 use Rattle.group_world.specs.CrashStates.{with_changes}
 use Rattle.group_world.specs.Outcomes.{fault_of}
 use Rattle.group_world.specs.declared.event.Event.TheVariants.{Admin}
@@ -24,7 +24,7 @@ use Rattle.group_world.specs.declared.event.Outcome.TheVariants.{Done, Fault}
 use Rattle.group_world.specs.declared.fault.HubFault.{HubFault}
 use Rattle.group_world.specs.declared.fault.HubFault.TheVariants as hub
 use Rattle.group_world.proofs.Leaving.{leaves_nothing, leaves_changes, leaves_in_flight, fault_stores, weaker, nothing, all_in_one, all_in_flight}
-use Rattle.group_hub.specs.Calls.{Call, Splits}
+use Rattle.group_hub.specs.Calls.{CallOverKeeper, Splits}
 use Rattle.group_hub.specs.Causes.{IsAdminCause}
 use Rattle.group_hub.specs.Counting.{CountsCall}
 use Rattle.group_hub.specs.Understood.{IsPostFault}
@@ -43,8 +43,8 @@ is_ok : (r : Result Site Refused) (t : Site) → r ≡ Ok t → IsOk r
 is_ok (Ok s) t e = refl
 is_ok (Err refused) t e = absurd (cc e)
 
-lacking : (lacks : Changes → SiteFault → Type 0) (change : Change) (now : ℕ) (applied : Result Site Refused) (fault : SiteFault) → IsOk applied → lacks ((change, now) ∷ []) fault → IsLacking lacks (valid_one change now applied) fault
-lacking lacks change now applied fault is h = subst (λ (l : Changes). IsLacking lacks l fault) (sym (is_valid change now applied is)) h
+lacking : (lacks : Changes → SiteFault → Type 0) (change : Change) (now : ℕ) (applied : Result Site Refused) (fault : SiteFault) → IsOk applied → lacks ((change, now) ∷ []) fault → IsKeeperLacking lacks (valid_one change now applied) fault
+lacking lacks change now applied fault is h = subst (λ (l : Changes). IsKeeperLacking lacks l fault) (sym (is_valid change now applied is)) h
 
 -- what the keeper does not lack for the change it does not lack where that is not valid either
 unspent : (lacks : Changes → SiteFault → Type 0) (change : Change) (now : ℕ) (applied : Result Site Refused) → (lacks ((change, now) ∷ []) faults.Spent → ⊥) → IsUnspent lacks (valid_one change now applied)
@@ -77,7 +77,7 @@ keeps_valid laws a b change now lacks (Err fault) honest typed early made is sit
 
 module _ {S L : Type 0} (site_state : S → SiteState) (lacks : S → Changes → SiteFault → Type 0) (crash_states : S → CrashStates L) (stands : L → Site → Type 0) (k l : S) (next : ℕ) (g : Bool) (sessions : List (ℕ × Phase)) (change : Change) (now : ℕ) where
   abbrev It : Outcome → Type 0
-  It o = Call site_state lacks crash_states stands (world_at (site_state k) next g sessions) k (Admin change now) o (world_at (site_state l) next g sessions) l
+  It o = CallOverKeeper site_state lacks crash_states stands (world_at (site_state k) next g sessions) k (Admin change now) o (world_at (site_state l) next g sessions) l
 
   abbrev was : World
   was = world_at (site_state k) next g sessions
@@ -226,14 +226,14 @@ module _ {S L : Type 0} (site_state : S → SiteState) (lacks : S → Changes �
   not_made_call (faults.Refused refused) counts usable same represent crashes none h order = refused_call refused counts usable same represent none h.0 h.1
   not_made_call faults.Read counts usable same represent crashes none h order = failed_call hub.Broken (λ x. cc x) counts usable same represent crashes none (usable, h.1) (h.0, h.1)
   not_made_call (faults.Full need free) counts usable same represent crashes none h order =
-      let lack : IsTrue (site_state k).honest → IsLacking (lacks k) own (faults.Full need free) × IsUnspent (lacks k) own =
+      let lack : IsTrue (site_state k).honest → IsKeeperLacking (lacks k) own (faults.Full need free) × IsUnspent (lacks k) own =
       λ honest. (lacking (lacks k) change now applied (faults.Full need free) (h.2 honest).0 (h.2 honest).1, unspent (lacks k) change now applied order) in
       failed_call (hub.Full need free) (λ x. cc x) counts usable same represent crashes none (usable, h.1, lack) (h.0, h.1, lack)
   not_made_call faults.Spent counts usable same represent crashes none h order =
-      let lack : IsTrue (site_state k).honest → IsLacking (lacks k) own faults.Spent = λ honest. lacking (lacks k) change now applied faults.Spent (h.1 honest).0 (h.1 honest).1 in
+      let lack : IsTrue (site_state k).honest → IsKeeperLacking (lacks k) own faults.Spent = λ honest. lacking (lacks k) change now applied faults.Spent (h.1 honest).0 (h.1 honest).1 in
       failed_call hub.Spent (λ x. cc x) counts usable same represent crashes none (usable, lack) (h.0, lack)
   not_made_call faults.Deep counts usable same represent crashes none h order =
-      let lack : IsTrue (site_state k).honest → IsLacking (lacks k) own faults.Deep × IsUnspent (lacks k) own =
+      let lack : IsTrue (site_state k).honest → IsKeeperLacking (lacks k) own faults.Deep × IsUnspent (lacks k) own =
       λ honest. (lacking (lacks k) change now applied faults.Deep (h.1 honest).0 (h.1 honest).1, unspent (lacks k) change now applied order) in
       failed_call hub.Deep (λ x. cc x) counts usable same represent crashes none (usable, lack) (h.0, lack)
   not_made_call faults.Failed counts usable same represent crashes none h order =

@@ -12,14 +12,14 @@ use Rattle.group_world.specs.CrashStates.{Link, LeavesInTurn, HasCrashStates, la
 use Rattle.group_world.specs.declared.event.Event.{Event}
 use Rattle.group_world.specs.declared.event.Outcome.{Outcome}
 use Rattle.group_world.proofs.Crashes.{calls_leave, calls_since as links_since}
-use Rattle.group_hub.specs.Calls.{Call, Calls, Splits, link, links_of, HubCalls, HubRun}
+use Rattle.group_hub.specs.Calls.{CallOverKeeper, Calls, Splits, link, links_of, HubCalls, HubRun}
 use Rattle.group_hub.specs.Hub.{keeper_of, world_of}
 use Rattle.group_hub.specs.Runs.{CallsJoin, CallsPart, CallsRun, CallsCrash, CallsMoments}
 use Rattle.group_hub.specs.declared.hub.Hub.{Hub}
 
 module _ {S L : Type 0} (site_state : S → SiteState) (lacks : S → Changes → SiteFault → Type 0) (crash_states : S → CrashStates L) (stands : L → Site → Type 0) where
   abbrev One : World → S → Event → Outcome → World → S → Type 0
-  One w k e o v l = Call site_state lacks crash_states stands w k e o v l
+  One w k e o v l = CallOverKeeper site_state lacks crash_states stands w k e o v l
 
   abbrev All : World → S → List Event → List Outcome → World → S → Type 0
   All w k es os v l = Calls site_state lacks crash_states stands w k es os v l

@@ -19,7 +19,7 @@ use Rattle.group_world.specs.declared.event.Outcome.TheVariants as outcomes
 use Rattle.group_world.specs.declared.fault.HubFault.TheVariants as hub
 use Rattle.group_world.proofs.FaultsKeep.{by_keeps, answer_so, nobody_there}
 use Rattle.group_world.proofs.Leaving.{leaves_nothing, closed_stores, nothing}
-use Rattle.group_hub.specs.Calls.{IsCause, StaysClosed, IsSteady, IsAcknowledged, Splits, Call}
+use Rattle.group_hub.specs.Calls.{IsCause, StaysClosed, IsSteady, IsAcknowledged, Splits, CallOverKeeper}
 use Rattle.group_hub.specs.Counting.{CountsEvent}
 use Rattle.group_hub.specs.HeldPins.{MayGiveBack}
 use Rattle.group_hub.proofs.Steps.{answered_by}
@@ -89,7 +89,7 @@ starts site_state crash_states stands w k represent honest site flag off c may =
 -- an answer that stores nothing
 pub quiet : {S L : Type 0} (site_state : S → SiteState) (lacks : S → Changes → SiteFault → Type 0) (crash_states : S → CrashStates L) (stands : L → Site → Type 0) (w : World) (k : S) (e : Event) (o : Outcome) (v : World) →
     Represents site_state crash_states stands k → IsAnswer w e o v → stored_whole w e o ≡ nothing → IsCause site_state lacks w k e o k → CountsEvent w e o (site_state k) (site_state k)
-    → w.site ≡ (site_state k).site → v.site ≡ (site_state k).site → v.failed ≡ not (site_state k).usable → w.failed ≡ not (site_state k).usable → v.grouped ≡ w.grouped → Call site_state lacks crash_states stands w k e o v k
+    → w.site ≡ (site_state k).site → v.site ≡ (site_state k).site → v.failed ≡ not (site_state k).usable → w.failed ≡ not (site_state k).usable → v.grouped ≡ w.grouped → CallOverKeeper site_state lacks crash_states stands w k e o v k
 quiet site_state lacks crash_states stands w k e o v represent answers stores cause counts was_site site flag was groups = record {
   step = λ honest. answered_by w.failed w e o v answers;
   cause = cause;
@@ -110,14 +110,14 @@ shut_answer w e shut is =
 
 pub shut_call : {S L : Type 0} (site_state : S → SiteState) (lacks : S → Changes → SiteFault → Type 0) (crash_states : S → CrashStates L) (stands : L → Site → Type 0) (w : World) (k : S) (e : Event) →
     Represents site_state crash_states stands k → w.failed ≡ true → failed_answer w e ≡ then_is (Fault hub.Failed) w → IsCause site_state lacks w k e (Fault hub.Failed) k → CountsEvent w e (Fault hub.Failed) (site_state k) (site_state k)
-    → w.site ≡ (site_state k).site → w.failed ≡ not (site_state k).usable → Call site_state lacks crash_states stands w k e (Fault hub.Failed) w k
+    → w.site ≡ (site_state k).site → w.failed ≡ not (site_state k).usable → CallOverKeeper site_state lacks crash_states stands w k e (Fault hub.Failed) w k
 shut_call site_state lacks crash_states stands w k e represent shut says cause counts site was =
     quiet site_state lacks crash_states stands w k e (Fault hub.Failed) w represent (shut_answer w e shut says) (closed_stores w e (Fault hub.Failed) shut) cause counts site site was was refl
 
 -- a session that leaves
 pub left_call : {S L : Type 0} (site_state : S → SiteState) (lacks : S → Changes → SiteFault → Type 0) (crash_states : S → CrashStates L) (stands : L → Site → Type 0) (w : World) (k : S) (id : ℕ) (v : World) (l : S) →
     Represents site_state crash_states stands k → Represents site_state crash_states stands l → IsAnswer w (Leave id) outcomes.Gone v → stored_whole w (Leave id) outcomes.Gone ≡ nothing → MayGiveBack (site_state k) (site_state l) → (IsTrue (site_state k).honest → AddsNone (crash_states k) (crash_states l))
-    → w.site ≡ (site_state k).site → v.site ≡ (site_state l).site → v.failed ≡ not (site_state l).usable → w.failed ≡ not (site_state k).usable → v.grouped ≡ w.grouped → Call site_state lacks crash_states stands w k (Leave id) outcomes.Gone v l
+    → w.site ≡ (site_state k).site → v.site ≡ (site_state l).site → v.failed ≡ not (site_state l).usable → w.failed ≡ not (site_state k).usable → v.grouped ≡ w.grouped → CallOverKeeper site_state lacks crash_states stands w k (Leave id) outcomes.Gone v l
 left_call site_state lacks crash_states stands w k id v l old_represent represent answers stores gives only was_site site flag was groups =
     let honest_is : (site_state l).honest ≡ (site_state k).honest = ap (λ (h : SiteState). h.honest) gives.same in
     let usable_is : (site_state l).usable ≡ (site_state k).usable = ap (λ (h : SiteState). h.usable) gives.same in

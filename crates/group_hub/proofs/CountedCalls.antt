@@ -6,7 +6,7 @@ use Rattle.host_types.specs.Counting as site
 use Rattle.view_draws.specs.Counting as views
 use Rattle.host_types.specs.declared.site_fault.SiteFault.{SiteFault}
 use Rattle.host_types.specs.declared.site_fault.SiteFault.TheVariants as faults
-use Rattle.group_hub.specs.Counting.{IsReadCounted, CountsReads, writes_after, CountsWrites, CountsCall, result_of}
+use Rattle.group_hub.specs.Counting.{IsHubReadCounted, HubCountsReads, writes_after, HubCountsWrites, CountsCall, result_of}
 use Rattle.group_world.specs.Outcomes.{fault_of, bytes_outcome, draw_outcome}
 use Rattle.group_world.specs.declared.answer.InputStatus.{InputStatus}
 use Rattle.group_world.specs.declared.answer.InputStatus.TheVariants as heard
@@ -15,7 +15,7 @@ use Rattle.group_world.specs.declared.answer.Drawn.TheVariants as drawn
 use Rattle.group_world.specs.declared.fault.HubFault.{HubFault}
 use Rattle.group_world.specs.declared.fault.HubFault.TheVariants as hub
 
-reads_are : (honest : Bool) (fault : SiteFault) (before now : ℕ) → site.IsReadCounted honest fault before now → IsReadCounted honest (fault_of fault) before now
+reads_are : (honest : Bool) (fault : SiteFault) (before now : ℕ) → site.IsReadCounted honest fault before now → IsHubReadCounted honest (fault_of fault) before now
 reads_are honest (faults.Refused r) before now is = is
 reads_are honest faults.Read before now is = is
 reads_are honest (faults.Full need free) before now is = is
@@ -68,11 +68,11 @@ read_fault_counts {T = T} may_lack_memory fault answer a b usable told kept is r
       writes = kept.writes ∙ no_write may_lack_memory fault a b usable is;
     })
 
-reads_since : {T : Type 0} (result : Result T HubFault) (a b c : SiteState) → b.honest ≡ a.honest → b.failed_reads ≡ a.failed_reads → CountsReads result b c → CountsReads result a c
+reads_since : {T : Type 0} (result : Result T HubFault) (a b c : SiteState) → b.honest ≡ a.honest → b.failed_reads ≡ a.failed_reads → HubCountsReads result b c → HubCountsReads result a c
 reads_since (Ok value) a b c honest none is = is ∙ none
-reads_since (Err fault) a b c honest none is = subst (λ (h : Bool). IsReadCounted h fault a.failed_reads c.failed_reads) honest (subst (λ (n : ℕ). IsReadCounted b.honest fault n c.failed_reads) none is)
+reads_since (Err fault) a b c honest none is = subst (λ (h : Bool). IsHubReadCounted h fault a.failed_reads c.failed_reads) honest (subst (λ (n : ℕ). IsHubReadCounted b.honest fault n c.failed_reads) none is)
 
-writes_since : {T : Type 0} (result : Result T HubFault) (a b c : SiteState) → b.usable ≡ a.usable → b.failed_writes ≡ a.failed_writes → CountsWrites result b c → CountsWrites result a c
+writes_since : {T : Type 0} (result : Result T HubFault) (a b c : SiteState) → b.usable ≡ a.usable → b.failed_writes ≡ a.failed_writes → HubCountsWrites result b c → HubCountsWrites result a c
 writes_since (Ok value) a b c usable none is = is ∙ none
 writes_since (Err fault) a b c usable none is = is ∙ ap (λ (u : Bool). writes_after u fault b.failed_writes) usable ∙ ap (λ (n : ℕ). writes_after a.usable fault n) none
 

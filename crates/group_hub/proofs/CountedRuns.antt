@@ -11,7 +11,7 @@ use Rattle.host_types.specs.declared.site_fault.SiteFault.{SiteFault}
 use Rattle.group_world.specs.Calls.{counted_times}
 use Rattle.group_world.specs.World.{World}
 use Rattle.group_hub.specs.Calls.{Calls, StaysClosed, links_of}
-use Rattle.group_hub.specs.Counting.{CountsReads, CountsWrites, CountsEvent, result_of}
+use Rattle.group_hub.specs.Counting.{HubCountsReads, HubCountsWrites, CountsEvent, result_of}
 use Rattle.group_hub.specs.Runs.{least_reads, most_reads, least_in, most_in, is_failed, writes_in, CountsBetween, CallsCountReads, CallsCountWrites}
 use Rattle.group_world.specs.declared.event.Event.{Event}
 use Rattle.group_world.specs.declared.event.Event.TheVariants.{Join, Bytes, End, Draw, Leave, Admin, Flush}
@@ -24,7 +24,7 @@ use Rattle.group_world.specs.declared.fault.HubFault.TheVariants as hub
 exactly : (n : ℕ) (a b : ℕ) → b ≡ counted_times n a → CountsBetween n n a b
 exactly n a b is = record { reads = n; at_least = omega arith; at_most = omega arith; counted = is }
 
-plain_reads : (o : Outcome) (a b : SiteState) → IsTrue a.honest → CountsReads (result_of o) a b → CountsBetween (least_reads o) (least_reads o) a.failed_reads b.failed_reads
+plain_reads : (o : Outcome) (a b : SiteState) → IsTrue a.honest → HubCountsReads (result_of o) a b → CountsBetween (least_reads o) (least_reads o) a.failed_reads b.failed_reads
 plain_reads (outcomes.Joined n) a b honest is = exactly 0 _ _ is
 plain_reads outcomes.More a b honest is = exactly 0 _ _ is
 plain_reads outcomes.Ready a b honest is = exactly 0 _ _ is
@@ -87,7 +87,7 @@ both_between p q m n a b c first second = record {
 
 -- ---- writes of one call
 
-one_write : (o : Outcome) (a b : SiteState) → CountsWrites (result_of o) a b → b.failed_writes ≡ (if is_failed o then (if a.usable then counted a.failed_writes else a.failed_writes) else a.failed_writes)
+one_write : (o : Outcome) (a b : SiteState) → HubCountsWrites (result_of o) a b → b.failed_writes ≡ (if is_failed o then (if a.usable then counted a.failed_writes else a.failed_writes) else a.failed_writes)
 one_write (outcomes.Joined n) a b is = is
 one_write outcomes.More a b is = is
 one_write outcomes.Ready a b is = is

@@ -19,7 +19,7 @@ use Rattle.group_world.specs.declared.event.Outcome.TheVariants.{Fault}
 use Rattle.group_world.specs.declared.fault.HubFault.{HubFault}
 use Rattle.group_world.specs.declared.fault.HubFault.TheVariants as hub
 use Rattle.group_world.proofs.Leaving.{leaves_nothing, no_commits, nothing}
-use Rattle.group_hub.specs.Calls.{IfFault, IsSteady, Splits, Call}
+use Rattle.group_hub.specs.Calls.{IfFault, IsSteady, Splits, CallOverKeeper}
 use Rattle.group_hub.specs.Understood.{IsDrawFault}
 use Rattle.group_hub.specs.Causes.{IsDrawCause}
 use Rattle.group_hub.specs.Counting.{CountsCall}
@@ -82,7 +82,7 @@ pub drawn_call : {S L : Type 0} (site_state : S → SiteState) (lacks : S → Ch
     Represents site_state crash_states stands k → Represents site_state crash_states stands l
     → (IsTrue (site_state k).honest → Step w (Draw id room) (draw_outcome result out) v) → (site_state k).usable ≡ true → (site_state l).honest ≡ (site_state k).honest → (site_state l).usable ≡ (site_state k).usable
     → v.next ≡ w.next → v.grouped ≡ w.grouped → OnErr result (v.sessions ≡ w.sessions) → IfErr result (IsDrawFault (site_state k) (site_state l) phase) → CountsCall result (site_state k) (site_state l) → (IsTrue (site_state k).honest → AddsNone (crash_states k) (crash_states l))
-    → w.site ≡ (site_state k).site → v.site ≡ (site_state l).site → v.failed ≡ not (site_state l).usable → w.failed ≡ not (site_state k).usable → Call site_state lacks crash_states stands w k (Draw id room) (draw_outcome result out) v l
+    → w.site ≡ (site_state k).site → v.site ≡ (site_state l).site → v.failed ≡ not (site_state l).usable → w.failed ≡ not (site_state k).usable → CallOverKeeper site_state lacks crash_states stands w k (Draw id room) (draw_outcome result out) v l
 drawn_call site_state lacks crash_states stands w k id room v l phase result out old_represent represent step usable honest_is usable_is next groups seats is counts only was_site site flag was = record {
   step = step;
   cause = drawn_cause (site_state k) (site_state l) phase result out usable is;

@@ -10,8 +10,8 @@ use Rattle.host_types.specs.declared.site_fault.SiteFault.{SiteFault}
 use Rattle.group_world.specs.World.{World, Phase, Heard, Waits, Reply, Early, one_waiting, count_waiting}
 use Rattle.group_world.specs.Step.{Group, behind, site_from, flushed, whole_group, without_form, without_forms, answered_from, post_from, taken, all_of}
 use Rattle.group_world.specs.Run.{IsFaulty, IsTakenSingly}
-use Rattle.group_world.specs.Calls.{IsLacking, MaySplit, IsFlushCause, CountsLeft, counted_times}
-use Rattle.group_world.specs.CrashStates.{Commit, with_changes, one_by_one, stored_singly, HoldsCommits}
+use Rattle.group_world.specs.Calls.{IsKeeperLacking, MaySplit, IsFlushCause, CountsLeft, counted_times}
+use Rattle.group_world.specs.CrashStates.{CommitOfChanges, with_changes, one_by_one, stored_singly, HoldsCommits}
 use Rattle.group_world.specs.declared.event.Event.TheVariants.{Flush}
 use Rattle.group_world.specs.declared.event.Outcome.{Outcome}
 use Rattle.group_world.specs.declared.event.Outcome.TheVariants.{Flushed, Fault}
@@ -21,8 +21,8 @@ use Rattle.group_world.proofs.Leaving.{weaker, leaves_nothing, leaves_changes, l
 use Rattle.group_world.proofs.Stored.{right_make}
 use Rattle.group_world.proofs.Groups.{groups_are_right}
 use Rattle.host_types.specs.declared.site_fault.SiteFault.TheVariants as faults
-use Rattle.group_hub.specs.Calls.{Call, Splits, IsSteady, may_fail_behind}
-use Rattle.group_hub.specs.Counting.{IsReadCounted, CountsCall, CountsEvent, CountsFlush, writes_after}
+use Rattle.group_hub.specs.Calls.{CallOverKeeper, Splits, IsSteady, may_fail_behind}
+use Rattle.group_hub.specs.Counting.{IsHubReadCounted, CountsCall, CountsEvent, CountsFlush, writes_after}
 use Rattle.group_hub.specs.Flushing.{LeavesSo, TakesAll, TakesUpTo, WorksSingly}
 use Rattle.group_hub.specs.Together.{IsUntouched, IsTogetherFault}
 use Rattle.group_hub.specs.HeldPins.{MayGiveBack}
@@ -64,7 +64,7 @@ seats_without s (x ∷ sessions) = (let rest = seats_without s sessions in omega
 
 singles_both : (front more : Changes) → one_by_one (front ++ more) ≡ one_by_one front ++ one_by_one more
 singles_both [] more = refl
-singles_both (c ∷ front) more = ap (λ (l : List Commit). (c ∷ []) ∷ l) (singles_both front more)
+singles_both (c ∷ front) more = ap (λ (l : List CommitOfChanges). (c ∷ []) ∷ l) (singles_both front more)
 
 dropped_front : (front more : Changes) → drop (length front) (front ++ more) ≡ more
 dropped_front [] more = refl
@@ -159,7 +159,7 @@ module _ {S L : Type 0} (site_state : S → SiteState) (lacks : S → Changes �
   is_now = world_at (site_state l) next g new
 
   abbrev It : Outcome → Type 0
-  It o = Call site_state lacks crash_states stands was k Flush o is_now l
+  It o = CallOverKeeper site_state lacks crash_states stands was k Flush o is_now l
 
   abbrev all_changes : Changes
   all_changes = (whole_group was).changes
@@ -223,7 +223,7 @@ module _ {S L : Type 0} (site_state : S → SiteState) (lacks : S → Changes �
   abbrev pub IsKept : HubFault → Type 0
   IsKept hub.Memory = Unit {0}
   IsKept hub.Broken = IsTrue (site_state k).honest → Rose (site_state k).failed_reads (site_state l).failed_reads
-  IsKept hub.Spent = IsTrue (site_state k).honest → (nat_lt 0 (length all_changes) ≡ true) × IsLacking (lacks k) all_changes faults.Spent
+  IsKept hub.Spent = IsTrue (site_state k).honest → (nat_lt 0 (length all_changes) ≡ true) × IsKeeperLacking (lacks k) all_changes faults.Spent
   IsKept fault = ⊥
 
   kept_faulty : (fault : HubFault) → nat_lt 0 (count_waiting old) ≡ true → IsTrue (site_state k).honest → IsKept fault → is_now ≡ was → IsFaulty was Flush (Fault fault) is_now
@@ -329,10 +329,10 @@ module _ {S L : Type 0} (site_state : S → SiteState) (lacks : S → Changes �
 
   -- what is left, by commits of one change each
   singles_adds : {s : Site} {changes : Changes} → LeavesSo stands s (crash_states k) (crash_states l) changes [] → AddsOnly (crash_states k) (crash_states l) (λ c. may_crash_to (crash_states k) c ⊎ HoldsCommits stands s (one_by_one changes ++ []) 0 c)
-  singles_adds {s = s} {changes = changes} so = subst (λ (m : List Commit). AddsOnly (crash_states k) (crash_states l) (λ c. may_crash_to (crash_states k) c ⊎ HoldsCommits stands s m 0 c)) (no_more changes) so.adds
+  singles_adds {s = s} {changes = changes} so = subst (λ (m : List CommitOfChanges). AddsOnly (crash_states k) (crash_states l) (λ c. may_crash_to (crash_states k) c ⊎ HoldsCommits stands s m 0 c)) (no_more changes) so.adds
 
   singles_behind : {s : Site} {changes : Changes} → LeavesSo stands s (crash_states k) (crash_states l) changes [] → (c : L) → may_crash_to (crash_states l) c → HoldsCommits stands s (one_by_one changes ++ []) (length (one_by_one changes)) c
-  singles_behind {s = s} {changes = changes} so c may = subst (λ (m : List Commit). HoldsCommits stands s m (length (one_by_one changes)) c) (no_more changes) (subst (λ (n : ℕ). HoldsCommits stands s (one_by_one (changes ++ [])) n c) (sym (count_singles changes)) (so.behind c may))
+  singles_behind {s = s} {changes = changes} so c may = subst (λ (m : List CommitOfChanges). HoldsCommits stands s m (length (one_by_one changes)) c) (no_more changes) (subst (λ (n : ℕ). HoldsCommits stands s (one_by_one (changes ++ [])) n c) (sym (count_singles changes)) (so.behind c may))
 
   abbrev before_them : List (ℕ × Phase)
   before_them = without_forms (site_state k).site old
@@ -404,12 +404,12 @@ module _ {S L : Type 0} (site_state : S → SiteState) (lacks : S → Changes �
       flown honest = both_parts (taken (site_state k).site (takes honest).choices before_them).changes (takes honest).flying (taken (site_state k).site ((takes honest).choices ++ true ∷ []) before_them).changes (takes honest).next (takes honest).one
 
       flying_adds : (honest : IsTrue (site_state k).honest) → AddsOnly (crash_states k) (crash_states l) (λ c. may_crash_to (crash_states k) c ⊎ HoldsCommits stands (site_state k).site ((stored_singly was (takes honest).choices (Fault hub.Failed)).commits ++ (stored_singly was (takes honest).choices (Fault hub.Failed)).flying) 0 c)
-      flying_adds honest = subst (λ (m : List Commit). AddsOnly (crash_states k) (crash_states l) (λ c. may_crash_to (crash_states k) c ⊎ HoldsCommits stands (site_state k).site m 0 c)) (sym (flown honest)) (takes honest).leaves.adds
+      flying_adds honest = subst (λ (m : List CommitOfChanges). AddsOnly (crash_states k) (crash_states l) (λ c. may_crash_to (crash_states k) c ⊎ HoldsCommits stands (site_state k).site m 0 c)) (sym (flown honest)) (takes honest).leaves.adds
 
       flying_behind : (honest : IsTrue (site_state k).honest) (c : L) → may_crash_to (crash_states l) c → HoldsCommits stands (site_state k).site ((stored_singly was (takes honest).choices (Fault hub.Failed)).commits ++ (stored_singly was (takes honest).choices (Fault hub.Failed)).flying) (length (stored_singly was (takes honest).choices (Fault hub.Failed)).commits) c
       flying_behind honest c may =
           let made : Changes = (taken (site_state k).site (takes honest).choices before_them).changes in
-          subst (λ (m : List Commit). HoldsCommits stands (site_state k).site m (length (one_by_one made)) c) (sym (flown honest)) (subst (λ (n : ℕ). HoldsCommits stands (site_state k).site (one_by_one (made ++ (takes honest).flying)) n c) (sym (count_singles made)) ((takes honest).leaves.behind c may))
+          subst (λ (m : List CommitOfChanges). HoldsCommits stands (site_state k).site m (length (one_by_one made)) c) (sym (flown honest)) (subst (λ (n : ℕ). HoldsCommits stands (site_state k).site (one_by_one (made ++ (takes honest).flying)) n c) (sym (count_singles made)) ((takes honest).leaves.behind c may))
 
   -- ---- what came of the one step
 
@@ -431,7 +431,7 @@ module _ {S L : Type 0} (site_state : S → SiteState) (lacks : S → Changes �
       writes_are = ap (λ (h : SiteState). h.failed_writes) gives.same
 
       counted_at : (x : HubFault) → CountsCall {T = Outcome} (Err x) (site_state k) (site_state m) → CountsCall {T = Outcome} (Err x) (site_state k) (site_state l)
-      counted_at x c = record { reads = subst (λ (n : ℕ). IsReadCounted (site_state k).honest x (site_state k).failed_reads n) (sym reads_are) c.reads; writes = writes_are ∙ c.writes }
+      counted_at x c = record { reads = subst (λ (n : ℕ). IsHubReadCounted (site_state k).honest x (site_state k).failed_reads n) (sym reads_are) c.reads; writes = writes_are ∙ c.writes }
 
       kept : (x : HubFault) → IsKept x → CountsCall {T = Outcome} (Err x) (site_state k) (site_state m) → IsUntouched site_state crash_states k m → It (Fault x)
       kept x why c u = kept_call b x some why (counted_at x c) (usable_is ∙ u.usable) (λ honest. site_is ∙ u.site honest) seats (λ honest. adds_none_again (crash_states k) (crash_states m) (crash_states l) (u.no_new_crash_state honest) (none honest))

@@ -16,7 +16,7 @@ use Rattle.group_world.specs.CrashStates.{with_changes}
 use Rattle.group_world.specs.Laws.{all_made}
 use Rattle.group_world.proofs.Stored.{right_make}
 use Rattle.group_world.proofs.TakenMore.{all_are_applied}
-use Rattle.group_hub.specs.Flushing.{AreTyped}
+use Rattle.group_hub.specs.Flushing.{ChangesAreTyped}
 use Rattle.group_hub.specs.Understood.{HasFailedNow}
 use Rattle.group_hub.proofs.MadeBehindReads.{weaker}
 
@@ -35,19 +35,19 @@ not_refused s changes refused (t, made) is =
 
 -- ---- changes of values of the program keep a site valid
 
-after_one : ChangesKeepSites → (n : ℕ) (s t : Site) (c : Change × ℕ) (changes : Changes) (r : Result Site Refused) → IsSite s → AreTyped (c ∷ changes) → apply s c.0 c.1 ≡ r → ((u : Site) → IsSite u → applied_from (n + 1) u changes ≡ Ok t → IsSite t)
+after_one : ChangesKeepSites → (n : ℕ) (s t : Site) (c : Change × ℕ) (changes : Changes) (r : Result Site Refused) → IsSite s → ChangesAreTyped (c ∷ changes) → apply s c.0 c.1 ≡ r → ((u : Site) → IsSite u → applied_from (n + 1) u changes ≡ Ok t → IsSite t)
     → then_at n (λ u. applied_from (n + 1) u changes) r ≡ Ok t → IsSite t
 after_one laws n s t c changes (Ok u) site typed made on is = on u (laws s u c.0 c.1 site typed.0.0 typed.0.1 made) is
 after_one laws n s t c changes (Err refused) site typed made on is = absurd (cc is)
 
-still_site : ChangesKeepSites → (n : ℕ) (s t : Site) (changes : Changes) → IsSite s → AreTyped changes → applied_from n s changes ≡ Ok t → IsSite t
+still_site : ChangesKeepSites → (n : ℕ) (s t : Site) (changes : Changes) → IsSite s → ChangesAreTyped changes → applied_from n s changes ≡ Ok t → IsSite t
 still_site laws n s t [] site typed is = (let same : s ≡ t = cc is in subst IsSite same site)
 still_site laws n s t (c ∷ changes) site typed is = after_one laws n s t c changes (apply s c.0 c.1) site typed refl (λ u valid. still_site laws (n + 1) u t changes valid typed.1) is
 
-pub still_valid : ChangesKeepSites → (s t : Site) (changes : Changes) → AreTyped changes → all_applied s changes ≡ Ok t → ∥ IsSite s ∥₁ → ∥ IsSite t ∥₁
+pub still_valid : ChangesKeepSites → (s t : Site) (changes : Changes) → ChangesAreTyped changes → all_applied s changes ≡ Ok t → ∥ IsSite s ∥₁ → ∥ IsSite t ∥₁
 still_valid laws s t changes typed is site = let prop : IsProp ∥ IsSite t ∥₁ = hlevel props in ∥∥₁_elim site prop (λ h. ∣ still_site laws 0 s t changes h typed is ∣₁)
 
-pub typed_more : (changes more : Changes) → AreTyped changes → AreTyped more → AreTyped (changes ++ more)
+pub typed_more : (changes more : Changes) → ChangesAreTyped changes → ChangesAreTyped more → ChangesAreTyped (changes ++ more)
 typed_more [] more first rest = rest
 typed_more (c ∷ changes) more first rest = (first.0, typed_more changes more first.1 rest)
 

@@ -27,9 +27,9 @@ use Rattle.group_world.specs.declared.fault.HubFault.{HubFault}
 use Rattle.group_world.specs.declared.fault.HubFault.TheVariants as hub
 use Rattle.group_world.proofs.Stored.{at_moment_makes}
 use Rattle.group_world.proofs.Leaving.{leaves_nothing, leaves_changes, leaves_in_flight, fault_stores, nothing, all_in_one, all_in_flight}
-use Rattle.group_hub.specs.Calls.{IfFault, IsCause, IsSteady, Splits, Call}
+use Rattle.group_hub.specs.Calls.{IfFault, IsCause, IsSteady, Splits, CallOverKeeper}
 use Rattle.group_hub.specs.Counting.{CountsEvent}
-use Rattle.group_hub.specs.Hears.{is_grouped, is_full, is_wait, status_of, Makes, Hears}
+use Rattle.group_hub.specs.Hears.{is_grouped, is_full, is_wait, status_of, MakesChanges, Hears}
 use Rattle.group_hub.specs.Sessions.{phase_of, pin_of, is_waiting}
 use Rattle.group_hub.specs.Understood.{IsPostFault}
 use Rattle.group_hub.specs.Worlds.{world_at}
@@ -209,7 +209,7 @@ module _ {S L P : Type 0} (site_state : S → SiteState) (lacks : S → Changes 
     pub grouped : is_grouped posting ≡ g
     pub full : is_full posting ≡ (g && nat_le 16 (count_waiting old))
     pub hears : Hears pinned (f p) posting before_it after (site_state k) (site_state l) result
-    pub makes : Makes site_state lacks crash_states stands made k l result
+    pub makes : MakesChanges site_state lacks crash_states stands made k l result
     pub represent : Represents site_state crash_states stands k
     pub represent_now : Represents site_state crash_states stands l
 
@@ -244,7 +244,7 @@ module _ {S L P : Type 0} (site_state : S → SiteState) (lacks : S → Changes 
   -- ---- the call
 
   abbrev It : Outcome → Type 0
-  It o = Call site_state lacks crash_states stands w k e o v l
+  It o = CallOverKeeper site_state lacks crash_states stands w k e o v l
 
   -- one that was answered
   answered_call : Facts → (h : InputStatus) → result ≡ Ok h → IsCause site_state lacks w k e (heard_outcome h) l → CountsEvent w e (heard_outcome h) (site_state k) (site_state l) → (IsTrue (site_state k).honest → IsAnswer w e (heard_outcome h) v) → It (heard_outcome h)

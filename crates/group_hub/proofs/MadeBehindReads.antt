@@ -7,14 +7,14 @@ use Rattle.host_types.specs.SiteState.{SiteState, Rose, HasRead, HasNotChanged, 
 use Rattle.host_types.specs.CrashStates.{CrashStates, AddsOnly, may_crash_to, adds_both}
 use Rattle.host_types.specs.declared.site_fault.SiteFault.{SiteFault}
 use Rattle.host_types.specs.declared.site_fault.SiteFault.TheVariants as faults
-use Rattle.group_world.specs.Calls.{IsLacking, IsUnspent}
+use Rattle.group_world.specs.Calls.{IsKeeperLacking, IsUnspent}
 use Rattle.group_world.specs.CrashStates.{with_changes}
 use Rattle.group_world.specs.declared.fault.HubFault.{HubFault}
 use Rattle.group_world.specs.declared.fault.HubFault.TheVariants as hub
 use Rattle.group_hub.specs.Counting.{CountsCall}
 use Rattle.group_hub.specs.Understood.{HasFailedNow, IsPostFault, HasWorked}
-use Rattle.group_hub.specs.Hears.{Makes}
-use Rattle.group_hub.specs.Preparing.{OnlyReads}
+use Rattle.group_hub.specs.Hears.{MakesChanges}
+use Rattle.group_hub.specs.Preparing.{KeeperOnlyReads}
 use Rattle.group_hub.specs.declared.posting.Posting.{Posting}
 use Rattle.group_hub.specs.declared.phase.Concluded.{Concluded}
 use Rattle.group_hub.proofs.CountedCalls.{call_since}
@@ -30,18 +30,18 @@ weaker p q P R adds on = record {
 
 -- ---- why changes could not be made
 
-pub lacking_still : (before now : Changes → SiteFault → Type 0) (changes made : Changes) (fault : SiteFault) → LacksTheSame before now → changes ≡ made → IsLacking now made fault → IsLacking before changes fault
-lacking_still before now changes made fault same is lack = subst (λ (c : Changes). IsLacking before c fault) (sym is) (still made lack)
+pub lacking_still : (before now : Changes → SiteFault → Type 0) (changes made : Changes) (fault : SiteFault) → LacksTheSame before now → changes ≡ made → IsKeeperLacking now made fault → IsKeeperLacking before changes fault
+lacking_still before now changes made fault same is lack = subst (λ (c : Changes). IsKeeperLacking before c fault) (sym is) (still made lack)
   where
-    still : (c : Changes) → IsLacking now c fault → IsLacking before c fault
+    still : (c : Changes) → IsKeeperLacking now c fault → IsKeeperLacking before c fault
     still [] never = never
     still (x ∷ c) so = same.before (x ∷ c) fault so
 
 -- and what a keeper does not lack behind them, it did not lack before
 pub unspent_still : (before now : Changes → SiteFault → Type 0) (changes made : Changes) → LacksTheSame before now → changes ≡ made → IsUnspent now made → IsUnspent before changes
-unspent_still before now changes made same is none = λ spent. none (on made (subst (λ (c : Changes). IsLacking before c faults.Spent) is spent))
+unspent_still before now changes made same is none = λ spent. none (on made (subst (λ (c : Changes). IsKeeperLacking before c faults.Spent) is spent))
   where
-    on : (c : Changes) → IsLacking before c faults.Spent → IsLacking now c faults.Spent
+    on : (c : Changes) → IsKeeperLacking before c faults.Spent → IsKeeperLacking now c faults.Spent
     on [] never = never
     on (x ∷ c) so = same.after (x ∷ c) faults.Spent so
 
@@ -89,10 +89,10 @@ module _ {K L : Type 0} (site_state : K → SiteState) (lacks : K → Changes �
   pub record HaveRead (old new : K) : Type 0 where
     pub usable : (site_state old).usable ≡ true
     pub stands : Represents old
-    pub only : OnlyReads site_state lacks crash_states old new
+    pub only : KeeperOnlyReads site_state lacks crash_states old new
 
   abbrev MakesThem : {T : Type 0} → Changes → K → K → Result T HubFault → Type 0
-  MakesThem changes old new result = Makes site_state lacks crash_states represents changes old new result
+  MakesThem changes old new result = MakesChanges site_state lacks crash_states represents changes old new result
 
   worked_by : (a b : SiteState) → HasRead a b → HasWorked a b
   worked_by a b kept = record { honest = kept.honest; reads = kept.reads; writes = omega (arith, kept.writes) }

@@ -8,7 +8,7 @@ use Rattle.host_types.specs.Pins.{Pinned}
 use Rattle.host_types.specs.CrashStates.{CrashStates, AddsOnly, may_crash_to, adds_both, adds_none_again}
 use Rattle.host_types.specs.declared.site_fault.SiteFault.{SiteFault}
 use Rattle.host_types.specs.declared.site_fault.SiteFault.TheVariants as faults
-use Rattle.group_world.specs.Calls.{IsLacking, MaySplit}
+use Rattle.group_world.specs.Calls.{IsKeeperLacking, MaySplit}
 use Rattle.group_world.specs.CrashStates.{with_changes}
 use Rattle.group_world.specs.Laws.{all_made}
 use Rattle.group_world.specs.Step.{Group, without_forms, all_of}
@@ -16,7 +16,7 @@ use Rattle.group_world.specs.declared.fault.HubFault.{HubFault}
 use Rattle.group_world.specs.declared.fault.HubFault.TheVariants as hub
 use Rattle.group_world.proofs.Groups.{groups_are_right}
 use Rattle.group_world.proofs.Stored.{right_make}
-use Rattle.group_hub.specs.Counting.{CountsWrites, writes_after}
+use Rattle.group_hub.specs.Counting.{HubCountsWrites, writes_after}
 use Rattle.group_hub.specs.Flushing.{next_pins, AreNextSound, AreForWaiting, ArePrepared, StandsBeside, IsGroupFault, MakesGroup}
 use Rattle.group_hub.specs.Preparing.{IsPrepareFault, Prepares}
 use Rattle.group_hub.specs.Sessions.{sessions_of}
@@ -37,7 +37,7 @@ if_ok : {T E : Type 0} {P Q : T → Type 0} (r : Result T E) → ((x : T) → P 
 if_ok (Ok x) on p = on x p
 if_ok (Err e) on p = tt
 
-some_of : (lacks : Changes → SiteFault → Type 0) (changes : Changes) (fault : SiteFault) → IsLacking lacks changes fault → nat_lt 0 (length changes) ≡ true
+some_of : (lacks : Changes → SiteFault → Type 0) (changes : Changes) (fault : SiteFault) → IsKeeperLacking lacks changes fault → nat_lt 0 (length changes) ≡ true
 some_of lacks [] fault never = absurd never
 some_of lacks (c ∷ changes) fault lack = lt-ltb 0 (length (c ∷ changes)) (omega arith)
 
@@ -136,7 +136,7 @@ module _ {S L P : Type 0} (site_state : S → SiteState) (lacks : S → Changes 
             no_new_crash_state = λ honest. adds_none_again (crash_states k) (crash_states m) (crash_states l) (p.no_new_crash_state honest) (none (on honest) up);
           }
 
-      lack_since : (fault : SiteFault) → IsTrue (site_state k).honest → IsLacking (lacks m) changes fault → IsLacking (lacks k) whole_group.changes fault
+      lack_since : (fault : SiteFault) → IsTrue (site_state k).honest → IsKeeperLacking (lacks m) changes fault → IsKeeperLacking (lacks k) whole_group.changes fault
       lack_since fault honest lack = lacking_still (lacks k) (lacks m) whole_group.changes changes fault p.lacking (sym (prepared honest).changes) lack
 
       split_since : IsTrue (site_state k).honest → MaySplit (lacks m) (site_state m) changes → MaySplit (lacks k) (site_state k) whole_group.changes
@@ -145,15 +145,15 @@ module _ {S L P : Type 0} (site_state : S → SiteState) (lacks : S → Changes 
         unspent = unspent_still (lacks k) (lacks m) whole_group.changes changes p.lacking (sym (prepared honest).changes) split.unspent;
       }
         where
-          cause_since : ((need : ℕ) × ((site_state m).free < need) × IsLacking (lacks m) changes (faults.Full need (site_state m).free)) ⊎ IsLacking (lacks m) changes faults.Deep
-              → ((need : ℕ) × ((site_state k).free < need) × IsLacking (lacks k) whole_group.changes (faults.Full need (site_state k).free)) ⊎ IsLacking (lacks k) whole_group.changes faults.Deep
-          cause_since (inl (need, less, lack)) = inl (need, subst (λ (n : ℕ). n < need) p.free less, lack_since (faults.Full need (site_state k).free) honest (subst (λ (n : ℕ). IsLacking (lacks m) changes (faults.Full need n)) p.free lack))
+          cause_since : ((need : ℕ) × ((site_state m).free < need) × IsKeeperLacking (lacks m) changes (faults.Full need (site_state m).free)) ⊎ IsKeeperLacking (lacks m) changes faults.Deep
+              → ((need : ℕ) × ((site_state k).free < need) × IsKeeperLacking (lacks k) whole_group.changes (faults.Full need (site_state k).free)) ⊎ IsKeeperLacking (lacks k) whole_group.changes faults.Deep
+          cause_since (inl (need, less, lack)) = inl (need, subst (λ (n : ℕ). n < need) p.free less, lack_since (faults.Full need (site_state k).free) honest (subst (λ (n : ℕ). IsKeeperLacking (lacks m) changes (faults.Full need n)) p.free lack))
           cause_since (inr lack) = inr (lack_since faults.Deep honest lack)
 
       some_split : IsTrue (site_state k).honest → MaySplit (lacks k) (site_state k) whole_group.changes → nat_lt 0 (length whole_group.changes) ≡ true
       some_split honest split = by split.cause
         where
-          by : ((need : ℕ) × ((site_state k).free < need) × IsLacking (lacks k) whole_group.changes (faults.Full need (site_state k).free)) ⊎ IsLacking (lacks k) whole_group.changes faults.Deep → nat_lt 0 (length whole_group.changes) ≡ true
+          by : ((need : ℕ) × ((site_state k).free < need) × IsKeeperLacking (lacks k) whole_group.changes (faults.Full need (site_state k).free)) ⊎ IsKeeperLacking (lacks k) whole_group.changes faults.Deep → nat_lt 0 (length whole_group.changes) ≡ true
           by (inl (need, less, lack)) = some_of (lacks k) whole_group.changes (faults.Full need (site_state k).free) lack
           by (inr lack) = some_of (lacks k) whole_group.changes faults.Deep lack
 
@@ -191,7 +191,7 @@ module _ {S L P : Type 0} (site_state : S → SiteState) (lacks : S → Changes 
       faults_since (Ok x) made = tt
       faults_since (Err fault) made = fault_since fault made made.fault
 
-      writes_since : (q : Result GroupCommit HubFault) → CountsWrites q (site_state m) (site_state l) → CountsWrites q (site_state k) (site_state l)
+      writes_since : (q : Result GroupCommit HubFault) → HubCountsWrites q (site_state m) (site_state l) → HubCountsWrites q (site_state k) (site_state l)
       writes_since (Ok x) is = is ∙ p.writes
       writes_since (Err fault) is = is ∙ ap (λ (b : Bool). writes_after b fault (site_state m).failed_writes) p.usable ∙ ap (writes_after (site_state k).usable fault) p.writes
 

@@ -18,7 +18,7 @@ use Rattle.group_world.specs.Laws.{all_made}
 use Rattle.group_world.proofs.LaterReplies.{later_replies_are_right}
 use Rattle.group_world.proofs.Groups.{groups_are_right}
 use Rattle.group_world.proofs.TakenMore.{one_more, taken_more, all_of_more}
-use Rattle.group_hub.specs.Flushing.{put_one, put_seats, IsNext, ArePrepared}
+use Rattle.group_hub.specs.Flushing.{put_one, put_seats, IsNextReply, ArePrepared}
 use Rattle.group_hub.specs.Sessions.{phase_of, session_of, sessions_of}
 use Rattle.group_hub.specs.declared.next.Next.{Next}
 use Rattle.group_hub.specs.declared.next.Next.TheVariants as nexts
@@ -37,7 +37,7 @@ module _ {P : Type 0} (pinned : P → Pinned) where
 
   -- its form stands
   pub replied_next : (h : SiteState) (s t : Site) (before : Changes) (request : Request) (now : ℕ) (p : Phase P) (a : WholeAnswer) → ∥ IsSite s ∥₁ → is_form_in (item_at (visible s now) request.selector) ≡ true → are_posts before ≡ true → all_made s before ≡ Some t
-      → a ≡ later_reply s before request now → phase_of pinned h p ≡ world.Reply a.bytes → IsNext pinned h s t before (before ++ at_moment now a.post) (world.Waits request now) (nexts.Replied p)
+      → a ≡ later_reply s before request now → phase_of pinned h p ≡ world.Reply a.bytes → IsNextReply pinned h s t before (before ++ at_moment now a.post) (world.Waits request now) (nexts.Replied p)
   replied_next h s t before request now p a site form are made later is =
       let same : a ≡ reply t request now = later ∙ sym (later_replies_are_right s t before request now site are made form) in
       record {
@@ -74,7 +74,7 @@ module _ {P : Type 0} (pinned : P → Pinned) where
   pub prepared_made : (h : SiteState) (s : Site) (xs : List (ℕ × world.Phase)) (ns : List (Next P)) (changes : Changes) → ArePrepared pinned h s xs ns changes → all_made s changes ≡ Some (group_of s xs).site
   prepared_made h s xs ns changes are = ap (all_made s) are.changes ∙ groups_are_right s (all_of xs) (without_forms s xs)
 
-  pub prepared_more : (h : SiteState) (s : Site) (xs : List (ℕ × world.Phase)) (ns : List (Next P)) (before after : Changes) (x : ℕ × world.Phase) (n : Next P) → length ns ≡ length xs → ArePrepared pinned h s xs ns before → IsNext pinned h s (group_of s xs).site before after x.1 n
+  pub prepared_more : (h : SiteState) (s : Site) (xs : List (ℕ × world.Phase)) (ns : List (Next P)) (before after : Changes) (x : ℕ × world.Phase) (n : Next P) → length ns ≡ length xs → ArePrepared pinned h s xs ns before → IsNextReply pinned h s (group_of s xs).site before after x.1 n
       → ArePrepared pinned h s (xs ++ x ∷ []) (ns ++ n ∷ []) after
   prepared_more h s xs ns before after x n same are next =
       let more = group_more s xs x in

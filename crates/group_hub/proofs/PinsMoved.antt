@@ -5,7 +5,7 @@ use Rattle.std.specs.Map.{lookup}
 use Rattle.host_types.specs.Site.{Items}
 use Rattle.host_types.specs.SiteState.{SiteState, numbers_out}
 use Rattle.host_types.specs.Pins.{Pinned, Copied, Numbered, is_among, is_out, items_or_none, pinned_items, IsPinned, IsUnpinned}
-use Rattle.group_hub.specs.HeldPins.{one_if, times, count_numbered, HoldsAll, listed, AreApart, MovesPins, MayGiveBack}
+use Rattle.group_hub.specs.HeldPins.{one_if, times, count_numbered, HoldsAll, listed, PinsAreApart, MovesPins, MayGiveBack}
 
 -- ---- a keeper whose pins stay
 
@@ -41,7 +41,7 @@ made_moves a b (Numbered n) is = record {
   };
 }
   where
-    stays : (pin : Pinned) → IsTrue (is_out a pin) → AreApart None pin → pinned_items b pin ≡ pinned_items a pin
+    stays : (pin : Pinned) → IsTrue (is_out a pin) → PinsAreApart None pin → pinned_items b pin ≡ pinned_items a pin
     stays (Copied items) out apart = refl
     stays (Numbered m) out apart = ap items_or_none (is.others m (λ same. (let no : true ≡ false = sym out ∙ ap (λ (k : ℕ). is_among k (numbers_out a)) same ∙ is.fresh in absurd (cc no))))
 
@@ -65,13 +65,13 @@ spent_moves a b (Numbered n) is = record {
   };
 }
   where
-    stays : (pin : Pinned) → IsTrue (is_out a pin) → AreApart (Some (Numbered n)) pin → pinned_items b pin ≡ pinned_items a pin
+    stays : (pin : Pinned) → IsTrue (is_out a pin) → PinsAreApart (Some (Numbered n)) pin → pinned_items b pin ≡ pinned_items a pin
     stays (Copied items) out apart = refl
     stays (Numbered m) out apart = ap items_or_none (is.others m (λ same. apart (sym same)))
 
 -- ---- one after the other
 
-pub moves_twice : (a m b : SiteState) (first second third : Option Pinned) → ((pin : Pinned) → IsTrue (is_out a pin) → AreApart first pin → IsTrue (is_out m pin) × AreApart second pin) → MovesPins a m first second → MovesPins m b second third → MovesPins a b first third
+pub moves_twice : (a m b : SiteState) (first second third : Option Pinned) → ((pin : Pinned) → IsTrue (is_out a pin) → PinsAreApart first pin → IsTrue (is_out m pin) × PinsAreApart second pin) → MovesPins a m first second → MovesPins m b second third → MovesPins a b first third
 moves_twice a m b first second third on one two = record {
   stay = λ pin out apart. (let next = on pin out apart in two.stay pin next.0 next.1 ∙ one.stay pin out apart);
   all = λ others holds. two.all others (one.all others holds);
@@ -106,11 +106,11 @@ held_is_out h (Numbered n) others holds =
     let once : one_if (n == n) + times n others ≡ one_if (is_among n (numbers_out h)) = holds.once n in
     some_out (is_among n (numbers_out h)) (omega (arith, here, once))
 
-pub others_are_apart : (h : SiteState) (held : Option Pinned) (others : List Pinned) → HoldsAll h (listed held ++ others) → EachIs (λ pin. IsTrue (is_out h pin) × AreApart held pin) others
+pub others_are_apart : (h : SiteState) (held : Option Pinned) (others : List Pinned) → HoldsAll h (listed held ++ others) → EachIs (λ pin. IsTrue (is_out h pin) × PinsAreApart held pin) others
 others_are_apart h None others holds = each _ others (λ items. (refl, tt)) (λ n some. (some_out (is_among n (numbers_out h)) (let once : times n others ≡ one_if (is_among n (numbers_out h)) = holds.once n in omega (arith, some, once)), tt))
 others_are_apart h (Some (Copied copy)) others holds = each _ others (λ items. (refl, tt)) (λ n some. (some_out (is_among n (numbers_out h)) (let once : times n others ≡ one_if (is_among n (numbers_out h)) = holds.once n in omega (arith, some, once)), tt))
 others_are_apart h (Some (Numbered m)) others holds =
-    each (λ pin. IsTrue (is_out h pin) × AreApart (Some (Numbered m)) pin) others (λ items. (refl, tt)) (λ n some.
+    each (λ pin. IsTrue (is_out h pin) × PinsAreApart (Some (Numbered m)) pin) others (λ items. (refl, tt)) (λ n some.
     (let once : one_if (n == m) + times n others ≡ one_if (is_among n (numbers_out h)) = holds.once n in (
       some_out (is_among n (numbers_out h)) (omega (arith, some, once)),
       λ (same : m ≡ n). (let twice : one_if (n == m) ≡ 1 = rw (eq-eqb n m (sym same)) refl in absurd (omega (arith, some, once, twice, few (is_among n (numbers_out h))))),

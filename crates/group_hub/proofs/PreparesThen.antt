@@ -8,7 +8,7 @@ use Rattle.host_types.specs.declared.site_fault.SiteFault.{SiteFault}
 use Rattle.site_replies.proofs.AfterReads.{lacking_on}
 use Rattle.group_world.specs.declared.fault.HubFault.{HubFault}
 use Rattle.group_world.specs.declared.fault.HubFault.TheVariants as hub
-use Rattle.group_hub.specs.Counting.{IsReadCounted, CountsReads}
+use Rattle.group_hub.specs.Counting.{IsHubReadCounted, HubCountsReads}
 use Rattle.group_hub.specs.Preparing.{IsPrepareFault, Prepares}
 
 -- what went well
@@ -33,9 +33,9 @@ faults_behind : {T : Type 0} (r : Result T HubFault) (a b c : SiteState) → b.h
 faults_behind (Ok x) a b c same none is = tt
 faults_behind (Err fault) a b c same none is = fault_behind a b c fault same none is
 
-pub counts_behind : {T : Type 0} (r : Result T HubFault) (a b c : SiteState) → b.honest ≡ a.honest → b.failed_reads ≡ a.failed_reads → CountsReads r b c → CountsReads r a c
+pub counts_behind : {T : Type 0} (r : Result T HubFault) (a b c : SiteState) → b.honest ≡ a.honest → b.failed_reads ≡ a.failed_reads → HubCountsReads r b c → HubCountsReads r a c
 counts_behind (Ok x) a b c same none is = is ∙ none
-counts_behind (Err fault) a b c same none is = subst (λ (h : Bool). IsReadCounted h fault a.failed_reads c.failed_reads) same (subst (λ (n : ℕ). IsReadCounted b.honest fault n c.failed_reads) none is)
+counts_behind (Err fault) a b c same none is = subst (λ (h : Bool). IsHubReadCounted h fault a.failed_reads c.failed_reads) same (subst (λ (n : ℕ). IsHubReadCounted b.honest fault n c.failed_reads) none is)
 
 module _ {K L : Type 0} (site_state : K → SiteState) (lacks : K → Changes → SiteFault → Type 0) (crash_states : K → CrashStates L) where
   abbrev PreparesSo : {T : Type 0} → K → K → Result T HubFault → Type 0

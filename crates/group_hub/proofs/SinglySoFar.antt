@@ -17,10 +17,10 @@ use Rattle.group_world.specs.CrashStates.{with_changes}
 use Rattle.group_world.specs.declared.fault.HubFault.{HubFault}
 use Rattle.group_world.specs.declared.fault.HubFault.TheVariants as hub
 use Rattle.group_world.proofs.Leaving.{weaker}
-use Rattle.group_hub.specs.Counting.{IsReadCounted, writes_after, CountsCall}
+use Rattle.group_hub.specs.Counting.{IsHubReadCounted, writes_after, CountsCall}
 use Rattle.group_hub.specs.Flushing.{TakesAll, TakesUpTo, WorksSingly}
 use Rattle.group_hub.specs.HeldPins.{one_if, HoldsAll, MovesPins}
-use Rattle.group_hub.specs.Hears.{Makes}
+use Rattle.group_hub.specs.Hears.{MakesChanges}
 use Rattle.group_hub.specs.Sessions.{phase_of, session_of, sessions_of, pin_of, pins_of, is_waiting, IsSound, AreSound}
 use Rattle.group_hub.specs.Understood.{IsPostFault, HasFailedNow, HasWorked}
 use Rattle.group_hub.specs.declared.session.Session.{Session}
@@ -38,13 +38,13 @@ counted_later zero count = refl
 counted_later (suc n) count = counted_later n (counted count)
 
 -- one post more is left, which may have met a read that failed
-counts_one : (fault : HubFault) (left : ℕ) (a b c : SiteState) → IsTrue b.honest → CountsLeft left a b → IsReadCounted b.honest fault b.failed_reads c.failed_reads → CountsLeft (left + 1) a c
+counts_one : (fault : HubFault) (left : ℕ) (a b c : SiteState) → IsTrue b.honest → CountsLeft left a b → IsHubReadCounted b.honest fault b.failed_reads c.failed_reads → CountsLeft (left + 1) a c
 counts_one fault left a b c honest (n, few, is) counts = by fault counts
   where
     same : c.failed_reads ≡ b.failed_reads → CountsLeft (left + 1) a c
     same none = (n, omega (arith, few), none ∙ is)
 
-    by : (f : HubFault) → IsReadCounted b.honest f b.failed_reads c.failed_reads → CountsLeft (left + 1) a c
+    by : (f : HubFault) → IsHubReadCounted b.honest f b.failed_reads c.failed_reads → CountsLeft (left + 1) a c
     by hub.Broken once = (suc n, omega (arith, few), once honest ∙ ap counted is ∙ counted_later n a.failed_reads)
     by hub.Unknown none = same none
     by hub.Crowded none = same none
@@ -247,7 +247,7 @@ module _ {P : Type 0} (pinned : P → Pinned) where
       as_behind y = ap (λ (l : List (Session P)). count_waiting (Seats first l)) (drop-set-lt (i + 1) items i y (omega arith))
 
       abbrev AloneMakes : K → Result Unit HubFault → Type 0
-      AloneMakes then result = Makes site_state lacks crash_states represents post k then result
+      AloneMakes then result = MakesChanges site_state lacks crash_states represents post k then result
 
       -- one that doesn't wait
       stays_none : is_waiting x.phase ≡ false → IsSinglySo k items (i + 1) left

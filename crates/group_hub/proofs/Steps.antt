@@ -11,7 +11,7 @@ use Rattle.group_world.specs.World as world
 use Rattle.group_world.specs.World.{World, phase_in, count_waiting}
 use Rattle.group_world.specs.Step.{StepResult, says, Next, then_is, at_session, at_hearing, draws, joined, left, answer, failed_answer, step}
 use Rattle.group_world.specs.Run.{Step, StepBy, IsAnswer, IsFaulty, IsSplit, may_work, has_changes, changes_in, may_come, may_read, has_bytes_left}
-use Rattle.group_world.specs.Calls.{IsLacking}
+use Rattle.group_world.specs.Calls.{IsKeeperLacking}
 use Rattle.group_world.specs.Continuing.{is_flush}
 use Rattle.group_world.specs.Outcomes.{drawn_outcome, draw_outcome}
 use Rattle.group_world.specs.declared.event.Event.{Event}
@@ -21,7 +21,7 @@ use Rattle.group_world.specs.declared.event.Outcome.TheVariants.{Joined, Gone, F
 use Rattle.group_world.specs.declared.fault.HubFault.{HubFault}
 use Rattle.group_world.specs.declared.fault.HubFault.TheVariants as hub
 use Rattle.group_world.specs.declared.answer.Drawn.{Drawn}
-use Rattle.group_hub.specs.Understood.{IsPostFault, IsDrawFault, HasBegun, has_no_reply}
+use Rattle.group_hub.specs.Understood.{IsPostFault, IsDrawFault, DrawHasBegun, has_no_reply}
 use Rattle.group_hub.specs.Worlds.{world_at}
 
 -- ---- answers and faults as steps
@@ -104,7 +104,7 @@ comes_deep w (Admin change now) other some = some
 comes_deep w Flush other some = absurd (cc other)
 
 -- what a keeper lacks, it lacks of changes
-pub only_changes : (lacks : Changes → SiteFault → Type 0) (changes : Changes) (what : SiteFault) → IsLacking lacks changes what → nat_lt 0 (length changes) ≡ true
+pub only_changes : (lacks : Changes → SiteFault → Type 0) (changes : Changes) (what : SiteFault) → IsKeeperLacking lacks changes what → nat_lt 0 (length changes) ≡ true
 only_changes lacks [] what is = absurd is
 only_changes lacks (c ∷ changes) what is = lt-ltb 0 (length (c ∷ changes)) (omega arith)
 
@@ -248,7 +248,7 @@ pub same_phase : (o : Option world.Phase) (p q : world.Phase) → o ≡ Some p �
 same_phase o p q is also = let same : Some p ≡ Some q = sym is ∙ also in cc same
 
 -- what was begun of a reply, by where the session is
-pub begun_at : {T : Type 0} (honest : Bool) (o : Option world.Phase) (p : world.Phase) (old new : List ℕ) (result : Result T HubFault) → o ≡ Some p → OnErr result (HasBegun honest p old new)
-    → OnErr result ((rest : List ℕ) → o ≡ Some (world.Reply rest) → HasBegun honest (world.Reply rest) old new)
+pub begun_at : {T : Type 0} (honest : Bool) (o : Option world.Phase) (p : world.Phase) (old new : List ℕ) (result : Result T HubFault) → o ≡ Some p → OnErr result (DrawHasBegun honest p old new)
+    → OnErr result ((rest : List ℕ) → o ≡ Some (world.Reply rest) → DrawHasBegun honest (world.Reply rest) old new)
 begun_at honest o p old new (Ok _) there is = tt
-begun_at honest o p old new (Err fault) there is = λ rest has. subst (λ (q : world.Phase). HasBegun honest q old new) (same_phase o p (world.Reply rest) there has) is
+begun_at honest o p old new (Err fault) there is = λ rest has. subst (λ (q : world.Phase). DrawHasBegun honest q old new) (same_phase o p (world.Reply rest) there has) is

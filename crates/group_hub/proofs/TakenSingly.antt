@@ -9,7 +9,7 @@ use Rattle.host_types.specs.declared.change.Change.{Change}
 use Rattle.site_replies.specs.Reply.{reply}
 use Rattle.group_world.specs.World.{Phase, Heard, Waits, Reply, Early, one_waiting, count_waiting}
 use Rattle.group_world.specs.Step.{Group, with_change, at_moment, answered_from, post_from, site_from, taken}
-use Rattle.group_world.specs.CrashStates.{Commit, with_changes, with_commits, one_by_one, HoldsCommits}
+use Rattle.group_world.specs.CrashStates.{CommitOfChanges, with_changes, with_commits, one_by_one, HoldsCommits}
 use Rattle.group_world.proofs.Crashes.{more_come, comes_after, stands_now}
 use Rattle.group_world.proofs.Groups.{groups_are_right}
 use Rattle.group_world.proofs.Leaving.{weaker}
@@ -92,30 +92,30 @@ module _ {L : Type 0} (represents : L → Site → Type 0) where
 
   holds_made : (s : Site) (changes : Changes) (c : L) → represents c (with_changes s changes) → Holds s changes (length changes) c
   holds_made s changes c here =
-      let all : List Commit = one_by_one changes in
+      let all : List CommitOfChanges = one_by_one changes in
       let same : length all ≡ length changes = length-map changes _ in
       record {
         count = length all;
         at_least = omega (arith, same);
         at_most = omega arith;
-        represented = subst (λ (l : List Commit). represents c (with_commits s l)) (sym (take_all (length all) all (omega arith))) (subst (represents c) (sym (singles_make s changes)) here);
+        represented = subst (λ (l : List CommitOfChanges). represents c (with_commits s l)) (sym (take_all (length all) all (omega arith))) (subst (represents c) (sym (singles_make s changes)) here);
       }
 
   -- before some changes, and with them
   holds_before : (s t : Site) (commits post : Changes) (least : ℕ) (c : L) → t ≡ with_commits s (one_by_one commits) → least ≤ length commits → represents c t → Holds s (commits ++ post) least c
   holds_before s t commits post least c made le here =
       let same : length (one_by_one commits) ≡ length commits = length-map commits _ in
-      subst (λ (l : List Commit). HoldsCommits represents s l least c) (sym (singles_both commits post)) (comes_after represents s t (one_by_one commits) (one_by_one post) 0 least c made (omega (arith, le, same)) (stands_now represents t (one_by_one post) c here))
+      subst (λ (l : List CommitOfChanges). HoldsCommits represents s l least c) (sym (singles_both commits post)) (comes_after represents s t (one_by_one commits) (one_by_one post) 0 least c made (omega (arith, le, same)) (stands_now represents t (one_by_one post) c here))
 
   holds_with : (s t : Site) (commits post : Changes) (least : ℕ) (c : L) → t ≡ with_commits s (one_by_one commits) → least ≤ length commits + length post → represents c (with_changes t post) → Holds s (commits ++ post) least c
   holds_with s t commits post least c made le here =
       let same : length (one_by_one commits) ≡ length commits = length-map commits _ in
-      subst (λ (l : List Commit). HoldsCommits represents s l least c) (sym (singles_both commits post)) (comes_after represents s t (one_by_one commits) (one_by_one post) (length post) least c made (omega (arith, le, same)) (holds_made t post c here))
+      subst (λ (l : List CommitOfChanges). HoldsCommits represents s l least c) (sym (singles_both commits post)) (comes_after represents s t (one_by_one commits) (one_by_one post) (length post) least c made (omega (arith, le, same)) (holds_made t post c here))
 
   holds_more : (s : Site) (commits post : Changes) (c : L) → Holds s (commits ++ []) 0 c → Holds s (commits ++ post) 0 c
   holds_more s commits post c h =
       let before : HoldsCommits represents s (one_by_one commits) 0 c = subst (λ (l : Changes). Holds s l 0 c) (append-nil commits) h in
-      subst (λ (l : List Commit). HoldsCommits represents s l 0 c) (sym (singles_both commits post)) (more_come represents s (one_by_one commits) (one_by_one post) 0 0 c (omega arith) before)
+      subst (λ (l : List CommitOfChanges). HoldsCommits represents s l 0 c) (sym (singles_both commits post)) (more_come represents s (one_by_one commits) (one_by_one post) 0 0 c (omega arith) before)
 
   module _ (s : Site) (first : CrashStates L) where
     abbrev Adds : CrashStates L → Changes → Type 0

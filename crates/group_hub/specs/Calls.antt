@@ -76,7 +76,7 @@ abbrev pub link : {S : Type 0} → Event → Outcome → Stored → World → S 
 link e o stored v l = record { event = e; outcome = o; stored = stored; world = v; keeper = l }
 
 -- One call, from a world w and its keeper k to a world v and its keeper l.
-pub record Call {S L : Type 0} (site_state : S → SiteState) (lacks : S → Changes → SiteFault → Type 0) (crash_states : S → CrashStates L) (stands : L → Site → Type 0) (w : World) (k : S) (e : Event) (o : Outcome) (v : World) (l : S) : Type 0 where
+pub record CallOverKeeper {S L : Type 0} (site_state : S → SiteState) (lacks : S → Changes → SiteFault → Type 0) (crash_states : S → CrashStates L) (stands : L → Site → Type 0) (w : World) (k : S) (e : Event) (o : Outcome) (v : World) (l : S) : Type 0 where
   pub step : IsTrue (site_state k).honest → Step w e o v
   pub cause : IsCause site_state lacks w k e o l
   pub counts : CountsEvent w e o (site_state k) (site_state l)
@@ -90,18 +90,18 @@ pub record Call {S L : Type 0} (site_state : S → SiteState) (lacks : S → Cha
 -- one call after another
 abbrev pub Calls : {S L : Type 0} → (S → SiteState) → (S → Changes → SiteFault → Type 0) → (S → CrashStates L) → (L → Site → Type 0) → World → S → List Event → List Outcome → World → S → Type 0
 Calls site_state lacks crash_states stands w k [] [] v l = (v ≡ w) × (l ≡ k)
-Calls site_state lacks crash_states stands w k (e ∷ events) (o ∷ outcomes) v l = (m : World) × (j : _) × Call site_state lacks crash_states stands w k e o m j × Calls site_state lacks crash_states stands m j events outcomes v l
+Calls site_state lacks crash_states stands w k (e ∷ events) (o ∷ outcomes) v l = (m : World) × (j : _) × CallOverKeeper site_state lacks crash_states stands w k e o m j × Calls site_state lacks crash_states stands m j events outcomes v l
 Calls site_state lacks crash_states stands w k [] (o ∷ outcomes) v l = ⊥
 Calls site_state lacks crash_states stands w k (e ∷ events) [] v l = ⊥
 
 -- a call of a keeper with sessions over its site, whatever number comes next and whether posts wait
 abbrev pub SeatsCall : {S L P : Type 0} → (S → SiteState) → (S → Changes → SiteFault → Type 0) → (S → CrashStates L) → (L → Site → Type 0) → (P → Pinned) → S → List (Session P) → Event → Outcome → S → List (Session P) → Type 0
 SeatsCall site_state lacks crash_states stands pinned k olds e o l news = (next : ℕ) (grouped : Bool) →
-    Call site_state lacks crash_states stands (world_at (site_state k) next grouped (sessions_of pinned (site_state k) olds)) k e o (world_at (site_state l) next grouped (sessions_of pinned (site_state l) news)) l
+    CallOverKeeper site_state lacks crash_states stands (world_at (site_state k) next grouped (sessions_of pinned (site_state k) olds)) k e o (world_at (site_state l) next grouped (sessions_of pinned (site_state l) news)) l
 
 -- the same of a hub: its world, and the keeper that it has
 abbrev pub HubCall : {S L : Type 0} {bound : _} {ghosts : _} → (S → SiteState) → (S → Changes → SiteFault → Type 0) → (S → CrashStates L) → (L → Site → Type 0) → Hub S bound ghosts → Event → Outcome → Hub S bound ghosts → Type 0
-HubCall site_state lacks crash_states stands old e o new = Call site_state lacks crash_states stands (world_of site_state old) (keeper_of old) e o (world_of site_state new) (keeper_of new)
+HubCall site_state lacks crash_states stands old e o new = CallOverKeeper site_state lacks crash_states stands (world_of site_state old) (keeper_of old) e o (world_of site_state new) (keeper_of new)
 
 abbrev pub HubCalls : {S L : Type 0} {bound : _} {ghosts : _} → (S → SiteState) → (S → Changes → SiteFault → Type 0) → (S → CrashStates L) → (L → Site → Type 0) → Hub S bound ghosts → List Event → List Outcome → Hub S bound ghosts → Type 0
 HubCalls site_state lacks crash_states stands old events outcomes new = Calls site_state lacks crash_states stands (world_of site_state old) (keeper_of old) events outcomes (world_of site_state new) (keeper_of new)

@@ -12,11 +12,11 @@ use Rattle.site_replies.specs.LaterReply.{are_posts}
 use Rattle.group_world.specs.World as world
 use Rattle.group_world.specs.World.{count_waiting}
 use Rattle.group_world.specs.Step.{without_form, without_forms, answered_from, post_from, taken, all_of}
-use Rattle.group_world.specs.Calls.{IsLacking, MaySplit, CountsLeft}
+use Rattle.group_world.specs.Calls.{IsKeeperLacking, MaySplit, CountsLeft}
 use Rattle.group_world.specs.CrashStates.{HoldsCommits, with_changes, one_by_one}
 use Rattle.group_world.specs.declared.fault.HubFault.TheVariants as hub
 use Rattle.group_world.specs.declared.fault.HubFault.{HubFault}
-use Rattle.group_hub.specs.Counting.{CountsWrites, CountsCall}
+use Rattle.group_hub.specs.Counting.{HubCountsWrites, CountsCall}
 use Rattle.group_hub.specs.HeldPins.{listed, HoldsAll}
 use Rattle.group_hub.specs.Sessions.{phase_of, sessions_of, pin_of, pins_of, is_waiting, IsSound, AreSound}
 use Rattle.group_hub.specs.Understood.{HasFailedNow, HasWorked}
@@ -101,7 +101,7 @@ put_seats putting pinned h (x ∷ xs) (n ∷ ns) = (x.0, put_one putting pinned 
 -- ---- a group is prepared
 
 -- What a session is to have by a site t, on which a flush of the site s has come that far, and the changes before it and behind it.
-pub record IsNext {P : Type 0} (pinned : P → Pinned) (h : SiteState) (s t : Site) (before after : Changes) (x : world.Phase) (n : Next P) : Type 0 where
+pub record IsNextReply {P : Type 0} (pinned : P → Pinned) (h : SiteState) (s t : Site) (before after : Changes) (x : world.Phase) (n : Next P) : Type 0 where
   pub put : put_one puttings.All pinned h x n ≡ answered_from t (without_form s x)
   pub gone : put_one puttings.Gone pinned h x n ≡ without_form s x
   pub changes : after ≡ before ++ post_from t (without_form s x)
@@ -123,15 +123,15 @@ pub record StandsBeside {P : Type 0} (pinned : P → Pinned) (old new : SiteStat
 -- ---- a group is made in one step
 
 -- Each is a value of the program: its names are valid as their types say, and its numbers and its moment fit.
-abbrev pub AreTyped : Changes → Type 0
-AreTyped [] = Unit {0}
-AreTyped (c ∷ changes) = (IsTrue (is_typed_change c.0) × (c.1 ≤ 253402300799)) × AreTyped changes
+abbrev pub ChangesAreTyped : Changes → Type 0
+ChangesAreTyped [] = Unit {0}
+ChangesAreTyped (c ∷ changes) = (IsTrue (is_typed_change c.0) × (c.1 ≤ 253402300799)) × ChangesAreTyped changes
 
 -- When the changes are not made, but for those that are too large for one step, and what stands then.
 abbrev pub IsGroupFault : (Changes → SiteFault → Type 0) → Changes → SiteState → SiteState → HubFault → Type 0
 IsGroupFault lacks changes old new hub.Memory = HasNotChanged old new
 IsGroupFault lacks changes old new hub.Broken = HasNotChanged old new × (IsTrue old.honest → Rose old.failed_reads new.failed_reads)
-IsGroupFault lacks changes old new hub.Spent = HasNotChanged old new × (IsTrue old.honest → IsLacking lacks changes faults.Spent)
+IsGroupFault lacks changes old new hub.Spent = HasNotChanged old new × (IsTrue old.honest → IsKeeperLacking lacks changes faults.Spent)
 IsGroupFault lacks changes old new hub.Failed = HasFailedNow old new changes
 IsGroupFault lacks changes old new fault = ⊥
 
@@ -194,7 +194,7 @@ pub record WorksSingly (old new : SiteState) (waiting : ℕ) (result : Result �
   pub still_usable : OnOk result (new.usable ≡ true)
   pub fault : IfErr result (λ e. (e ≡ hub.Failed) × (new.usable ≡ false))
   pub cause : IsTrue old.honest → OnErr result (Rose old.failed_writes new.failed_writes)
-  pub writes : CountsWrites result old new
+  pub writes : HubCountsWrites result old new
   pub reads : IsTrue old.honest → IfOk result (λ left. CountsLeft left old new)
   pub reads_before_fault : IsTrue old.honest → OnErr result (CountsLeft waiting old new)
   pub no_reads : IfOk result (λ left. left ≡ 0 → new.failed_reads ≡ old.failed_reads)

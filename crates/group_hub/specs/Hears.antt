@@ -48,7 +48,7 @@ IsCrowded honest posting step result = IfErr result (λ e. e ≡ Crowded → (is
 -- ---- posts that are made
 
 -- What a call that makes changes, where there are any, does to a site: where it succeeds the site has them and is still usable, a fault has its reason, and one that leaves the site usable adds no crash state; the answer says what was counted; a crash within the call leaves what represents the site from before it, or with the changes.
-pub record Makes {T K L : Type 0} (site_state : K → SiteState) (lacks : K → Changes → SiteFault → Type 0) (crash_states : K → CrashStates L) (represents : L → Site → Type 0) (changes : Changes) (old new : K) (result : Result T HubFault) : Type 0 where
+pub record MakesChanges {T K L : Type 0} (site_state : K → SiteState) (lacks : K → Changes → SiteFault → Type 0) (crash_states : K → CrashStates L) (represents : L → Site → Type 0) (changes : Changes) (old new : K) (result : Result T HubFault) : Type 0 where
   pub done : IsTrue (site_state old).honest → OnOk result ((site_state new).site ≡ with_changes (site_state old).site changes)
   pub still_usable : OnOk result ((site_state new).usable ≡ true)
   pub fault : IfErr result (IsPostFault (lacks old) changes (site_state old) (site_state new))

@@ -37,15 +37,15 @@ listed None = []
 listed (Some pin) = pin ∷ []
 
 -- Two pins don't have one number.
-abbrev pub AreApart : Option Pinned → Pinned → Type 0
-AreApart (Some (Numbered n)) (Numbered m) = n ≡ m → ⊥
-AreApart (Some (Numbered n)) (Copied items) = Unit {0}
-AreApart (Some (Copied items)) pin = Unit {0}
-AreApart None pin = Unit {0}
+abbrev pub PinsAreApart : Option Pinned → Pinned → Type 0
+PinsAreApart (Some (Numbered n)) (Numbered m) = n ≡ m → ⊥
+PinsAreApart (Some (Numbered n)) (Copied items) = Unit {0}
+PinsAreApart (Some (Copied items)) pin = Unit {0}
+PinsAreApart None pin = Unit {0}
 
 -- A session that held one pin, or none, holds another, or none: all other pins that are out keep what they kept, and what is out is held as before.
 pub record MovesPins (old new : SiteState) (held now : Option Pinned) : Type 0 where
-  pub stay : (pin : Pinned) → IsTrue (is_out old pin) → AreApart held pin → pinned_items new pin ≡ pinned_items old pin
+  pub stay : (pin : Pinned) → IsTrue (is_out old pin) → PinsAreApart held pin → pinned_items new pin ≡ pinned_items old pin
   pub all : (others : List Pinned) → HoldsAll old (listed held ++ others) → HoldsAll new (listed now ++ others)
 
 -- A pin may have been given back, and nothing else has changed.

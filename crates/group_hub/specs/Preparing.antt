@@ -6,10 +6,10 @@ use Rattle.host_types.specs.CrashStates.{CrashStates, AddsNone}
 use Rattle.host_types.specs.declared.site_fault.SiteFault.{SiteFault}
 use Rattle.group_world.specs.declared.fault.HubFault.{HubFault}
 use Rattle.group_world.specs.declared.fault.HubFault.TheVariants as hub
-use Rattle.group_hub.specs.Counting.{CountsReads}
+use Rattle.group_hub.specs.Counting.{HubCountsReads}
 
 -- What a call that only reads leaves of a keeper.
-pub record OnlyReads {K L : Type 0} (site_state : K → SiteState) (lacks : K → Changes → SiteFault → Type 0) (crash_states : K → CrashStates L) (old new : K) : Type 0 where
+pub record KeeperOnlyReads {K L : Type 0} (site_state : K → SiteState) (lacks : K → Changes → SiteFault → Type 0) (crash_states : K → CrashStates L) (old new : K) : Type 0 where
   pub kept : HasRead (site_state old) (site_state new)
   pub lacking : LacksTheSame (lacks old) (lacks new)
   pub no_new_crash_state : IsTrue (site_state old).honest → AddsNone (crash_states old) (crash_states new)
@@ -26,7 +26,7 @@ pub record Prepares {T K L : Type 0} (site_state : K → SiteState) (lacks : K �
   pub honest : (site_state new).honest ≡ (site_state old).honest
   pub usable : (site_state new).usable ≡ (site_state old).usable
   pub free : (site_state new).free ≡ (site_state old).free
-  pub reads : CountsReads result (site_state old) (site_state new)
+  pub reads : HubCountsReads result (site_state old) (site_state new)
   pub more : (site_state old).failed_reads ≤ (site_state new).failed_reads
   pub writes : (site_state new).failed_writes ≡ (site_state old).failed_writes
   pub lacking : LacksTheSame (lacks old) (lacks new)

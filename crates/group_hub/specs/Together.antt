@@ -7,7 +7,7 @@ use Rattle.host_types.specs.Pins.{Pinned}
 use Rattle.host_types.specs.CrashStates.{CrashStates, AddsOnly, AddsNone}
 use Rattle.host_types.specs.declared.site_fault.SiteFault.{SiteFault}
 use Rattle.host_types.specs.declared.site_fault.SiteFault.TheVariants as faults
-use Rattle.group_world.specs.Calls.{IsLacking, MaySplit}
+use Rattle.group_world.specs.Calls.{IsKeeperLacking, MaySplit}
 use Rattle.group_world.specs.CrashStates.{with_changes}
 use Rattle.group_world.specs.Step.{Group, without_forms, taken, all_of}
 use Rattle.group_world.specs.declared.fault.HubFault.{HubFault}
@@ -42,7 +42,7 @@ pub record HasFailedTogether (changes : Changes) (old new : SiteState) : Type 0 
 abbrev pub IsTogetherFault : {S L : Type 0} → (S → SiteState) → (S → Changes → SiteFault → Type 0) → (S → CrashStates L) → Changes → S → S → HubFault → Type 0
 IsTogetherFault site_state lacks crash_states changes old new hub.Memory = IsUntouched site_state crash_states old new
 IsTogetherFault site_state lacks crash_states changes old new hub.Broken = IsUntouched site_state crash_states old new × (IsTrue (site_state old).honest → Rose (site_state old).failed_reads (site_state new).failed_reads)
-IsTogetherFault site_state lacks crash_states changes old new hub.Spent = IsUntouched site_state crash_states old new × (IsTrue (site_state old).honest → (nat_lt 0 (length changes) ≡ true) × IsLacking (lacks old) changes faults.Spent)
+IsTogetherFault site_state lacks crash_states changes old new hub.Spent = IsUntouched site_state crash_states old new × (IsTrue (site_state old).honest → (nat_lt 0 (length changes) ≡ true) × IsKeeperLacking (lacks old) changes faults.Spent)
 IsTogetherFault site_state lacks crash_states changes old new hub.Failed = HasFailedTogether changes (site_state old) (site_state new)
 IsTogetherFault site_state lacks crash_states changes old new fault = ⊥
 

@@ -12,7 +12,7 @@ use Rattle.group_world.specs.World.{Phase, Heard, Waits, Reply, Early}
 use Rattle.group_world.specs.Outcomes.{drawn_length}
 use Rattle.group_world.specs.declared.answer.Drawn.{Drawn}
 use Rattle.group_world.specs.Step.{StepResult, says, replies, settles}
-use Rattle.group_world.specs.Calls.{IsLacking, IsUnspent}
+use Rattle.group_world.specs.Calls.{IsKeeperLacking, IsUnspent}
 use Rattle.group_world.specs.Run.{is_hearing, has_bytes_left}
 use Rattle.host_types.specs.Pins.{most_pins}
 use Rattle.group_world.specs.declared.event.Outcome.TheVariants.{Ready, Finished}
@@ -60,9 +60,9 @@ abbrev pub IsPostFault : (Changes → SiteFault → Type 0) → Changes → Site
 IsPostFault lacks changes old new hub.Memory = HasNotChanged old new
 IsPostFault lacks changes old new hub.Crowded = HasNotChanged old new
 IsPostFault lacks changes old new hub.Broken = HasNotChanged old new × (IsTrue old.honest → Rose old.failed_reads new.failed_reads)
-IsPostFault lacks changes old new (hub.Full need free) = HasNotChanged old new × ((free ≡ old.free) × (free < need)) × (IsTrue old.honest → IsLacking lacks changes (faults.Full need free) × IsUnspent lacks changes)
-IsPostFault lacks changes old new hub.Spent = HasNotChanged old new × (IsTrue old.honest → IsLacking lacks changes faults.Spent)
-IsPostFault lacks changes old new hub.Deep = HasNotChanged old new × (IsTrue old.honest → IsLacking lacks changes faults.Deep × IsUnspent lacks changes)
+IsPostFault lacks changes old new (hub.Full need free) = HasNotChanged old new × ((free ≡ old.free) × (free < need)) × (IsTrue old.honest → IsKeeperLacking lacks changes (faults.Full need free) × IsUnspent lacks changes)
+IsPostFault lacks changes old new hub.Spent = HasNotChanged old new × (IsTrue old.honest → IsKeeperLacking lacks changes faults.Spent)
+IsPostFault lacks changes old new hub.Deep = HasNotChanged old new × (IsTrue old.honest → IsKeeperLacking lacks changes faults.Deep × IsUnspent lacks changes)
 IsPostFault lacks changes old new hub.Failed = HasFailedNow old new changes
 IsPostFault lacks changes old new hub.Unknown = ⊥
 IsPostFault lacks changes old new (hub.Refused refused) = ⊥
@@ -103,7 +103,7 @@ IsDrawFault old new phase hub.Broken = IsTrue old.honest → (has_bytes_left (So
 IsDrawFault old new phase fault = ⊥
 
 -- After a fault of a draw the front of its buffer may have the next bytes; behind them it stays.
-pub record HasBegun (honest : Bool) (phase : Phase) (old new : List ℕ) : Type 0 where
+pub record DrawHasBegun (honest : Bool) (phase : Phase) (old new : List ℕ) : Type 0 where
   pub count : ℕ
   pub within : count ≤ length new
   pub behind : drop count new ≡ drop count old
@@ -114,4 +114,4 @@ pub record FillsOut (honest : Bool) (phase : Option Phase) (old new : List ℕ) 
   pub within : IfOk result (λ d. drawn_length d ≤ length old)
   pub behind : IfOk result (λ d. IsUnchangedBehind (drawn_length d) old new)
   pub untouched : IfErr result (λ e. (e ≡ hub.Broken → ⊥) → new ≡ old)
-  pub begun : OnErr result ((rest : List ℕ) → phase ≡ Some (Reply rest) → HasBegun honest (Reply rest) old new)
+  pub begun : OnErr result ((rest : List ℕ) → phase ≡ Some (Reply rest) → DrawHasBegun honest (Reply rest) old new)

@@ -10,8 +10,8 @@ abbrev pub world_at : SiteState → ℕ → Bool → List (ℕ × Phase) → Wor
 world_at h next grouped sessions = record { site = h.site; next = next; failed = not h.usable; grouped = grouped; sessions = sessions }
 
 -- Where posts wait, an honest site is a valid one.
-abbrev pub IsValid : Bool → SiteState → Type 0
-IsValid grouped h = grouped ≡ true → IsTrue h.honest → ∥ IsSite h.site ∥₁
+abbrev pub IsValidWhereGrouped : Bool → SiteState → Type 0
+IsValidWhereGrouped grouped h = grouped ≡ true → IsTrue h.honest → ∥ IsSite h.site ∥₁
 
-pub IsValid-prop : (grouped : Bool) (h : SiteState) → IsProp (IsValid grouped h)
-IsValid-prop grouped h = Π_prop (λ is. Π_prop (λ honest. ∥∥₁_prop))
+pub IsValidWhereGrouped-prop : (grouped : Bool) (h : SiteState) → IsProp (IsValidWhereGrouped grouped h)
+IsValidWhereGrouped-prop grouped h = Π_prop (λ is. Π_prop (λ honest. ∥∥₁_prop))

@@ -7,7 +7,7 @@ ghost use Rattle.group_world.specs.World as world;
 ghost use Rattle.group_world.specs.Step.{draws};
 ghost use Rattle.group_hub.specs.Counting.{CountsCall};
 ghost use Rattle.group_hub.specs.HeldPins.{MovesPins};
-ghost use Rattle.group_hub.specs.Understood.{IsDrawFault, KeepsSite, HasBegun};
+ghost use Rattle.group_hub.specs.Understood.{IsDrawFault, KeepsSite, DrawHasBegun};
 ghost use Rattle.group_world.specs.Outcomes.{drawn_outcome, drawn_length};
 ghost use Rattle.group_hub.specs.Sessions.{phase_of, pin_of, is_waiting, IsSound, IsDrawn};
 ghost use Rattle.group_world.specs.declared.event.Outcome.TheVariants as outcomes;
@@ -58,7 +58,7 @@ fn draw_view<S: SiteKeeper>(
     ensures at_crash { IsTrue (S.site_state site.old).honest → AddsNone (S.crash_states site.old) (S.crash_states site.new) }
     ensures within { IfOk result (λ r. r.0 ≤ length out.old) }
     ensures behind { IfOk result (λ r. IsUnchangedBehind r.0 out.old out.new) }
-    ensures begun { OnErr result (HasBegun (S.site_state site.old).honest (phase_of S.pinned (S.site_state site.old) (phases.Drawing drawing.old)) out.old out.new) }
+    ensures begun { OnErr result (DrawHasBegun (S.site_state site.old).honest (phase_of S.pinned (S.site_state site.old) (phases.Drawing drawing.old)) out.old out.new) }
 {
     match drawing.view.draw(site, &drawing.pin, out) {
         Ok(count) => Ok((count, drawing.view.is_finished())),
@@ -87,7 +87,7 @@ pub fn draw<S: SiteKeeper>(
     ensures at_crash { IsTrue (S.site_state site.old).honest → AddsNone (S.crash_states site.old) (S.crash_states site.new) }
     ensures within { IfOk result (λ drawn. drawn_length drawn ≤ length out.old) }
     ensures behind { IfOk result (λ drawn. IsUnchangedBehind (drawn_length drawn) out.old out.new) }
-    ensures begun { OnErr result (HasBegun (S.site_state site.old).honest (phase_of S.pinned (S.site_state site.old) phase.old) out.old out.new) }
+    ensures begun { OnErr result (DrawHasBegun (S.site_state site.old).honest (phase_of S.pinned (S.site_state site.old) phase.old) out.old out.new) }
     ensures untouched { IfErr result (λ e. e ≡ NotReady → out.new ≡ out.old) }
 {
     let (count, is_finished) = match phase {

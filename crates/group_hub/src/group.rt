@@ -15,7 +15,7 @@ ghost use Rattle.group_world.specs.Step.{at_moment};
 ghost use Rattle.group_world.specs.World as world;
 ghost use Rattle.group_world.specs.declared.answer.InputStatus.TheVariants.{Ready};
 ghost use Rattle.group_world.specs.declared.fault.HubFault.TheVariants.{Memory as OutOfMemory};
-ghost use Rattle.group_hub.specs.Flushing.{next_pin, next_pins, waits_no_more, IsNext, IsNextSound, AreNextSound, IsForWaiting, AreForWaiting, ArePrepared, StandsBeside};
+ghost use Rattle.group_hub.specs.Flushing.{next_pin, next_pins, waits_no_more, IsNextReply, IsNextSound, AreNextSound, IsForWaiting, AreForWaiting, ArePrepared, StandsBeside};
 ghost use Rattle.group_hub.specs.Hears.{status_of};
 ghost use Rattle.group_hub.specs.HeldPins.{HoldsAll, MovesPins};
 ghost use Rattle.group_hub.specs.Preparing.{Prepares};
@@ -60,7 +60,7 @@ fn gone_of<S: SearchKeeper>(
     requires room { length (S.site_state site.old).pins < most_pins }
     requires gone { IsTrue (S.site_state site.old).honest → is_form_in (item_at (visible (S.site_state site.old).site now) (request_of request).selector) ≡ false }
     ensures next { IsTrue (S.site_state site.old).honest → (t : Site) (before : Changes) → are_posts before ≡ true →
-        IfOk result (IsNext S.pinned (S.site_state site.new) (S.site_state site.old).site t before before (world.Waits (request_of request.entry) now)) }
+        IfOk result (IsNextReply S.pinned (S.site_state site.new) (S.site_state site.old).site t before before (world.Waits (request_of request.entry) now)) }
     ensures sound { IsTrue (S.site_state site.old).honest → IfOk result (IsNextSound S.pinned (S.site_state site.new)) }
     ensures answers { IfOk result (λ n. waits_no_more n ≡ true) }
     ensures pins { IfOk result (λ n. MovesPins (S.site_state site.old) (S.site_state site.new) None (next_pin S.pinned n)) }
@@ -108,7 +108,7 @@ fn replied_of<S: SearchKeeper>(
     requires posts { IsTrue (S.site_state site.old).honest → are_posts changes.old.items ≡ true }
     requires stands { IsTrue (S.site_state site.old).honest → is_form_in (item_at (visible (S.site_state site.old).site now) (request_of request).selector) ≡ true }
     ensures next { IsTrue (S.site_state site.old).honest → (t : Site) → all_made (S.site_state site.old).site changes.old.items ≡ Some t →
-        IfOk result (IsNext S.pinned (S.site_state site.new) (S.site_state site.old).site t changes.old.items changes.new.items (world.Waits (request_of request.entry) now)) }
+        IfOk result (IsNextReply S.pinned (S.site_state site.new) (S.site_state site.old).site t changes.old.items changes.new.items (world.Waits (request_of request.entry) now)) }
     ensures sound { IsTrue (S.site_state site.old).honest → IfOk result (IsNextSound S.pinned (S.site_state site.new)) }
     ensures answers { IfOk result (λ n. waits_no_more n ≡ true) }
     ensures pins { IfOk result (λ n. MovesPins (S.site_state site.old) (S.site_state site.new) None (next_pin S.pinned n)) }
@@ -137,7 +137,7 @@ fn next_of<S: SearchKeeper>(
     requires valid { IsTrue (S.site_state site.old).honest → ∥ IsSite (S.site_state site.old).site ∥₁ }
     requires posts { IsTrue (S.site_state site.old).honest → are_posts changes.old.items ≡ true }
     ensures next { IsTrue (S.site_state site.old).honest → (t : Site) → all_made (S.site_state site.old).site changes.old.items ≡ Some t →
-        IfOk result (IsNext S.pinned (S.site_state site.new) (S.site_state site.old).site t changes.old.items changes.new.items (waits_by (verdict_by waiting.entry.now.reader.input) waiting.entry.now.now)) }
+        IfOk result (IsNextReply S.pinned (S.site_state site.new) (S.site_state site.old).site t changes.old.items changes.new.items (waits_by (verdict_by waiting.entry.now.reader.input) waiting.entry.now.now)) }
     ensures sound { IsTrue (S.site_state site.old).honest → IfOk result (IsNextSound S.pinned (S.site_state site.new)) }
     ensures answers { IfOk result (λ n. waits_no_more n ≡ true) }
     ensures pins { IfOk result (λ n. MovesPins (S.site_state site.old) (S.site_state site.new) None (next_pin S.pinned n)) }
@@ -166,7 +166,7 @@ fn next_for<S: SearchKeeper>(
     requires valid { IsTrue (S.site_state site.old).honest → ∥ IsSite (S.site_state site.old).site ∥₁ }
     requires posts { IsTrue (S.site_state site.old).honest → are_posts changes.old.items ≡ true }
     ensures next { IsTrue (S.site_state site.old).honest → (g : SiteState) (t : Site) → all_made (S.site_state site.old).site changes.old.items ≡ Some t →
-        IfOk result (IsNext S.pinned (S.site_state site.new) (S.site_state site.old).site t changes.old.items changes.new.items (phase_of S.pinned g phase.now)) }
+        IfOk result (IsNextReply S.pinned (S.site_state site.new) (S.site_state site.old).site t changes.old.items changes.new.items (phase_of S.pinned g phase.now)) }
     ensures sound { IsTrue (S.site_state site.old).honest → IfOk result (IsNextSound S.pinned (S.site_state site.new)) }
     ensures waiting { IfOk result (IsForWaiting phase.now) }
     ensures pins { IfOk result (λ n. MovesPins (S.site_state site.old) (S.site_state site.new) None (next_pin S.pinned n)) }

@@ -2,7 +2,7 @@
 ghost use Rattle.std.specs.Prelude.{◌≡◌, true, Some, IsTrue};
 ghost use Rattle.host_types.specs.Site.{Site};
 ghost use Rattle.group_world.specs.Laws.{all_made};
-ghost use Rattle.group_hub.specs.Flushing.{AreTyped, MakesGroup};
+ghost use Rattle.group_hub.specs.Flushing.{ChangesAreTyped, MakesGroup};
 
 use group_world::HubFault;
 use host_types::{Change, ChangesFault, SiteKeeper, Stamp, changes_keep_sites_valid};
@@ -18,7 +18,7 @@ pub enum GroupCommit {
 
 /// Each change is a value of the program.
 fn valid_changes(changes: &[(Change, Stamp)])
-    ensures { AreTyped changes.now }
+    ensures { ChangesAreTyped changes.now }
 {
     for (change, now) in changes {
         change.valid_names();

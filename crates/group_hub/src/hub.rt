@@ -4,7 +4,7 @@ ghost use Rattle.std.specs.List.{position};
 ghost use Rattle.group_hub.specs.HeldPins.{HoldsAll, HoldsAll-prop};
 ghost use Rattle.group_world.specs.World.{count_waiting};
 ghost use Rattle.group_hub.specs.Sessions.{sessions_of, pins_of, AreSound, AreSound-prop};
-ghost use Rattle.group_hub.specs.Worlds.{IsValid, IsValid-prop};
+ghost use Rattle.group_hub.specs.Worlds.{IsValidWhereGrouped, IsValidWhereGrouped-prop};
 
 use crate::drawing::draw;
 use crate::flush::flush;
@@ -42,7 +42,7 @@ pub struct Hub<S: SearchKeeper> {
     ghost few: { vec_len sessions ≤ 32 },
     ghost held: { HoldsAll (S.site_state site) (pins_of S.pinned sessions.items) } by { HoldsAll-prop (S.site_state site) (pins_of S.pinned sessions.items) },
     ghost sound: { IsTrue (S.site_state site).honest → AreSound S.pinned (S.site_state site) sessions.items } by { AreSound-prop S.pinned (S.site_state site) sessions.items },
-    ghost valid: { IsValid grouped (S.site_state site) } by { IsValid-prop grouped (S.site_state site) },
+    ghost valid: { IsValidWhereGrouped grouped (S.site_state site) } by { IsValidWhereGrouped-prop grouped (S.site_state site) },
     ghost alone: { grouped ≡ false → IsTrue (S.site_state site).honest → count_waiting (sessions_of S.pinned (S.site_state site) sessions.items) ≡ 0 },
 }
 
@@ -78,7 +78,7 @@ impl<S: SearchKeeper> Hub<S> {
     ) -> Result<Hub<S>, (HubFault, S)>
         requires usable { (S.site_state site).usable ≡ true }
         requires unpinned { (S.site_state site).pins ≡ [] }
-        requires valid { IsValid grouped (S.site_state site) }
+        requires valid { IsValidWhereGrouped grouped (S.site_state site) }
         ensures keeper { IfOk result (λ hub. keeper_of hub ≡ site) }
         ensures world { IfOk result (λ hub. world_of S.site_state hub ≡ started_as grouped (S.site_state site).site first) }
         ensures err { IfErr result (λ e. (e.0 ≡ Memory) × (e.1 ≡ site)) }

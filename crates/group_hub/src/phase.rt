@@ -9,8 +9,8 @@ ghost use Rattle.group_world.specs.World as world;
 ghost use Rattle.group_world.specs.Step.{listens, ends, at_moment};
 ghost use Rattle.group_hub.specs.HeldPins.{MovesPins};
 ghost use Rattle.group_hub.specs.Understood.{reply_by, answered, post_of, concluded, is_whole, HasRoomFor};
-ghost use Rattle.group_hub.specs.Hears.{is_grouped, is_full, Makes, GetsNext, IsConcluded, IsLetWait, IsCrowded, pin_in, fault_alone, status_of, made_post, TakesIn, Hears};
-ghost use Rattle.group_hub.specs.Preparing.{OnlyReads, Prepares};
+ghost use Rattle.group_hub.specs.Hears.{is_grouped, is_full, MakesChanges, GetsNext, IsConcluded, IsLetWait, IsCrowded, pin_in, fault_alone, status_of, made_post, TakesIn, Hears};
+ghost use Rattle.group_hub.specs.Preparing.{KeeperOnlyReads, Prepares};
 ghost use Rattle.host_types.specs.Counting.{CountsReads};
 ghost use Rattle.site_replies.specs.PostReply.{IsRight};
 ghost use Rattle.site_replies.specs.Replies.{answer_of, IsSized, PostsNoView, reply_bytes};
@@ -66,7 +66,7 @@ fn reply_to<S: SearchKeeper>(
     ensures sized { IsTrue (S.site_state site.old).honest → IfOk result (λ made. IfSome made (λ a. IsSized (S.site_state site.old).site a.reply)) }
     ensures posts { IfOk result (λ made. IfSome made (λ a. PostsNoView a.reply a.post)) }
     ensures whole { IfOk result (λ made. IfSome made (λ a. is_some a.post ≡ true → is_whole (seen answer.entry) ≡ true)) }
-    ensures only { OnlyReads S.site_state S.lacks S.crash_states site.old site.new }
+    ensures only { KeeperOnlyReads S.site_state S.lacks S.crash_states site.old site.new }
     ensures fault { IfErr result (IsReadFault true (S.site_state site.old) (S.site_state site.new)) }
     ensures reads { CountsReads result (S.site_state site.old) (S.site_state site.new) }
 {
@@ -88,7 +88,7 @@ fn store<S: SearchKeeper>(site: &mut S, post: Option<Change>, now: Stamp) -> Res
     requires usable { (S.site_state site.old).usable ≡ true }
     requires right { IsTrue (S.site_state site.old).honest → IsRight (S.site_state site.old).site now post }
     ensures pins { (S.site_state site.new).pins ≡ (S.site_state site.old).pins }
-    ensures site { Makes S.site_state S.lacks S.crash_states S.represents (at_moment now post) site.old site.new result }
+    ensures site { MakesChanges S.site_state S.lacks S.crash_states S.represents (at_moment now post) site.old site.new result }
     ensures uncrowded { IfErr result (λ e. e ≡ Crowded → ⊥) }
     ensures valid { IsTrue (S.site_state site.old).honest → ∥ IsSite (S.site_state site.old).site ∥₁ → ∥ IsSite (S.site_state site.new).site ∥₁ }
 {
@@ -148,7 +148,7 @@ fn settle<S: SearchKeeper>(
     requires posts { IfSome made (λ a. PostsNoView a.reply a.post) }
     ensures heard { IfOk result (λ r. heard_outcome r.0 ≡ (answered (option_map (answer_of (S.site_state site.old).site) made)).outcome) }
     ensures next { GetsNext S.pinned (answered (option_map (answer_of (S.site_state site.old).site) made)) (S.site_state site.old) (S.site_state site.new) result }
-    ensures site { Makes S.site_state S.lacks S.crash_states S.represents (at_moment now (post_of (option_map (answer_of (S.site_state site.old).site) made))) site.old site.new result }
+    ensures site { MakesChanges S.site_state S.lacks S.crash_states S.represents (at_moment now (post_of (option_map (answer_of (S.site_state site.old).site) made))) site.old site.new result }
     ensures valid { IsTrue (S.site_state site.old).honest → ∥ IsSite (S.site_state site.old).site ∥₁ → ∥ IsSite (S.site_state site.new).site ∥₁ }
 {
     let Some(Answered { reply, post }) = made else {
@@ -205,7 +205,7 @@ pub fn conclude<S: SearchKeeper>(
     ensures pins_after_fault { OnErr result ((S.site_state site.new).pins ≡ (S.site_state site.old).pins) }
     ensures waits { IfOk result (IsLetWait posting (seen answer.entry)) }
     ensures crowded { IsCrowded (S.site_state site.old).honest posting (concluded (is_grouped posting) (S.site_state site.old).site now (seen answer.entry)) result }
-    ensures site { Makes S.site_state S.lacks S.crash_states S.represents (at_moment now (concluded (is_grouped posting) (S.site_state site.old).site now (seen answer.entry)).post) site.old site.new result }
+    ensures site { MakesChanges S.site_state S.lacks S.crash_states S.represents (at_moment now (concluded (is_grouped posting) (S.site_state site.old).site now (seen answer.entry)).post) site.old site.new result }
     ensures valid { IsTrue (S.site_state site.old).honest → ∥ IsSite (S.site_state site.old).site ∥₁ → ∥ IsSite (S.site_state site.new).site ∥₁ }
 {
     let made = match reply_to(alloc, site, answer, now) {
@@ -233,7 +233,7 @@ fn take_in<S: SearchKeeper>(
     requires room { length (S.site_state site.old).pins < most_pins }
     ensures takes { TakesIn S.pinned (concluded (is_grouped posting) (S.site_state site.old).site now (verdict_by reader.input)) posting (S.site_state site.old) (S.site_state site.new) (fault_alone result) }
     ensures err { IfErr result (λ e. e.1 ≡ undone reader) }
-    ensures site { Makes S.site_state S.lacks S.crash_states S.represents (at_moment now (concluded (is_grouped posting) (S.site_state site.old).site now (verdict_by reader.input)).post) site.old site.new (fault_alone result) }
+    ensures site { MakesChanges S.site_state S.lacks S.crash_states S.represents (at_moment now (concluded (is_grouped posting) (S.site_state site.old).site now (verdict_by reader.input)).post) site.old site.new (fault_alone result) }
 {
     match conclude(alloc, site, reader.answer(), now, posting) {
         Ok(Concluded::Answered(status, phase)) => Ok((status, phase)),
@@ -262,7 +262,7 @@ fn hear_piece<S: SearchKeeper>(
     requires room { length (S.site_state site.old).pins < most_pins }
     ensures takes { TakesIn S.pinned (listens (is_grouped posting) (S.site_state site.old).site now piece.now (world.Heard hearing.reader.input.bytes)) posting (S.site_state site.old) (S.site_state site.new) (fault_alone result) }
     ensures err { IfErr result (λ e. e.1.reader.input.bytes ≡ hearing.reader.input.bytes) }
-    ensures site { Makes S.site_state S.lacks S.crash_states S.represents (at_moment now (listens (is_grouped posting) (S.site_state site.old).site now piece.now (world.Heard hearing.reader.input.bytes)).post) site.old site.new (fault_alone result) }
+    ensures site { MakesChanges S.site_state S.lacks S.crash_states S.represents (at_moment now (listens (is_grouped posting) (S.site_state site.old).site now piece.now (world.Heard hearing.reader.input.bytes)).post) site.old site.new (fault_alone result) }
 {
     let Hearing { reader } = hearing;
     let mut reader = reader;
@@ -290,7 +290,7 @@ fn hear_last<S: SearchKeeper>(
     requires room { length (S.site_state site.old).pins < most_pins }
     ensures takes { TakesIn S.pinned (ends (is_grouped posting) (S.site_state site.old).site now (world.Heard hearing.reader.input.bytes)) posting (S.site_state site.old) (S.site_state site.new) (fault_alone result) }
     ensures err { IfErr result (λ e. e.1.reader.input.bytes ≡ hearing.reader.input.bytes) }
-    ensures site { Makes S.site_state S.lacks S.crash_states S.represents (at_moment now (ends (is_grouped posting) (S.site_state site.old).site now (world.Heard hearing.reader.input.bytes)).post) site.old site.new (fault_alone result) }
+    ensures site { MakesChanges S.site_state S.lacks S.crash_states S.represents (at_moment now (ends (is_grouped posting) (S.site_state site.old).site now (world.Heard hearing.reader.input.bytes)).post) site.old site.new (fault_alone result) }
 {
     let Hearing { reader } = hearing;
     let mut reader = reader;
@@ -339,7 +339,7 @@ pub fn hear<S: SearchKeeper>(
     requires usable { (S.site_state site.old).usable ≡ true }
     requires room { HasRoomFor (S.site_state site.old) (phase_of S.pinned (S.site_state site.old) phase.old) }
     ensures hears { Hears S.pinned (listens (is_grouped posting) (S.site_state site.old).site now piece.now (phase_of S.pinned (S.site_state site.old) phase.old)) posting phase.old phase.new (S.site_state site.old) (S.site_state site.new) result }
-    ensures site { Makes S.site_state S.lacks S.crash_states S.represents (at_moment now (listens (is_grouped posting) (S.site_state site.old).site now piece.now (phase_of S.pinned (S.site_state site.old) phase.old)).post) site.old site.new result }
+    ensures site { MakesChanges S.site_state S.lacks S.crash_states S.represents (at_moment now (listens (is_grouped posting) (S.site_state site.old).site now piece.now (phase_of S.pinned (S.site_state site.old) phase.old)).post) site.old site.new result }
 {
     let hearing = match mem::replace(phase, Phase::Early) {
         Phase::Hearing(hearing) => hearing,
@@ -372,7 +372,7 @@ pub fn hear_end<S: SearchKeeper>(
     requires usable { (S.site_state site.old).usable ≡ true }
     requires room { HasRoomFor (S.site_state site.old) (phase_of S.pinned (S.site_state site.old) phase.old) }
     ensures hears { Hears S.pinned (ends (is_grouped posting) (S.site_state site.old).site now (phase_of S.pinned (S.site_state site.old) phase.old)) posting phase.old phase.new (S.site_state site.old) (S.site_state site.new) result }
-    ensures site { Makes S.site_state S.lacks S.crash_states S.represents (at_moment now (ends (is_grouped posting) (S.site_state site.old).site now (phase_of S.pinned (S.site_state site.old) phase.old)).post) site.old site.new result }
+    ensures site { MakesChanges S.site_state S.lacks S.crash_states S.represents (at_moment now (ends (is_grouped posting) (S.site_state site.old).site now (phase_of S.pinned (S.site_state site.old) phase.old)).post) site.old site.new result }
 {
     let hearing = match mem::replace(phase, Phase::Early) {
         Phase::Hearing(hearing) => hearing,

@@ -7,7 +7,7 @@ ghost use Rattle.group_world.specs.World.{count_waiting};
 ghost use Rattle.group_world.specs.declared.fault.HubFault.TheVariants.{Crowded};
 ghost use Rattle.group_hub.specs.Flushing.{AllTaken, TakenUpToFault, WorksSingly};
 ghost use Rattle.group_hub.specs.HeldPins.{HoldsAll, MovesPins};
-ghost use Rattle.group_hub.specs.Hears.{Makes};
+ghost use Rattle.group_hub.specs.Hears.{MakesChanges};
 ghost use Rattle.group_hub.specs.Sessions.{phase_of, sessions_of, pin_of, pins_of, is_waiting, IsSound, AreSound};
 
 use crate::phase::{Concluded, conclude, put};
@@ -32,7 +32,7 @@ fn answer_alone<S: SearchKeeper>(
     ensures sound { IsTrue (S.site_state site.old).honest → IsSound S.pinned (S.site_state site.new) phase.new }
     ensures pins { MovesPins (S.site_state site.old) (S.site_state site.new) None (pin_of S.pinned phase.new) }
     ensures uncrowded { IfErr result (λ e. e ≡ Crowded → ⊥) }
-    ensures site { Makes S.site_state S.lacks S.crash_states S.represents (post_from (S.site_state site.old).site (phase_of S.pinned (S.site_state site.old) phase.old)) site.old site.new result }
+    ensures site { MakesChanges S.site_state S.lacks S.crash_states S.represents (post_from (S.site_state site.old).site (phase_of S.pinned (S.site_state site.old) phase.old)) site.old site.new result }
     ensures valid { IsTrue (S.site_state site.old).honest → ∥ IsSite (S.site_state site.old).site ∥₁ → ∥ IsSite (S.site_state site.new).site ∥₁ }
 {
     let Phase::Waiting(waiting) = phase else {

@@ -6,32 +6,32 @@ use Rattle.host_types.specs.Site.{Site}
 use Rattle.common_types.specs.CrashStates.{CrashStates, may_crash_to}
 use Rattle.group_world.specs.World.{World}
 use Rattle.group_world.specs.declared.event.Event.{Event}
-use Rattle.group_world.specs.CrashStates.{Commit, with_changes, with_commits, Link, acknowledged, in_flight, accepted, HoldsCommits, IsRightlyStored, Leaves, LeavesInTurn, last_keeper, CallsLeave}
+use Rattle.group_world.specs.CrashStates.{CommitOfChanges, with_changes, with_commits, Link, acknowledged, in_flight, accepted, HoldsCommits, IsRightlyStored, Leaves, LeavesInTurn, last_keeper, CallsLeave}
 use Rattle.group_world.proofs.Stored.{what_is_stored_is_right}
 
 -- ---- commits in a row
 
-pub both_made : (s : Site) (first more : List Commit) → with_commits s (first ++ more) ≡ with_commits (with_commits s first) more
+pub both_made : (s : Site) (first more : List CommitOfChanges) → with_commits s (first ++ more) ≡ with_commits (with_commits s first) more
 both_made s [] more = refl
 both_made s (c ∷ first) more = both_made (with_changes s c) first more
 
-pub take_past : (n m : ℕ) (first more : List Commit) → m ≡ length first + n → take m (first ++ more) ≡ first ++ take n more
+pub take_past : (n m : ℕ) (first more : List CommitOfChanges) → m ≡ length first + n → take m (first ++ more) ≡ first ++ take n more
 take_past n m [] more is = (let same : m ≡ n = omega (arith, is) in ap (λ (k : ℕ). take k more) same)
 take_past n zero (c ∷ first) more is = absurd (omega (arith, is))
-take_past n (suc m) (c ∷ first) more is = ap (λ (l : List Commit). c ∷ l) (take_past n m first more (omega (arith, is)))
+take_past n (suc m) (c ∷ first) more is = ap (λ (l : List CommitOfChanges). c ∷ l) (take_past n m first more (omega (arith, is)))
 
 module _ {L : Type 0} (stands : L → Site → Type 0) where
   -- further commits change nothing of what is left
-  pub more_come : (s : Site) (commits more : List Commit) (a b : ℕ) (c : L) → b ≤ a → HoldsCommits stands s commits a c → HoldsCommits stands s (commits ++ more) b c
+  pub more_come : (s : Site) (commits more : List CommitOfChanges) (a b : ℕ) (c : L) → b ≤ a → HoldsCommits stands s commits a c → HoldsCommits stands s (commits ++ more) b c
   more_come s commits more a b c le h = record {
     count = h.count;
     at_least = omega (arith, le, h.at_least);
     at_most = omega (arith, h.at_most, length-append commits more);
-    represented = subst (λ (l : List Commit). stands c (with_commits s l)) (sym (take-append-le h.count commits more h.at_most)) h.represented;
+    represented = subst (λ (l : List CommitOfChanges). stands c (with_commits s l)) (sym (take-append-le h.count commits more h.at_most)) h.represented;
   }
 
   -- what is left after the commits of an event
-  pub comes_after : (s t : Site) (first more : List Commit) (a b : ℕ) (c : L) → t ≡ with_commits s first → b ≤ length first + a → HoldsCommits stands t more a c → HoldsCommits stands s (first ++ more) b c
+  pub comes_after : (s t : Site) (first more : List CommitOfChanges) (a b : ℕ) (c : L) → t ≡ with_commits s first → b ≤ length first + a → HoldsCommits stands t more a c → HoldsCommits stands s (first ++ more) b c
   comes_after s t first more a b c made le h = record {
     count = length first + h.count;
     at_least = omega (arith, le, h.at_least);
@@ -40,7 +40,7 @@ module _ {L : Type 0} (stands : L → Site → Type 0) where
   }
 
   -- the site as it stands
-  pub stands_now : (s : Site) (commits : List Commit) (c : L) → stands c s → HoldsCommits stands s commits 0 c
+  pub stands_now : (s : Site) (commits : List CommitOfChanges) (c : L) → stands c s → HoldsCommits stands s commits 0 c
   stands_now s commits c here = record { count = 0; at_least = omega arith; at_most = omega arith; represented = here }
 
 module _ {S L : Type 0} (crash_states : S → CrashStates L) (stands : L → Site → Type 0) (split : S → World → Event → Type 0) where
@@ -90,25 +90,25 @@ module _ {S L : Type 0} (crash_states : S → CrashStates L) (stands : L → Sit
   none_later w k (l ∷ ls) all failed =
       let none = (right w k l all.0).none failed in
       let later = none_later l.world l.keeper ls all.1 none.2 in
-      (ap (λ (x : List Commit). x ++ acknowledged ls) none.0 ∙ later.0, ap (λ (x : List Commit). x ++ in_flight ls) none.1 ∙ later.1)
+      (ap (λ (x : List CommitOfChanges). x ++ acknowledged ls) none.0 ∙ later.0, ap (λ (x : List CommitOfChanges). x ++ in_flight ls) none.1 ∙ later.1)
 
   -- the accepted commits are those of the first event, with what was in flight in it, and those of the others
   accepted_are : (w : World) (k : S) (l : Link S) (ls : List (Link S)) → One w k l → All l.world l.keeper ls → accepted (l ∷ ls) ≡ (l.stored.commits ++ l.stored.flying) ++ accepted ls
   accepted_are w k l ls call all = by (right w k l call).one
     where
       by : (l.stored.flying ≡ []) ⊎ (l.world.failed ≡ true) → accepted (l ∷ ls) ≡ (l.stored.commits ++ l.stored.flying) ++ accepted ls
-      by (inl none) = rw none (append_assoc l.stored.commits (acknowledged ls) (in_flight ls) ∙ ap (λ (x : List Commit). x ++ (acknowledged ls ++ in_flight ls)) (sym (append-nil l.stored.commits)))
+      by (inl none) = rw none (append_assoc l.stored.commits (acknowledged ls) (in_flight ls) ∙ ap (λ (x : List CommitOfChanges). x ++ (acknowledged ls ++ in_flight ls)) (sym (append-nil l.stored.commits)))
       by (inr failed) =
           let later = none_later l.world l.keeper ls all failed in
-          rw (later.0, later.1) (ap (λ (x : List Commit). x ++ (l.stored.flying ++ [])) (append-nil l.stored.commits) ∙ sym (append_assoc l.stored.commits l.stored.flying []))
+          rw (later.0, later.1) (ap (λ (x : List CommitOfChanges). x ++ (l.stored.flying ++ [])) (append-nil l.stored.commits) ∙ sym (append_assoc l.stored.commits l.stored.flying []))
 
   -- ---- one call in front of others
 
-  abbrev Holds : Site → List Commit → ℕ → L → Type 0
+  abbrev Holds : Site → List CommitOfChanges → ℕ → L → Type 0
   Holds s commits a c = HoldsCommits stands s commits a c
 
   -- the commits of one event
-  abbrev own : Link S → List Commit
+  abbrev own : Link S → List CommitOfChanges
   own l = l.stored.commits ++ l.stored.flying
 
   -- what was left before, or with what was in flight in this call
@@ -121,8 +121,8 @@ module _ {S L : Type 0} (crash_states : S → CrashStates L) (stands : L → Sit
   -- all commits of a call, where nothing is in flight
   all_made : (w : World) (l : Link S) (c : L) → l.world.site ≡ with_commits w.site l.stored.commits → l.stored.flying ≡ [] → Holds w.site (own l) (length l.stored.commits) c → stands c l.world.site
   all_made w l c made none h =
-      let same : own l ≡ l.stored.commits = ap (λ (x : List Commit). l.stored.commits ++ x) none ∙ append-nil l.stored.commits in
-      let most : h.count ≤ length l.stored.commits = subst (λ (x : List Commit). h.count ≤ length x) same h.at_most in
+      let same : own l ≡ l.stored.commits = ap (λ (x : List CommitOfChanges). l.stored.commits ++ x) none ∙ append-nil l.stored.commits in
+      let most : h.count ≤ length l.stored.commits = subst (λ (x : List CommitOfChanges). h.count ≤ length x) same h.at_most in
       let all : take h.count (own l) ≡ l.stored.commits = ap (take h.count) same ∙ take_all h.count l.stored.commits (omega (arith, h.at_least, most)) in
       subst (stands c) (ap (with_commits w.site) all ∙ sym made) h.represented
 
@@ -148,37 +148,37 @@ module _ {S L : Type 0} (crash_states : S → CrashStates L) (stands : L → Sit
 
   lift_or : (w : World) (k : S) (l : Link S) (ls : List (Link S)) (P : L → Type 0) (a b : ℕ) (c : L) → One w k l → All l.world l.keeper ls → b ≤ length l.stored.commits + a → a ≤ length (acknowledged ls)
       → Or l.world ls (InFlightThen w l P) a c → Or w (l ∷ ls) P b c
-  lift_or w k l ls P a b c call all le most (inl from) = inl (subst (λ (x : List Commit). Holds w.site x b c) (sym (accepted_are w k l ls call all)) (by (right w k l call).one))
+  lift_or w k l ls P a b c call all le most (inl from) = inl (subst (λ (x : List CommitOfChanges). Holds w.site x b c) (sym (accepted_are w k l ls call all)) (by (right w k l call).one))
     where
       made : l.world.site ≡ with_commits w.site l.stored.commits
       made = (right w k l call).made
 
       by : (l.stored.flying ≡ []) ⊎ (l.world.failed ≡ true) → Holds w.site (own l ++ accepted ls) b c
       by (inl none) =
-          let same : own l ≡ l.stored.commits = ap (λ (x : List Commit). l.stored.commits ++ x) none ∙ append-nil l.stored.commits in
-          subst (λ (x : List Commit). Holds w.site (x ++ accepted ls) b c) (sym same) (comes_after stands w.site l.world.site l.stored.commits (accepted ls) a b c made le from)
+          let same : own l ≡ l.stored.commits = ap (λ (x : List CommitOfChanges). l.stored.commits ++ x) none ∙ append-nil l.stored.commits in
+          subst (λ (x : List CommitOfChanges). Holds w.site (x ++ accepted ls) b c) (sym same) (comes_after stands w.site l.world.site l.stored.commits (accepted ls) a b c made le from)
       by (inr failed) =
           let later = none_later l.world l.keeper ls all failed in
-          let nothing : accepted ls ≡ [] = ap (λ (x : List Commit). x ++ in_flight ls) later.0 ∙ later.1 in
-          let rest : List Commit = l.stored.flying ++ accepted ls in
+          let nothing : accepted ls ≡ [] = ap (λ (x : List CommitOfChanges). x ++ in_flight ls) later.0 ∙ later.1 in
+          let rest : List CommitOfChanges = l.stored.flying ++ accepted ls in
           let still : Holds l.world.site rest a c = record {
             count = from.count;
             at_least = from.at_least;
-            at_most = (let most : from.count ≤ 0 = subst (λ (x : List Commit). from.count ≤ length x) nothing from.at_most in omega (arith, most));
+            at_most = (let most : from.count ≤ 0 = subst (λ (x : List CommitOfChanges). from.count ≤ length x) nothing from.at_most in omega (arith, most));
             represented =
-                let none : from.count ≡ 0 = (let most : from.count ≤ 0 = subst (λ (x : List Commit). from.count ≤ length x) nothing from.at_most in omega (arith, most)) in
+                let none : from.count ≡ 0 = (let most : from.count ≤ 0 = subst (λ (x : List CommitOfChanges). from.count ≤ length x) nothing from.at_most in omega (arith, most)) in
                 subst (λ (n : ℕ). stands c (with_commits l.world.site (take n rest))) (sym none) (subst (λ (n : ℕ). stands c (with_commits l.world.site (take n (accepted ls)))) none from.represented);
           } in
-          subst (λ (x : List Commit). Holds w.site x b c) (sym (append_assoc l.stored.commits l.stored.flying (accepted ls))) (comes_after stands w.site l.world.site l.stored.commits rest a b c made le still)
+          subst (λ (x : List CommitOfChanges). Holds w.site x b c) (sym (append_assoc l.stored.commits l.stored.flying (accepted ls))) (comes_after stands w.site l.world.site l.stored.commits rest a b c made le still)
   lift_or w k l ls P a b c call all le most (inr (inl was)) = inr was
   lift_or w k l ls P a b c call all le most (inr (inr (failed, h))) =
       let later = none_later l.world l.keeper ls all failed in
-      let none : length (acknowledged ls) ≡ 0 = ap (λ (x : List Commit). length x) later.0 in
-      inl (subst (λ (x : List Commit). Holds w.site x b c) (sym (accepted_are w k l ls call all)) (more_come stands w.site (own l) (accepted ls) (length l.stored.commits) b c (omega (arith, le, most, none)) h))
+      let none : length (acknowledged ls) ≡ 0 = ap (λ (x : List CommitOfChanges). length x) later.0 in
+      inl (subst (λ (x : List CommitOfChanges). Holds w.site x b c) (sym (accepted_are w k l ls call all)) (more_come stands w.site (own l) (accepted ls) (length l.stored.commits) b c (omega (arith, le, most, none)) h))
 
   -- what the first call leaves
   first_of : (w : World) (k : S) (l : Link S) (ls : List (Link S)) (c : L) → One w k l → All l.world l.keeper ls → Holds w.site (own l) 0 c → Holds w.site (accepted (l ∷ ls)) 0 c
-  first_of w k l ls c call all h = subst (λ (x : List Commit). Holds w.site x 0 c) (sym (accepted_are w k l ls call all)) (more_come stands w.site (own l) (accepted ls) 0 0 c (omega arith) h)
+  first_of w k l ls c call all h = subst (λ (x : List CommitOfChanges). Holds w.site x 0 c) (sym (accepted_are w k l ls call all)) (more_come stands w.site (own l) (accepted ls) 0 0 c (omega arith) h)
 
   at_start : (w : World) (ls : List (Link S)) (P : L → Type 0) (c : L) → stands c w.site ⊎ P c → Or w ls P 0 c
   at_start w ls P c (inl here) = inl (stands_now stands w.site (accepted ls) c here)

@@ -7,7 +7,7 @@ use Rattle.common_types.specs.CrashStates.{CrashStates, AddsOnly, AddsNone, may_
 use Rattle.group_world.specs.World.{World}
 use Rattle.group_world.specs.Step.{Next, answer, failed_answer}
 use Rattle.group_world.specs.Run.{changes_in, IsAnswer, IsFaulty}
-use Rattle.group_world.specs.CrashStates.{Commit, with_changes, with_commits, Stored, in_one_step, changes_at, stored_whole, Link, HoldsCommits, Leaves}
+use Rattle.group_world.specs.CrashStates.{CommitOfChanges, with_changes, with_commits, Stored, in_one_step, changes_at, stored_whole, Link, HoldsCommits, Leaves}
 use Rattle.group_world.specs.declared.event.Event.{Event}
 use Rattle.group_world.specs.declared.event.Outcome.{Outcome}
 use Rattle.group_world.specs.declared.event.Outcome.TheVariants.{Fault}
@@ -78,13 +78,13 @@ failed_stores w e usable = ap all_in_flight (changes_of w e usable)
 
 module _ {L : Type 0} (stands : L → Site → Type 0) where
   -- all commits
-  holds_all : (s : Site) (commits : List Commit) (c : L) → stands c (with_commits s commits) → HoldsCommits stands s commits (length commits) c
-  holds_all s commits c here = record { count = length commits; at_least = omega arith; at_most = omega arith; represented = subst (λ (l : List Commit). stands c (with_commits s l)) (sym (take_all (length commits) commits (omega arith))) here }
+  holds_all : (s : Site) (commits : List CommitOfChanges) (c : L) → stands c (with_commits s commits) → HoldsCommits stands s commits (length commits) c
+  holds_all s commits c here = record { count = length commits; at_least = omega arith; at_most = omega arith; represented = subst (λ (l : List CommitOfChanges). stands c (with_commits s l)) (sym (take_all (length commits) commits (omega arith))) here }
 
   holds_changes : (s : Site) (changes : Changes) (c : L) → stands c (with_changes s changes) → HoldsCommits stands s (in_one_step changes) (length (in_one_step changes)) c
   holds_changes s changes c here = holds_all s (in_one_step changes) c (subst (stands c) (sym (one_step_makes s changes)) here)
 
-  fewer : (s : Site) (commits : List Commit) (a b : ℕ) (c : L) → b ≤ a → HoldsCommits stands s commits a c → HoldsCommits stands s commits b c
+  fewer : (s : Site) (commits : List CommitOfChanges) (a b : ℕ) (c : L) → b ≤ a → HoldsCommits stands s commits a c → HoldsCommits stands s commits b c
   fewer s commits a b c le h = record { count = h.count; at_least = omega (arith, le, h.at_least); at_most = h.at_most; represented = h.represented }
 
   -- before the changes or with them
@@ -115,12 +115,12 @@ module _ {S L : Type 0} (stands : L → Site → Type 0) where
       → AddsOnly before after (λ c. stands c w.site ⊎ stands c (with_changes w.site (changes_in w e))) → v.site ≡ with_changes w.site (changes_in w e) → ((c : L) → may_crash_to after c → stands c v.site)
       → Linked split w e o (all_in_one (changes_in w e)) v l before after
   leaves_changes split w v e o l before after usable is only site now =
-      let all : List Commit = in_one_step (changes_in w e) in
+      let all : List CommitOfChanges = in_one_step (changes_in w e) in
       let same : all ++ [] ≡ all = append-nil all in
       record {
         stored = inl (inl is, sym (answer_stores w v e o usable is));
-        adds = weaker before after _ (λ c. may_crash_to before c ⊎ HoldsCommits stands w.site (all ++ []) 0 c) only (λ c left. inr (subst (λ (x : List Commit). HoldsCommits stands w.site x 0 c) (sym same) (one_of_two stands w.site (changes_in w e) c left)));
-        behind = λ off c left. subst (λ (x : List Commit). HoldsCommits stands w.site x (length all) c) (sym same) (holds_changes stands w.site (changes_in w e) c (subst (stands c) site (now c left)));
+        adds = weaker before after _ (λ c. may_crash_to before c ⊎ HoldsCommits stands w.site (all ++ []) 0 c) only (λ c left. inr (subst (λ (x : List CommitOfChanges). HoldsCommits stands w.site x 0 c) (sym same) (one_of_two stands w.site (changes_in w e) c left)));
+        behind = λ off c left. subst (λ (x : List CommitOfChanges). HoldsCommits stands w.site x (length all) c) (sym same) (holds_changes stands w.site (changes_in w e) c (subst (stands c) site (now c left)));
         shut = λ failed. absurd (both w.failed usable failed);
       }
 

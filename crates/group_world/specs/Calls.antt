@@ -11,17 +11,17 @@ use Rattle.group_world.specs.Step.{Changes}
 -- ---- causes
 
 -- There are changes, and the keeper may refuse them so, for lack of room, or because it takes no further change.
-abbrev pub IsLacking : (Changes → SiteFault → Type 0) → Changes → SiteFault → Type 0
-IsLacking lacks [] fault = ⊥
-IsLacking lacks (c ∷ changes) fault = lacks (c ∷ changes) fault
+abbrev pub IsKeeperLacking : (Changes → SiteFault → Type 0) → Changes → SiteFault → Type 0
+IsKeeperLacking lacks [] fault = ⊥
+IsKeeperLacking lacks (c ∷ changes) fault = lacks (c ∷ changes) fault
 
 -- The changes can't be refused as `Spent`, which is told before lack of room and too many levels.
 abbrev pub IsUnspent : (Changes → SiteFault → Type 0) → Changes → Type 0
-IsUnspent lacks changes = IsLacking lacks changes faults.Spent → ⊥
+IsUnspent lacks changes = IsKeeperLacking lacks changes faults.Spent → ⊥
 
 -- Why several changes may not go in one step: they need more than is free, or might grow too many levels, and they can't be refused as `Spent`.
 pub record MaySplit (lacks : Changes → SiteFault → Type 0) (h : SiteState) (changes : Changes) : Type 0 where
-  pub cause : ((need : ℕ) × (h.free < need) × IsLacking lacks changes (faults.Full need h.free)) ⊎ IsLacking lacks changes faults.Deep
+  pub cause : ((need : ℕ) × (h.free < need) × IsKeeperLacking lacks changes (faults.Full need h.free)) ⊎ IsKeeperLacking lacks changes faults.Deep
   pub unspent : IsUnspent lacks changes
 
 -- `Crowded` as the world says: 16 posts wait already.
@@ -30,9 +30,9 @@ IsHeardCause lacks changes old new hub.Unknown = old.usable ≡ true
 IsHeardCause lacks changes old new hub.Memory = old.usable ≡ true
 IsHeardCause lacks changes old new hub.Crowded = old.usable ≡ true
 IsHeardCause lacks changes old new hub.Broken = (old.usable ≡ true) × (IsTrue old.honest → Rose old.failed_reads new.failed_reads)
-IsHeardCause lacks changes old new (hub.Full need free) = (old.usable ≡ true) × ((free ≡ old.free) × (free < need)) × (IsTrue old.honest → IsLacking lacks changes (faults.Full need free) × IsUnspent lacks changes)
-IsHeardCause lacks changes old new hub.Spent = (old.usable ≡ true) × (IsTrue old.honest → IsLacking lacks changes faults.Spent)
-IsHeardCause lacks changes old new hub.Deep = (old.usable ≡ true) × (IsTrue old.honest → IsLacking lacks changes faults.Deep × IsUnspent lacks changes)
+IsHeardCause lacks changes old new (hub.Full need free) = (old.usable ≡ true) × ((free ≡ old.free) × (free < need)) × (IsTrue old.honest → IsKeeperLacking lacks changes (faults.Full need free) × IsUnspent lacks changes)
+IsHeardCause lacks changes old new hub.Spent = (old.usable ≡ true) × (IsTrue old.honest → IsKeeperLacking lacks changes faults.Spent)
+IsHeardCause lacks changes old new hub.Deep = (old.usable ≡ true) × (IsTrue old.honest → IsKeeperLacking lacks changes faults.Deep × IsUnspent lacks changes)
 IsHeardCause lacks changes old new hub.Failed = IsTrue old.honest → (old.usable ≡ false) ⊎ Rose old.failed_writes new.failed_writes
 IsHeardCause lacks changes old new (hub.Refused refused) = ⊥
 IsHeardCause lacks changes old new hub.NotReady = ⊥
@@ -41,7 +41,7 @@ IsHeardCause lacks changes old new hub.NotReady = ⊥
 abbrev pub IsFlushCause : (Changes → SiteFault → Type 0) → Changes → SiteState → SiteState → HubFault → Type 0
 IsFlushCause lacks changes old new hub.Memory = old.usable ≡ true
 IsFlushCause lacks changes old new hub.Broken = (old.usable ≡ true) × (IsTrue old.honest → Rose old.failed_reads new.failed_reads)
-IsFlushCause lacks changes old new hub.Spent = (old.usable ≡ true) × (IsTrue old.honest → IsLacking lacks changes faults.Spent)
+IsFlushCause lacks changes old new hub.Spent = (old.usable ≡ true) × (IsTrue old.honest → IsKeeperLacking lacks changes faults.Spent)
 IsFlushCause lacks changes old new hub.Failed = IsTrue old.honest → (old.usable ≡ false) ⊎ Rose old.failed_writes new.failed_writes
 IsFlushCause lacks changes old new fault = ⊥
 

@@ -43,13 +43,13 @@ last_of w [] = w
 last_of w (v ∷ worlds) = last_of v worlds
 
 -- From a world where a session has this reply to draw: what it draws, joined, is the front of that, and the rest is left.
-abbrev pub GoesOn : World → List Event → List Outcome → ℕ → List ℕ → World → Type 0
-GoesOn old events outcomes id reply new = (rest : List ℕ) × (phase_of new id ≡ Some (Reply rest)) × (reply ≡ drawn_by id events outcomes ++ rest)
+abbrev pub DrawsOn : World → List Event → List Outcome → ℕ → List ℕ → World → Type 0
+DrawsOn old events outcomes id reply new = (rest : List ℕ) × (phase_of new id ≡ Some (Reply rest)) × (reply ≡ drawn_by id events outcomes ++ rest)
 
 -- Nothing else that happens changes what a session draws.
 abbrev pub Continues : Type 0
 Continues = (old : World) (events : List Event) (outcomes : List Outcome) (worlds : List World) (id : ℕ) (reply : List ℕ) →
-    phase_of old id ≡ Some (Reply reply) → stays_in id events ≡ true → RunBy old events outcomes worlds → GoesOn old events outcomes id reply (last_of old worlds)
+    phase_of old id ≡ Some (Reply reply) → stays_in id events ≡ true → RunBy old events outcomes worlds → DrawsOn old events outcomes id reply (last_of old worlds)
 
 -- ---- from the request on
 
@@ -74,7 +74,7 @@ text_found w id e = None
 -- A request that is answered at once is answered from the site which it finds.
 abbrev pub ContinuesWhatWasFound : Type 0
 ContinuesWhatWasFound = (old mid : World) (e : Event) (events : List Event) (outcomes : List Outcome) (worlds : List World) (id : ℕ) (text : List ℕ) →
-    text_found old id e ≡ Some text → Step old e Ready mid → stays_in id events ≡ true → RunBy mid events outcomes worlds → GoesOn mid events outcomes id text (last_of mid worlds)
+    text_found old id e ≡ Some text → Step old e Ready mid → stays_in id events ≡ true → RunBy mid events outcomes worlds → DrawsOn mid events outcomes id text (last_of mid worlds)
 
 -- ---- from a place in the group on
 
@@ -97,7 +97,7 @@ IsOfItsPlace old new request now text =
 abbrev pub ContinuesFromItsPlace : Type 0
 ContinuesFromItsPlace = (old mid : World) (o : Outcome) (events : List Event) (outcomes : List Outcome) (worlds : List World) (id : ℕ) (request : Request) (now : ℕ) (text : List ℕ) →
     phase_of old id ≡ Some (Waits request now) → Step old Flush o mid → phase_of mid id ≡ Some (Reply text) → stays_in id events ≡ true → RunBy mid events outcomes worlds →
-    IsOfItsPlace old mid request now text × GoesOn mid events outcomes id text (last_of mid worlds)
+    IsOfItsPlace old mid request now text × DrawsOn mid events outcomes id text (last_of mid worlds)
 
 -- ---- and back to the request
 

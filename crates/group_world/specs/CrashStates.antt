@@ -18,10 +18,10 @@ with_changes s [] = s
 with_changes s (c ∷ changes) = with_changes (made_or s (apply s c.0 c.1)) changes
 
 -- A commit is what is stored in one step: some changes, each with its moment.
-abbrev pub Commit : Type 0
-Commit = Changes
+abbrev pub CommitOfChanges : Type 0
+CommitOfChanges = Changes
 
-abbrev pub with_commits : Site → List Commit → Site
+abbrev pub with_commits : Site → List CommitOfChanges → Site
 with_commits s [] = s
 with_commits s (c ∷ commits) = with_commits (with_changes s c) commits
 
@@ -29,14 +29,14 @@ with_commits s (c ∷ commits) = with_commits (with_changes s c) commits
 
 -- The commits that an event acknowledges, and the one that was in flight where the event was the first to fail: nobody knows from then on whether that was stored.
 pub record Stored : Type 0 where
-  pub commits : List Commit
-  pub flying : List Commit
+  pub commits : List CommitOfChanges
+  pub flying : List CommitOfChanges
 
-abbrev pub in_one_step : Changes → List Commit
+abbrev pub in_one_step : Changes → List CommitOfChanges
 in_one_step [] = []
 in_one_step (c ∷ changes) = (c ∷ changes) ∷ []
 
-abbrev pub one_by_one : Changes → List Commit
+abbrev pub one_by_one : Changes → List CommitOfChanges
 one_by_one changes = map (λ c. c ∷ []) changes
 
 -- the changes that an event has, where the hub takes any
@@ -75,20 +75,20 @@ pub record Link (S : Type 0) : Type 0 where
   pub world : World
   pub keeper : S
 
-abbrev pub acknowledged : {S : Type 0} → List (Link S) → List Commit
+abbrev pub acknowledged : {S : Type 0} → List (Link S) → List CommitOfChanges
 acknowledged [] = []
 acknowledged (l ∷ links) = l.stored.commits ++ acknowledged links
 
-abbrev pub in_flight : {S : Type 0} → List (Link S) → List Commit
+abbrev pub in_flight : {S : Type 0} → List (Link S) → List CommitOfChanges
 in_flight [] = []
 in_flight (l ∷ links) = l.stored.flying ++ in_flight links
 
 -- the one in flight comes last: a hub that has failed stores nothing more
-abbrev pub accepted : {S : Type 0} → List (Link S) → List Commit
+abbrev pub accepted : {S : Type 0} → List (Link S) → List CommitOfChanges
 accepted links = acknowledged links ++ in_flight links
 
 -- What is left represents the site after the first so many commits, at least so many.
-pub record HoldsCommits {L : Type 0} (stands : L → Site → Type 0) (first : Site) (commits : List Commit) (least : ℕ) (left : L) : Type 0 where
+pub record HoldsCommits {L : Type 0} (stands : L → Site → Type 0) (first : Site) (commits : List CommitOfChanges) (least : ℕ) (left : L) : Type 0 where
   pub count : ℕ
   pub at_least : least ≤ count
   pub at_most : count ≤ length commits

@@ -16,7 +16,7 @@ use Rattle.page_store.specs.declared.slot.Slot.{Slot}
 use Rattle.page_store.proofs.Fields.{bind_some, test_passed}
 use Rattle.page_store.proofs.CommitImages.{both_true}
 use Rattle.cow_tree.specs.KeeperLaws.{opens_trees}
-use Rattle.site_store.specs.Represented.{Shows, same_site}
+use Rattle.site_store.specs.Represented.{PairsShowSite, same_site}
 use Rattle.host_on_disk.specs.ImageSites.{ImageRepresents, RepresentsNone}
 
 -- one image, one content
@@ -24,16 +24,16 @@ pub same_pairs_and_banner : (o : Option (List Pair × Banner)) (pairs more : Lis
 same_pairs_and_banner o pairs more banner other x y = let same : (pairs, banner) ≡ (more, other) = cc in (ap (λ (t : List Pair × Banner). t.0) same, ap (λ (t : List Pair × Banner). t.1) same)
 
 -- what an image represents is what its content shows
-pub shown : (image : Image) (pairs : List Pair) (banner : Banner) (s : Site) → HasContent image pairs banner → ImageRepresents image s → Shows pairs banner s
+pub shown : (image : Image) (pairs : List Pair) (banner : Banner) (s : Site) → HasContent image pairs banner → ImageRepresents image s → PairsShowSite pairs banner s
 shown image pairs banner s content (more, other, (is, opened), shows) =
     let same = same_pairs_and_banner _ more pairs other banner is content in
-    subst (λ (b : Banner). Shows pairs b s) same.1 (subst (λ (p : List Pair). Shows p other s) same.0 shows)
+    subst (λ (b : Banner). PairsShowSite pairs b s) same.1 (subst (λ (p : List Pair). PairsShowSite p other s) same.0 shows)
 
 pub one_site : (image : Image) (s t : Site) → ImageRepresents image s → ImageRepresents image t → s ≡ t
 one_site image s t (pairs, banner, (is, opened), shows) y = same_site pairs banner s t shows (shown image pairs banner t is y)
 
 -- what is kept under an image is what it represents
-pub kept_stands : (image : Image) (pairs : List Pair) (banner : Banner) (s : Site) → HasContent image pairs banner → IsTrue (is_tree_version banner.version) → Shows pairs banner s → ImageRepresents image s
+pub kept_stands : (image : Image) (pairs : List Pair) (banner : Banner) (s : Site) → HasContent image pairs banner → IsTrue (is_tree_version banner.version) → PairsShowSite pairs banner s → ImageRepresents image s
 kept_stands image pairs banner s has version shows = (pairs, banner, (has, opens_trees banner.version version), shows)
 
 -- ---- images without a site

@@ -14,7 +14,7 @@ use Rattle.page_store.specs.declared.banner.Banner.{Banner}
 use Rattle.page_store.specs.declared.slot.Slot.{Slot}
 use Rattle.page_store.specs.declared.fault.KeeperFault.{KeeperFault}
 use Rattle.page_store.specs.declared.fault.KeeperFault.TheVariants as kinds
-use Rattle.cow_tree.specs.Opening.{IsTree, IsOpenFault}
+use Rattle.cow_tree.specs.Opening.{IsTree, IsTreeOpenFault}
 use Rattle.cow_tree.specs.KeeperLaws.{opens_trees}
 use Rattle.site_store.specs.Opening as sites
 use Rattle.site_store.specs.PinnedItems.{items_at}
@@ -27,7 +27,7 @@ use Rattle.host_on_disk.specs.declared.open_fault.OpenFault.TheVariants.{Keeper,
 use Rattle.host_on_disk.proofs.Images.{shown, no_content, no_slot, other_version, too_small, slot_there}
 
 -- a refusal of the key-value store
-pub keeper_refused : (old new : State) → (IsTrue old.honest → length old.disk.view ≡ old.size) → (fault : KeeperFault) → IsOpenFault old new fault → CountsRefusal fault old new → IsOpeningFault old new (of_keeper fault)
+pub keeper_refused : (old new : State) → (IsTrue old.honest → length old.disk.view ≡ old.size) → (fault : KeeperFault) → IsTreeOpenFault old new fault → CountsRefusal fault old new → IsOpeningFault old new (of_keeper fault)
 keeper_refused old new size kinds.Device is counts = is
 keeper_refused old new size kinds.NoImage is counts = (is, counts, λ honest. no_slot old.disk.view (is.1 honest))
 keeper_refused old new size kinds.Version is counts = (inl is, counts, λ honest. let found = is.1 honest in other_version old.disk.view found.0 found.1 found.2)
@@ -40,7 +40,7 @@ keeper_refused old new size (kinds.Full need free) is counts = absurd is
 keeper_refused old new size kinds.Failed is counts = absurd is
 
 -- it is `Small` of a small device, which comes back
-pub small_refused : {D : Type 0} → (state : D → State) (device back : D) (fault : KeeperFault) → IsOpenFault (state device) (state back) fault → (fault ≡ kinds.Small → back ≡ device) → (state device).size < 128 → (of_keeper fault ≡ Keeper kinds.Small) × (back ≡ device)
+pub small_refused : {D : Type 0} → (state : D → State) (device back : D) (fault : KeeperFault) → IsTreeOpenFault (state device) (state back) fault → (fault ≡ kinds.Small → back ≡ device) → (state device).size < 128 → (of_keeper fault ≡ Keeper kinds.Small) × (back ≡ device)
 small_refused state device back kinds.Small is same small = (refl, same refl)
 small_refused state device back kinds.Device is same small = let large = is.0 in absurd (omega (arith, large, small))
 small_refused state device back kinds.NoImage is same small = let large = is.0 in absurd (omega (arith, large, small))
@@ -67,13 +67,13 @@ pub record ArePairs (old : State) (before : StoreState) : Type 0 where
   pub version : IsTrue (is_tree_version before.banner.version)
 
 -- a refusal of the site, once its pairs are opened
-pub site_refused : (old new : State) (before after : StoreState) → ArePairs old before → new.failed_reads ≡ after.failed_reads → new.failed_writes ≡ before.failed_writes → (fault : SiteOpenFault) → sites.IsOpenFault before after fault → IsOpeningFault old new (of_site fault)
+pub site_refused : (old new : State) (before after : StoreState) → ArePairs old before → new.failed_reads ≡ after.failed_reads → new.failed_writes ≡ before.failed_writes → (fault : SiteOpenFault) → sites.IsSiteOpenFault before after fault → IsOpeningFault old new (of_site fault)
 site_refused old new before after opened reads writes fault is = by fault is
   where
     nothing : after.failed_reads ≡ before.failed_reads → NothingCounted old new
     nothing none = record { reads = reads ∙ none ∙ opened.reads; writes = writes ∙ opened.writes }
 
-    by : (fault : SiteOpenFault) → sites.IsOpenFault before after fault → IsOpeningFault old new (of_site fault)
+    by : (fault : SiteOpenFault) → sites.IsSiteOpenFault before after fault → IsOpeningFault old new (of_site fault)
     by reading.BadRecord is = (
       opened.large,
       nothing is.1,

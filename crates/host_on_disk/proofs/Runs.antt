@@ -10,7 +10,7 @@ use Rattle.host_types.specs.CrashStates.{CrashStates, AddsNone, may_crash_to}
 use Rattle.sector_device.specs.Device.{State, NothingCounted}
 use Rattle.page_store.specs.Sectors.{Image}
 use Rattle.group_world.specs.World.{World, started_as}
-use Rattle.group_world.specs.CrashStates.{Commit, Link, Stored, IsStored, HasCrashStates, HoldsCommits, acknowledged, in_flight, accepted, with_commits}
+use Rattle.group_world.specs.CrashStates.{CommitOfChanges, Link, Stored, IsStored, HasCrashStates, HoldsCommits, acknowledged, in_flight, accepted, with_commits}
 use Rattle.group_world.specs.declared.event.Event.{Event}
 use Rattle.group_world.specs.declared.event.Outcome.{Outcome}
 use Rattle.group_hub.specs.Calls.{Calls, links_of}
@@ -33,7 +33,7 @@ fewer (l ∷ ls) zero = omega arith
 fewer (l ∷ ls) (suc n) = omega (arith, fewer ls n, length-append l.stored.commits (acknowledged (take n ls)), length-append l.stored.commits (acknowledged ls))
 
 -- what has at least so many commits has at least fewer
-at_least_fewer : {L : Type 0} (stands : L → Site → Type 0) (site : Site) (commits : List Commit) (a b : ℕ) (c : L) → b ≤ a → HoldsCommits stands site commits a c → HoldsCommits stands site commits b c
+at_least_fewer : {L : Type 0} (stands : L → Site → Type 0) (site : Site) (commits : List CommitOfChanges) (a b : ℕ) (c : L) → b ≤ a → HoldsCommits stands site commits a c → HoldsCommits stands site commits b c
 at_least_fewer stands site commits a b c le h = record { count = h.count; at_least = omega (arith, le, h.at_least); at_most = h.at_most; represented = h.represented }
 
 -- Where nothing is written after a run, and no time passes, what a crash leaves is as before.
@@ -101,14 +101,14 @@ module _ {S L : Type 0} (site_state : S → SiteState) (lacks : S → Changes �
 module _ {S D : Type 0} (device : S → D) where
   acknowledged_on : (ls : List (Link S)) → acknowledged (links_on device ls) ≡ acknowledged ls
   acknowledged_on [] = refl
-  acknowledged_on (l ∷ ls) = ap (λ (x : List Commit). l.stored.commits ++ x) (acknowledged_on ls)
+  acknowledged_on (l ∷ ls) = ap (λ (x : List CommitOfChanges). l.stored.commits ++ x) (acknowledged_on ls)
 
   in_flight_on : (ls : List (Link S)) → in_flight (links_on device ls) ≡ in_flight ls
   in_flight_on [] = refl
-  in_flight_on (l ∷ ls) = ap (λ (x : List Commit). l.stored.flying ++ x) (in_flight_on ls)
+  in_flight_on (l ∷ ls) = ap (λ (x : List CommitOfChanges). l.stored.flying ++ x) (in_flight_on ls)
 
   accepted_on : (ls : List (Link S)) → accepted (links_on device ls) ≡ accepted ls
-  accepted_on ls = ap (λ (x : List Commit). x ++ in_flight (links_on device ls)) (acknowledged_on ls) ∙ ap (λ (x : List Commit). acknowledged ls ++ x) (in_flight_on ls)
+  accepted_on ls = ap (λ (x : List CommitOfChanges). x ++ in_flight (links_on device ls)) (acknowledged_on ls) ∙ ap (λ (x : List CommitOfChanges). acknowledged ls ++ x) (in_flight_on ls)
 
   take_on : (n : ℕ) (ls : List (Link S)) → take n (links_on device ls) ≡ links_on device (take n ls)
   take_on zero [] = refl
@@ -128,11 +128,11 @@ module _ {S D : Type 0} (device : S → D) where
     is_now = ap h.at (length_on ls) ∙ h.is_now;
     rises = h.rises;
     each = λ k c within left.
-        let least : length (acknowledged (take k (links_on device ls))) ≡ length (acknowledged (take k ls)) = ap (λ (x : List (Link D)). length (acknowledged x)) (take_on k ls) ∙ ap (λ (x : List Commit). length x) (acknowledged_on (take k ls)) in
-        subst (λ (x : List Commit). HoldsCommits stands site x (length (acknowledged (take k (links_on device ls)))) c) (sym (accepted_on ls))
+        let least : length (acknowledged (take k (links_on device ls))) ≡ length (acknowledged (take k ls)) = ap (λ (x : List (Link D)). length (acknowledged x)) (take_on k ls) ∙ ap (λ (x : List CommitOfChanges). length x) (acknowledged_on (take k ls)) in
+        subst (λ (x : List CommitOfChanges). HoldsCommits stands site x (length (acknowledged (take k (links_on device ls)))) c) (sym (accepted_on ls))
         (subst (λ (n : ℕ). HoldsCommits stands site (accepted ls) n c) (sym least) (h.each k c (omega (arith, within, length_on ls)) left));
     keeps = h.keeps;
-    since = λ t c le left. ⊎_elim inl (λ from. inr (subst (λ (x : List Commit). HoldsCommits stands site x 0 c) (sym (accepted_on ls)) from)) (h.since t c le left);
+    since = λ t c le left. ⊎_elim inl (λ from. inr (subst (λ (x : List CommitOfChanges). HoldsCommits stands site x 0 c) (sym (accepted_on ls)) from)) (h.since t c le left);
   }
 
 -- whatever the reason why the changes of an event went one at a time
@@ -152,7 +152,7 @@ calls_are_run device site_state lacks crash_states stands w v k l [] (o ∷ os) 
 calls_are_run device site_state lacks crash_states stands w v k l (e ∷ es) [] honest calls = absurd calls
 
 -- what is left represents a site that is found
-pub found_at : (first : Site) (commits : List Commit) (least : ℕ) (image : Image) → HoldsCommits ImageRepresents first commits least image → (s : Site) × ImageRepresents image s × IsFound first commits least s
+pub found_at : (first : Site) (commits : List CommitOfChanges) (least : ℕ) (image : Image) → HoldsCommits ImageRepresents first commits least image → (s : Site) × ImageRepresents image s × IsFound first commits least s
 found_at first commits least image h = (_, h.represented, record { count = h.count; at_least = h.at_least; at_most = h.at_most; represented = refl })
 
 -- a device is opened, runs, and is given back

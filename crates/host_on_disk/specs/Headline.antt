@@ -9,7 +9,7 @@ use Rattle.sector_device.specs.Device.{State, NothingCounted}
 use Rattle.page_store.specs.Sectors.{Image}
 use Rattle.group_world.specs.World.{World, started_as}
 use Rattle.group_world.specs.Run.{Step}
-use Rattle.group_world.specs.CrashStates.{Commit, Link, IsStored, HasCrashStates, HoldsCommits, accepted}
+use Rattle.group_world.specs.CrashStates.{CommitOfChanges, Link, IsStored, HasCrashStates, HoldsCommits, accepted}
 use Rattle.group_world.specs.declared.event.Event.{Event}
 use Rattle.group_world.specs.declared.event.Outcome.{Outcome}
 use Rattle.group_hub.specs.Calls.{Calls, links_of}
@@ -17,7 +17,7 @@ use Rattle.group_hub.specs.HeldPins.{IsClosed}
 use Rattle.host_on_disk.specs.ImageSites.{ImageRepresents}
 
 -- This is the site after the first so many commits, at least so many.
-abbrev pub IsFound : Site → List Commit → ℕ → Site → Type 0
+abbrev pub IsFound : Site → List CommitOfChanges → ℕ → Site → Type 0
 IsFound first commits least s = HoldsCommits (λ (t u : Site). t ≡ u) first commits least s
 
 -- ---- a run

@@ -7,7 +7,7 @@ use Rattle.page_store.specs.Sectors.{Image}
 use Rattle.page_store.specs.declared.banner.Banner.{Banner}
 use Rattle.page_store.specs.declared.fault.KeeperFault.{KeeperFault}
 use Rattle.page_store.specs.declared.fault.KeeperFault.TheVariants as kinds
-use Rattle.cow_tree.specs.Opening.{IsOpenFault}
+use Rattle.cow_tree.specs.Opening.{IsTreeOpenFault}
 use Rattle.cow_tree.specs.Committed.{TreeHas}
 use Rattle.site_store.specs.declared.fault.SiteOpenFault.{SiteOpenFault}
 use Rattle.site_store.specs.declared.fault.SiteOpenFault.TheVariants as reading
@@ -48,18 +48,18 @@ ShowsOther old = (128 ≤ old.size) × (IsTrue old.honest → (pairs : List Pair
 
 -- Why an opening is refused, and what it counted. A fault of the key-value store has the cause that opening the keeper gives it, `BadRecord` comes where there is content but it represents no site, and `Memory` where a slot to be opened is current. But for a device that fails and for lack of memory, no two of these hold of one image.
 abbrev pub IsOpeningFault : State → State → OpenFault → Type 0
-IsOpeningFault old new (Keeper kinds.Device) = IsOpenFault old new kinds.Device
-IsOpeningFault old new (Keeper kinds.NoImage) = IsOpenFault old new kinds.NoImage × NothingCounted old new × ShowsNone old
-IsOpeningFault old new (Keeper kinds.Version) = (IsOpenFault old new kinds.Version ⊎ ShowsOther old) × NothingCounted old new × ShowsNone old
-IsOpeningFault old new (Keeper (kinds.Damaged page)) = IsOpenFault old new (kinds.Damaged page) × NothingCounted old new × ShowsNone old
-IsOpeningFault old new (Keeper kinds.Small) = IsOpenFault old new kinds.Small × NothingCounted old new × ShowsNone old
+IsOpeningFault old new (Keeper kinds.Device) = IsTreeOpenFault old new kinds.Device
+IsOpeningFault old new (Keeper kinds.NoImage) = IsTreeOpenFault old new kinds.NoImage × NothingCounted old new × ShowsNone old
+IsOpeningFault old new (Keeper kinds.Version) = (IsTreeOpenFault old new kinds.Version ⊎ ShowsOther old) × NothingCounted old new × ShowsNone old
+IsOpeningFault old new (Keeper (kinds.Damaged page)) = IsTreeOpenFault old new (kinds.Damaged page) × NothingCounted old new × ShowsNone old
+IsOpeningFault old new (Keeper kinds.Small) = IsTreeOpenFault old new kinds.Small × NothingCounted old new × ShowsNone old
 IsOpeningFault old new (Keeper kinds.Spent) = ⊥
 IsOpeningFault old new (Keeper kinds.Deep) = ⊥
 IsOpeningFault old new (Keeper (kinds.Full need free)) = ⊥
 IsOpeningFault old new (Keeper kinds.Failed) = ⊥
 IsOpeningFault old new (Keeper kinds.Memory) = ⊥
 IsOpeningFault old new BadRecord = (128 ≤ old.size) × NothingCounted old new × ShowsContent old × ShowsNone old
-IsOpeningFault old new Memory = IsOpenFault old new kinds.Memory × NothingCounted old new
+IsOpeningFault old new Memory = IsTreeOpenFault old new kinds.Memory × NothingCounted old new
 
 -- A call that refuses hands its device back: the cause, whether it is honest as before, and that nothing was written, so that no crash state is added.
 pub record HandsBack {D F : Type 0} (cause : State → State → F → Type 0) (state : D → State) (crash_states : D → CrashStates Image) (old new : D) (fault : F) : Type 0 where

@@ -14,8 +14,8 @@ use Rattle.page_store.specs.declared.slot.Slot.{Slot}
 use Rattle.page_store.specs.declared.fault.KeeperFault.{KeeperFault}
 use Rattle.page_store.specs.declared.fault.KeeperFault.TheVariants as kinds
 use Rattle.cow_tree.specs.Committed.{TreeHas}
-use Rattle.cow_tree.specs.Opening.{IsOpenFault}
-use Rattle.site_store.specs.Upgrading.{RepresentsFirst, RepresentsEither}
+use Rattle.cow_tree.specs.Opening.{IsTreeOpenFault}
+use Rattle.site_store.specs.Upgrading.{RepresentsFirst, RepresentsEitherVersion}
 use Rattle.host_on_disk.specs.ImageSites.{ImageRepresents}
 use Rattle.host_on_disk.specs.OpenFaults.{IsOpeningFault, of_keeper}
 use Rattle.host_on_disk.specs.declared.open_fault.OpenFault.{OpenFault}
@@ -27,7 +27,7 @@ ImageRepresentsFirst image s = RepresentsFirst TreeHas image s
 
 -- in version 1 or in version 2
 abbrev pub ImageRepresentsEither : Image → Site → Type 0
-ImageRepresentsEither image s = RepresentsEither TreeHas image s
+ImageRepresentsEither image s = RepresentsEitherVersion TreeHas image s
 
 -- The one site that reads of a device give at first in version 1 stays: opening it writes nothing, and a crash at any moment after that leaves what represents it, in version 1 or 2.
 pub record KeepsEither {D : Type 0} (state : D → State) (crash_states : D → CrashStates Image) (old new : D) : Type 0 where
@@ -87,7 +87,7 @@ IsImageNotUpgraded old new Memory = NothingCounted old new
 
 -- Its key-value store is not opened.
 abbrev pub IsStoreRefusal : State → State → OpenFault → Type 0
-IsStoreRefusal old new fault = IsOpeningFault old new fault × ((kind : KeeperFault) × (fault ≡ of_keeper kind) × IsOpenFault old new kind)
+IsStoreRefusal old new fault = IsOpeningFault old new fault × ((kind : KeeperFault) × (fault ≡ of_keeper kind) × IsTreeOpenFault old new kind)
 
 -- Why an image is not upgraded: its key-value store is not opened, or it was, has content of version 1, and was refused then.
 abbrev pub IsUpgradeRefusal : State → State → OpenFault → Type 0

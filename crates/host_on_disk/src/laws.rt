@@ -3,7 +3,7 @@ ghost use Rattle.std.specs.Prelude.{◌≡◌, ◌<◌, ℕ, List, IsTrue, lengt
 ghost use Rattle.host_types.specs.Site.{Site};
 ghost use Rattle.page_store.specs.Sectors.{Image};
 ghost use Rattle.page_store.specs.Steps.{crash_states_of};
-ghost use Rattle.group_world.specs.CrashStates.{Commit, HoldsCommits};
+ghost use Rattle.group_world.specs.CrashStates.{CommitOfChanges, HoldsCommits};
 ghost use Rattle.host_on_disk.specs.ImageSites.{ImageRepresents};
 ghost use Rattle.host_on_disk.specs.Headline.{IsFound, RunInTurn, InTurn, FoundInTurn};
 ghost use Rattle.host_on_disk.specs.Tightness.{IsTight};
@@ -26,7 +26,7 @@ pub fn an_image_represents_one_site()
 /// The site that is found in an image which a crash of a run left is the one after the first so many of its accepted commits, with each that was
 /// acknowledged by then.
 pub fn what_a_crash_left_is_found_again()
-    ensures { (first : Site) (commits : List Commit) (least : ℕ) (image : Image) (s : Site) → HoldsCommits ImageRepresents first commits least image → ImageRepresents image s → IsFound first commits least s }
+    ensures { (first : Site) (commits : List CommitOfChanges) (least : ℕ) (image : Image) (s : Site) → HoldsCommits ImageRepresents first commits least image → ImageRepresents image s → IsFound first commits least s }
 {}
 
 /// Any number of crashes in turn: where each run is on a device that shows what a crash of the run before left, the last image represents a site,

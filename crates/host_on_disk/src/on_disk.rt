@@ -3,7 +3,7 @@ ghost use Rattle.std.specs.Prelude.{◌≡◌, true, [], IfOk, IfErr};
 ghost use Rattle.page_store.specs.Steps.{crash_states_of};
 ghost use Rattle.cow_tree.specs.TreeSeen.{device_of};
 ghost use Rattle.site_store.specs.Seen.{keeper_of};
-ghost use Rattle.group_hub.specs.Worlds.{IsValid};
+ghost use Rattle.group_hub.specs.Worlds.{IsValidWhereGrouped};
 ghost use Rattle.host_on_disk.specs.Headline.{RunsOver, RunsAndSurvives};
 ghost use Rattle.host_on_disk.specs.OpenFaults.{IsOpeningFault, HandsBack};
 ghost use Rattle.host_on_disk.specs.declared.open_fault.OpenFault.TheVariants.{Memory};
@@ -29,7 +29,7 @@ pub fn run_over<S: SearchKeeper>(
 ) -> Result<(OutcomeList, S), (OpenFault, S)>
     requires usable { (S.site_state site).usable ≡ true }
     requires unpinned { (S.site_state site).pins ≡ [] }
-    requires valid { IsValid grouped (S.site_state site) }
+    requires valid { IsValidWhereGrouped grouped (S.site_state site) }
     ensures ran { IfOk result (λ r. RunsOver S.site_state S.lacks S.crash_states S.represents site r.1 grouped first events.now r.0) }
     ensures unpinned { IfOk result (λ r. (S.site_state r.1).pins ≡ []) }
     ensures err { IfErr result (λ e. (e.0 ≡ Memory) × (e.1 ≡ site)) }

@@ -10,7 +10,7 @@ use Rattle.page_store.specs.Content.{is_tree_version, HasContent}
 use Rattle.page_store.specs.Formatting.{IsFirst}
 use Rattle.page_store.specs.declared.banner.Banner.{Banner}
 use Rattle.site_records.specs.Layout.{layout}
-use Rattle.site_store.specs.Represented.{Shows}
+use Rattle.site_store.specs.Represented.{PairsShowSite}
 use Rattle.host_on_disk.proofs.Images.{kept_stands, one_site}
 use Rattle.image_commands.specs.Formatted.{IsFormatted}
 
@@ -20,7 +20,7 @@ banner_of host port admin = record { version = 2; host = host; port = port; admi
 
 -- a fresh site's layout under its banner
 pub fresh_shows : (pairs : List Pair) (host : List ℕ) (port : ℕ) (admin title : List ℕ) (now : ℕ) → pairs ≡ layout (fresh_site host port admin title now) → length host ≤ 100 → IsTrue (is_word host) → 0 < port → port < 2 ^ 16 → length admin ≤ 100 → IsTrue (is_field admin)
-    → length title ≤ 69 → IsTrue (is_field title) → now ≤ 253402300799 → Shows pairs (banner_of host port admin) (fresh_site host port admin title now)
+    → length title ≤ 69 → IsTrue (is_field title) → now ≤ 253402300799 → PairsShowSite pairs (banner_of host port admin) (fresh_site host port admin title now)
 fresh_shows pairs host port admin title now all host_fits word given fits admin_fits admin_field title_fits title_field early = record {
   valid = ∣ fresh_keeps host port admin title now host_fits word given fits admin_fits admin_field title_fits title_field early ∣₁;
   all = all;
@@ -30,7 +30,7 @@ fresh_shows pairs host port admin title now all host_fits word given fits admin_
   version = refl;
 }
 
-pub is_formatted : {T E : Type 0} (r : Result T E) (image : Image) (pages : ℕ) (pairs : List Pair) (banner : Banner) (s : Site) → OnOk r (HasContent image pairs banner) → OnOk r (IsFirst pages image) → IsTrue (is_tree_version banner.version) → Shows pairs banner s → OnOk r (IsFormatted image pages s)
+pub is_formatted : {T E : Type 0} (r : Result T E) (image : Image) (pages : ℕ) (pairs : List Pair) (banner : Banner) (s : Site) → OnOk r (HasContent image pairs banner) → OnOk r (IsFirst pages image) → IsTrue (is_tree_version banner.version) → PairsShowSite pairs banner s → OnOk r (IsFormatted image pages s)
 is_formatted (Ok x) image pages pairs banner s content first version shows =
     let stands = kept_stands image pairs banner s content version shows in
     record { stands = stands; alone = λ t other. one_site image t s other stands; first = first }

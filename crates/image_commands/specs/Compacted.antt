@@ -10,7 +10,7 @@ use Rattle.page_store.specs.declared.slot.Slot.{Slot}
 use Rattle.page_store.specs.declared.fault.KeeperFault.{KeeperFault}
 use Rattle.page_store.specs.declared.fault.KeeperFault.TheVariants as store
 use Rattle.cow_tree.specs.TreeState.{unreached}
-use Rattle.cow_tree.specs.Compacting.{NeedsFilled, IsFilled}
+use Rattle.cow_tree.specs.Compacting.{NeedsFilled, IsFilledTree}
 use Rattle.host_on_disk.specs.ImageSites.{ImageRepresents}
 use Rattle.host_on_disk.specs.Upgrades.{IsLastGeneration}
 use Rattle.image_commands.specs.Faults.{IsNotOpened}
@@ -39,7 +39,7 @@ pub record ShowsSite {D : Type 0} (state : D → State) (old new : D) : Type 0 w
 pub record IsWrittenAnew (image : Image) (line : List ℕ) : Type 0 where
   pub slot : Slot
   pub current_is : current image ≡ Some slot
-  pub filled : IsFilled slot image
+  pub filled : IsFilledTree slot image
   pub line_is : line ≡ free_line (unreached slot [] image)
 
 -- Writing an image anew takes so many pages, and so many are free: both by the tree of its current root slot.

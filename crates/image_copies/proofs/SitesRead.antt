@@ -9,16 +9,16 @@ use Rattle.sector_device.specs.Device.{State, NothingCounted}
 use Rattle.page_store.specs.Pages.{Pair}
 use Rattle.page_store.specs.StoreState.{StoreState}
 use Rattle.page_store.specs.declared.banner.Banner.{Banner}
-use Rattle.site_store.specs.Represented.{Shows, RepresentedBy}
+use Rattle.site_store.specs.Represented.{PairsShowSite, RepresentedBy}
 use Rattle.image_commands.specs.Faults.{of_site, IsNotRead}
 use Rattle.image_commands.specs.declared.fault.ImageFault.{ImageFault}
 use Rattle.image_commands.specs.declared.fault.ImageFault.TheVariants.{Refused, NoFile, BadRecord, Store, Memory}
 use Rattle.image_copies.specs.SitesRead as pairs
 use Rattle.image_copies.proofs.PairsRead.{lies}
 
-pub shows_again : (h : StoreState) (s t : Site) (pairs : List Pair) (banner : Banner) → RepresentedBy h s → pairs ≡ h.pairs → banner ≡ h.banner → s ≡ t → Shows pairs banner t
+pub shows_again : (h : StoreState) (s t : Site) (pairs : List Pair) (banner : Banner) → RepresentedBy h s → pairs ≡ h.pairs → banner ≡ h.banner → s ≡ t → PairsShowSite pairs banner t
 shows_again h s t pairs banner shows same_pairs same_banner same =
-    subst (λ (x : Site). Shows pairs banner x) same (subst (λ (b : Banner). Shows pairs b s) (sym same_banner) (subst (λ (p : List Pair). Shows p h.banner s) (sym same_pairs) shows))
+    subst (λ (x : Site). PairsShowSite pairs banner x) same (subst (λ (b : Banner). PairsShowSite pairs b s) (sym same_banner) (subst (λ (p : List Pair). PairsShowSite p h.banner s) (sym same_pairs) shows))
 
 -- a count of items that was not read
 pub site_not_read : (old new : State) (a b : SiteState) (fault : SiteFault) → a.honest ≡ old.honest → a.failed_reads ≡ old.failed_reads → new.failed_reads ≡ b.failed_reads → new.failed_writes ≡ old.failed_writes → a.usable ≡ true → 128 ≤ old.size

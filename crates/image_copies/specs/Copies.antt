@@ -12,8 +12,8 @@ use Rattle.page_store.specs.Steps.{AllAre}
 use Rattle.page_store.specs.declared.banner.Banner.{Banner}
 use Rattle.page_store.specs.declared.slot.Slot.{Slot}
 use Rattle.cow_tree.specs.TreeState.{unreached}
-use Rattle.cow_tree.specs.Compacting.{most_pairs, IsFilled}
-use Rattle.site_store.specs.Represented.{Shows}
+use Rattle.cow_tree.specs.Compacting.{most_pairs, IsFilledTree}
+use Rattle.site_store.specs.Represented.{PairsShowSite}
 use Rattle.filled_images.specs.FilledImages.{IsImageOf}
 use Rattle.host_on_disk.specs.ImageSites.{ImageRepresents}
 use Rattle.image_copies.specs.CopyLines.{copied_line}
@@ -28,7 +28,7 @@ HasCount None image count = (slot : Slot) × (current image ≡ Some slot) × (c
 pub record IsCopyOf (s : Site) (count : ℕ) (copy : SiteCopy) : Type 0 where
   pub pairs : List Pair
   pub banner : Banner
-  pub shows : Shows pairs banner s
+  pub shows : PairsShowSite pairs banner s
   pub map : is_map pairs ≡ true
   pub few : length pairs ≤ most_pairs
   pub image : IsImageOf count banner pairs copy.image
@@ -48,7 +48,7 @@ pub record IsCopied (s : Site) (count : ℕ) (line : List ℕ) (image : Image) :
   pub stands : ImageRepresents image s
   pub alone : (t : Site) → ImageRepresents image t → t ≡ s
   pub first : IsFirst count image
-  pub filled : IsFilled first.slot image
+  pub filled : IsFilledTree first.slot image
   pub line_is : line ≡ copied_line (length s.items) (unreached first.slot [] image)
 
 -- The site that reads of one device give stands on another one, and once it does no crash leaves anything else there.

@@ -5,7 +5,7 @@ use Rattle.host_types.specs.Site.{Site}
 use Rattle.page_store.specs.Sectors.{Image}
 use Rattle.page_store.specs.StoreState.{StoreState}
 use Rattle.page_store.specs.declared.fault.KeeperFault.TheVariants as store
-use Rattle.site_store.specs.Represented.{Shows}
+use Rattle.site_store.specs.Represented.{PairsShowSite}
 use Rattle.host_on_disk.specs.ImageSites.{ImageRepresents}
 use Rattle.image_commands.specs.declared.fault.ImageFault.{ImageFault}
 use Rattle.image_commands.specs.declared.fault.ImageFault.TheVariants.{Refused, NoFile, BadRecord, Store, Memory}
@@ -13,7 +13,7 @@ use Rattle.image_copies.specs.declared.site_read.SiteRead.{SiteRead}
 
 -- All of a site was read: its pairs, the banner that it stands under, and how many items it has.
 pub record IsReadOf (s : Site) (read : SiteRead) : Type 0 where
-  pub shows : Shows read.pairs.items read.banner s
+  pub shows : PairsShowSite read.pairs.items read.banner s
   pub items : read.items ≡ length s.items
 
 -- The one site that an image represents was read.

@@ -1,7 +1,7 @@
 // The posts of a board.
 ghost use Rattle.std.specs.Prelude.{◌≡◌, ◌++◌, ◌∷◌, [], flat_map, filter, nat_le, length, OnOk, IfOk};
 ghost use Rattle.host_types.specs.Site.{post_selector};
-ghost use Rattle.site_replies.specs.Reads.{Reads};
+ghost use Rattle.site_replies.specs.Reads.{ReadsSite};
 ghost use Rattle.image_items.specs.Documents.{bytes_in};
 ghost use Rattle.image_items.specs.Posts as spec;
 
@@ -49,7 +49,7 @@ fn add_line<S: SiteKeeper>(
     text: &mut Vec<u8>,
     selector: &Selector,
 ) -> Result<(), SiteFault>
-    ensures { Reads S.site_state S.lacks S.crash_states site.old site.new result (λ s _. text.new.items ≡ text.old.items ++ spec.line_at s selector.now) }
+    ensures { ReadsSite S.site_state S.lacks S.crash_states site.old site.new result (λ s _. text.new.items ≡ text.old.items ++ spec.line_at s selector.now) }
 {
     if let Some(card) = site.card(selector)? {
         list_item(alloc, text, selector, &card)?;
@@ -63,7 +63,7 @@ fn lines_of<S: SiteKeeper>(
     site: &mut S,
     selectors: &[Selector],
 ) -> Result<Vec<u8>, SiteFault>
-    ensures { Reads S.site_state S.lacks S.crash_states site.old site.new result (λ s text. text.items ≡ flat_map (spec.line_at s) selectors.now) }
+    ensures { ReadsSite S.site_state S.lacks S.crash_states site.old site.new result (λ s text. text.items ≡ flat_map (spec.line_at s) selectors.now) }
 {
     let mut text = Vec::new(alloc);
     for selector in selectors {
@@ -78,7 +78,7 @@ pub fn board_posts<S: SiteKeeper>(
     site: &mut S,
     board: &Selector,
 ) -> Result<Result<Vec<u8>, ItemFault>, SiteFault>
-    ensures { Reads S.site_state S.lacks S.crash_states site.old site.new result (λ s found. bytes_in (λ text. text.items) found ≡ spec.posts_at s board.now) }
+    ensures { ReadsSite S.site_state S.lacks S.crash_states site.old site.new result (λ s found. bytes_in (λ text. text.items) found ≡ spec.posts_at s board.now) }
 {
     let Some(card) = site.card(board)? else {
         return Ok(Err(ItemFault::NotFound));

@@ -19,7 +19,7 @@ use Rattle.image_sessions.specs.ImageRuns.{OverSite, OnImage}
 use Rattle.host_on_disk.specs.declared.open_fault.OpenFault.TheVariants as opening
 use Rattle.ready_sockets.specs.Offices.{WorksOf}
 use Rattle.ready_sockets.specs.Rounds.{HasServed, Premises}
-use Rattle.ready_sockets.specs.Visits.{IsFresh}
+use Rattle.ready_sockets.specs.Visits.{IsFreshRoom}
 use Rattle.ready_sockets.specs.declared.listen_fault.NetCause.{NetCause}
 use Rattle.ready_sockets.specs.declared.pace.Pace.{Pace}
 use Rattle.ready_sockets.specs.declared.room.Room.{Room}
@@ -58,7 +58,7 @@ pub record ServesClients {D S Log O X : Type 0} (contents : Log → Option (List
   pub start : TellsStart contents front at before.0 told
   pub first : Room
   pub last : Room
-  pub fresh : IsFresh first
+  pub fresh : IsFreshRoom first
   pub served : HasServed contents lets_wait works terms result (site_state closed).usable (first, told, before.1, before.2) es os (last, now.0, now.1, now.2)
   pub handed : new ≡ device closed
 

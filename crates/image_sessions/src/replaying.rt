@@ -5,7 +5,7 @@ ghost use Rattle.cow_tree.specs.TreeSeen.{device_of};
 ghost use Rattle.site_store.specs.Seen.{keeper_of};
 ghost use Rattle.host_on_disk.specs.OpenFaults.{IsOpeningFault, HandsBack};
 ghost use Rattle.host_on_disk.specs.declared.open_fault.OpenFault.TheVariants.{Memory};
-ghost use Rattle.group_hub.specs.Worlds.{IsValid};
+ghost use Rattle.group_hub.specs.Worlds.{IsValidWhereGrouped};
 ghost use Rattle.image_sessions.specs.ImageRuns.{OverSite, OnImage, Replays};
 
 use cow_tree::TreeKeeper;
@@ -30,7 +30,7 @@ pub fn replay_over<S: SearchKeeper, R: Read, W: Write>(
 ) -> Result<(Result<(), Fault>, S), (OpenFault, S)>
     requires usable { (S.site_state site).usable ≡ true }
     requires unpinned { (S.site_state site).pins ≡ [] }
-    requires valid { IsValid grouped (S.site_state site) }
+    requires valid { IsValidWhereGrouped grouped (S.site_state site) }
     ensures replayed { IfOk result (λ r. Replays (OverSite grouped S.site_state S.lacks S.crash_states S.represents) site r.1 (R.remaining reader.old) (R.remaining reader.new) (W.contents writer.old) (W.contents writer.new) r.0) }
     ensures unpinned { IfOk result (λ r. (S.site_state r.1).pins ≡ []) }
     ensures err { IfErr result (λ e. (e.0 ≡ Memory) × (e.1 ≡ site)) }

@@ -5,12 +5,12 @@ use Rattle.group_world.specs.declared.event.Outcome.{Outcome}
 use Rattle.group_world.specs.declared.event.Outcome.TheVariants as outcomes
 use Rattle.group_world.specs.declared.fault.HubFault.{HubFault}
 use Rattle.group_world.specs.declared.fault.HubFault.TheVariants as faults
-use Rattle.turns.specs.Turns.{Trace, Both, InOrder, IsFlushed}
+use Rattle.turns.specs.Turns.{Trace, Both, StepsInOrder, IsFlushed}
 use Rattle.turns.proofs.AllClosed.{all_after, anything}
 use Rattle.ready_turns.specs.Seats.{SeatState, is_waiting, refused_state, learned_state, LearnsAt, DismissedAt, state_of}
 use Rattle.ready_turns.specs.declared.seat.Stage.{Stage}
 use Rattle.ready_turns.specs.declared.seat.Stage.TheVariants as stages
-use Rattle.ready_sockets.specs.Visits.{NobodyWaits, Learned, GoesIf, WasDismissed, is_late}
+use Rattle.ready_sockets.specs.Visits.{NoVisitWaits, Learned, GoesIf, WasDismissed, is_late}
 use Rattle.ready_sockets.specs.declared.visit.Visit.{Visit}
 
 refused_out : (fault : HubFault) → is_waiting (refused_state fault).stage ≡ false
@@ -47,7 +47,7 @@ goes_out : (over : Bool) (old new : Visit) (es : List Event) (os : List Outcome)
 goes_out true old new es os out d = dismissed_out old.seat.stage (state_of old.seat) _ (state_of new.seat) refl d.0.does
 goes_out false old new es os out d = subst IsOut (sym d.2) out
 
-pub nobody_waits : (now : ℕ) (old mid new : List Visit) (es fs : List Event) (os ps : List Outcome) → Both IsFlushed (InOrder Learned) old es os mid → InOrder (WasDismissed now) mid fs ps new → NobodyWaits new
+pub nobody_waits : (now : ℕ) (old mid new : List Visit) (es fs : List Event) (os ps : List Outcome) → Both IsFlushed (StepsInOrder Learned) old es os mid → StepsInOrder (WasDismissed now) mid fs ps new → NoVisitWaits new
 nobody_waits now old mid new es fs os ps made dismissed =
     all_after (WasDismissed now) IsOut IsOut (λ x y gs qs out d. goes_out (is_late now x) x y gs qs out d) mid new fs ps
     (all_after Learned (λ x. Unit {0}) IsOut (λ x y gs qs p d. learns_out x.seat.stage (state_of x.seat) _ (state_of y.seat) refl d.learns.0.does) made.mid mid made.later_events made.later_outcomes (anything made.mid) made.later) dismissed

@@ -20,7 +20,7 @@ use Rattle.ready_sockets.specs.DoorCalls.{DoorCall, Came, NotHad, both_ways, is_
 use Rattle.ready_sockets.specs.Logged.{IsLogged}
 use Rattle.ready_sockets.specs.Offices.{WorksOf, calls_office}
 use Rattle.ready_sockets.specs.Readings.{seconds_of}
-use Rattle.ready_sockets.specs.Visits.{has_gone, asks, away_on, is_crowded, patience, IsDeclined, IsSpread, IsNew, HasWaited, HasNotWaited, WereServed, NobodyWaits}
+use Rattle.ready_sockets.specs.Visits.{has_gone, asks, away_on, is_crowded, patience, IsDeclined, IsSpread, IsNew, HasWaited, HasNotWaited, WereServed, NoVisitWaits}
 use Rattle.ready_sockets.specs.declared.crowd.Away.{Away}
 use Rattle.ready_sockets.specs.declared.door_log.Missed.{Missed}
 use Rattle.ready_sockets.specs.declared.pace.Pace.{Pace}
@@ -84,7 +84,7 @@ pub record HasHadTurns (terms : Terms) (now : ℕ) (old : Room) (es : List Event
   pub may_accept : new.may_accept ≡ full.may_accept
   pub lost : new.lost ≡ full.lost
   pub clients : map who new.visits.items ≡ map who full.visits.items
-  pub nobody_waits : NobodyWaits new.visits.items
+  pub nobody_waits : NoVisitWaits new.visits.items
 
 -- Who has gone is in no more, and no more was asked of the door.
 pub record HasSeenOff (old new : Room) : Type 0 where

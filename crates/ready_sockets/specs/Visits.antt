@@ -11,7 +11,7 @@ use Rattle.text_writer.specs.declared.error.ErrorText.TheVariants.{TryAgainLater
 use Rattle.group_world.specs.declared.event.Event.{Event}
 use Rattle.group_world.specs.declared.event.Event.TheVariants as events
 use Rattle.group_world.specs.declared.event.Outcome.{Outcome}
-use Rattle.turns.specs.Turns.{StepOf, Both, InOrder, IsFlushed, Times}
+use Rattle.turns.specs.Turns.{StepOf, Both, StepsInOrder, IsFlushed, Times}
 use Rattle.turns.specs.WireCalls.{Closed}
 use Rattle.turns.specs.declared.wire.WireFault.{WireFault}
 use Rattle.old_clients.specs.Clients.{fresh_client}
@@ -43,8 +43,8 @@ abbrev pub has_turn : Visit → Bool
 has_turn visit = not visit.seat.waits && acts visit.seat.stage
 
 -- no client's post waits for others
-abbrev pub NobodyWaits : List Visit → Type 0
-NobodyWaits visits = All (λ visit. is_waiting visit.seat.stage ≡ false) visits
+abbrev pub NoVisitWaits : List Visit → Type 0
+NoVisitWaits visits = All (λ visit. is_waiting visit.seat.stage ≡ false) visits
 
 -- A turn of its session at this moment: where it doesn't rest afterwards, it moved.
 pub record HadTurn (now : ℕ) (old : Visit) (es : List Event) (os : List Outcome) (new : Visit) : Type 0 where
@@ -177,7 +177,7 @@ pub record HasWoken (all : Bool) (events : List SocketEvent) (old new : Room) : 
 -- ---- a room
 
 -- Nobody is in, somebody may be at the door, and nothing was asked of it since it was opened.
-pub record IsFresh (room : Room) : Type 0 where
+pub record IsFreshRoom (room : Room) : Type 0 where
   pub nobody : room.visits.items ≡ []
   pub may_accept : room.may_accept ≡ true
   pub lost : room.lost ≡ false
@@ -245,7 +245,7 @@ NoPostCame step old es os new = step old.0 es os new.0 × (new.1 ≡ old.1)
 
 -- Passes were made over all. Then the posts that wait were made, once, and each client whose post waited learned what came of it, in order. Then those were dismissed whose time is over.
 abbrev pub WereServed : Option ℕ → ℕ → StepOf (Beside (List Visit))
-WereServed most now old es os new = Both (HadPasses most now) (NoPostCame (Both (Both IsFlushed (InOrder Learned)) (InOrder (WasDismissed now)))) old es os new
+WereServed most now old es os new = Both (HadPasses most now) (NoPostCame (Both (Both IsFlushed (StepsInOrder Learned)) (StepsInOrder (WasDismissed now)))) old es os new
 
 -- ---- who comes in
 

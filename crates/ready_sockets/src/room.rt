@@ -58,7 +58,7 @@ impl Room {
     ghost use Rattle.ready_sockets.specs.DoorCalls.{DoorCall, listen_calls};
     ghost use Rattle.ready_sockets.specs.Doors.{IsClients};
     ghost use Rattle.ready_sockets.specs.Offices.{calls_office};
-    ghost use Rattle.ready_sockets.specs.Visits.{has_gone, woken, own_patience, patience, asks, HasAsked, IsFresh, HasWoken, HasWaited, HasNotWaited};
+    ghost use Rattle.ready_sockets.specs.Visits.{has_gone, woken, own_patience, patience, asks, HasAsked, IsFreshRoom, HasWoken, HasWaited, HasNotWaited};
     ghost use Rattle.ready_sockets.specs.declared.room.VisitFault.TheVariants as faults;
 
     /// Listens at an address, with nobody in. Whether a listener was had there is noted, or why not.
@@ -69,7 +69,7 @@ impl Room {
         asked: &mut DoorLog,
     ) -> Result<Room, ListenFault>
         ensures asked { asked.new.calls ≡ asked.old.calls ++ listen_calls address result }
-        ensures fresh { IfOk result (λ room. IsFresh room) }
+        ensures fresh { IfOk result (λ room. IsFreshRoom room) }
     {
         let Ok(visits) = Vec::with_capacity(alloc, MOST_VISITS) else {
             return Err(ListenFault::Memory);

@@ -3,8 +3,8 @@ ghost use Rattle.std.specs.Prelude.{◌≡◌, ◌+◌, ◌<◌, ◌≤◌, ℕ,
 ghost use Rattle.group_hub.specs.Calls.{HubRun};
 ghost use Rattle.turns.specs.Runs.{HasRun};
 ghost use Rattle.ready_sockets.specs.Rounds.{who, HasLetIn, HasHadTurns, AllHadTurns, HasSeenOff, ServesVisits};
-ghost use Rattle.turns.specs.Turns.{Both, InOrder, IsFlushed};
-ghost use Rattle.ready_sockets.specs.Visits.{HasSpace, NobodyWaits, HadTurn, HadLimitedTurn, HadPass, IsLetThroughBy, Learned, WasDismissed, HadPasses, WereServed, ComesInOrNot, IsReceived};
+ghost use Rattle.turns.specs.Turns.{Both, StepsInOrder, IsFlushed};
+ghost use Rattle.ready_sockets.specs.Visits.{HasSpace, NoVisitWaits, HadTurn, HadLimitedTurn, HadPass, IsLetThroughBy, Learned, WasDismissed, HadPasses, WereServed, ComesInOrNot, IsReceived};
 ghost use Rattle.ready_sockets.specs.Logged.{crowd_line, HasLine, IsTold, IsToldOff, AreTold, AreToldOff, IsLogged};
 
 use crate::crowd::{Away, Crowd, decline, is_crowded, note_away};
@@ -193,7 +193,7 @@ fn learn_of<S: SearchKeeper>(visit: &mut Visit, hub: &mut Hub<S>)
 
 /// Each client whose post waited learns what came of it, in order.
 fn learn_all<S: SearchKeeper>(visits: &mut [Visit], hub: &mut Hub<S>)
-    ensures run { HasRun (HubRun S.site_state S.lacks S.crash_states S.represents) hub.old hub.new [] [] (λ es os. InOrder Learned visits.old es os visits.new) }
+    ensures run { HasRun (HubRun S.site_state S.lacks S.crash_states S.represents) hub.old hub.new [] [] (λ es os. StepsInOrder Learned visits.old es os visits.new) }
     ensures clients { map who visits.new ≡ map who visits.old }
 {
     for visit in visits.iter_mut() {
@@ -203,7 +203,7 @@ fn learn_all<S: SearchKeeper>(visits: &mut [Visit], hub: &mut Hub<S>)
 
 /// The posts that wait are made, and their clients learn what came of them.
 fn make_posts<S: SearchKeeper>(visits: &mut [Visit], hub: &mut Hub<S>)
-    ensures run { HasRun (HubRun S.site_state S.lacks S.crash_states S.represents) hub.old hub.new [] [] (λ es os. Both IsFlushed (InOrder Learned) visits.old es os visits.new) }
+    ensures run { HasRun (HubRun S.site_state S.lacks S.crash_states S.represents) hub.old hub.new [] [] (λ es os. Both IsFlushed (StepsInOrder Learned) visits.old es os visits.new) }
     ensures clients { map who visits.new ≡ map who visits.old }
 {
     let _ = hub.flush();
@@ -222,7 +222,7 @@ fn dismiss_if_over<S: SearchKeeper>(visit: &mut Visit, hub: &mut Hub<S>, now: u6
 
 /// Whose time is over goes.
 fn dismiss_late<S: SearchKeeper>(visits: &mut [Visit], hub: &mut Hub<S>, now: u64)
-    ensures run { HasRun (HubRun S.site_state S.lacks S.crash_states S.represents) hub.old hub.new [] [] (λ es os. InOrder (WasDismissed now) visits.old es os visits.new) }
+    ensures run { HasRun (HubRun S.site_state S.lacks S.crash_states S.represents) hub.old hub.new [] [] (λ es os. StepsInOrder (WasDismissed now) visits.old es os visits.new) }
     ensures clients { map who visits.new ≡ map who visits.old }
 {
     for visit in visits.iter_mut() {
@@ -241,7 +241,7 @@ fn serve_all<S: SearchKeeper, C: Clock>(
 )
     ensures run { HasRun (HubRun S.site_state S.lacks S.crash_states S.represents) hub.old hub.new (C.given clock.old) (C.given clock.new) (λ es os. WereServed most now (visits.old, posts.old.items) es os (visits.new, posts.new.items)) }
     ensures clients { map who visits.new ≡ map who visits.old }
-    ensures nobody_waits { NobodyWaits visits.new }
+    ensures nobody_waits { NoVisitWaits visits.new }
 {
     give_turns(visits, posts, hub, clock, now, most);
     make_posts(visits, hub);

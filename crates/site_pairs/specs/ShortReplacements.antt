@@ -5,9 +5,9 @@ use Rattle.site_records.specs.Limits.{is_short}
 use Rattle.change_plan.specs.Replacements.{AreFit}
 use Rattle.change_plan.specs.declared.replacement.Replacement.{Replacement}
 
-abbrev pub IsShort : Item → Type 0
-IsShort item = IsTrue (is_short item)
+abbrev pub IsShortItem : Item → Type 0
+IsShortItem item = IsTrue (is_short item)
 
 -- What stood and what is to stand is short.
 abbrev pub AreShort : List Replacement → Type 0
-AreShort replacements = AreFit IsShort replacements
+AreShort replacements = AreFit IsShortItem replacements

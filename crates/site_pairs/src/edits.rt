@@ -5,7 +5,7 @@ ghost use Rattle.page_store.specs.Batch.{is_edit};
 ghost use Rattle.site_records.specs.Layout.{word_pairs};
 ghost use Rattle.site_pairs.specs.Edits as spec;
 ghost use Rattle.change_plan.specs.Replacements.{IsFit};
-ghost use Rattle.site_pairs.specs.ShortReplacements.{IsShort, AreShort};
+ghost use Rattle.site_pairs.specs.ShortReplacements.{IsShortItem, AreShort};
 
 use crate::item_pairs::{put_data, put_words};
 use crate::piece::Piece;
@@ -63,7 +63,7 @@ fn data_at(
     selector: &Selector,
     item: &Option<Item>,
 ) -> Result<Vec<(Key, Piece)>, AllocError>
-    requires { IfSome item.now IsShort }
+    requires { IfSome item.now IsShortItem }
     ensures { IfOk result (λ pairs. pairs.items ≡ spec.data_at selector.now item.now) }
 {
     let mut pairs = Vec::new(alloc);
@@ -80,7 +80,7 @@ fn pairs_with(
     item: &Option<Item>,
     words: &LineList,
 ) -> Result<Vec<(Key, Piece)>, AllocError>
-    requires item { IfSome item.now IsShort }
+    requires item { IfSome item.now IsShortItem }
     requires words { All (λ w. length w ≤ LONGEST_WORD) words.now }
     ensures { IfOk result (λ pairs. pairs.items ≡ spec.data_at selector.now item.now ++ word_pairs selector.now words.now) }
 {
@@ -95,7 +95,7 @@ fn put_replacement(
     edits: &mut BTreeMap<Key, Option<Piece>>,
     replacement: &Replacement,
 ) -> Result<(), AllocError>
-    requires { IsFit IsShort replacement.now }
+    requires { IsFit IsShortItem replacement.now }
     ensures { OnOk result (edits.new.entries ≡ spec.with_replacement edits.old.entries replacement.now) }
 {
     let Replacement {

@@ -5,7 +5,7 @@ ghost use Rattle.host_types.specs.Card.{card_at};
 ghost use Rattle.host_types.specs.Visible.{visible};
 ghost use Rattle.host_types.specs.SiteState.{HasRead, LacksTheSame, IsReadFault};
 ghost use Rattle.host_types.specs.CrashStates.{AddsNone};
-ghost use Rattle.site_replies.specs.Reads.{Reads};
+ghost use Rattle.site_replies.specs.Reads.{ReadsSite};
 ghost use Rattle.site_replies.specs.Reply as spec;
 ghost use Rattle.site_replies.specs.Reply.{found_blocks, entry_block, attributes_of};
 
@@ -27,7 +27,7 @@ fn blocks_at<S: SearchKeeper>(
     selector: &Selector,
     now: Stamp,
 ) -> Result<Option<Bytes>, SiteFault>
-    ensures blocks { Reads S.site_state S.lacks S.crash_states site.old site.new result (λ s blocks. blocks ≡ found_blocks (visible s now) names.now selector.now (card_at (visible s now) selector.now)) }
+    ensures blocks { ReadsSite S.site_state S.lacks S.crash_states site.old site.new result (λ s blocks. blocks ≡ found_blocks (visible s now) names.now selector.now (card_at (visible s now) selector.now)) }
 {
     let Some(card) = card_at(site, selector, now)? else {
         return Ok(None);
@@ -56,7 +56,7 @@ fn blocks_of<S: SearchKeeper>(
     entry: &Entry,
     now: Stamp,
 ) -> Result<Option<Bytes>, SiteFault>
-    ensures blocks { Reads S.site_state S.lacks S.crash_states site.old site.new result (λ s blocks. blocks ≡ entry_block (visible s now) names.now entry.now) }
+    ensures blocks { ReadsSite S.site_state S.lacks S.crash_states site.old site.new result (λ s blocks. blocks ≡ entry_block (visible s now) names.now entry.now) }
 {
     if let Entry::Local(selector) = entry {
         return blocks_at(alloc, site, names, selector, now);
@@ -84,7 +84,7 @@ fn all_blocks<S: SearchKeeper>(
     entries: &[Entry],
     now: Stamp,
 ) -> Result<LineList, SiteFault>
-    ensures blocks { Reads S.site_state S.lacks S.crash_states site.old site.new result (λ s blocks. blocks ≡ filter_map (entry_block (visible s now) names.now) entries.now) }
+    ensures blocks { ReadsSite S.site_state S.lacks S.crash_states site.old site.new result (λ s blocks. blocks ≡ filter_map (entry_block (visible s now) names.now) entries.now) }
 {
     let mut all = LineList::new(alloc);
     for entry in entries {
@@ -102,7 +102,7 @@ fn attributes_of<S: SearchKeeper>(
     entries: &[Entry],
     now: Stamp,
 ) -> Result<Bytes, SiteFault>
-    ensures reply { Reads S.site_state S.lacks S.crash_states site.old site.new result (λ s reply. reply ≡ attributes_of (visible s now) names.now entries.now) }
+    ensures reply { ReadsSite S.site_state S.lacks S.crash_states site.old site.new result (λ s reply. reply ≡ attributes_of (visible s now) names.now entries.now) }
 {
     let blocks = all_blocks(alloc, site, names, entries, now)?;
     Ok(entry_attributes(alloc, &blocks)?)
@@ -117,7 +117,7 @@ pub fn entries_reply<S: SearchKeeper>(
     body: &CardBody,
     now: Stamp,
 ) -> Result<Bytes, SiteFault>
-    ensures reply { Reads S.site_state S.lacks S.crash_states site.old site.new result (λ s reply. reply ≡ spec.entries_reply (visible s now) names.now selector.now body.now) }
+    ensures reply { ReadsSite S.site_state S.lacks S.crash_states site.old site.new result (λ s reply. reply ≡ spec.entries_reply (visible s now) names.now selector.now body.now) }
 {
     match body {
         CardBody::Menu(entries) => attributes_of(alloc, site, names, entries.as_slice(), now),

@@ -5,7 +5,7 @@ ghost use Rattle.host_types.specs.Visible.{visible, card_unless_expired};
 ghost use Rattle.host_types.specs.Site.{item_at};
 ghost use Rattle.request_reader.specs.Seen.{request_of};
 ghost use Rattle.site_replies.specs.Forms.{is_form_in, is_form_by};
-ghost use Rattle.site_replies.specs.Reads.{Reads};
+ghost use Rattle.site_replies.specs.Reads.{ReadsSite};
 
 use host_types::{Card, CardBody, Selector, SiteFault, Stamp};
 use request_reader::Request;
@@ -28,7 +28,7 @@ pub fn card_at<S: SearchKeeper>(
     selector: &Selector,
     now: Stamp,
 ) -> Result<Option<Card>, SiteFault>
-    ensures card { Reads S.site_state S.lacks S.crash_states site.old site.new result (λ s card. card ≡ card_at (visible s now) selector.now) }
+    ensures card { ReadsSite S.site_state S.lacks S.crash_states site.old site.new result (λ s card. card ≡ card_at (visible s now) selector.now) }
 {
     let card = site.card(selector)?;
     Ok(unless_expired(card, now))
@@ -50,7 +50,7 @@ pub fn finds_form<S: SearchKeeper>(
     request: &Request<'_>,
     now: Stamp,
 ) -> Result<bool, SiteFault>
-    ensures form { Reads S.site_state S.lacks S.crash_states site.old site.new result (λ s found. found ≡ is_form_in (item_at (visible s now) (request_of request.now).selector)) }
+    ensures form { ReadsSite S.site_state S.lacks S.crash_states site.old site.new result (λ s found. found ≡ is_form_in (item_at (visible s now) (request_of request.now).selector)) }
 {
     let Ok(selector) = Selector::new(request.selector) else {
         unreachable!()

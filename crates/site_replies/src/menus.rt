@@ -8,7 +8,7 @@ ghost use Rattle.host_types.specs.CrashStates.{AddsNone};
 ghost use Rattle.text_writer.specs.Menu.{found_line, entry_line, line_bytes};
 ghost use Rattle.word_index.specs.Search.{search_of};
 ghost use Rattle.site_replies.specs.Reply.{locals};
-ghost use Rattle.site_replies.specs.Reads.{Reads};
+ghost use Rattle.site_replies.specs.Reads.{ReadsSite};
 ghost use Rattle.site_replies.specs.Reply as spec;
 
 use crate::documents::as_text;
@@ -27,7 +27,7 @@ fn add_line_at<S: SearchKeeper>(
     selector: &Selector,
     now: Stamp,
 ) -> Result<(), SiteFault>
-    ensures line { Reads S.site_state S.lacks S.crash_states site.old site.new result (λ s _. lines.new.items ≡ lines.old.items ++ line_bytes (found_line (address s) selector.now (card_at (visible s now) selector.now))) }
+    ensures line { ReadsSite S.site_state S.lacks S.crash_states site.old site.new result (λ s _. lines.new.items ≡ lines.old.items ++ line_bytes (found_line (address s) selector.now (card_at (visible s now) selector.now))) }
 {
     let Some(card) = card_at(site, selector, now)? else {
         return Ok(());
@@ -43,7 +43,7 @@ fn add_line_of<S: SearchKeeper>(
     entry: &Entry,
     now: Stamp,
 ) -> Result<(), SiteFault>
-    ensures line { Reads S.site_state S.lacks S.crash_states site.old site.new result (λ s _. lines.new.items ≡ lines.old.items ++ line_bytes (entry_line (visible s now) entry.now)) }
+    ensures line { ReadsSite S.site_state S.lacks S.crash_states site.old site.new result (λ s _. lines.new.items ≡ lines.old.items ++ line_bytes (entry_line (visible s now) entry.now)) }
 {
     if let Entry::Local(selector) = entry {
         return add_line_at(lines, site, selector, now);
@@ -58,7 +58,7 @@ fn lines_of<S: SearchKeeper>(
     entries: &[Entry],
     now: Stamp,
 ) -> Result<Vec<u8>, SiteFault>
-    ensures lines { Reads S.site_state S.lacks S.crash_states site.old site.new result (λ s lines. lines.items ≡ flat_map (λ line. line) (filter_map (entry_line (visible s now)) entries.now)) }
+    ensures lines { ReadsSite S.site_state S.lacks S.crash_states site.old site.new result (λ s lines. lines.items ≡ flat_map (λ line. line) (filter_map (entry_line (visible s now)) entries.now)) }
 {
     let mut lines = Vec::new(alloc);
     for entry in entries {
@@ -74,7 +74,7 @@ fn lines_at<S: SearchKeeper>(
     selectors: &[Selector],
     now: Stamp,
 ) -> Result<Vec<u8>, SiteFault>
-    ensures lines { Reads S.site_state S.lacks S.crash_states site.old site.new result (λ s lines. lines.items ≡ flat_map (λ line. line) (filter_map (entry_line (visible s now)) (locals selectors.now))) }
+    ensures lines { ReadsSite S.site_state S.lacks S.crash_states site.old site.new result (λ s lines. lines.items ≡ flat_map (λ line. line) (filter_map (entry_line (visible s now)) (locals selectors.now))) }
 {
     let mut lines = Vec::new(alloc);
     for selector in selectors {
@@ -92,7 +92,7 @@ pub fn menu_reply<S: SearchKeeper>(
     entries: &[Entry],
     now: Stamp,
 ) -> Result<Bytes, SiteFault>
-    ensures reply { Reads S.site_state S.lacks S.crash_states site.old site.new result (λ s reply. reply ≡ spec.menu_reply (visible s now) is_plus entries.now) }
+    ensures reply { ReadsSite S.site_state S.lacks S.crash_states site.old site.new result (λ s reply. reply ≡ spec.menu_reply (visible s now) is_plus entries.now) }
 {
     let lines = lines_of(alloc, site, entries, now)?;
     Ok(as_text(alloc, is_plus, ended_menu(lines)?)?)
@@ -107,7 +107,7 @@ fn names_reply<S: SearchKeeper>(
     selectors: &[Selector],
     now: Stamp,
 ) -> Result<Bytes, SiteFault>
-    ensures reply { Reads S.site_state S.lacks S.crash_states site.old site.new result (λ s reply. reply ≡ spec.menu_reply (visible s now) is_plus (locals selectors.now)) }
+    ensures reply { ReadsSite S.site_state S.lacks S.crash_states site.old site.new result (λ s reply. reply ≡ spec.menu_reply (visible s now) is_plus (locals selectors.now)) }
 {
     let lines = lines_at(alloc, site, selectors, now)?;
     Ok(as_text(alloc, is_plus, ended_menu(lines)?)?)
@@ -123,7 +123,7 @@ pub fn board_reply<S: SearchKeeper>(
     next: u64,
     now: Stamp,
 ) -> Result<Bytes, SiteFault>
-    ensures reply { Reads S.site_state S.lacks S.crash_states site.old site.new result (λ s reply. reply ≡ spec.menu_reply (visible s now) is_plus (locals (spec.post_names board.now cap next))) }
+    ensures reply { ReadsSite S.site_state S.lacks S.crash_states site.old site.new result (λ s reply. reply ≡ spec.menu_reply (visible s now) is_plus (locals (spec.post_names board.now cap next))) }
 {
     let names = post_names(alloc, board, cap, next)?;
     names_reply(alloc, site, is_plus, names.as_slice(), now)
@@ -148,7 +148,7 @@ pub fn search_reply<S: SearchKeeper>(
     words: Option<&[u8]>,
     now: Stamp,
 ) -> Result<Bytes, SiteFault>
-    ensures reply { Reads S.site_state S.lacks S.crash_states site.old site.new result (λ s reply. reply ≡ spec.menu_reply (visible s now) is_plus (locals (search_of (visible s now) scope.now (spec.words_asked (option_copied words.entry))))) }
+    ensures reply { ReadsSite S.site_state S.lacks S.crash_states site.old site.new result (λ s reply. reply ≡ spec.menu_reply (visible s now) is_plus (locals (search_of (visible s now) scope.now (spec.words_asked (option_copied words.entry))))) }
 {
     let found = site.search(scope, words_asked(words), now)?;
     names_reply(alloc, site, is_plus, found.as_slice(), now)

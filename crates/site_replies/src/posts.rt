@@ -6,7 +6,7 @@ ghost use Rattle.host_types.specs.SiteState.{HasRead, LacksTheSame, IsReadFault}
 ghost use Rattle.host_types.specs.CrashStates.{AddsNone};
 ghost use Rattle.host_types.specs.Site.{text_item};
 ghost use Rattle.host_types.specs.declared.site_fault.SiteFault.TheVariants.{Memory as OutOfMemory};
-ghost use Rattle.site_replies.specs.Reads.{Reads};
+ghost use Rattle.site_replies.specs.Reads.{ReadsSite};
 ghost use Rattle.site_replies.specs.LaterReply.{later_post_reply, later_form_reply};
 ghost use Rattle.site_replies.specs.PostReply.{stored_as, reply_by_card};
 ghost use Rattle.site_replies.specs.Replies.{whole, PostsNoView};
@@ -119,7 +119,7 @@ fn post_reply<S: SearchKeeper>(
     before: &[(Change, Stamp)],
     now: Stamp,
 ) -> Result<Answered, SiteFault>
-    ensures reply { Reads S.site_state S.lacks S.crash_states site.old site.new result (λ s answered. answered ≡ whole (later_post_reply (visible s now) before.now now board.now post.title post.text)) }
+    ensures reply { ReadsSite S.site_state S.lacks S.crash_states site.old site.new result (λ s answered. answered ≡ whole (later_post_reply (visible s now) before.now now board.now post.title post.text)) }
     ensures drawn { IfOk result (λ answered. PostsNoView answered.reply answered.post) }
 {
     if post.text.len() > MOST_POST_BYTES {
@@ -140,7 +140,7 @@ pub fn form_reply<S: SearchKeeper>(
     before: &[(Change, Stamp)],
     now: Stamp,
 ) -> Result<Answered, SiteFault>
-    ensures reply { Reads S.site_state S.lacks S.crash_states site.old site.new result (λ s answered. answered ≡ whole (later_form_reply (visible s now) before.now (request_of request.entry) now board.now questions.now)) }
+    ensures reply { ReadsSite S.site_state S.lacks S.crash_states site.old site.new result (λ s answered. answered ≡ whole (later_form_reply (visible s now) before.now (request_of request.entry) now board.now questions.now)) }
     ensures drawn { IfOk result (λ answered. PostsNoView answered.reply answered.post) }
 {
     let Some(data) = request.data else {

@@ -8,7 +8,7 @@ ghost use Rattle.host_types.specs.Visible.{visible};
 ghost use Rattle.host_types.specs.SiteState.{HasRead, LacksTheSame, IsReadFault};
 ghost use Rattle.host_types.specs.CrashStates.{AddsNone};
 ghost use Rattle.request_reader.specs.Seen.{plus_of};
-ghost use Rattle.site_replies.specs.Reads.{Reads};
+ghost use Rattle.site_replies.specs.Reads.{ReadsSite};
 ghost use Rattle.site_replies.specs.Lengths.{AreLengths};
 ghost use Rattle.site_replies.specs.Replies.{view_head, reply_bytes, IsSized};
 ghost use Rattle.site_replies.specs.Reply as spec;
@@ -33,7 +33,7 @@ pub fn moved_reply<S: SearchKeeper>(
     target: &Selector,
     now: Stamp,
 ) -> Result<Bytes, SiteFault>
-    ensures reply { Reads S.site_state S.lacks S.crash_states site.old site.new result (λ s reply. reply ≡ spec.moved_reply (visible s now) is_plus target.now (card_at (visible s now) target.now)) }
+    ensures reply { ReadsSite S.site_state S.lacks S.crash_states site.old site.new result (λ s reply. reply ≡ spec.moved_reply (visible s now) is_plus target.now (card_at (visible s now) target.now)) }
 {
     let Some(card) = card_at(site, target, now)? else {
         return Ok(error_reply_of(alloc, is_plus, ErrorText::ItemNotFound)?);

@@ -11,7 +11,7 @@ use Rattle.host_types.specs.declared.item.Item.{Item}
 use Rattle.word_index.specs.Gathered.{searched_at}
 use Rattle.word_index.specs.Search.{search_of}
 use Rattle.word_index.proofs.FoundEntries.{found_all, search_at}
-use Rattle.site_store.specs.FilterSearch.{all_found, IsLeft}
+use Rattle.site_store.specs.FilterSearch.{all_found, IsLeftToFilter}
 use Rattle.site_store.specs.Walking.{Entry, selector_after}
 use Rattle.site_store.proofs.FoundItems.{kept_sorted}
 use Rattle.site_store.proofs.RisingKeys.{rest_of, none_left, next_left, first_entry}
@@ -46,20 +46,20 @@ module _ (now : ℕ) where
   -- ---- one step
 
   -- what is found once the item at the selector was examined
-  abbrev IsFoundNext : (s : Site) (scope : List ℕ) (asked old new : List (List ℕ)) (selector : List ℕ) (left : IsLeft now s scope asked old selector) → Type 0
+  abbrev IsFoundNext : (s : Site) (scope : List ℕ) (asked old new : List (List ℕ)) (selector : List ℕ) (left : IsLeftToFilter now s scope asked old selector) → Type 0
   IsFoundNext s scope asked old new selector left = new ≡ searched_at now scope asked old (selector, left.item)
 
-  searched_rest : (s : Site) (scope : List ℕ) (asked old new : List (List ℕ)) (selector : List ℕ) (left : IsLeft now s scope asked old selector) → IsFoundNext s scope asked old new selector left → fold (searched_at now scope asked) new (rest_of s.items selector) ≡ all_found now s scope asked
+  searched_rest : (s : Site) (scope : List ℕ) (asked old new : List (List ℕ)) (selector : List ℕ) (left : IsLeftToFilter now s scope asked old selector) → IsFoundNext s scope asked old new selector left → fold (searched_at now scope asked) new (rest_of s.items selector) ≡ all_found now s scope asked
   searched_rest s scope asked old new selector left reads_only = ap (λ (l : List (List ℕ)). fold (searched_at now scope asked) l (rest_of s.items selector)) reads_only ∙ left.rest
 
-  pub stops_full : (s : Site) (scope : List ℕ) (asked old new : List (List ℕ)) (selector : List ℕ) (left : IsLeft now s scope asked old selector) → IsFoundNext s scope asked old new selector left → 100 ≤ length new → new ≡ all_found now s scope asked
+  pub stops_full : (s : Site) (scope : List ℕ) (asked old new : List (List ℕ)) (selector : List ℕ) (left : IsLeftToFilter now s scope asked old selector) → IsFoundNext s scope asked old new selector left → 100 ≤ length new → new ≡ all_found now s scope asked
   stops_full s scope asked old new selector left reads_only many = sym (enough scope asked new (rest_of s.items selector) many) ∙ searched_rest s scope asked old new selector left reads_only
 
-  pub stops_last : (s : Site) (scope : List ℕ) (asked old new : List (List ℕ)) (selector : List ℕ) (left : IsLeft now s scope asked old selector) → IsFoundNext s scope asked old new selector left → None ≡ selector_after s selector → new ≡ all_found now s scope asked
+  pub stops_last : (s : Site) (scope : List ℕ) (asked old new : List (List ℕ)) (selector : List ℕ) (left : IsLeftToFilter now s scope asked old selector) → IsFoundNext s scope asked old new selector left → None ≡ selector_after s selector → new ≡ all_found now s scope asked
   stops_last s scope asked old new selector left reads_only none =
       ap (fold (searched_at now scope asked) new) (sym (none_left s.items selector (none_above s selector none))) ∙ searched_rest s scope asked old new selector left reads_only
 
-  pub goes_further : (s : Site) (scope : List ℕ) (asked old new : List (List ℕ)) (selector next : List ℕ) → ∥ IsSite s ∥₁ → (left : IsLeft now s scope asked old selector) → IsFoundNext s scope asked old new selector left → Some next ≡ selector_after s selector → IsLeft now s scope asked new next
+  pub goes_further : (s : Site) (scope : List ℕ) (asked old new : List (List ℕ)) (selector next : List ℕ) → ∥ IsSite s ∥₁ → (left : IsLeftToFilter now s scope asked old selector) → IsFoundNext s scope asked old new selector left → Some next ≡ selector_after s selector → IsLeftToFilter now s scope asked new next
   goes_further s scope asked old new selector next site left reads_only some =
       let n = next_stands s selector next site some in
       record {
@@ -70,10 +70,10 @@ module _ (now : ℕ) where
 
   -- ---- from the first item to the last
 
-  pub first_left : (s : Site) (scope : List ℕ) (asked found : List (List ℕ)) (top : List ℕ) → ∥ IsSite s ∥₁ → found ≡ [] → top ≡ [] → IsLeft now s scope asked found top
+  pub first_left : (s : Site) (scope : List ℕ) (asked found : List (List ℕ)) (top : List ℕ) → ∥ IsSite s ∥₁ → found ≡ [] → top ≡ [] → IsLeftToFilter now s scope asked found top
   first_left s scope asked found top site nothing is =
       let t = has_top s site in
-      subst (λ (q : List ℕ). IsLeft now s scope asked found q) (sym is) (record {
+      subst (λ (q : List ℕ). IsLeftToFilter now s scope asked found q) (sym is) (record {
         item = t.0;
         stands = t.1;
         rest = ap (λ (l : List (List ℕ)). fold (searched_at now scope asked) l (([], t.0) ∷ rest_of s.items [])) nothing ∙ ap (fold (searched_at now scope asked) []) (sym (first_entry s.items t.0 (kept_sorted s site) t.1));

@@ -20,7 +20,7 @@ use Rattle.site_records.specs.Records.{parts_of}
 use Rattle.site_records.specs.Layout.{chunk_count, chunk_pairs, part_pairs, word_pairs, data_pairs, item_pairs, in_order, layout}
 use Rattle.site_records.specs.LayoutLaws.{OwnedBy, OwnedBy-item_pairs, is_at-Decides, at_itself, not_at, value_at-append, value_at-not_owned, value_at-in_order, is_sorted-in_order, is_sorted-layout}
 use Rattle.site_records.proofs.ChunkLaws.{AreSmall, no_word_among_data, among_words, empty_value, count_within}
-use Rattle.site_store.specs.Opening.{AreCounted, AreShort, IsLayoutOf, StandAmong, pairs_in}
+use Rattle.site_store.specs.Opening.{AreCounted, ItemsAreShort, IsLayoutOf, StandAmong, pairs_in}
 use Rattle.site_store.proofs.PairsFound.{rises_sorted, sorted_rises}
 use Rattle.site_store.proofs.RisingKeys.{is_below, below_later_all, not_itself, found_below, clash}
 use Rattle.site_store.proofs.ShortSites.{AllSmall, valid_small}
@@ -359,7 +359,7 @@ not_there all n some e es is bad counted = bad (each_one all some (subst (StandA
 
 -- What is left to count decides.
 pub record IsLeft (all : List Pair) (items rest : List (List ℕ × Item)) (left : ℕ) : Type 0 where
-  pub short : AreShort rest
+  pub short : ItemsAreShort rest
   pub on : AreCounted all (length all) items → AreCounted all left rest
   pub back : AreCounted all left rest → AreCounted all (length all) items
 

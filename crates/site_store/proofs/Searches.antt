@@ -16,7 +16,7 @@ use Rattle.word_index.specs.Search.{holds, is_found}
 use Rattle.site_store.specs.FilterSearch.{all_found}
 use Rattle.site_store.specs.Walking.{Entry}
 use Rattle.site_store.specs.WordWalks.{is_with, items_with, next_with}
-use Rattle.site_store.specs.Searching.{found_with, IsLeft}
+use Rattle.site_store.specs.Searching.{found_with, IsLeftToFind}
 use Rattle.site_store.proofs.FilterSearches.{unmoved, enough}
 use Rattle.site_store.proofs.KeyFronts.{not_below_front}
 use Rattle.site_store.proofs.KeptEntries.{sorted_kept, kept_in, kept_there, fold_kept, none_kept, all_above, first_there}
@@ -87,7 +87,7 @@ holder s selector word has =
     ] refl has
 
 -- the item at the scope has the word
-pub begins_here : (now : ℕ) (s : Site) (scope word : List ℕ) (asked new : List (List ℕ)) (item : Item) → IsTrue (is_sorted byte_cmp s.items) → is_among asked word ≡ true → item_at s scope ≡ Some item → is_among (words_of item) word ≡ true → new ≡ found_with now asked [] scope item → IsLeft now s scope word asked new scope
+pub begins_here : (now : ℕ) (s : Site) (scope word : List ℕ) (asked new : List (List ℕ)) (item : Item) → IsTrue (is_sorted byte_cmp s.items) → is_among asked word ≡ true → item_at s scope ≡ Some item → is_among (words_of item) word ≡ true → new ≡ found_with now asked [] scope item → IsLeftToFind now s scope word asked new scope
 begins_here now s scope word asked new item sorted among stands has is =
     let es = items_with s scope word in
     let passes : is_with scope word (scope, item) ≡ true = rw (begins_itself scope, has) refl in
@@ -101,7 +101,7 @@ begins_here now s scope word asked new item sorted among stands has is =
     }
 
 -- it doesn't, or no item stands there
-pub begins_above : (now : ℕ) (s : Site) (scope word : List ℕ) (asked new : List (List ℕ)) → IsTrue (is_sorted byte_cmp s.items) → is_among asked word ≡ true → has_word (item_at s scope) word ≡ false → new ≡ [] → IsLeft now s scope word asked new scope
+pub begins_above : (now : ℕ) (s : Site) (scope word : List ℕ) (asked new : List (List ℕ)) → IsTrue (is_sorted byte_cmp s.items) → is_among asked word ≡ true → has_word (item_at s scope) word ≡ false → new ≡ [] → IsLeftToFind now s scope word asked new scope
 begins_above now s scope word asked new sorted among lacks is =
     let es = items_with s scope word in
     let nothing : found es scope ≡ None =
@@ -122,14 +122,14 @@ begins_above now s scope word asked new sorted among lacks is =
 
 -- ---- one step
 
-pub stops_full : (now : ℕ) (s : Site) (scope word : List ℕ) (asked old : List (List ℕ)) (last : List ℕ) → IsLeft now s scope word asked old last → 100 ≤ length old → old ≡ all_found now s scope asked
+pub stops_full : (now : ℕ) (s : Site) (scope word : List ℕ) (asked old : List (List ℕ)) (last : List ℕ) → IsLeftToFind now s scope word asked old last → 100 ≤ length old → old ≡ all_found now s scope asked
 stops_full now s scope word asked old last left many = sym (enough now scope asked old (rest_of (items_with s scope word) last) many) ∙ left.rest
 
 none_with : (o : Option Entry) → None ≡ option_map {U = List ℕ} (λ e. e.0) o → o ≡ None
 none_with None none = refl
 none_with (Some e) none = absurd (cc none)
 
-pub stops_last : (now : ℕ) (s : Site) (scope word : List ℕ) (asked old : List (List ℕ)) (last : List ℕ) → IsLeft now s scope word asked old last → None ≡ next_with s scope word last → old ≡ all_found now s scope asked
+pub stops_last : (now : ℕ) (s : Site) (scope word : List ℕ) (asked old : List (List ℕ)) (last : List ℕ) → IsLeftToFind now s scope word asked old last → None ≡ next_with s scope word last → old ≡ all_found now s scope asked
 stops_last now s scope word asked old last left none =
     let es = items_with s scope word in
     ap (fold (searched_at now scope asked) old) (sym (none_left es last (none_with (next_of es last) none))) ∙ left.rest
@@ -160,7 +160,7 @@ next_item s scope word last next sorted is =
           }
     ] refl is
 
-pub goes_further : (now : ℕ) (s : Site) (scope word : List ℕ) (asked old new : List (List ℕ)) (last next : List ℕ) → IsTrue (is_sorted byte_cmp s.items) → is_among asked word ≡ true → length old < 100 → IsLeft now s scope word asked old last → (n : IsNextItem s scope word last next) → new ≡ found_with now asked old next n.item → IsLeft now s scope word asked new next
+pub goes_further : (now : ℕ) (s : Site) (scope word : List ℕ) (asked old new : List (List ℕ)) (last next : List ℕ) → IsTrue (is_sorted byte_cmp s.items) → is_among asked word ≡ true → length old < 100 → IsLeftToFind now s scope word asked old last → (n : IsNextItem s scope word last next) → new ≡ found_with now asked old next n.item → IsLeftToFind now s scope word asked new next
 goes_further now s scope word asked old new last next sorted among room left n is =
     let es = items_with s scope word in
     record {

@@ -15,7 +15,7 @@ use Rattle.host_types.specs.Site.{Site, byte_cmp, item_at, IsSite, MayStand}
 use Rattle.host_types.specs.declared.item.Item.{Item}
 use Rattle.site_records.specs.Limits.{is_short}
 use Rattle.site_records.specs.LayoutLaws.{at_itself, not_at}
-use Rattle.site_store.specs.Opening.{AreShort}
+use Rattle.site_store.specs.Opening.{ItemsAreShort}
 use Rattle.site_records.specs.Records.{parts_of}
 use Rattle.site_records.proofs.Sizes.{short_anywhere}
 use Rattle.site_records.proofs.ChunkLaws.{AreSmall, HasSmallParts}
@@ -52,11 +52,11 @@ short_item selector item valid =
     let sizes = or_parts (nat_lt 400 (length item.summary)) (is_long_body selector item.body) (not-true (is_long_item selector item) limits.1) in
     rw (sizes.0, short_anywhere selector item.body sizes.1) refl
 
-each_short : (s : Site) (es : List (List ℕ × Item)) → AllByRecursion (StandsIn s.items) es → ((selector : List ℕ) (item : Item) → item_at s selector ≡ Some item → MayStand s selector item) → AreShort es
+each_short : (s : Site) (es : List (List ℕ × Item)) → AllByRecursion (StandsIn s.items) es → ((selector : List ℕ) (item : Item) → item_at s selector ≡ Some item → MayStand s selector item) → ItemsAreShort es
 each_short s [] all each = tt
 each_short s (e ∷ es) all each = (short_item e.0 e.1 (each e.0 e.1 all.0).valid, each_short s es all.1 each)
 
-pub valid_short : (s : Site) → IsSite s → AreShort s.items
+pub valid_short : (s : Site) → IsSite s → ItemsAreShort s.items
 valid_short s site = each_short s s.items (all_stand s.items site.sorted) site.each
 
 -- the parts of each item are small

@@ -7,43 +7,43 @@ use Rattle.page_store.specs.Keys.{rises}
 use Rattle.page_store.specs.Pages.{Pair, key_of}
 use Rattle.page_store.specs.StoreState.{StoreState, HasRead}
 use Rattle.site_store.specs.ReadLaws.{kept_after}
-use Rattle.site_store.specs.Represented.{RepresentedBy, Shows, HasSite, site_of, site_kept}
+use Rattle.site_store.specs.Represented.{RepresentedBy, PairsShowSite, HasSite, site_of, site_kept}
 use Rattle.page_store.specs.declared.banner.Banner.{Banner}
 use Rattle.page_store.specs.declared.fault.KeeperFault.{KeeperFault}
 use Rattle.page_store.specs.declared.fault.KeeperFault.TheVariants as kinds
 use Rattle.site_store.specs.StoreReads.{IsSiteReadFault, IsCountedFault, NoneFailed}
 use Rattle.site_store.specs.declared.fault.SiteOpenFault.{SiteOpenFault}
 use Rattle.site_store.specs.declared.fault.SiteOpenFault.TheVariants.{BadRecord, Keeper, Memory}
-use Rattle.site_store.specs.Opening.{IsOpenFault, IsReadWhole, IsPairsFault, site_under, with_all_named, pairs_state, HasAddress, IsLayoutOf}
+use Rattle.site_store.specs.Opening.{IsSiteOpenFault, IsReadWhole, IsSitePairsFault, site_under, with_all_named, pairs_state, HasAddressOf, IsLayoutOf}
 use Rattle.site_store.proofs.LayoutsCounted.{not_rising}
 use Rattle.site_store.proofs.NamedItems.{not_kept}
 use Rattle.site_store.proofs.PinsKept.{none_have}
 
 -- ---- as many pairs as are counted
 
-pub read_whole : {T : Type 0} (result : Result T SiteOpenFault) (h : StoreState) (pairs : List Pair) (banner : Banner) → banner ≡ h.banner → length pairs ≡ h.keys → OnOk result ((s : Site) × Shows pairs banner s) → OnOk result (IsReadWhole h)
-read_whole (Ok x) h pairs banner is counted shown = record { pairs = pairs; site = shown.0; shows = subst (λ (b : Banner). Shows pairs b shown.0) is shown.1; counted = counted }
+pub read_whole : {T : Type 0} (result : Result T SiteOpenFault) (h : StoreState) (pairs : List Pair) (banner : Banner) → banner ≡ h.banner → length pairs ≡ h.keys → OnOk result ((s : Site) × PairsShowSite pairs banner s) → OnOk result (IsReadWhole h)
+read_whole (Ok x) h pairs banner is counted shown = record { pairs = pairs; site = shown.0; shows = subst (λ (b : Banner). PairsShowSite pairs b shown.0) is shown.1; counted = counted }
 read_whole (Err fault) h pairs banner is counted shown = tt
 
 -- ---- pairs in memory
 
 -- The site that their keys name is theirs where they are its layout.
-shown_site : (pairs : List Pair) (banner : Banner) (m : Site) → banner.version ≡ 2 → HasAddress m banner → IsLayoutOf pairs m → Shows pairs banner m
+shown_site : (pairs : List Pair) (banner : Banner) (m : Site) → banner.version ≡ 2 → HasAddressOf m banner → IsLayoutOf pairs m → PairsShowSite pairs banner m
 shown_site pairs banner m version address whole = record { valid = ∣ whole.0 ∣₁; all = whole.1; host = sym address.host; port = sym address.port; admin = sym address.admin; version = version }
 
 -- Where they are not, or it breaks a rule, they are no site's.
-none_shown : (pairs : List Pair) (banner : Banner) (m : Site) → ((s : Site) → Shows pairs banner s → m ≡ with_all_named s (site_under banner) pairs) → (IsLayoutOf pairs m → ⊥) → (s : Site) → Shows pairs banner s → ⊥
+none_shown : (pairs : List Pair) (banner : Banner) (m : Site) → ((s : Site) → PairsShowSite pairs banner s → m ≡ with_all_named s (site_under banner) pairs) → (IsLayoutOf pairs m → ⊥) → (s : Site) → PairsShowSite pairs banner s → ⊥
 none_shown pairs banner m named bad s shown = not_kept (pairs_state pairs banner) s m pairs shown refl (named s shown) bad
 
 -- the same of pairs that were looked up, and stayed
-pub whole_site : (pairs : List Pair) (banner : Banner) (m : Site) (a b : List Pair × Banner) → banner.version ≡ 2 → a ≡ (pairs, banner) → b ≡ a → HasAddress m a.1 → IsLayoutOf b.0 m → Shows pairs banner m
-whole_site pairs banner m a b version is same address whole = shown_site pairs banner m version (subst (λ (r : List Pair × Banner). HasAddress m r.1) is address) (subst (λ (r : List Pair × Banner). IsLayoutOf r.0 m) (same ∙ is) whole)
+pub whole_site : (pairs : List Pair) (banner : Banner) (m : Site) (a b : List Pair × Banner) → banner.version ≡ 2 → a ≡ (pairs, banner) → b ≡ a → HasAddressOf m a.1 → IsLayoutOf b.0 m → PairsShowSite pairs banner m
+whole_site pairs banner m a b version is same address whole = shown_site pairs banner m version (subst (λ (r : List Pair × Banner). HasAddressOf m r.1) is address) (subst (λ (r : List Pair × Banner). IsLayoutOf r.0 m) (same ∙ is) whole)
 
-pub broken_site : (pairs : List Pair) (banner : Banner) (m : Site) (a b : List Pair × Banner) → a ≡ (pairs, banner) → b ≡ a → ((s : Site) → Shows a.0 a.1 s → m ≡ with_all_named s (site_under a.1) a.0) → (IsLayoutOf b.0 m → ⊥) → (s : Site) → Shows pairs banner s → ⊥
-broken_site pairs banner m a b is same named bad = none_shown pairs banner m (subst (λ (r : List Pair × Banner). (s : Site) → Shows r.0 r.1 s → m ≡ with_all_named s (site_under r.1) r.0) is named) (λ whole. bad (subst (λ (r : List Pair × Banner). IsLayoutOf r.0 m) (sym (same ∙ is)) whole))
+pub broken_site : (pairs : List Pair) (banner : Banner) (m : Site) (a b : List Pair × Banner) → a ≡ (pairs, banner) → b ≡ a → ((s : Site) → PairsShowSite a.0 a.1 s → m ≡ with_all_named s (site_under a.1) a.0) → (IsLayoutOf b.0 m → ⊥) → (s : Site) → PairsShowSite pairs banner s → ⊥
+broken_site pairs banner m a b is same named bad = none_shown pairs banner m (subst (λ (r : List Pair × Banner). (s : Site) → PairsShowSite r.0 r.1 s → m ≡ with_all_named s (site_under r.1) r.0) is named) (λ whole. bad (subst (λ (r : List Pair × Banner). IsLayoutOf r.0 m) (sym (same ∙ is)) whole))
 
 -- nor where their keys don't rise
-pub none_rising : (pairs : List Pair) (banner : Banner) → rises (map key_of pairs) ≡ false → (s : Site) → Shows pairs banner s → ⊥
+pub none_rising : (pairs : List Pair) (banner : Banner) → rises (map key_of pairs) ≡ false → (s : Site) → PairsShowSite pairs banner s → ⊥
 none_rising pairs banner falls s shown = not_rising pairs s falls shown.all
 
 -- a look-up among them never fails by a read
@@ -59,7 +59,7 @@ no_read_fault pairs more banner other (kinds.Full need free) h = h.0
 no_read_fault pairs more banner other kinds.Failed h = let e = h.0 in cc e
 no_read_fault pairs more banner other kinds.Memory h = h.0
 
-pub pairs_fault : (pairs more : List Pair) (banner other : Banner) (fault : SiteOpenFault) → IsSiteReadFault (pairs_state pairs banner) (pairs_state more other) fault → IsPairsFault pairs banner fault
+pub pairs_fault : (pairs more : List Pair) (banner other : Banner) (fault : SiteOpenFault) → IsSiteReadFault (pairs_state pairs banner) (pairs_state more other) fault → IsSitePairsFault pairs banner fault
 pairs_fault pairs more banner other BadRecord h = λ s shown. h.1 refl (s, shown)
 pairs_fault pairs more banner other (Keeper fault) h = no_read_fault pairs more banner other fault h
 pairs_fault pairs more banner other Memory h = tt
@@ -70,7 +70,7 @@ pairs_stay a b read = let pairs = read.same.pairs refl in let banner = read.same
 
 -- ---- the pairs that were read
 
-shown_by : (h k : StoreState) (pairs : List Pair) (banner : Banner) → HasRead h k → banner ≡ k.banner → pairs ≡ h.pairs → (s : Site) → Shows pairs banner s → RepresentedBy h s
+shown_by : (h k : StoreState) (pairs : List Pair) (banner : Banner) → HasRead h k → banner ≡ k.banner → pairs ≡ h.pairs → (s : Site) → PairsShowSite pairs banner s → RepresentedBy h s
 shown_by h k pairs banner read same all s shown =
     let under : h.banner ≡ banner = sym read.same.banner ∙ sym same in
     record {
@@ -82,7 +82,7 @@ shown_by h k pairs banner read same all s shown =
       version = ap (λ b. b.version) under ∙ shown.version;
     }
 
-shown_to : (h k : StoreState) (pairs : List Pair) (banner : Banner) → HasRead h k → banner ≡ k.banner → pairs ≡ h.pairs → (s : Site) → RepresentedBy h s → Shows pairs banner s
+shown_to : (h k : StoreState) (pairs : List Pair) (banner : Banner) → HasRead h k → banner ≡ k.banner → pairs ≡ h.pairs → (s : Site) → RepresentedBy h s → PairsShowSite pairs banner s
 shown_to h k pairs banner read same all s kept =
     let under : banner ≡ h.banner = same ∙ read.same.banner in
     record {
@@ -95,11 +95,11 @@ shown_to h k pairs banner read same all s kept =
     }
 
 -- What they say of a site the keeper says.
-pub site_answered : {X : Type 0} → (r : Result X SiteOpenFault) (h k : StoreState) (pairs : List Pair) (banner : Banner) → HasRead h k → banner ≡ k.banner → pairs ≡ h.pairs → OnOk r ((s : Site) × Shows pairs banner s) → IfOk r (λ _. (s : Site) × RepresentedBy h s)
+pub site_answered : {X : Type 0} → (r : Result X SiteOpenFault) (h k : StoreState) (pairs : List Pair) (banner : Banner) → HasRead h k → banner ≡ k.banner → pairs ≡ h.pairs → OnOk r ((s : Site) × PairsShowSite pairs banner s) → IfOk r (λ _. (s : Site) × RepresentedBy h s)
 site_answered (Ok x) h k pairs banner read same all site = (site.0, shown_by h k pairs banner read same all site.0 site.1)
 site_answered (Err e) h k pairs banner read same all site = tt
 
-pub site_refused : {X : Type 0} → (r : Result X SiteOpenFault) (h k : StoreState) (pairs : List Pair) (banner : Banner) → HasRead h k → NoneFailed h k → banner ≡ k.banner → (IsTrue h.honest → pairs ≡ h.pairs) → IfErr r (IsPairsFault pairs banner) → IfErr r (IsSiteReadFault h k)
+pub site_refused : {X : Type 0} → (r : Result X SiteOpenFault) (h k : StoreState) (pairs : List Pair) (banner : Banner) → HasRead h k → NoneFailed h k → banner ≡ k.banner → (IsTrue h.honest → pairs ≡ h.pairs) → IfErr r (IsSitePairsFault pairs banner) → IfErr r (IsSiteReadFault h k)
 site_refused (Ok x) h k pairs banner read none same all fault = tt
 site_refused (Err BadRecord) h k pairs banner read none same all fault = (none, λ honest known. fault known.0 (shown_to h k pairs banner read same (all honest) known.0 known.1))
 site_refused (Err (Keeper e)) h k pairs banner read none same all fault = absurd fault
@@ -133,13 +133,13 @@ either true h = refl
 either false h = absurd (h refl)
 
 -- a keeper that isn't usable tells nothing else
-pub told_apart : {T : Type 0} → (r : Result T SiteOpenFault) (old new : StoreState) (fault : SiteOpenFault) → r ≡ Err fault → old.banner.version ≡ 2 → (old.usable ≡ false → IsErrOf r (Keeper kinds.Failed)) → IsSiteReadFault old new fault → IsOpenFault old new fault
+pub told_apart : {T : Type 0} → (r : Result T SiteOpenFault) (old new : StoreState) (fault : SiteOpenFault) → r ≡ Err fault → old.banner.version ≡ 2 → (old.usable ≡ false → IsErrOf r (Keeper kinds.Failed)) → IsSiteReadFault old new fault → IsSiteOpenFault old new fault
 told_apart {T} r old new fault is version closed h = by fault (λ shut. same r fault is (closed shut)) h
   where
     same : (r : Result T SiteOpenFault) (fault : SiteOpenFault) → r ≡ Err fault → IsErrOf r (Keeper kinds.Failed) → fault ≡ Keeper kinds.Failed
     same r fault is h = cc (is, h)
 
-    by : (fault : SiteOpenFault) → (old.usable ≡ false → fault ≡ Keeper kinds.Failed) → IsSiteReadFault old new fault → IsOpenFault old new fault
+    by : (fault : SiteOpenFault) → (old.usable ≡ false → fault ≡ Keeper kinds.Failed) → IsSiteReadFault old new fault → IsSiteOpenFault old new fault
     by (Keeper kinds.Failed) shut h = (h.0, h.1)
     by (Keeper kinds.Device) shut h = (either old.usable (λ s. let e = shut s in absurd (cc e)), h.0)
     by (Keeper (kinds.Damaged page)) shut h = (either old.usable (λ s. let e = shut s in absurd (cc e)), h.1, h.0)

@@ -24,10 +24,10 @@ use Rattle.page_store.specs.declared.fault.KeeperFault.TheVariants as kinds
 use Rattle.site_records.specs.Layout.{layout}
 use Rattle.site_pairs.specs.ChangeKeys.{keys_of_all}
 use Rattle.site_store.specs.ReadLaws.{kept_after}
-use Rattle.site_store.specs.Represented.{Shows, Represents, RepresentedBy, HasSite, no_site, where_passed, site_of, site_state_of, site_kept, site_is}
+use Rattle.site_store.specs.Represented.{PairsShowSite, Represents, RepresentedBy, HasSite, no_site, where_passed, site_of, site_state_of, site_kept, site_is}
 use Rattle.site_store.specs.PinnedItems.{AllHave}
-use Rattle.site_store.specs.Lacking.{MayNeed, IsLacking}
-use Rattle.site_store.specs.StoreReads.{ReadsOnly, IsSiteReadFault, IsQuickFault}
+use Rattle.site_store.specs.Lacking.{MayNeedForEdits, IsLacking}
+use Rattle.site_store.specs.StoreReads.{StoreReadsOnly, IsSiteReadFault, IsQuickFault}
 use Rattle.site_pairs.specs.Edits.{batch_of, edits_of}
 use Rattle.change_plan.specs.Replacements.{all_replaced}
 use Rattle.change_plan.specs.Plans.{planned, IsPlanFault, IfRefused}
@@ -135,7 +135,7 @@ lacks_still store_state may_need k0 k1 s0 s1 still need top banner height = reco
 }
 
 -- a call that reads leaves it
-pub lacks_same : {K L : Type 0} → (store_state : K → StoreState) (may_need : K → List Edit → CommitNeed → Type 0) (crash_states : K → CrashStates L) (k0 k1 : K) (ka : HasSite (store_state k0)) (kb : HasSite (store_state k1)) → ReadsOnly store_state may_need crash_states k0 k1
+pub lacks_same : {K L : Type 0} → (store_state : K → StoreState) (may_need : K → List Edit → CommitNeed → Type 0) (crash_states : K → CrashStates L) (k0 k1 : K) (ka : HasSite (store_state k0)) (kb : HasSite (store_state k1)) → StoreReadsOnly store_state may_need crash_states k0 k1
     → sites.LacksTheSame (IsLacking store_state may_need k0 (site_of (store_state k0) ka)) (IsLacking store_state may_need k1 (site_of (store_state k1) kb))
 lacks_same store_state may_need crash_states k0 k1 ka kb reads_only =
     let still = site_still (store_state k0) (store_state k1) ka kb reads_only.read.honest (has_read (store_state k0) (store_state k1) ka kb reads_only.read).site in
@@ -193,7 +193,7 @@ module _ {D K L : Type 0} (keeper : D → K) (store_state : K → StoreState) (m
   abbrev PlanFault : D → D → (Site → Result Site Refused) → SiteFault → Type 0
   PlanFault d0 d1 applied fault = IsPlanFault (ShowsValid (λ d. IsShown store_state (keeper d))) (λ a b. HasNotFound store_state may_need crash_states (keeper a) (keeper b)) d0 d1 applied fault
 
-  pub plan_reads_only : (d0 d1 : D) (applied : Site → Result Site Refused) (fault : SiteFault) → PlanFault d0 d1 applied fault → IfRefused fault (HasFound store_state may_need crash_states (keeper d0) (keeper d1)) → ReadsOnly store_state may_need crash_states (keeper d0) (keeper d1)
+  pub plan_reads_only : (d0 d1 : D) (applied : Site → Result Site Refused) (fault : SiteFault) → PlanFault d0 d1 applied fault → IfRefused fault (HasFound store_state may_need crash_states (keeper d0) (keeper d1)) → StoreReadsOnly store_state may_need crash_states (keeper d0) (keeper d1)
   plan_reads_only d0 d1 applied (faults.Refused r) h found = found.reads_only
   plan_reads_only d0 d1 applied faults.Read h found = h.reads_only
   plan_reads_only d0 d1 applied (faults.Full need free) h found = h.reads_only
@@ -221,7 +221,7 @@ pub record Makes (a b : StoreState) (ka : HasSite a) (changes : Changes) (replac
   pub site : Site
   pub applied : all_applied (site_of a ka) changes ≡ Ok site
   pub keys : map edit_key (batch_of (edits_of replacements)) ≡ keys_of_all (site_of a ka) changes
-  pub shows : Shows (updated b.pairs (batch_of (edits_of replacements))) banner site
+  pub shows : PairsShowSite (updated b.pairs (batch_of (edits_of replacements))) banner site
   pub before : RepresentedBy b (site_of a ka)
 
 same_layout : (s : Site) (banner : Banner) → layout s ≡ layout (named s banner)
@@ -285,7 +285,7 @@ is_ok (Err x) t e = absurd (cc e)
 -- a change that was not written
 pub commit_fault_comes : {K : Type 0} → (store_state : K → StoreState) (may_need : K → List Edit → CommitNeed → Type 0) (k0 k1 k2 : K) (ka : HasSite (store_state k0)) (kc : HasSite (store_state k2)) (changes : Changes) (replacements : List Replacement) (banner : Banner) (fault : KeeperFault)
     → HasRead (store_state k0) (store_state k1) → NeedsTheSame (may_need k0) (may_need k1) → HasTried (store_state k1) (store_state k2) → (store_state k1).usable ≡ true → (IsTrue (store_state k0).honest → Makes (store_state k0) (store_state k1) ka changes replacements banner)
-    → IsCommitFault (store_state k1) (store_state k2) (length (batch_of (edits_of replacements))) (MayNeed may_need k1 (batch_of (edits_of replacements))) fault
+    → IsCommitFault (store_state k1) (store_state k2) (length (batch_of (edits_of replacements))) (MayNeedForEdits may_need k1 (batch_of (edits_of replacements))) fault
     → sites.IsChangeFault (IsLacking store_state may_need k0 (site_of (store_state k0) ka) changes) (site_state_of (store_state k0) ka) (site_state_of (store_state k2) kc) (one_refusal (all_applied (site_of (store_state k0) ka) changes)) (store_site_fault_of fault)
 commit_fault_comes store_state may_need k0 k1 k2 ka kc changes replacements banner kinds.Device read need tried up m h =
     (same_after (store_state k0) (store_state k1) (store_state k2) ka kc read h.0 tried.honest, λ honest. rose_later (store_state k0).failed_reads (store_state k1).failed_reads (store_state k2).failed_reads read.reads tried.reads (rose_counted (store_state k1).failed_reads (store_state k2).failed_reads h.1))

@@ -29,8 +29,8 @@ use Rattle.site_records.specs.Layout.{Pairs, layout, layout_v1, value_at, is_rec
 use Rattle.site_records.specs.LayoutLaws.{is_at-Decides, record_in-layout, is_sorted-layout}
 use Rattle.site_store.proofs.EditsMakeLayouts.{rises_from}
 use Rattle.site_store.proofs.RaisedPairs.{all_first, first_layout, raises, raised_once, edits_sorted, batch_makes}
-use Rattle.site_store.specs.Opening.{IsPairsFault}
-use Rattle.site_store.specs.Represented.{Shows}
+use Rattle.site_store.specs.Opening.{IsSitePairsFault}
+use Rattle.site_store.specs.Represented.{PairsShowSite}
 use Rattle.site_store.specs.declared.fault.SiteOpenFault.{SiteOpenFault}
 use Rattle.site_store.specs.declared.fault.SiteOpenFault.TheVariants.{BadRecord, Keeper, Memory}
 use Rattle.site_store.specs.Upgrading.{is_first, IsRaisedPair, AreRaised, ShowsFirst, raised_banner, record_edits, upgrade_batch, IsUpgradeOf, IsNotRaised}
@@ -42,7 +42,7 @@ known_prop [] = hlevel props
 known_prop (e ∷ es) = let first : IsProp (IsTrue (is_first e.1)) = hlevel props in ×_prop first (known_prop es)
 
 -- Pairs whose raised ones are the layout of a site represent it in version 1.
-pub shown_first : (pairs raised : List Pair) (banner : Banner) (s : Site) → banner.version ≡ 1 → AreRaised pairs raised → Shows raised (raised_banner banner) s → ShowsFirst pairs banner s
+pub shown_first : (pairs raised : List Pair) (banner : Banner) (s : Site) → banner.version ≡ 1 → AreRaised pairs raised → PairsShowSite raised (raised_banner banner) s → ShowsFirst pairs banner s
 shown_first pairs raised banner s version are shown = record {
   valid = shown.valid;
   known = ∥∥₁_elim shown.valid (known_prop s.items) (λ site. all_first s pairs raised site are shown.all);
@@ -59,7 +59,7 @@ raised_layout pairs raised banner s are first =
     ∥∥₁_elim first.valid set (λ site. raised_once pairs raised (layout s) are (subst (λ (ps : Pairs). AreRaised ps (layout s)) (sym first.all) (raises s site first.known)))
 
 -- and the other way round
-pub shown_raised : (pairs raised : List Pair) (banner : Banner) (s : Site) → AreRaised pairs raised → ShowsFirst pairs banner s → Shows raised (raised_banner banner) s
+pub shown_raised : (pairs raised : List Pair) (banner : Banner) (s : Site) → AreRaised pairs raised → ShowsFirst pairs banner s → PairsShowSite raised (raised_banner banner) s
 shown_raised pairs raised banner s are first = record {
   valid = first.valid;
   all = raised_layout pairs raised banner s are first;
@@ -77,10 +77,10 @@ none_first pairs banner none s first =
 
 -- ---- the batch
 
-pub upgrade_of : (pairs raised : List Pair) (banner : Banner) (batch : List Edit) (s : Site) → banner.version ≡ 1 → AreRaised pairs raised → Shows raised (raised_banner banner) s → batch ≡ batch_of (record_edits raised) → IsUpgradeOf pairs banner batch
+pub upgrade_of : (pairs raised : List Pair) (banner : Banner) (batch : List Edit) (s : Site) → banner.version ≡ 1 → AreRaised pairs raised → PairsShowSite raised (raised_banner banner) s → batch ≡ batch_of (record_edits raised) → IsUpgradeOf pairs banner batch
 upgrade_of pairs raised banner batch s version are shown is = (s, shown_first pairs raised banner s version are shown, is ∙ ap (λ (ps : Pairs). batch_of (record_edits ps)) shown.all)
 
-pub is_batch_of_records : (raised : List Pair) (banner : Banner) (batch : List Edit) (s : Site) → Shows raised banner s → batch ≡ batch_of (record_edits raised) → IsTrue (list_all is_edit batch) → IsTrue (is_batch batch)
+pub is_batch_of_records : (raised : List Pair) (banner : Banner) (batch : List Edit) (s : Site) → PairsShowSite raised banner s → batch ≡ batch_of (record_edits raised) → IsTrue (list_all is_edit batch) → IsTrue (is_batch batch)
 is_batch_of_records raised banner batch s shown is sizes =
     let sorted : is_sorted byte_cmp raised ≡ true = ap (is_sorted byte_cmp) shown.all ∙ is_sorted-layout s in
     rw (ap (λ (b : List Edit). rises (map edit_key b)) is ∙ rises_from (record_edits raised) (edits_sorted raised sorted), sizes) refl
@@ -289,19 +289,19 @@ not_raised (Keeper fault) pairs banner none = absurd none
 not_raised Memory pairs banner none = tt
 
 -- nor do those whose raised ones represent none
-pub not_shown : (fault : SiteOpenFault) (pairs raised seen : List Pair) (banner under : Banner) → AreRaised pairs raised → seen ≡ raised → under ≡ raised_banner banner → IsPairsFault seen under fault → IsNotRaised (ShowsFirst pairs banner) fault
-not_shown BadRecord pairs raised seen banner under are same is none = λ s first. none s (subst (λ (l : List Pair). Shows l under s) (sym same) (subst (λ (b : Banner). Shows raised b s) (sym is) (shown_raised pairs raised banner s are first)))
+pub not_shown : (fault : SiteOpenFault) (pairs raised seen : List Pair) (banner under : Banner) → AreRaised pairs raised → seen ≡ raised → under ≡ raised_banner banner → IsSitePairsFault seen under fault → IsNotRaised (ShowsFirst pairs banner) fault
+not_shown BadRecord pairs raised seen banner under are same is none = λ s first. none s (subst (λ (l : List Pair). PairsShowSite l under s) (sym same) (subst (λ (b : Banner). PairsShowSite raised b s) (sym is) (shown_raised pairs raised banner s are first)))
 not_shown (Keeper fault) pairs raised seen banner under are same is none = absurd none
 not_shown Memory pairs raised seen banner under are same is none = tt
 
-shown_so : (raised seen : List Pair) (banner under : Banner) (s : Site) → seen ≡ raised → under ≡ raised_banner banner → Shows seen under s → Shows raised (raised_banner banner) s
-shown_so raised seen banner under s same is shown = subst (λ (b : Banner). Shows raised b s) is (subst (λ (l : List Pair). Shows l under s) same shown)
+shown_so : (raised seen : List Pair) (banner under : Banner) (s : Site) → seen ≡ raised → under ≡ raised_banner banner → PairsShowSite seen under s → PairsShowSite raised (raised_banner banner) s
+shown_so raised seen banner under s same is shown = subst (λ (b : Banner). PairsShowSite raised b s) is (subst (λ (l : List Pair). PairsShowSite l under s) same shown)
 
-pub upgrade_found : (pairs raised seen again : List Pair) (banner under : Banner) (batch : List Edit) → banner.version ≡ 1 → AreRaised pairs raised → seen ≡ raised → again ≡ raised → under ≡ raised_banner banner → (s : Site) × Shows seen under s
+pub upgrade_found : (pairs raised seen again : List Pair) (banner under : Banner) (batch : List Edit) → banner.version ≡ 1 → AreRaised pairs raised → seen ≡ raised → again ≡ raised → under ≡ raised_banner banner → (s : Site) × PairsShowSite seen under s
     → batch ≡ batch_of (record_edits again) → IsUpgradeOf pairs banner batch
 upgrade_found pairs raised seen again banner under batch version are same more is site edits =
     upgrade_of pairs raised banner batch site.0 version are (shown_so raised seen banner under site.0 same is site.1) (edits ∙ ap (λ (l : Pairs). batch_of (record_edits l)) more)
 
-pub batch_found : (raised seen again : List Pair) (banner under : Banner) (batch : List Edit) → seen ≡ raised → again ≡ raised → under ≡ raised_banner banner → (s : Site) × Shows seen under s → batch ≡ batch_of (record_edits again) → IsTrue (list_all is_edit batch) → IsTrue (is_batch batch)
+pub batch_found : (raised seen again : List Pair) (banner under : Banner) (batch : List Edit) → seen ≡ raised → again ≡ raised → under ≡ raised_banner banner → (s : Site) × PairsShowSite seen under s → batch ≡ batch_of (record_edits again) → IsTrue (list_all is_edit batch) → IsTrue (is_batch batch)
 batch_found raised seen again banner under batch same more is site edits sizes =
     is_batch_of_records raised (raised_banner banner) batch site.0 (shown_so raised seen banner under site.0 same is site.1) (edits ∙ ap (λ (l : Pairs). batch_of (record_edits l)) more) sizes

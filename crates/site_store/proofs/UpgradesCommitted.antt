@@ -19,9 +19,9 @@ use Rattle.site_store.proofs.PinsKept.{fault_pins}
 use Rattle.site_store.proofs.RaisedPairs.{raises}
 use Rattle.site_store.proofs.StoreAsSite.{none_added_crashes}
 use Rattle.site_store.proofs.Upgrades.{shown_raised, makes_layout, one_for_each}
-use Rattle.site_store.specs.Represented.{Shows, Represents, RepresentedBy, same_site, site_set}
+use Rattle.site_store.specs.Represented.{PairsShowSite, Represents, RepresentedBy, same_site, site_set}
 use Rattle.site_store.specs.StoreReads.{NoneFailed, IsCountedFault}
-use Rattle.site_store.specs.Upgrading.{AreRaised, ShowsFirst, FirstBy, RepresentsFirst, RepresentsEither, raised_banner, upgrade_batch, IsUpgradeOf, IsFirstReadFault, IsFirstWhole, IsUpgradeFault, IsUpgraded, IsNotUpgraded, commit_fault, reads_counted, writes_counted}
+use Rattle.site_store.specs.Upgrading.{AreRaised, ShowsFirst, FirstBy, RepresentsFirst, RepresentsEitherVersion, raised_banner, upgrade_batch, IsUpgradeOf, IsFirstReadFault, IsFirstWhole, IsUpgradeFault, IsUpgraded, IsNotUpgraded, commit_fault, reads_counted, writes_counted}
 use Rattle.site_store.specs.declared.fault.SiteOpenFault.{SiteOpenFault}
 use Rattle.site_store.specs.declared.fault.SiteOpenFault.TheVariants.{BadRecord, Keeper, Memory}
 
@@ -181,7 +181,7 @@ module _ (a b c : StoreState) (need_a need_b : List Edit → CommitNeed → Type
   }
 
   -- what the commit makes represents the site
-  made : (banner : Banner) (s : Site) → banner ≡ raised_banner b.banner → IsTrue a.honest → FirstBy a s → batch ≡ upgrade_batch s → Shows (updated b.pairs batch) banner s
+  made : (banner : Banner) (s : Site) → banner ≡ raised_banner b.banner → IsTrue a.honest → FirstBy a s → batch ≡ upgrade_batch s → PairsShowSite (updated b.pairs batch) banner s
   made banner s is honest first batch_is =
       let under : banner ≡ raised_banner a.banner = is ∙ ap raised_banner read.same.banner in
       record {
@@ -224,17 +224,17 @@ module _ (a b c : StoreState) (need_a need_b : List Edit → CommitNeed → Type
 
   -- what a crash leaves represents the site, in version 1 or 2
   pub crashes_either : {L : Type 0} (has_content : L → List Pair → Banner → Type 0) (banner : Banner) (s : Site) (s0 s1 s2 : CrashStates L) → banner ≡ raised_banner b.banner → IsTrue a.honest → FirstBy a s → AddsNone s0 s1 → ((x : L) → may_crash_to s0 x → has_content x a.pairs a.banner)
-      → AddsOnly s1 s2 (λ x. has_content x b.pairs b.banner ⊎ has_content x (updated b.pairs batch) banner) → AddsOnly s0 s2 (λ x. RepresentsEither has_content x s)
+      → AddsOnly s1 s2 (λ x. has_content x b.pairs b.banner ⊎ has_content x (updated b.pairs batch) banner) → AddsOnly s0 s2 (λ x. RepresentsEitherVersion has_content x s)
   crashes_either {L} has_content banner s s0 s1 s2 is honest first no_new start written =
       let u = upgrade honest in
       let same : u.0 ≡ s = same_first a.pairs a.banner u.0 s u.1 first in
       let batch_is : batch ≡ upgrade_batch s = u.2 ∙ ap upgrade_batch same in
       let before : ShowsFirst b.pairs b.banner s = subst (λ (x : Banner). ShowsFirst b.pairs x s) (sym read.same.banner) (subst (λ (ps : List Pair). ShowsFirst ps a.banner s) (sym (read.same.pairs honest)) first) in
       let after = made banner s is honest first batch_is in
-      adds_both s0 s1 s2 (may_crash_to s0) (λ x. has_content x b.pairs b.banner ⊎ has_content x (updated b.pairs batch) banner) (λ x. RepresentsEither has_content x s) no_new written
+      adds_both s0 s1 s2 (may_crash_to s0) (λ x. has_content x b.pairs b.banner ⊎ has_content x (updated b.pairs batch) banner) (λ x. RepresentsEitherVersion has_content x s) no_new written
       (λ x left. inl (a.pairs, a.banner, start x left, first))
       (λ x left. ⊎_elim (λ h. inl (b.pairs, b.banner, h, before)) (λ h. inr (updated b.pairs batch, banner, h, after)) left)
 
 -- where nothing is written it is as before
-pub none_either : {L : Type 0} (has_content : L → List Pair → Banner → Type 0) (a : StoreState) (s : Site) (s0 s1 : CrashStates L) → FirstBy a s → AddsNone s0 s1 → ((x : L) → may_crash_to s0 x → has_content x a.pairs a.banner) → AddsOnly s0 s1 (λ x. RepresentsEither has_content x s)
-none_either has_content a s s0 s1 first no_new start = none_added_crashes s0 s1 (λ x. RepresentsEither has_content x s) no_new (λ x left. inl (a.pairs, a.banner, start x left, first))
+pub none_either : {L : Type 0} (has_content : L → List Pair → Banner → Type 0) (a : StoreState) (s : Site) (s0 s1 : CrashStates L) → FirstBy a s → AddsNone s0 s1 → ((x : L) → may_crash_to s0 x → has_content x a.pairs a.banner) → AddsOnly s0 s1 (λ x. RepresentsEitherVersion has_content x s)
+none_either has_content a s s0 s1 first no_new start = none_added_crashes s0 s1 (λ x. RepresentsEitherVersion has_content x s) no_new (λ x left. inl (a.pairs, a.banner, start x left, first))

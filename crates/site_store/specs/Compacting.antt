@@ -16,6 +16,6 @@ pub record IsSiteCompactFault (old new : StoreState) (may_need : ℕ → Type 0)
   pub writes : new.failed_writes ≡ writes_after old.usable given old.failed_writes
 
 -- no call failed
-pub record CountsNothing (old new : StoreState) : Type 0 where
+pub record NoCallFailed (old new : StoreState) : Type 0 where
   pub reads : new.failed_reads ≡ old.failed_reads
   pub writes : new.failed_writes ≡ old.failed_writes

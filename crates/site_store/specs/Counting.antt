@@ -5,7 +5,7 @@ use Rattle.host_types.specs.Site.{Site, byte_cmp, item_at}
 use Rattle.host_types.specs.declared.item.Item.{Item}
 
 -- An item stands at the selector, and it and those below it are so many: with those above it they are all.
-pub record IsCounted (s : Site) (counted : ℕ) (selector : List ℕ) : Type 0 where
+pub record ItemsSoFar (s : Site) (counted : ℕ) (selector : List ℕ) : Type 0 where
   pub item : Item
   pub stands : item_at s selector ≡ Some item
   pub rest : counted + length (filter (λ e. is_lt (byte_cmp selector e.0)) s.items) ≡ length s.items

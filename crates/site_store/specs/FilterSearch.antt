@@ -10,12 +10,12 @@ abbrev pub all_found : ℕ → Site → List ℕ → List (List ℕ) → List (L
 all_found now s scope asked = fold (searched_at now scope asked) [] s.items
 
 -- An item stands at the selector, and where it and those above it are scanned too, all that is to be found is found.
-pub record IsLeft (now : ℕ) (s : Site) (scope : List ℕ) (asked found : List (List ℕ)) (selector : List ℕ) : Type 0 where
+pub record IsLeftToFilter (now : ℕ) (s : Site) (scope : List ℕ) (asked found : List (List ℕ)) (selector : List ℕ) : Type 0 where
   pub item : Item
   pub stands : item_at s selector ≡ Some item
   pub rest : fold (searched_at now scope asked) found ((selector, item) ∷ filter (λ e. is_lt (byte_cmp selector e.0)) s.items) ≡ all_found now s scope asked
 
 -- Items are left, or all is found.
-abbrev pub IsFurther : ℕ → Site → List ℕ → List (List ℕ) → Bool → List (List ℕ) → List ℕ → Type 0
-IsFurther now s scope asked true found selector = IsLeft now s scope asked found selector
-IsFurther now s scope asked false found selector = found ≡ all_found now s scope asked
+abbrev pub IsFilteredFurther : ℕ → Site → List ℕ → List (List ℕ) → Bool → List (List ℕ) → List ℕ → Type 0
+IsFilteredFurther now s scope asked true found selector = IsLeftToFilter now s scope asked found selector
+IsFilteredFurther now s scope asked false found selector = found ≡ all_found now s scope asked

@@ -13,12 +13,12 @@ use Rattle.site_records.specs.Layout.{layout}
 use Rattle.site_pairs.specs.ChangeKeys.{keys_of_all}
 
 -- Some edits are a batch, for which a keeper may need this.
-abbrev pub MayNeed : {K : Type 0} → (K → List Edit → CommitNeed → Type 0) → K → List Edit → CommitNeed → Type 0
-MayNeed may_need k batch need = IsTrue (is_batch batch) × may_need k batch need
+abbrev pub MayNeedForEdits : {K : Type 0} → (K → List Edit → CommitNeed → Type 0) → K → List Edit → CommitNeed → Type 0
+MayNeedForEdits may_need k batch need = IsTrue (is_batch batch) × may_need k batch need
 
 -- The keeper may need this for a batch that makes the changed site's layout, with one edit for each key of the changes.
 abbrev pub ChangesMayNeed : {K : Type 0} → (K → List Edit → CommitNeed → Type 0) → K → Site → Changes → CommitNeed → Type 0
-ChangesMayNeed may_need k s changes need = (batch : List Edit) × (t : Site) × (all_applied s changes ≡ Ok t) × (map edit_key batch ≡ keys_of_all s changes) × (updated (layout s) batch ≡ layout t) × MayNeed may_need k batch need
+ChangesMayNeed may_need k s changes need = (batch : List Edit) × (t : Site) × (all_applied s changes ≡ Ok t) × (map edit_key batch ≡ keys_of_all s changes) × (updated (layout s) batch ≡ layout t) × MayNeedForEdits may_need k batch need
 
 -- `Full`: the changes may need so many pages. `Spent`: no generation is left. `Deep`: they may need too many levels, and are so many as that takes at least, with one edit for each of their keys.
 abbrev pub IsLacking : {K : Type 0} → (K → StoreState) → (K → List Edit → CommitNeed → Type 0) → K → Site → Changes → SiteFault → Type 0

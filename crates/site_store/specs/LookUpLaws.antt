@@ -19,7 +19,7 @@ use Rattle.change_plan.specs.LookUps.{HasNoLongNames}
 use Rattle.page_store.specs.StoreState.{StoreState, CommitNeed}
 use Rattle.page_store.specs.declared.edit.Edit.{Edit}
 use Rattle.site_store.specs.LookUps.{IsShown, HasFound, IsLookUpFault, HasNotFound}
-use Rattle.site_pairs.specs.ShortReplacements.{IsShort}
+use Rattle.site_pairs.specs.ShortReplacements.{IsShortItem}
 use Rattle.site_store.specs.ReadLaws.{reads_later, not_yet, kept_after, long_none}
 
 module _ {K L : Type 0} (store_state : K → StoreState) (may_need : K → List Edit → CommitNeed → Type 0) (crash_states : K → CrashStates L) where
@@ -53,11 +53,11 @@ module _ {K L : Type 0} (store_state : K → StoreState) (may_need : K → List 
 pub short_names : {K : Type 0} (store_state : K → StoreState) (k : K) (s : Site) → IsShown store_state k s → HasNoLongNames s
 short_names store_state k s shown = λ q long. long_none s q shown.1.valid long
 
-pub fits_or_not : (item : Item) → IsProp (IsShort item)
+pub fits_or_not : (item : Item) → IsProp (IsShortItem item)
 fits_or_not item = hlevel props
 
 -- an item that is not too long for its selector is not too long
-pub short_fits : (selector : List ℕ) (item : Item) → is_long_item selector item ≡ false → IsShort item
+pub short_fits : (selector : List ℕ) (item : Item) → is_long_item selector item ≡ false → IsShortItem item
 short_fits selector item short =
     let parts = or_parts (nat_lt 400 (length item.summary)) (is_long_body selector item.body) short in
     rw (parts.0, by item.body parts.1) refl
@@ -71,8 +71,8 @@ short_fits selector item short =
     by (Moved target) h = h
 
 -- so is a board after a post, if it was before
-pub board_fits : (item : Item) (cap next now : ℕ) → board_of item.body ≡ Some (cap, next) → IsShort item → IsShort (board_after item cap next now)
+pub board_fits : (item : Item) (cap next now : ℕ) → board_of item.body ≡ Some (cap, next) → IsShortItem item → IsShortItem (board_after item cap next now)
 board_fits item cap next now is short = same item.body (body_is item.body cap next is) short
   where
-    same : (b : Body) → b ≡ Board cap next → IsShort (record item { body = b }) → IsShort (board_after item cap next now)
-    same b e h = subst (λ (x : Body). IsShort (record item { body = x })) e h
+    same : (b : Body) → b ≡ Board cap next → IsShortItem (record item { body = b }) → IsShortItem (board_after item cap next now)
+    same b e h = subst (λ (x : Body). IsShortItem (record item { body = x })) e h

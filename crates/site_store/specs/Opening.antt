@@ -14,7 +14,7 @@ use Rattle.site_records.specs.Limits.{is_short}
 use Rattle.page_store.specs.StoreState.{StoreState}
 use Rattle.page_store.specs.declared.banner.Banner.{Banner}
 use Rattle.page_store.specs.declared.fault.KeeperFault.TheVariants as kinds
-use Rattle.site_store.specs.Represented.{RepresentedBy, Shows}
+use Rattle.site_store.specs.Represented.{RepresentedBy, PairsShowSite}
 use Rattle.site_store.specs.StoreReads.{NoneFailed}
 use Rattle.site_store.specs.declared.fault.SiteOpenFault.{SiteOpenFault}
 use Rattle.site_store.specs.declared.fault.SiteOpenFault.TheVariants.{BadRecord, Keeper, Memory}
@@ -38,38 +38,38 @@ with_all_named from s [] = s
 with_all_named from s (p ∷ ps) = with_all_named from (with_named from s p.0) ps
 
 -- the same host, port and administrator
-pub record HasAddress (s : Site) (b : Banner) : Type 0 where
+pub record HasAddressOf (s : Site) (b : Banner) : Type 0 where
   pub host : s.host ≡ b.host
   pub port : s.port ≡ b.port
   pub admin : s.admin ≡ b.admin
 
 -- Why a keeper was not opened as a site, and what the reading of it counted: each fault has its own cause. `BadRecord` says that what is held is of version 2, and of an honest keeper that it represents no valid site.
-abbrev pub IsOpenFault : StoreState → StoreState → SiteOpenFault → Type 0
-IsOpenFault old new (Keeper kinds.Failed) = (old.usable ≡ false) × NoneFailed old new
-IsOpenFault old new (Keeper kinds.Device) = (old.usable ≡ true) × (new.failed_reads ≡ counted old.failed_reads)
-IsOpenFault old new (Keeper (kinds.Damaged page)) = (old.usable ≡ true) × NoneFailed old new × (old.honest ≡ false)
-IsOpenFault old new (Keeper kinds.NoImage) = ⊥
-IsOpenFault old new (Keeper kinds.Version) = (old.usable ≡ true) × NoneFailed old new × (old.banner.version ≡ 2 → ⊥)
-IsOpenFault old new (Keeper kinds.Small) = ⊥
-IsOpenFault old new (Keeper kinds.Spent) = ⊥
-IsOpenFault old new (Keeper kinds.Deep) = ⊥
-IsOpenFault old new (Keeper (kinds.Full need free)) = ⊥
-IsOpenFault old new (Keeper kinds.Memory) = ⊥
-IsOpenFault old new BadRecord = (old.usable ≡ true) × NoneFailed old new × (old.banner.version ≡ 2) × (IsTrue old.honest → (s : Site) → RepresentedBy old s → ⊥)
-IsOpenFault old new Memory = (old.usable ≡ true) × NoneFailed old new × (old.banner.version ≡ 2)
+abbrev pub IsSiteOpenFault : StoreState → StoreState → SiteOpenFault → Type 0
+IsSiteOpenFault old new (Keeper kinds.Failed) = (old.usable ≡ false) × NoneFailed old new
+IsSiteOpenFault old new (Keeper kinds.Device) = (old.usable ≡ true) × (new.failed_reads ≡ counted old.failed_reads)
+IsSiteOpenFault old new (Keeper (kinds.Damaged page)) = (old.usable ≡ true) × NoneFailed old new × (old.honest ≡ false)
+IsSiteOpenFault old new (Keeper kinds.NoImage) = ⊥
+IsSiteOpenFault old new (Keeper kinds.Version) = (old.usable ≡ true) × NoneFailed old new × (old.banner.version ≡ 2 → ⊥)
+IsSiteOpenFault old new (Keeper kinds.Small) = ⊥
+IsSiteOpenFault old new (Keeper kinds.Spent) = ⊥
+IsSiteOpenFault old new (Keeper kinds.Deep) = ⊥
+IsSiteOpenFault old new (Keeper (kinds.Full need free)) = ⊥
+IsSiteOpenFault old new (Keeper kinds.Memory) = ⊥
+IsSiteOpenFault old new BadRecord = (old.usable ≡ true) × NoneFailed old new × (old.banner.version ≡ 2) × (IsTrue old.honest → (s : Site) → RepresentedBy old s → ⊥)
+IsSiteOpenFault old new Memory = (old.usable ≡ true) × NoneFailed old new × (old.banner.version ≡ 2)
 
 -- What was read is the layout of a valid site under the banner that is kept, and of as many pairs as are counted: so on every device, whatever it gave.
 pub record IsReadWhole (h : StoreState) : Type 0 where
   pub pairs : List Pair
   pub site : Site
-  pub shows : Shows pairs h.banner site
+  pub shows : PairsShowSite pairs h.banner site
   pub counted : length pairs ≡ h.keys
 
 -- Why some pairs under a banner are no site: `BadRecord` says that they represent no valid one.
-abbrev pub IsPairsFault : List Pair → Banner → SiteOpenFault → Type 0
-IsPairsFault pairs banner (Keeper fault) = ⊥
-IsPairsFault pairs banner BadRecord = (s : Site) → Shows pairs banner s → ⊥
-IsPairsFault pairs banner Memory = Unit {0}
+abbrev pub IsSitePairsFault : List Pair → Banner → SiteOpenFault → Type 0
+IsSitePairsFault pairs banner (Keeper fault) = ⊥
+IsSitePairsFault pairs banner BadRecord = (s : Site) → PairsShowSite pairs banner s → ⊥
+IsSitePairsFault pairs banner Memory = Unit {0}
 
 -- each value fits a buffer
 abbrev pub ValuesFit : List Pair → Type 0
@@ -84,8 +84,8 @@ abbrev pub pairs_state : List Pair → Banner → StoreState
 pairs_state pairs banner = record { pairs = pairs; banner = banner; honest = true; usable = true; failed_reads = 0; failed_writes = 0; generation = 0; top = 0; free = 0; height = 0; keys = length pairs; made = none_made; pins = [] }
 
 -- no item is too long
-abbrev pub AreShort : List (List ℕ × Item) → Type 0
-AreShort es = AllByRecursion (λ e. IsTrue (is_short e.1)) es
+abbrev pub ItemsAreShort : List (List ℕ × Item) → Type 0
+ItemsAreShort es = AllByRecursion (λ e. IsTrue (is_short e.1)) es
 
 -- the pairs of some items, one item after the other
 abbrev pub pairs_in : List (List ℕ × Item) → List Pair

@@ -10,7 +10,7 @@ use Rattle.page_store.specs.Work.{nothing_yet, nothing_then}
 use Rattle.page_store.specs.StoreState.{StoreState, CommitNeed, HasRead, NeedsTheSame}
 use Rattle.page_store.specs.declared.edit.Edit.{Edit}
 use Rattle.site_store.specs.Represented.{RepresentedBy}
-use Rattle.site_store.specs.StoreReads.{ReadsOnly, NoneFailed}
+use Rattle.site_store.specs.StoreReads.{StoreReadsOnly, NoneFailed}
 
 pub read_later : (a b c : StoreState) → HasRead a b → HasRead b c → HasRead a c
 read_later a b c x y =
@@ -43,7 +43,7 @@ need_later a b c x y = record {
   before = λ batch need h. x.before batch need (y.before batch need h);
 }
 
-pub reads_later : {K L : Type 0} → (store_state : K → StoreState) (may_need : K → List Edit → CommitNeed → Type 0) (crash_states : K → CrashStates L) (a b c : K) → ReadsOnly store_state may_need crash_states a b → ReadsOnly store_state may_need crash_states b c → ReadsOnly store_state may_need crash_states a c
+pub reads_later : {K L : Type 0} → (store_state : K → StoreState) (may_need : K → List Edit → CommitNeed → Type 0) (crash_states : K → CrashStates L) (a b c : K) → StoreReadsOnly store_state may_need crash_states a b → StoreReadsOnly store_state may_need crash_states b c → StoreReadsOnly store_state may_need crash_states a c
 reads_later store_state may_need crash_states a b c x y = record {
   read = read_later (store_state a) (store_state b) (store_state c) x.read y.read;
   need = need_later (may_need a) (may_need b) (may_need c) x.need y.need;
@@ -58,7 +58,7 @@ not_read_yet h = record {
   writes = refl;
 }
 
-pub not_yet : {K L : Type 0} → (store_state : K → StoreState) (may_need : K → List Edit → CommitNeed → Type 0) (crash_states : K → CrashStates L) (a : K) → ReadsOnly store_state may_need crash_states a a
+pub not_yet : {K L : Type 0} → (store_state : K → StoreState) (may_need : K → List Edit → CommitNeed → Type 0) (crash_states : K → CrashStates L) (a : K) → StoreReadsOnly store_state may_need crash_states a a
 not_yet store_state may_need crash_states a = record {
   read = not_read_yet (store_state a);
   need = record { after = λ batch need h. h; before = λ batch need h. h };

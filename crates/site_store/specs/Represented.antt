@@ -16,7 +16,7 @@ use Rattle.site_records.proofs.LayoutTells.{layout_tells}
 use Rattle.site_store.specs.PinnedItems.{Pins, AllHave, AllHave-prop, pins_of}
 
 -- These pairs and this banner represent a valid site: its layout, and its host, port and administrator, in version 2 of images.
-pub record Shows (pairs : List Pair) (banner : Banner) (s : Site) : Type 0 where
+pub record PairsShowSite (pairs : List Pair) (banner : Banner) (s : Site) : Type 0 where
   pub valid : ∥ IsSite s ∥₁
   pub all : pairs ≡ layout s
   pub host : banner.host ≡ s.host
@@ -26,11 +26,11 @@ pub record Shows (pairs : List Pair) (banner : Banner) (s : Site) : Type 0 where
 
 -- What is left has the pairs and the banner of a site; `has_content` says which it has.
 abbrev pub Represents : {L : Type 0} → (L → List Pair → Banner → Type 0) → L → Site → Type 0
-Represents has_content c s = (pairs : List Pair) × (banner : Banner) × has_content c pairs banner × Shows pairs banner s
+Represents has_content c s = (pairs : List Pair) × (banner : Banner) × has_content c pairs banner × PairsShowSite pairs banner s
 
 -- the site that a key-value store holds
 abbrev pub RepresentedBy : StoreState → Site → Type 0
-RepresentedBy h s = Shows h.pairs h.banner s
+RepresentedBy h s = PairsShowSite h.pairs h.banner s
 
 -- An honest keeper holds a site, and what each of its pins keeps are the items of one.
 abbrev pub HasSite : StoreState → Type 0
@@ -66,11 +66,11 @@ site_state_of h keeps = record {
 pub site_set : (s t : Site) → IsProp (s ≡ t)
 site_set s t = Coded-set (mem.the_row).coded s t
 
-pub same_site : (pairs : List Pair) (banner : Banner) (s t : Site) → Shows pairs banner s → Shows pairs banner t → s ≡ t
+pub same_site : (pairs : List Pair) (banner : Banner) (s t : Site) → PairsShowSite pairs banner s → PairsShowSite pairs banner t → s ≡ t
 same_site pairs banner s t x y =
     ∥∥₁_elim x.valid (site_set s t) (λ a. ∥∥₁_elim y.valid (site_set s t) (λ b. layout_tells s t a b (sym x.host ∙ y.host) (sym x.port ∙ y.port) (sym x.admin ∙ y.admin) (sym x.all ∙ y.all)))
 
-Shows-prop : (pairs : List Pair) (banner : Banner) (s : Site) → IsProp (Shows pairs banner s)
+Shows-prop : (pairs : List Pair) (banner : Banner) (s : Site) → IsProp (PairsShowSite pairs banner s)
 Shows-prop pairs banner s x y =
     let valid_prop : IsProp ∥ IsSite s ∥₁ = ∥∥₁_prop in
     let all_prop : IsProp (pairs ≡ layout s) = hlevel props in
@@ -87,10 +87,10 @@ Shows-prop pairs banner s x y =
       version = version_prop x.version y.version i;
     }
 
-site_prop : (pairs : List Pair) (banner : Banner) (pins : Pins) → IsProp ((s : Site) × Shows pairs banner s × AllHave pins)
+site_prop : (pairs : List Pair) (banner : Banner) (pins : Pins) → IsProp ((s : Site) × PairsShowSite pairs banner s × AllHave pins)
 site_prop pairs banner pins x y =
-    let a : (s : Site) × (Shows pairs banner s × AllHave pins) = (x.0, (x.1, x.2)) in
-    let b : (s : Site) × (Shows pairs banner s × AllHave pins) = (y.0, (y.1, y.2)) in
+    let a : (s : Site) × (PairsShowSite pairs banner s × AllHave pins) = (x.0, (x.1, x.2)) in
+    let b : (s : Site) × (PairsShowSite pairs banner s × AllHave pins) = (y.0, (y.1, y.2)) in
     let same : a ≡ b = Σ_prop_path (λ (s : Site). ×_prop (Shows-prop pairs banner s) (AllHave-prop pins)) (same_site pairs banner x.0 y.0 x.1 y.1) in
     λ i. ((same i).0, (same i).1.0, (same i).1.1)
 

@@ -33,11 +33,11 @@ abbrev pub found_with : ℕ → List (List ℕ) → List (List ℕ) → List ℕ
 found_with now asked found selector item = if list_all (is_among (words_of item)) asked && is_fresh now (selector, item) then found ++ selector ∷ [] else found
 
 -- Where the items with the word above a selector of the scope are looked at too, all that is to be found is found.
-pub record IsLeft (now : ℕ) (s : Site) (scope word : List ℕ) (asked found : List (List ℕ)) (selector : List ℕ) : Type 0 where
+pub record IsLeftToFind (now : ℕ) (s : Site) (scope word : List ℕ) (asked found : List (List ℕ)) (selector : List ℕ) : Type 0 where
   pub within : starts_with nat_eq selector scope ≡ true
   pub rest : fold (searched_at now scope asked) found (filter (λ e. is_lt (byte_cmp selector e.0)) (items_with s scope word)) ≡ all_found now s scope asked
 
 -- Items are left, or all is found.
 abbrev pub IsFurther : ℕ → Site → List ℕ → List ℕ → List (List ℕ) → Bool → List (List ℕ) → List ℕ → Type 0
-IsFurther now s scope word asked true found selector = IsLeft now s scope word asked found selector
+IsFurther now s scope word asked true found selector = IsLeftToFind now s scope word asked found selector
 IsFurther now s scope word asked false found selector = found ≡ all_found now s scope asked

@@ -26,7 +26,7 @@ use Rattle.site_store.specs.declared.fault.SiteOpenFault.{SiteOpenFault}
 use Rattle.site_store.specs.declared.fault.SiteOpenFault.TheVariants.{BadRecord, Keeper, Memory}
 
 -- What a call that reads leaves: what is held stays, a batch may need as much as before, and nothing was written.
-pub record ReadsOnly {K L : Type 0} (store_state : K → StoreState) (may_need : K → List Edit → CommitNeed → Type 0) (crash_states : K → CrashStates L) (old new : K) : Type 0 where
+pub record StoreReadsOnly {K L : Type 0} (store_state : K → StoreState) (may_need : K → List Edit → CommitNeed → Type 0) (crash_states : K → CrashStates L) (old new : K) : Type 0 where
   pub read : HasRead (store_state old) (store_state new)
   pub need : NeedsTheSame (may_need old) (may_need new)
   pub no_new_crash_state : IsTrue (store_state old).honest → AddsNone (crash_states old) (crash_states new)
@@ -60,8 +60,8 @@ abbrev pub HasPart : List Pair → List ℕ → ℕ → List ℕ → Type 0
 HasPart pairs selector part bytes = (k : ℕ) → k < 2 ^ 16 → value_at pairs (chunk_key selector part k) ≡ chunk_in (Some bytes) k
 
 -- So many bytes, of which the chunks of a part are.
-abbrev pub IsPart : List ℕ → ℕ → ℕ → StoreState → List ℕ → Type 0
-IsPart selector part size h bytes = (length bytes ≡ size) × HasPart h.pairs selector part bytes
+abbrev pub IsPartOf : List ℕ → ℕ → ℕ → StoreState → List ℕ → Type 0
+IsPartOf selector part size h bytes = (length bytes ≡ size) × HasPart h.pairs selector part bytes
 
 -- The chunks of all parts are those of these bytes.
 abbrev pub HasParts : List Pair → List ℕ → List (List ℕ) → Type 0

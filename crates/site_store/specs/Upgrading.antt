@@ -40,8 +40,8 @@ abbrev pub RepresentsFirst : {L : Type 0} → (L → List Pair → Banner → Ty
 RepresentsFirst has_content c s = (pairs : List Pair) × (banner : Banner) × has_content c pairs banner × ShowsFirst pairs banner s
 
 -- in version 1 or in version 2
-abbrev pub RepresentsEither : {L : Type 0} → (L → List Pair → Banner → Type 0) → L → Site → Type 0
-RepresentsEither has_content c s = RepresentsFirst has_content c s ⊎ Represents has_content c s
+abbrev pub RepresentsEitherVersion : {L : Type 0} → (L → List Pair → Banner → Type 0) → L → Site → Type 0
+RepresentsEitherVersion has_content c s = RepresentsFirst has_content c s ⊎ Represents has_content c s
 
 -- the site that a store holds in version 1
 abbrev pub FirstBy : StoreState → Site → Type 0

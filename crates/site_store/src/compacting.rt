@@ -5,7 +5,7 @@ ghost use Rattle.host_types.specs.declared.site_fault.SiteFault.TheVariants.{Fai
 ghost use Rattle.page_store.specs.Compaction.{IsCompacted, CompactsTheSame};
 ghost use Rattle.page_store.specs.StoreState.{HasTried, last_generation};
 ghost use Rattle.page_store.specs.Work.{WritesAtMost};
-ghost use Rattle.site_store.specs.Compacting.{IsSiteCompactFault, CountsNothing};
+ghost use Rattle.site_store.specs.Compacting.{IsSiteCompactFault, NoCallFailed};
 ghost use Rattle.site_store.specs.Represented.{site_of, site_state_of, Represents};
 
 use crate::DiskSite;
@@ -26,7 +26,7 @@ impl<K: CompactKeeper> DiskSite<K> {
         ensures fits { IsTrue (K.store_state self.old.keeper).honest → OnOk result ((n : ℕ) × K.compact_need self.old.keeper n × (n ≤ (K.store_state self.old.keeper).free)) }
         ensures fault { IfErr result (IsSiteCompactFault (K.store_state self.old.keeper) (K.store_state self.new.keeper) (K.compact_need self.old.keeper)) }
         ensures need { IfErr result (λ e. (K.store_state self.new.keeper).usable ≡ (K.store_state self.old.keeper).usable → CompactsTheSame (K.compact_need self.old.keeper) (K.compact_need self.new.keeper)) }
-        ensures counts { OnOk result (CountsNothing (K.store_state self.old.keeper) (K.store_state self.new.keeper)) }
+        ensures counts { OnOk result (NoCallFailed (K.store_state self.old.keeper) (K.store_state self.new.keeper)) }
         ensures closed { (K.store_state self.old.keeper).usable ≡ false → IsErrOf result Failed }
         ensures spent { (K.store_state self.old.keeper).usable ≡ true → (K.store_state self.old.keeper).top ≡ last_generation → IsErrOf result Spent }
         ensures work { WritesAtMost (K.store_state self.old.keeper).free (K.store_state self.old.keeper).made (K.store_state self.new.keeper).made }

@@ -53,7 +53,7 @@ fn step<K: Keeper>(
     now: Stamp,
     selector: &mut Selector,
 ) -> Result<bool, SiteOpenFault>
-    ensures further { ReadsKnown K.store_state K.may_need K.crash_states keeper.old keeper.new result (λ h s. RepresentedBy h s × spec.IsLeft now s scope.now asked.now found.old selector.old) (λ s more. spec.IsFurther now s scope.now asked.now more found.new selector.new) }
+    ensures further { ReadsKnown K.store_state K.may_need K.crash_states keeper.old keeper.new result (λ h s. RepresentedBy h s × spec.IsLeftToFilter now s scope.now asked.now found.old selector.old) (λ s more. spec.IsFilteredFurther now s scope.now asked.now more found.new selector.new) }
 {
     match look_in(alloc, keeper, found, scope, asked, now, selector) {
         Ok(()) => {}

@@ -1,7 +1,7 @@
 // Looking up the items of a site over a key-value store, while a change of it is planned.
 ghost use Rattle.site_store.specs.LookUps.{IsShown, HasFound, HasNotFound};
 ghost use Rattle.site_store.specs.LookUpLaws.{fits_or_not, nothing_read, reads_again, failed_later, may_be_out_of_memory, never_refused, shows_still, short_names, short_fits, board_fits};
-ghost use Rattle.site_pairs.specs.ShortReplacements.{IsShort};
+ghost use Rattle.site_pairs.specs.ShortReplacements.{IsShortItem};
 
 use crate::DiskSite;
 use crate::items::{has_item, item_in};
@@ -13,7 +13,7 @@ use page_store::Keeper;
 impl<K: Keeper> ItemLookup for DiskSite<K> {
     ghost shows = { λ d. IsShown K.store_state d.keeper };
 
-    ghost fits = { IsShort };
+    ghost fits = { IsShortItem };
 
     ghost reads_only = { λ a b. HasFound K.store_state K.may_need K.crash_states a.keeper b.keeper };
 

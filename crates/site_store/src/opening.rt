@@ -4,10 +4,10 @@ ghost use Rattle.host_types.specs.Site.{Site};
 ghost use Rattle.page_store.specs.Batch.{pair_after};
 ghost use Rattle.page_store.specs.Work.{ReadsPages, pages_tried};
 ghost use Rattle.page_store.specs.declared.fault.KeeperFault.TheVariants.{Failed};
-ghost use Rattle.site_store.specs.Represented.{RepresentedBy, Shows};
-ghost use Rattle.site_store.specs.StoreReads.{ReadsOnly, NoneFailed, IsSiteReadFault, IsReadOrMemory};
+ghost use Rattle.site_store.specs.Represented.{RepresentedBy, PairsShowSite};
+ghost use Rattle.site_store.specs.StoreReads.{StoreReadsOnly, NoneFailed, IsSiteReadFault, IsReadOrMemory};
 ghost use Rattle.site_store.specs.Reads.{AlwaysReads, ReadsKnown};
-ghost use Rattle.site_store.specs.Opening.{IsOpenFault, IsReadWhole, IsPairsFault, ValuesFit, KeysFit, ReadsAll, last_key, site_under, with_named, with_all_named, HasAddress};
+ghost use Rattle.site_store.specs.Opening.{IsSiteOpenFault, IsReadWhole, IsSitePairsFault, ValuesFit, KeysFit, ReadsAll, last_key, site_under, with_named, with_all_named, HasAddressOf};
 ghost use Rattle.site_store.specs.Seen.{keeper_of, seen_site};
 ghost use Rattle.site_store.specs.declared.fault.SiteOpenFault.TheVariants.{Keeper as StoreFault};
 
@@ -116,9 +116,9 @@ fn put_named<V: ValueLookup>(
 
 /// The site whose items the keys of these pairs name.
 fn site_of(alloc: Global, read: &mut ReadPairs<'_>) -> Result<MemSite, SiteOpenFault>
-    ensures named { IfOk result (λ m. (s : Site) → Shows read.old.0 read.old.1 s → m ≡ with_all_named s (site_under read.old.1) read.old.0) }
-    ensures address { IfOk result (λ m. HasAddress m read.old.1) }
-    ensures fault { IfErr result (IsPairsFault read.old.0 read.old.1) }
+    ensures named { IfOk result (λ m. (s : Site) → PairsShowSite read.old.0 read.old.1 s → m ≡ with_all_named s (site_under read.old.1) read.old.0) }
+    ensures address { IfOk result (λ m. HasAddressOf m read.old.1) }
+    ensures fault { IfErr result (IsSitePairsFault read.old.0 read.old.1) }
     ensures same { read.new ≡ read.old }
 {
     let banner = read.banner();
@@ -146,8 +146,8 @@ pub(crate) fn check_pairs(
 ) -> Result<(), SiteOpenFault>
     requires fit { ValuesFit pairs.now }
     requires version { banner.now.version ≡ 2 }
-    ensures site { OnOk result ((s : Site) × Shows pairs.now banner.now s) }
-    ensures fault { IfErr result (IsPairsFault pairs.now banner.now) }
+    ensures site { OnOk result ((s : Site) × PairsShowSite pairs.now banner.now s) }
+    ensures fault { IfErr result (IsSitePairsFault pairs.now banner.now) }
     ensures port { OnOk result (0 < banner.now.port) }
 {
     let Some(mut read) = ReadPairs::new(alloc, banner, pairs)? else {
@@ -182,13 +182,13 @@ impl<K: Keeper> DiskSite<K> {
         ensures site { IsTrue (K.store_state keeper).honest → IfOk result (λ d. RepresentedBy (K.store_state keeper) (seen_site d)) }
         // On every device: what was read is a valid site's layout, of as many pairs as the keeper counts.
         ensures whole { OnOk result (IsReadWhole (K.store_state keeper)) }
-        ensures reads_only { IfOk result (λ d. ReadsOnly K.store_state K.may_need K.crash_states keeper (keeper_of d)) }
+        ensures reads_only { IfOk result (λ d. StoreReadsOnly K.store_state K.may_need K.crash_states keeper (keeper_of d)) }
         ensures reads { IfOk result (λ d. NoneFailed (K.store_state keeper) (K.store_state (keeper_of d))) }
         // It goes through the pairs once.
         ensures work { IfOk result (λ d. ReadsAll (K.store_state keeper) (K.store_state (keeper_of d))) }
         ensures usable { IfOk result (λ d. (K.store_state (keeper_of d)).usable ≡ true) }
-        ensures fault { IfErr result (λ e. IsOpenFault (K.store_state keeper) (K.store_state e.1) e.0) }
-        ensures handed_back { IfErr result (λ e. ReadsOnly K.store_state K.may_need K.crash_states keeper e.1) }
+        ensures fault { IfErr result (λ e. IsSiteOpenFault (K.store_state keeper) (K.store_state e.1) e.0) }
+        ensures handed_back { IfErr result (λ e. StoreReadsOnly K.store_state K.may_need K.crash_states keeper e.1) }
         ensures closed { (K.store_state keeper).usable ≡ false → IsErrAnd result (λ e. e.0 ≡ StoreFault Failed) }
     {
         if !keeper.is_usable() {

@@ -2,7 +2,7 @@
 ghost use Rattle.std.specs.Prelude.{◌≡◌, ◌≤◌, ◌<◌, ◌+◌, ◌*◌, IfOk, OnOk, take};
 ghost use Rattle.std.specs.Prelude as list;
 ghost use Rattle.host_types.specs.Card.{card_view};
-ghost use Rattle.site_store.specs.StoreReads.{HasPart, HasSize, chunk_size, IsPart};
+ghost use Rattle.site_store.specs.StoreReads.{HasPart, HasSize, chunk_size, IsPartOf};
 ghost use Rattle.site_records.specs.Layout.{chunk_count};
 ghost use Rattle.site_store.specs.Reads.{ReadsKnown, AlwaysReadsKnown};
 ghost use Rattle.site_store.specs.Work.{MakesLookUps};
@@ -32,7 +32,7 @@ fn add_chunk<V: ValueLookup>(
     bytes: &mut Vec<u8>,
 ) -> Result<(), SiteOpenFault>
     requires { 1000 * k < size }
-    ensures bytes { AlwaysReadsKnown V.store_state V.may_need V.crash_states from.old from.new result (IsPart selector.now part size) (λ p _. bytes.old.items ≡ take (1000 * k) p → bytes.new.items ≡ take (1000 * k + 1000) p) }
+    ensures bytes { AlwaysReadsKnown V.store_state V.may_need V.crash_states from.old from.new result (IsPartOf selector.now part size) (λ p _. bytes.old.items ≡ take (1000 * k) p → bytes.new.items ≡ take (1000 * k + 1000) p) }
     ensures size { list.length bytes.old.items ≡ 1000 * k → OnOk result (HasSize (list.length bytes.new.items) (1000 * k + 1000) size) }
     ensures work { MakesLookUps 1 (V.store_state from.old) (V.store_state from.new) }
 {
@@ -58,7 +58,7 @@ pub fn read_part<V: ValueLookup>(
     size: usize,
 ) -> Result<Bytes, SiteOpenFault>
     requires { size ≤ 262144 }
-    ensures bytes { ReadsKnown V.store_state V.may_need V.crash_states from.old from.new result (IsPart selector.now part size) (λ p b. b ≡ p) }
+    ensures bytes { ReadsKnown V.store_state V.may_need V.crash_states from.old from.new result (IsPartOf selector.now part size) (λ p b. b ≡ p) }
     ensures size { IfOk result (λ b. list.length b ≡ size) }
     ensures work { MakesLookUps (chunk_count size) (V.store_state from.old) (V.store_state from.new) }
 {

@@ -77,7 +77,7 @@ fn begin<K: Keeper>(
     requires word { list.length word.now ≤ LONGEST_WORD }
     requires short { All (λ w. list.length w ≤ LONGEST_WORD) asked.now }
     requires asked { IsTrue (is_among asked.now word.now) }
-    ensures left { ReadsKnown K.store_state K.may_need K.crash_states keeper.old keeper.new result RepresentedBy (λ s found. spec.IsLeft now s scope.now word.now asked.now found scope.now) }
+    ensures left { ReadsKnown K.store_state K.may_need K.crash_states keeper.old keeper.new result RepresentedBy (λ s found. spec.IsLeftToFind now s scope.now word.now asked.now found scope.now) }
 {
     let mut found = SelectorList::new(alloc);
     match has_word(keeper, word, scope) {
@@ -105,7 +105,7 @@ fn step<K: Keeper>(
     requires word { list.length word.now ≤ LONGEST_WORD }
     requires short { All (λ w. list.length w ≤ LONGEST_WORD) asked.now }
     requires asked { IsTrue (is_among asked.now word.now) }
-    ensures further { ReadsKnown K.store_state K.may_need K.crash_states keeper.old keeper.new result (λ h s. RepresentedBy h s × spec.IsLeft now s scope.now word.now asked.now found.old last.old) (λ s more. spec.IsFurther now s scope.now word.now asked.now more found.new last.new) }
+    ensures further { ReadsKnown K.store_state K.may_need K.crash_states keeper.old keeper.new result (λ h s. RepresentedBy h s × spec.IsLeftToFind now s scope.now word.now asked.now found.old last.old) (λ s more. spec.IsFurther now s scope.now word.now asked.now more found.new last.new) }
 {
     if found.as_slice().len() >= MOST_FOUND {
         return Ok(false);

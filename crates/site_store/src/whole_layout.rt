@@ -1,7 +1,7 @@
 // Whether some pairs are the layout of a site. No layout is made for it: the pairs of one item after the other are looked up and counted.
 ghost use Rattle.std.specs.Prelude.{◌≡◌, All, Some, length, map, IfOk, IsTrue, Decides};
 ghost use Rattle.page_store.specs.Batch.{value_at};
-ghost use Rattle.site_store.specs.Opening.{AreCounted, AreShort, IsLayoutOf};
+ghost use Rattle.site_store.specs.Opening.{AreCounted, ItemsAreShort, IsLayoutOf};
 
 use crate::read_pairs::ReadPairs;
 use host_types::{Item, Selector};
@@ -29,7 +29,7 @@ fn are_counted(
     read: &mut ReadPairs<'_>,
     items: &[(&Selector, &Item)],
 ) -> Result<bool, AllocError>
-    requires short { AreShort (map (λ e. (e.0.now, e.1.now)) items.now) }
+    requires short { ItemsAreShort (map (λ e. (e.0.now, e.1.now)) items.now) }
     ensures { IfOk result (λ yes. Decides yes (AreCounted read.old.0 (length read.old.0) (map (λ e. (e.0.now, e.1.now)) items.now))) }
 {
     let mut rest = items;

@@ -6,7 +6,7 @@ ghost use Rattle.page_store.specs.Counting.{CountsReads, CountsWrites};
 ghost use Rattle.page_store.specs.StoreState.{HasTried, NeedsTheSame, IsCommitFault, numbers_out, last_generation, most_levels};
 ghost use Rattle.page_store.specs.Work.{CommitsWithin};
 ghost use Rattle.site_pairs.specs.Edits.{batch_of, edits_of};
-ghost use Rattle.site_store.specs.Lacking.{MayNeed, IsToldSpent};
+ghost use Rattle.site_store.specs.Lacking.{MayNeedForEdits, IsToldSpent};
 ghost use Rattle.site_store.specs.Planned.{banner_after};
 ghost use Rattle.site_pairs.specs.ShortReplacements.{AreShort};
 
@@ -58,7 +58,7 @@ pub fn write_replacements<K: Keeper>(
     ensures still_usable { OnOk result ((K.store_state keeper.new).usable ≡ true) }
     ensures out { OnOk result (numbers_out (K.store_state keeper.new) ≡ numbers_out (K.store_state keeper.old)) }
     ensures pins { IsTrue (K.store_state keeper.old).honest → OnOk result ((K.store_state keeper.new).pins ≡ (K.store_state keeper.old).pins) }
-    ensures fault { IfErr result (IsCommitFault (K.store_state keeper.old) (K.store_state keeper.new) (length (batch_of (edits_of replacements.now))) (MayNeed K.may_need keeper.old (batch_of (edits_of replacements.now)))) }
+    ensures fault { IfErr result (IsCommitFault (K.store_state keeper.old) (K.store_state keeper.new) (length (batch_of (edits_of replacements.now))) (MayNeedForEdits K.may_need keeper.old (batch_of (edits_of replacements.now)))) }
     ensures need { IfErr result (λ e. (K.store_state keeper.new).usable ≡ (K.store_state keeper.old).usable → NeedsTheSame (K.may_need keeper.old) (K.may_need keeper.new)) }
     ensures spent { (K.store_state keeper.old).top ≡ last_generation → IsToldSpent result }
     ensures tried { HasTried (K.store_state keeper.old) (K.store_state keeper.new) }

@@ -9,7 +9,7 @@ use Rattle.turns.specs.Runs.{HasRun}
 use Rattle.turns.specs.Turns.{Serves, is_served}
 use Rattle.turns.specs.declared.connection.Connection.{Connection}
 use Rattle.socket_wires.specs.Rounds.{IsFresh, Round, Rounds, none, more, IsServing, EndsRounds}
-use Rattle.socket_wires.specs.Taking.{had, IsShort}
+use Rattle.socket_wires.specs.Taking.{had, TooFewCame}
 use Rattle.socket_wires.specs.declared.gate.Taken.{Taken}
 use Rattle.socket_wires.specs.declared.serving.ServeFault.{ServeFault}
 use Rattle.socket_wires.specs.declared.serving.ServeFault.TheVariants.{Net, Memory, Failed}
@@ -60,7 +60,7 @@ module _ {H : Type 0} (ran : H → List Event → List Outcome → H → Type 0)
     ends = ends;
   }
 
-  short : (made rounds count : ℕ) (fault : ServeFault) (is_usable : Bool) (rest : List Taken) → made < rounds → is_usable ≡ true → IsShort together fault rest → EndsRounds (Err fault) is_usable together made rounds count rest
+  short : (made rounds count : ℕ) (fault : ServeFault) (is_usable : Bool) (rest : List Taken) → made < rounds → is_usable ≡ true → TooFewCame together fault rest → EndsRounds (Err fault) is_usable together made rounds count rest
   short made rounds count Net is_usable rest few was is = (was, few, is)
   short made rounds count Memory is_usable rest few was is = (was, few, is)
   short made rounds count Failed is_usable rest few was is = absurd is

@@ -6,7 +6,7 @@ use Rattle.std.specs.declared.net.socket_addr.SocketAddr.{SocketAddr}
 use Rattle.turns.specs.declared.connection.Connection.{Connection}
 use Rattle.turns.specs.declared.connection.Stage.TheVariants.{New}
 use Rattle.socket_wires.specs.Rounds.{IsFresh}
-use Rattle.socket_wires.specs.Taking.{IsMissed, IsShort, IsUnused, had}
+use Rattle.socket_wires.specs.Taking.{IsMissed, TooFewCame, IsFreshWire, had}
 use Rattle.socket_wires.specs.declared.gate.Taken.{Taken}
 use Rattle.socket_wires.specs.declared.gate.Taken.TheVariants.{Had}
 use Rattle.socket_wires.specs.declared.serving.ServeFault.{ServeFault}
@@ -21,10 +21,10 @@ had_froms [] = refl
 had_froms (c ∷ cs) = ap (λ l. had c ∷ l) (had_froms cs)
 
 -- one fresh one more
-pub fresh_more : (count : ℕ) (cs : List (Connection SocketWire)) (c : Connection SocketWire) → IsFresh count cs → c.stage ≡ New → IsUnused c.wire → IsFresh (count + 1) (cs ++ c ∷ [])
+pub fresh_more : (count : ℕ) (cs : List (Connection SocketWire)) (c : Connection SocketWire) → IsFresh count cs → c.stage ≡ New → IsFreshWire c.wire → IsFresh (count + 1) (cs ++ c ∷ [])
 fresh_more count cs c fresh new unused = record {
   size = omega (arith, fresh.size, length-append cs (c ∷ []));
-  are_new = All-push (λ (d : Connection SocketWire). (d.stage ≡ New) × IsUnused d.wire) cs c fresh.are_new (new, unused);
+  are_new = All-push (λ (d : Connection SocketWire). (d.stage ≡ New) × IsFreshWire d.wire) cs c fresh.are_new (new, unused);
 }
 
 pub had_more : (cs : List (Connection SocketWire)) (c : Connection SocketWire) (old now later : List Taken) → now ≡ old ++ map had cs → later ≡ now ++ had c ∷ [] → later ≡ old ++ map had (cs ++ c ∷ [])
@@ -32,7 +32,7 @@ had_more cs c old now later is more = more ∙ ap (λ l. l ++ had c ∷ []) is �
 
 -- what was taken of a listener since then, and why it is too little
 abbrev pub WasShort : ℕ → List Taken → List Taken → ServeFault → Type 0
-WasShort together old later fault = (rest : List Taken) × (later ≡ old ++ rest) × IsShort together fault rest
+WasShort together old later fault = (rest : List Taken) × (later ≡ old ++ rest) × TooFewCame together fault rest
 
 pub missed_next : (together count : ℕ) (cs : List (Connection SocketWire)) (old now later : List Taken) (call : Taken) → IsFresh count cs → count < together → now ≡ old ++ map had cs → IsMissed call → later ≡ now ++ call ∷ [] → WasShort together old later Net
 missed_next together count cs old now later call fresh few is missed more = (

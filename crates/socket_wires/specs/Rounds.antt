@@ -14,7 +14,7 @@ use Rattle.turns.specs.Runs.{HasRun}
 use Rattle.turns.specs.Turns.{Serves, is_served}
 use Rattle.turns.specs.declared.connection.Connection.{Connection}
 use Rattle.turns.specs.declared.connection.Stage.TheVariants.{New}
-use Rattle.socket_wires.specs.Taking.{IsUnused, IsShort, had}
+use Rattle.socket_wires.specs.Taking.{IsFreshWire, TooFewCame, had}
 use Rattle.socket_wires.specs.declared.gate.Taken.{Taken}
 use Rattle.socket_wires.specs.declared.serving.ServeFault.{ServeFault}
 use Rattle.socket_wires.specs.declared.serving.ServeFault.TheVariants.{Net, Memory, Failed}
@@ -23,7 +23,7 @@ use Rattle.socket_wires.specs.declared.socket_wire.SocketWire.{SocketWire}
 -- So many connections, on which nothing was done yet.
 pub record IsFresh (together : ℕ) (connections : List (Connection SocketWire)) : Type 0 where
   pub size : length connections ≡ together
-  pub are_new : All (λ c. (c.stage ≡ New) × IsUnused c.wire) connections
+  pub are_new : All (λ c. (c.stage ≡ New) × IsFreshWire c.wire) connections
 
 -- One round: fresh connections, which are all that were taken, are served, and those whose replies were written whole are counted.
 pub record Round (together before : ℕ) (taken : List Taken) (es : List Event) (os : List Outcome) (after : ℕ) : Type 0 where
@@ -39,8 +39,8 @@ pub record Round (together before : ℕ) (taken : List Taken) (es : List Event) 
 abbrev pub EndsRounds : Result ℕ ServeFault → Bool → ℕ → ℕ → ℕ → ℕ → List Taken → Type 0
 EndsRounds (Ok served) usable together made rounds count rest = (usable ≡ true) × (made ≡ rounds) × (served ≡ count) × (rest ≡ [])
 EndsRounds (Err Failed) usable together made rounds count rest = (usable ≡ false) × (rest ≡ [])
-EndsRounds (Err Net) usable together made rounds count rest = (usable ≡ true) × (made < rounds) × IsShort together Net rest
-EndsRounds (Err Memory) usable together made rounds count rest = (usable ≡ true) × (made < rounds) × IsShort together Memory rest
+EndsRounds (Err Net) usable together made rounds count rest = (usable ≡ true) × (made < rounds) × TooFewCame together Net rest
+EndsRounds (Err Memory) usable together made rounds count rest = (usable ≡ true) × (made < rounds) × TooFewCame together Memory rest
 
 module _ {H : Type 0} (ran : H → List Event → List Outcome → H → Type 0) (usable : H → Bool) (together : ℕ) where
   -- so many rounds, one after another, each on a hub that is usable, by these events and of these connections

@@ -10,7 +10,7 @@ use Rattle.socket_wires.specs.declared.serving.ServeFault.TheVariants.{Net, Memo
 use Rattle.socket_wires.specs.declared.socket_wire.SocketWire.{SocketWire}
 
 -- A wire of which no call was made, and on which a read or a write that has waited for 30 seconds fails.
-pub record IsUnused (wire : SocketWire) : Type 0 where
+pub record IsFreshWire (wire : SocketWire) : Type 0 where
   pub unused : wire.made.calls ≡ []
   pub reads : as_nanos wire.read_patience ≡ 30_000_000_000
   pub writes : as_nanos wire.write_patience ≡ 30_000_000_000
@@ -26,7 +26,7 @@ abbrev pub had : Connection SocketWire → Taken
 had connection = Had connection.wire.from
 
 -- Fewer connections were had than so many: the next was missed; or, where memory is lacking, the last that was had found none.
-abbrev pub IsShort : ℕ → ServeFault → List Taken → Type 0
-IsShort together Net taken = (before : List SocketAddr) × (last : Taken) × (length before < together) × IsMissed last × (taken ≡ map Had before ++ last ∷ [])
-IsShort together Memory taken = (before : List SocketAddr) × (length before ≤ together) × (before ≢ []) × (taken ≡ map Had before)
-IsShort together Failed taken = ⊥
+abbrev pub TooFewCame : ℕ → ServeFault → List Taken → Type 0
+TooFewCame together Net taken = (before : List SocketAddr) × (last : Taken) × (length before < together) × IsMissed last × (taken ≡ map Had before ++ last ∷ [])
+TooFewCame together Memory taken = (before : List SocketAddr) × (length before ≤ together) × (before ≢ []) × (taken ≡ map Had before)
+TooFewCame together Failed taken = ⊥

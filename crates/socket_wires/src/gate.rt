@@ -1,7 +1,7 @@
 // A listener, and the connections that are taken of it. `next` makes one call of it and notes what came. That it makes the call no clause can say.
 ghost use Rattle.std.specs.Prelude.{◌≡◌, List, [], ◌∷◌, ◌++◌, IfOk, OnErr};
 ghost use Rattle.std.specs.Borrow.{ftrue};
-ghost use Rattle.socket_wires.specs.Taking.{IsMissed, IsUnused};
+ghost use Rattle.socket_wires.specs.Taking.{IsMissed, IsFreshWire};
 ghost use Rattle.socket_wires.specs.declared.gate.Taken.{Taken as OneTaken};
 ghost use Rattle.socket_wires.specs.declared.gate.Taken.TheVariants.{Had};
 
@@ -74,7 +74,7 @@ impl Gate {
 
     /// Asks for the next connection, as a wire, and notes what came.
     pub(crate) fn next(&mut self) -> Result<SocketWire, WireFault>
-        ensures had { IfOk result (λ wire. IsUnused wire × (self.new.taken.calls ≡ self.old.taken.calls ++ Had wire.from ∷ [])) }
+        ensures had { IfOk result (λ wire. IsFreshWire wire × (self.new.taken.calls ≡ self.old.taken.calls ++ Had wire.from ∷ [])) }
         ensures missed { OnErr result ((taken : OneTaken) × IsMissed taken × (self.new.taken.calls ≡ self.old.taken.calls ++ taken ∷ [])) }
     {
         let Ok((stream, from)) = self.listener.accept() else {

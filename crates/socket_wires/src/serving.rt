@@ -1,7 +1,7 @@
 // Rounds of connections.
 ghost use Rattle.std.specs.Prelude.{◌≡◌, List, ◌++◌, map, IfOk, IfErr};
 ghost use Rattle.socket_wires.specs.Rounds.{IsFresh, ServesRounds};
-ghost use Rattle.socket_wires.specs.Taking.{had, IsShort};
+ghost use Rattle.socket_wires.specs.Taking.{had, TooFewCame};
 ghost use Rattle.socket_wires.specs.declared.gate.Taken.{Taken};
 
 use crate::{Gate, SocketWire};
@@ -32,7 +32,7 @@ fn accept(
 ) -> Result<Vec<Connection<SocketWire>>, ServeFault>
     ensures fresh { IfOk result (λ connections. IsFresh together connections.items) }
     ensures taken { IfOk result (λ connections. gate.new.taken.calls ≡ gate.old.taken.calls ++ map had connections.items) }
-    ensures fault { IfErr result (λ fault. (rest : List Taken) × (gate.new.taken.calls ≡ gate.old.taken.calls ++ rest) × IsShort together fault rest) }
+    ensures fault { IfErr result (λ fault. (rest : List Taken) × (gate.new.taken.calls ≡ gate.old.taken.calls ++ rest) × TooFewCame together fault rest) }
 {
     let mut connections = Vec::new(alloc);
     for _ in 0..together {

@@ -1,7 +1,7 @@
 // The calls of the system on a connection. Each function here makes one of them and notes it. That it makes the call which it notes, no clause can say: so
 // each is short, and tests on real connections hold it.
 ghost use Rattle.std.specs.Prelude.{◌≡◌, IfOk};
-ghost use Rattle.socket_wires.specs.Taking.{IsUnused};
+ghost use Rattle.socket_wires.specs.Taking.{IsFreshWire};
 
 use std::io::{self, ErrorKind, Read, Write};
 use std::net::{OpenStream, Shutdown, SocketAddr, TcpStream};
@@ -35,7 +35,7 @@ fn patience_of(stream: &TcpStream, patience: Duration) -> io::Result<(Duration, 
 impl SocketWire {
     /// A connection whose reads and writes fail once they have waited for 30 seconds.
     pub fn new(stream: TcpStream, from: SocketAddr) -> Result<SocketWire, WireFault>
-        ensures unused { IfOk result (λ wire. IsUnused wire) }
+        ensures unused { IfOk result (λ wire. IsFreshWire wire) }
         ensures from { IfOk result (λ wire. wire.from ≡ from) }
     {
         let patience = Duration::from_secs(PATIENCE);

@@ -16,7 +16,7 @@ use Rattle.page_store.proofs.DecodedPages.{number16_again, number32_again, numbe
 use Rattle.page_store.proofs.PairsByPage.{size_of_entry}
 use Rattle.tree_nodes.specs.Tree.{Tree, Others, branch, none, other, OldPages, leaf_bytes, other_bytes, other_count}
 use Rattle.tree_nodes.specs.PageBytes.{head_bytes, child_bytes, children_bytes, other_entries, branch_entries, leaf_page, branch_page, number_of}
-use Rattle.tree_nodes.specs.Valid.{IsValid, IsValidRow, IsValidLeaf, IsFilled}
+use Rattle.tree_nodes.specs.Valid.{IsValid, IsValidRow, IsValidLeaf, IsFilledLeaf}
 use Rattle.tree_nodes.proofs.KeyOrder.{both_true, not_back, itself, upto_below, between_from}
 
 pub entries_length : (pairs : List Pair) → length (entries_bytes pairs) ≡ leaf_bytes pairs
@@ -86,7 +86,7 @@ page_again entry_at bounds n generation level entries body a b c d f g h again =
 
 -- ---- a leaf
 
-filled_length : (pairs : List Pair) → IsFilled pairs → 1 ≤ length pairs
+filled_length : (pairs : List Pair) → IsFilledLeaf pairs → 1 ≤ length pairs
 filled_length [] h = absurd h
 filled_length (p ∷ ps) h = omega arith
 

@@ -17,7 +17,7 @@ use Rattle.tree_nodes.specs.Splits.{leaf_place}
 use Rattle.tree_nodes.specs.declared.splitting.TheConstants.{FRONT_OF_LEAF}
 use Rattle.tree_nodes.specs.Put.{one, front_pairs, back_pairs, leaves, split_leaf}
 use Rattle.tree_nodes.specs.Delete.{leaf_left}
-use Rattle.tree_nodes.specs.Valid.{IsFilled, IsValidLeaf, IsGrown, grown_pairs, IsLeft, left_pairs}
+use Rattle.tree_nodes.specs.Valid.{IsFilledLeaf, IsValidLeaf, IsGrown, grown_pairs, IsLeft, left_pairs}
 use Rattle.tree_nodes.proofs.SplitPlaces.{leaf_front, leaf_back}
 use Rattle.tree_nodes.proofs.KeyOrder.{both_true, not_back, upto_below, itself, between_parts, between_from}
 use Rattle.tree_nodes.proofs.JoinedPairs.{AllKeys, keys_all, all_keys, taken}
@@ -97,7 +97,7 @@ pub record IsLoose (pairs : List Pair) (low : List ℕ) (high : Option (List ℕ
   pub rising : Rises pairs
   pub between : AllKeys (is_between low high) pairs
   pub each : list_all is_pair pairs ≡ true
-  pub filled : IsFilled pairs
+  pub filled : IsFilledLeaf pairs
 
 pub leaf_from : (pairs : List Pair) (low : List ℕ) (high : Option (List ℕ)) → Rises pairs → AllKeys (is_between low high) pairs → are_leaf low high pairs ≡ true
 leaf_from pairs low high r k = rw (r, keys_all (is_between low high) pairs k) refl
@@ -111,11 +111,11 @@ loose_leaf pairs low high h =
     record { rising = b.0; between = all_keys (is_between low high) pairs b.1; each = h.1; filled = h.2 }
 
 -- the first key from which on the second part begins is above the lower bound
-above_low : (low : List ℕ) (high : Option (List ℕ)) (front : List Pair) (e : Pair) → IsFilled front → AllKeys (is_between low high) front → AllKeys (precedes_it e.0) front → precedes low e.0 ≡ true
+above_low : (low : List ℕ) (high : Option (List ℕ)) (front : List Pair) (e : Pair) → IsFilledLeaf front → AllKeys (is_between low high) front → AllKeys (precedes_it e.0) front → precedes low e.0 ≡ true
 above_low low high [] e f b h = absurd f
 above_low low high (x ∷ xs) e f b h = upto_below low x.0 e.0 (between_parts low high x.0 b.0).0 h.0
 
-pub filled : (room : ℕ) (front : List Pair) (e : Pair) → entry_size e ≤ room → room < leaf_bytes front + entry_size e → IsFilled front
+pub filled : (room : ℕ) (front : List Pair) (e : Pair) → entry_size e ≤ room → room < leaf_bytes front + entry_size e → IsFilledLeaf front
 filled room [] e small over = absurd (omega (arith, small, over))
 filled room (x ∷ xs) e small over = tt
 
@@ -184,11 +184,11 @@ put_bytes (e ∷ es) key value = go (byte_cmp key e.0) (put_bytes es key value)
     go Equal more = omega arith
     go Greater more = omega (arith, more)
 
-put_filled : (pairs : List Pair) (key value : List ℕ) → IsFilled (insert_entry byte_cmp pairs key value)
+put_filled : (pairs : List Pair) (key value : List ℕ) → IsFilledLeaf (insert_entry byte_cmp pairs key value)
 put_filled [] key value = tt
 put_filled (e ∷ es) key value = go (byte_cmp key e.0)
   where
-    go : (o : Ordering) → IsFilled (match_ordering o ((key, value) ∷ e ∷ es) ((e.0, value) ∷ es) (e ∷ insert_entry byte_cmp es key value))
+    go : (o : Ordering) → IsFilledLeaf (match_ordering o ((key, value) ∷ e ∷ es) ((e.0, value) ∷ es) (e ∷ insert_entry byte_cmp es key value))
     go Less = tt
     go Equal = tt
     go Greater = tt

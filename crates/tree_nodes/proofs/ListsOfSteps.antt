@@ -11,7 +11,7 @@ use Rattle.tree_nodes.specs.Put.{Grown, one, two, put, rooted}
 use Rattle.tree_nodes.specs.Delete.{delete}
 use Rattle.tree_nodes.specs.Supply.{path_depth}
 use Rattle.tree_nodes.specs.Valid.{IsValidLeaf, IsOld, IsLeft, grown_pairs, left_pairs, rooted_level}
-use Rattle.tree_nodes.specs.Steps.{RootState, Step, put_step, delete_step, supply_step, needed_under, grown_height, put_under, left_under, delete_under, read_under, where_owned, where_needed, stepped, after_steps, where_done, changed, after_changes, root_pairs, IsValidRoot, IsStep, AreSteps}
+use Rattle.tree_nodes.specs.Steps.{RootState, NodeStep, put_step, delete_step, supply_step, needed_under, grown_height, put_under, left_under, delete_under, read_under, where_owned, where_needed, stepped, after_steps, where_done, changed, after_changes, root_pairs, IsValidRoot, IsStep, AreSteps}
 use Rattle.tree_nodes.proofs.KeyOrder.{between_from}
 use Rattle.tree_nodes.proofs.WalksWithinBounds.{not_below_nothing}
 use Rattle.tree_nodes.proofs.LeafSplits.{pair_size}
@@ -87,12 +87,12 @@ supply_step_holds : (old : OldPages) (o : IsOld old) (state : RootState) (key : 
 supply_step_holds old o state key None w v = (v, refl)
 supply_step_holds old o state key (Some n) w v = supply_holds old o state.root state.height key n v w
 
-step_holds : (old : OldPages) (o : IsOld old) (state : RootState) (step : Step) → IsStep step → IsValidRoot old state.root state.height → HasPairs old (stepped old state step) (changed state (root_pairs old state.root) step)
+step_holds : (old : OldPages) (o : IsOld old) (state : RootState) (step : NodeStep) → IsStep step → IsValidRoot old state.root state.height → HasPairs old (stepped old state step) (changed state (root_pairs old state.root) step)
 step_holds old o state (put_step key value) s v = put_step_holds old o state key value (needed_under key state.root) refl s v
 step_holds old o state (delete_step key) s v = delete_step_holds old o state key (needed_under key state.root) refl v
 step_holds old o state (supply_step key) s v = supply_step_holds old o state key (needed_under key state.root) refl v
 
-pub steps_hold : (steps : List Step) (old : OldPages) (o : IsOld old) (state : RootState) → AreSteps steps → IsValidRoot old state.root state.height
+pub steps_hold : (steps : List NodeStep) (old : OldPages) (o : IsOld old) (state : RootState) → AreSteps steps → IsValidRoot old state.root state.height
     → IsValidRoot old (after_steps old state steps).root (after_steps old state steps).height × (root_pairs old (after_steps old state steps).root ≡ after_changes old state (root_pairs old state.root) steps)
 steps_hold [] old o state s v = (v, refl)
 steps_hold (step ∷ steps) old o state s v =

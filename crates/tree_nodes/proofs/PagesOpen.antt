@@ -10,7 +10,7 @@ use Rattle.page_store.specs.Pages.{Pair, Child, Place, child_key, pair_at, child
 use Rattle.page_store.specs.Content.{Found, Bounds, place_in, joined, low_of, high_of, fan, walk}
 use Rattle.page_store.proofs.Fields.{bind_some, bind_again, test_passed}
 use Rattle.tree_nodes.specs.Tree.{Tree, page, leaf, branch, OldPages, pairs_of, row_pairs, row_owned_at, entry_room, other_bytes}
-use Rattle.tree_nodes.specs.Valid.{IsValid, IsValidRow, IsValidLeaf, IsFilled, IsOld, IsOneNode, others_high}
+use Rattle.tree_nodes.specs.Valid.{IsValid, IsValidRow, IsValidLeaf, IsFilledLeaf, IsOld, IsOneNode, others_high}
 use Rattle.tree_nodes.specs.Supply.{others_named, branch_named, tree_in}
 use Rattle.tree_nodes.specs.Image.{old_of}
 use Rattle.tree_nodes.proofs.KeyOrder.{both_true, between_parts, upto_below}
@@ -20,32 +20,32 @@ use Rattle.tree_nodes.proofs.SizesRead.{pairs_read, children_read, children_size
 
 -- ---- a walk that finds something finds a pair
 
-filled_leaf : (pairs : List Pair) → 1 ≤ length pairs → IsFilled pairs
+filled_leaf : (pairs : List Pair) → 1 ≤ length pairs → IsFilledLeaf pairs
 filled_leaf [] h = absurd (omega (arith, h))
 filled_leaf (p ∷ ps) h = tt
 
-filled_joined : (xs ys : List Pair) → IsFilled xs → IsFilled (xs ++ ys)
+filled_joined : (xs ys : List Pair) → IsFilledLeaf xs → IsFilledLeaf (xs ++ ys)
 filled_joined [] ys h = absurd h
 filled_joined (x ∷ xs) ys h = tt
 
-leaf_filled : (place : Place) (low : List ℕ) (high : Option (List ℕ)) (bytes : List ℕ) (pairs : List Pair) → leaf_of place low high bytes ≡ Some pairs → IsFilled pairs
+leaf_filled : (place : Place) (low : List ℕ) (high : Option (List ℕ)) (bytes : List ℕ) (pairs : List Pair) → leaf_of place low high bytes ≡ Some pairs → IsFilledLeaf pairs
 unfolding leaf_of
 leaf_filled place low high bytes pairs e =
     let f = bind_some (entries_of pair_at place bytes) (λ ps. where_true (are_leaf low high ps) (Some ps)) pairs e in
     let t = test_passed (are_leaf low high f.0) (Some f.0) pairs f.2 in
     let r = entries_read pair_at place bytes f.0 f.1 in
     let n = (pairs_read r.0 r.1 (f.0, r.2) r.3).0 in
-    subst (λ (l : List Pair). IsFilled l) (pairs_is f.0 pairs t.1) (filled_leaf f.0 (omega (arith, n, r.4)))
+    subst (λ (l : List Pair). IsFilledLeaf l) (pairs_is f.0 pairs t.1) (filled_leaf f.0 (omega (arith, n, r.4)))
 
 abbrev FindsSome : (ℕ → List ℕ → Option (List ℕ) → Option Found) → Type 0
-FindsSome u = (n : ℕ) (low : List ℕ) (high : Option (List ℕ)) (found : Found) → u n low high ≡ Some found → IsFilled found.pairs
+FindsSome u = (n : ℕ) (low : List ℕ) (high : Option (List ℕ)) (found : Found) → u n low high ≡ Some found → IsFilledLeaf found.pairs
 
-fan_filled : (u : ℕ → List ℕ → Option (List ℕ) → Option Found) → FindsSome u → (children : List Child) (low : List ℕ) (high : Option (List ℕ)) (found : Found) → 1 ≤ length children → fan u low high children ≡ Some found → IsFilled found.pairs
+fan_filled : (u : ℕ → List ℕ → Option (List ℕ) → Option Found) → FindsSome u → (children : List Child) (low : List ℕ) (high : Option (List ℕ)) (found : Found) → 1 ≤ length children → fan u low high children ≡ Some found → IsFilledLeaf found.pairs
 fan_filled u w [] low high found some e = absurd (omega (arith, some))
 fan_filled u w (child ∷ children) low high found some e =
     let f = bind_some (u child.page (low_of low child.key) (high_of children high)) (λ here. fan u low high children >>= λ others. Some (joined here others)) found e in
     let g = bind_some (fan u low high children) (λ others. Some (joined f.0 others)) found f.2 in
-    subst (λ (x : Found). IsFilled x.pairs) (some_is (joined f.0 g.0) found g.2) (filled_joined f.0.pairs g.0.pairs (w child.page (low_of low child.key) (high_of children high) f.0 f.1))
+    subst (λ (x : Found). IsFilledLeaf x.pairs) (some_is (joined f.0 g.0) found g.2) (filled_joined f.0.pairs g.0.pairs (w child.page (low_of low child.key) (high_of children high) f.0 f.1))
 
 branch_filled : (place : Place) (low : List ℕ) (high : Option (List ℕ)) (bytes : List ℕ) (children : List Child) → branch_of place low high bytes ≡ Some children → 1 ≤ length children
 unfolding branch_of
@@ -57,18 +57,18 @@ branch_filled place low high bytes children e =
     let same = ap (λ (l : List Child). length l) (children_is f.0 children t.1) in
     omega (arith, n, r.4, same)
 
-walk_filled : (a : ℕ → List ℕ) (bounds : Bounds) (level n : ℕ) (low : List ℕ) (high : Option (List ℕ)) (found : Found) → walk a bounds level n low high ≡ Some found → IsFilled found.pairs
+walk_filled : (a : ℕ → List ℕ) (bounds : Bounds) (level n : ℕ) (low : List ℕ) (high : Option (List ℕ)) (found : Found) → walk a bounds level n low high ≡ Some found → IsFilledLeaf found.pairs
 walk_filled a bounds zero n low high found e =
     let f = bind_some (leaf_of (place_in bounds 0 n) low high (a n)) (λ pairs. Some (record { pages = n ∷ []; pairs = pairs })) found e in
-    subst (λ (x : Found). IsFilled x.pairs) (some_is _ found f.2) (leaf_filled (place_in bounds 0 n) low high (a n) f.0 f.1)
+    subst (λ (x : Found). IsFilledLeaf x.pairs) (some_is _ found f.2) (leaf_filled (place_in bounds 0 n) low high (a n) f.0 f.1)
 walk_filled a bounds (suc level) n low high found e =
     let f = bind_some (branch_of (place_in bounds (suc level) n) low high (a n)) (λ children. fan (walk a bounds level) low high children >>= λ under. Some (record { pages = n ∷ under.pages; pairs = under.pairs })) found e in
     let g = bind_some (fan (walk a bounds level) low high f.0) (λ under. Some (record { pages = n ∷ under.pages; pairs = under.pairs })) found f.2 in
     let some = branch_filled (place_in bounds (suc level) n) low high (a n) f.0 f.1 in
-    subst (λ (x : Found). IsFilled x.pairs) (some_is _ found g.2) (fan_filled (walk a bounds level) (λ p l h x i. walk_filled a bounds level p l h x i) f.0 low high g.0 some g.1)
+    subst (λ (x : Found). IsFilledLeaf x.pairs) (some_is _ found g.2) (fan_filled (walk a bounds level) (λ p l h x i. walk_filled a bounds level p l h x i) f.0 low high g.0 some g.1)
 
 -- where there is a pair between two bounds, the first is below the second
-low_below : (low key : List ℕ) (pairs : List Pair) → IsFilled pairs → AllKeys (is_between low (Some key)) pairs → precedes low key ≡ true
+low_below : (low key : List ℕ) (pairs : List Pair) → IsFilledLeaf pairs → AllKeys (is_between low (Some key)) pairs → precedes low key ≡ true
 low_below low key [] f k = absurd f
 low_below low key (p ∷ ps) f k =
     let parts = between_parts low (Some key) p.0 k.0 in
@@ -139,7 +139,7 @@ first_empty [] keys h = refl
 first_empty (b ∷ bs) keys h = absurd (cc h)
 
 -- the key of the second child is above the lower bound, since the first has a pair
-rises_low : (low key : List ℕ) (high : Option (List ℕ)) (children : List Child) (pairs : List Pair) → rises (key ∷ map child_key children) ≡ true → IsFilled pairs → AllKeys (is_between low (high_of children high)) pairs → rises (low ∷ map child_key children) ≡ true
+rises_low : (low key : List ℕ) (high : Option (List ℕ)) (children : List Child) (pairs : List Pair) → rises (key ∷ map child_key children) ≡ true → IsFilledLeaf pairs → AllKeys (is_between low (high_of children high)) pairs → rises (low ∷ map child_key children) ≡ true
 rises_low low key high [] pairs r f k = refl
 rises_low low key high (child ∷ children) pairs r f k = rw (low_below low child.key pairs f k) (both_true (precedes key child.key) (rises (child.key ∷ map child_key children)) r).1
 

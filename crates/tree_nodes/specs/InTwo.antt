@@ -4,7 +4,7 @@ use Rattle.page_store.specs.Pages.{Pair}
 use Rattle.page_store.specs.Batch.{is_key}
 use Rattle.tree_nodes.specs.Tree.{Tree, Others, leaf, branch, none, other, entry_room, leaf_bytes, other_bytes, other_count}
 use Rattle.tree_nodes.specs.Put.{Grown, two}
-use Rattle.tree_nodes.specs.Valid.{IsFilled}
+use Rattle.tree_nodes.specs.Valid.{IsFilledLeaf}
 
 -- bytes of an entry of a leaf and of a branch at most: 4 and 6 with a key of 300 and a value of 1,024
 abbrev pub greatest_pair : ℕ
@@ -28,7 +28,7 @@ pub record IsLeafInTwo (pairs : List Pair) (grown : Grown) : Type 0 where
   pub back : List Pair
   pub is : grown ≡ two (leaf front) middle.0 (leaf (middle ∷ back))
   pub all : front ++ (middle ∷ back) ≡ pairs
-  pub filled : IsFilled front
+  pub filled : IsFilledLeaf front
   pub first_fits : leaf_bytes front ≤ entry_room
   pub second_fits : leaf_bytes (middle ∷ back) ≤ entry_room
 

@@ -10,9 +10,9 @@ abbrev pub needed_level : List ℕ → RootState → ℕ
 needed_level key state = state.height - 1 - depth_under key state.root
 
 -- why a page isn't read, by what its bytes say: damaged where they are not that page, and out of memory only where they are
-abbrev pub IsReadFault : ℕ → Option Tree → NodeFault → Type 0
-IsReadFault page read (Damaged n) = (n ≡ page) × (read ≡ None)
-IsReadFault page read Memory = IsSome read
+abbrev pub IsNodeReadFault : ℕ → Option Tree → NodeFault → Type 0
+IsNodeReadFault page read (Damaged n) = (n ≡ page) × (read ≡ None)
+IsNodeReadFault page read Memory = IsSome read
 
 -- an image that has these bytes at the page that a key needs
 abbrev pub ShowsNeeded : (ℕ → List ℕ) → List ℕ → RootState → List ℕ → Type 0

@@ -16,10 +16,10 @@ pub record RootState : Type 0 where
   pub root : Option Tree
   pub height : ℕ
 
-pub data Step : Type 0 where
-  put_step : List ℕ → List ℕ → Step
-  delete_step : List ℕ → Step
-  supply_step : List ℕ → Step
+pub data NodeStep : Type 0 where
+  put_step : List ℕ → List ℕ → NodeStep
+  delete_step : List ℕ → NodeStep
+  supply_step : List ℕ → NodeStep
 
 abbrev pub no_tree : RootState
 no_tree = record { root = None; height = 0 }
@@ -64,12 +64,12 @@ abbrev pub where_needed : OldPages → List ℕ → Option ℕ → RootState →
 where_needed old key None state = state
 where_needed old key (Some page) state = read_under key (old.opened (state.height - 1 - depth_under key state.root) page) state.root state.height
 
-abbrev pub stepped : OldPages → RootState → Step → RootState
+abbrev pub stepped : OldPages → RootState → NodeStep → RootState
 stepped old state (put_step key value) = where_owned (needed_under key state.root) (put_under key value state.root state.height) state
 stepped old state (delete_step key) = where_owned (needed_under key state.root) (delete_under key state.root state.height) state
 stepped old state (supply_step key) = where_needed old key (needed_under key state.root) state
 
-abbrev pub after_steps : OldPages → RootState → List Step → RootState
+abbrev pub after_steps : OldPages → RootState → List NodeStep → RootState
 after_steps old state [] = state
 after_steps old state (step ∷ steps) = after_steps old (stepped old state step) steps
 
@@ -78,12 +78,12 @@ abbrev pub where_done : Option ℕ → List Pair → List Pair → List Pair
 where_done None changed same = changed
 where_done (Some page) changed same = same
 
-abbrev pub changed : RootState → List Pair → Step → List Pair
+abbrev pub changed : RootState → List Pair → NodeStep → List Pair
 changed state pairs (put_step key value) = where_done (needed_under key state.root) (insert_entry byte_cmp pairs key value) pairs
 changed state pairs (delete_step key) = where_done (needed_under key state.root) (remove_entry (is_at (byte_cmp key)) pairs) pairs
 changed state pairs (supply_step key) = pairs
 
-abbrev pub after_changes : OldPages → RootState → List Pair → List Step → List Pair
+abbrev pub after_changes : OldPages → RootState → List Pair → List NodeStep → List Pair
 after_changes old state pairs [] = pairs
 after_changes old state pairs (step ∷ steps) = after_changes old (stepped old state step) (changed state pairs step) steps
 
@@ -95,11 +95,11 @@ abbrev pub IsValidRoot : OldPages → Option Tree → ℕ → Type 0
 IsValidRoot old None height = height ≡ 0
 IsValidRoot old (Some tree) height = (level : ℕ) × (height ≡ suc level) × IsValid old level tree [] None
 
-abbrev pub IsStep : Step → Type 0
+abbrev pub IsStep : NodeStep → Type 0
 IsStep (put_step key value) = is_pair (key, value) ≡ true
 IsStep (delete_step key) = Unit {0}
 IsStep (supply_step key) = Unit {0}
 
-abbrev pub AreSteps : List Step → Type 0
+abbrev pub AreSteps : List NodeStep → Type 0
 AreSteps [] = Unit {0}
 AreSteps (step ∷ steps) = IsStep step × AreSteps steps

@@ -12,12 +12,12 @@ abbrev pub others_high : Others → Option (List ℕ) → Option (List ℕ)
 others_high none high = high
 others_high (other key tree others) high = Some key
 
-abbrev pub IsFilled : List Pair → Type 0
-IsFilled [] = ⊥
-IsFilled (pair ∷ pairs) = Unit {0}
+abbrev pub IsFilledLeaf : List Pair → Type 0
+IsFilledLeaf [] = ⊥
+IsFilledLeaf (pair ∷ pairs) = Unit {0}
 
 abbrev pub IsValidLeaf : List Pair → List ℕ → Option (List ℕ) → Type 0
-IsValidLeaf pairs low high = (are_leaf low high pairs ≡ true) × (list_all is_pair pairs ≡ true) × IsFilled pairs × (leaf_bytes pairs ≤ entry_room)
+IsValidLeaf pairs low high = (are_leaf low high pairs ≡ true) × (list_all is_pair pairs ≡ true) × IsFilledLeaf pairs × (leaf_bytes pairs ≤ entry_room)
 
 -- a tree of a level, from a key on and up to another
 abbrev mutual

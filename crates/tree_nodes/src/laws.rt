@@ -12,7 +12,7 @@ ghost use Rattle.tree_nodes.specs.Image.{old_of};
 ghost use Rattle.tree_nodes.specs.PageBytes.{leaf_page, branch_page, branch_entries};
 ghost use Rattle.tree_nodes.specs.PageViews.{has_head};
 ghost use Rattle.tree_nodes.specs.Supplied.{Supplies};
-ghost use Rattle.tree_nodes.specs.Steps.{Step, RootState, AreSteps, IsValidRoot, after_steps, after_changes, root_pairs, no_tree};
+ghost use Rattle.tree_nodes.specs.Steps.{NodeStep, RootState, AreSteps, IsValidRoot, after_steps, after_changes, root_pairs, no_tree};
 ghost use Rattle.tree_nodes.specs.Tree.{Tree, Others, leaf, branch, OldPages, pairs_of, pages_of, owned_at, other_count, way, entry_room, leaf_bytes, other_bytes};
 ghost use Rattle.tree_nodes.specs.Put.{Grown, one, split_leaf, split_branch, put, rooted};
 ghost use Rattle.tree_nodes.specs.InTwo.{AreKeys, IsLeafInTwo, IsBranchInTwo, greatest_pair, greatest_child};
@@ -108,7 +108,7 @@ pub fn a_page_begins_with_its_head()
 
 /// Any list of puts, deletes and supplies, from any valid tree or from none, leaves a valid tree with the pairs that its changes make.
 pub fn any_list_of_steps()
-    ensures steps { (steps : List Step) (old : OldPages) → IsOld old → (state : RootState) → AreSteps steps → IsValidRoot old state.root state.height →
+    ensures steps { (steps : List NodeStep) (old : OldPages) → IsOld old → (state : RootState) → AreSteps steps → IsValidRoot old state.root state.height →
         IsValidRoot old (after_steps old state steps).root (after_steps old state steps).height × (root_pairs old (after_steps old state steps).root ≡ after_changes old state (root_pairs old state.root) steps) }
     ensures none { (old : OldPages) → IsValidRoot old no_tree.root no_tree.height }
 {}

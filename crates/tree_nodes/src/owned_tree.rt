@@ -10,7 +10,7 @@ ghost use Rattle.tree_nodes.specs.Steps.{put_step, delete_step, supply_step, ste
 ghost use Rattle.tree_nodes.specs.Growth.{owned_under};
 ghost use Rattle.tree_nodes.specs.Keys.{has_under};
 ghost use Rattle.tree_nodes.specs.OwnedTrees.{state_of, need_of, at_page, over_root};
-ghost use Rattle.tree_nodes.specs.Needs.{IsReadFault, ShowsNeeded, needed_level};
+ghost use Rattle.tree_nodes.specs.Needs.{IsNodeReadFault, ShowsNeeded, needed_level};
 
 use crate::node::{holds_key, owned_count};
 use crate::supplying::level_under;
@@ -214,7 +214,7 @@ impl OwnedTree {
         ensures tree { OnOk result ((image : ℕ → List ℕ) → ShowsNeeded image key.now (state_of self.old) bytes.now → state_of self.new ≡ stepped (old_of image (bounds_of bounds)) (state_of self.old) (supply_step key.now)) }
         ensures read { OnOk result (IfSome (needed_under key.now (state_of self.old).root) (λ page. IsSome (tree_in (bounds_of bounds) (needed_level key.now (state_of self.old)) page bytes.now))) }
 
-        ensures fault { IfErr result (λ e. IsSomeAnd (needed_under key.now (state_of self.old).root) (λ page. IsReadFault page (tree_in (bounds_of bounds) (needed_level key.now (state_of self.old)) page bytes.now) e)) }
+        ensures fault { IfErr result (λ e. IsSomeAnd (needed_under key.now (state_of self.old).root) (λ page. IsNodeReadFault page (tree_in (bounds_of bounds) (needed_level key.now (state_of self.old)) page bytes.now) e)) }
         ensures err { OnErr result (state_of self.new ≡ state_of self.old) }
     {
         let Some(page) = self.needed(key) else {

@@ -2,7 +2,7 @@
 ghost use Rattle.std.specs.Prelude.{◌≡◌, ◌-◌, ◌<◌, Some, MatchResult};
 ghost use Rattle.tree_nodes.specs.PageViews.{bounds_of};
 ghost use Rattle.tree_nodes.specs.Supply.{tree_in, path_depth, supplied};
-ghost use Rattle.tree_nodes.specs.Needs.{IsReadFault};
+ghost use Rattle.tree_nodes.specs.Needs.{IsNodeReadFault};
 ghost use Rattle.tree_nodes.specs.NodeView.{tree_of};
 
 use crate::deleting::with_child_left;
@@ -19,7 +19,7 @@ pub fn read_node(
     page: u32,
     bytes: &[u8; 4096],
 ) -> Result<Node, NodeFault>
-    ensures { MatchResult result (λ node. tree_in (bounds_of bounds) level page bytes.now ≡ Some (tree_of node)) (IsReadFault page (tree_in (bounds_of bounds) level page bytes.now)) }
+    ensures { MatchResult result (λ node. tree_in (bounds_of bounds) level page bytes.now ≡ Some (tree_of node)) (IsNodeReadFault page (tree_in (bounds_of bounds) level page bytes.now)) }
 {
     if level == 0 {
         read_leaf(alloc, bounds, page, bytes)
@@ -35,7 +35,7 @@ fn read_leaf(
     page: u32,
     bytes: &[u8; 4096],
 ) -> Result<Node, NodeFault>
-    ensures { MatchResult result (λ node. tree_in (bounds_of bounds) 0 page bytes.now ≡ Some (tree_of node)) (IsReadFault page (tree_in (bounds_of bounds) 0 page bytes.now)) }
+    ensures { MatchResult result (λ node. tree_in (bounds_of bounds) 0 page bytes.now ≡ Some (tree_of node)) (IsNodeReadFault page (tree_in (bounds_of bounds) 0 page bytes.now)) }
 {
     let leaf = Leaf::new(bounds, page, bytes)?;
     Ok(Node::Leaf(leaf.to_pairs(alloc)?))
@@ -50,7 +50,7 @@ fn read_branch(
     bytes: &[u8; 4096],
 ) -> Result<Node, NodeFault>
     requires { 0 < level }
-    ensures { MatchResult result (λ node. tree_in (bounds_of bounds) level page bytes.now ≡ Some (tree_of node)) (IsReadFault page (tree_in (bounds_of bounds) level page bytes.now)) }
+    ensures { MatchResult result (λ node. tree_in (bounds_of bounds) level page bytes.now ≡ Some (tree_of node)) (IsNodeReadFault page (tree_in (bounds_of bounds) level page bytes.now)) }
 {
     let branch = Branch::new(bounds, level, page, bytes)?;
     let Some((_, first, others)) = branch.first() else {

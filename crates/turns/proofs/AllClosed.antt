@@ -6,7 +6,7 @@ use Rattle.group_world.specs.declared.event.Event.{Event}
 use Rattle.group_world.specs.declared.event.Outcome.{Outcome}
 use Rattle.group_world.specs.declared.event.Outcome.TheVariants as outcomes
 use Rattle.turns.specs.WireCalls.{WireCall}
-use Rattle.turns.specs.Turns.{Trace, is_closed, is_waiting, For, Turn, Learns, Ends, Joins, StepOf, InOrder, Times, Pass, Serves, AreClosed, NobodyWaits, heard_stage, learned_stage, replied_stage, joined_stage}
+use Rattle.turns.specs.Turns.{Trace, is_closed, is_waiting, For, Turn, Learns, EndsConnection, Joins, StepOf, StepsInOrder, Times, Pass, Serves, AreClosed, NobodyWaits, heard_stage, learned_stage, replied_stage, joined_stage}
 use Rattle.turns.specs.declared.connection.Connection.{Connection}
 use Rattle.turns.specs.declared.connection.Stage.{Stage}
 use Rattle.turns.specs.declared.connection.Stage.TheVariants.{New, Listening, Waiting, Replying, Served, Left}
@@ -73,7 +73,7 @@ learns_out (Replying id) t after d = ap is_waiting d.1
 learns_out Served t after d = ap is_waiting d.1
 learns_out Left t after d = ap is_waiting d.1
 
-ends_closed : (s : Stage) (t : Trace) (after : Stage) → s ≢ New → Ends s t after → is_closed after ≡ true
+ends_closed : (s : Stage) (t : Trace) (after : Stage) → s ≢ New → EndsConnection s t after → is_closed after ≡ true
 ends_closed New t after isnt d = absurd (isnt refl)
 ends_closed (Listening id) t after isnt d = ap is_closed d.1
 ends_closed (Waiting id) t after isnt d = ap is_closed d.1
@@ -81,7 +81,7 @@ ends_closed (Replying id) t after isnt d = ap is_closed d.1
 ends_closed Served t after isnt d = ap is_closed d.1
 ends_closed Left t after isnt d = ap is_closed d.1
 
-pub all_after : {X : Type 0} (step : StepOf X) (P Q : X → Type 0) → ((x y : X) (es : List Event) (os : List Outcome) → P x → step x es os y → Q y) → (xs ys : List X) (es : List Event) (os : List Outcome) → All P xs → InOrder step xs es os ys → All Q ys
+pub all_after : {X : Type 0} (step : StepOf X) (P Q : X → Type 0) → ((x y : X) (es : List Event) (os : List Outcome) → P x → step x es os y → Q y) → (xs ys : List X) (es : List Event) (os : List Outcome) → All P xs → StepsInOrder step xs es os ys → All Q ys
 all_after step P Q f [] [] es os p d = All-nil Q
 all_after step P Q f (x ∷ xs) (y ∷ ys) es os p d = All-cons Q y ys (f x y d.first_events d.first_outcomes (All-head P x xs p) d.first) (all_after step P Q f xs ys d.later_events d.later_outcomes (All-tail P x xs p) d.others)
 all_after step P Q f [] (y ∷ ys) es os p d = absurd d
@@ -102,7 +102,7 @@ module _ {W : Type 0} (calls : W → List WireCall) where
   abbrev IsOld : Connection W → Type 0
   IsOld c = c.stage ≢ New
 
-  turns_old : (xs ys : List (Connection W)) (es : List Event) (os : List Outcome) → All IsOld xs → InOrder (For calls Turn) xs es os ys → All IsOld ys
+  turns_old : (xs ys : List (Connection W)) (es : List Event) (os : List Outcome) → All IsOld xs → StepsInOrder (For calls Turn) xs es os ys → All IsOld ys
   turns_old xs ys es os p d = all_after (For calls Turn) IsOld IsOld (λ x y gs qs o t. turn_new x.stage _ y.stage o t.does) xs ys es os p d
 
   pass_old : (xs ys : List (Connection W)) (es : List Event) (os : List Outcome) → All IsOld xs → Pass calls xs es os ys → All IsOld ys
@@ -112,7 +112,7 @@ module _ {W : Type 0} (calls : W → List WireCall) where
 
   pub serves_closed : (old new : List (Connection W)) (es : List Event) (os : List Outcome) → Serves calls old es os new → AreClosed new
   serves_closed old new es os s =
-      all_after (For calls Ends) IsOld (λ c. is_closed c.stage ≡ true) (λ x y fs ps p d. ends_closed x.stage _ y.stage p d.does) s.later.mid new s.later.later_events s.later.later_outcomes
+      all_after (For calls EndsConnection) IsOld (λ c. is_closed c.stage ≡ true) (λ x y fs ps p d. ends_closed x.stage _ y.stage p d.does) s.later.mid new s.later.later_events s.later.later_outcomes
       (times_keep (Pass calls) (All IsOld) pass_old s.later.first.count s.mid s.later.mid s.later.first_events s.later.first_outcomes
       (all_after (For calls Joins) (λ c. Unit {0}) IsOld (λ x y fs ps p d. joins_new x.stage _ y.stage d.does) old s.mid s.first_events s.first_outcomes (anything old) s.first) s.later.first.passes)
       s.later.later

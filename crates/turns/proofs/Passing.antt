@@ -4,9 +4,9 @@ use Rattle.std.proofs.Math.ListN.{set}
 use Rattle.std.proofs.lemmas.List.{append-nil, take_more, take_more_set, take_all}
 use Rattle.group_world.specs.declared.event.Event.{Event}
 use Rattle.group_world.specs.declared.event.Outcome.{Outcome}
-use Rattle.turns.specs.Turns.{StepOf, InOrder}
+use Rattle.turns.specs.Turns.{StepOf, StepsInOrder}
 
-in_order_push : {X : Type 0} (step : StepOf X) (xs ys : List X) (x y : X) (es fs : List Event) (os ps : List Outcome) → InOrder step xs es os ys → step x fs ps y → InOrder step (xs ++ x ∷ []) (es ++ fs) (os ++ ps) (ys ++ y ∷ [])
+in_order_push : {X : Type 0} (step : StepOf X) (xs ys : List X) (x y : X) (es fs : List Event) (os ps : List Outcome) → StepsInOrder step xs es os ys → step x fs ps y → StepsInOrder step (xs ++ x ∷ []) (es ++ fs) (os ++ ps) (ys ++ y ∷ [])
 in_order_push step [] [] x y es fs os ps done one = record {
   first_events = fs;
   first_outcomes = ps;
@@ -32,7 +32,7 @@ in_order_push step (a ∷ as1) [] x y es fs os ps done one = absurd done
 
 -- The first i are done, and the others are as they were.
 pub record IsDoneTo {X : Type 0} (step : StepOf X) (i : ℕ) (old : List X) (es : List Event) (os : List Outcome) (now : List X) : Type 0 where
-  pub front : InOrder step (take i old) es os (take i now)
+  pub front : StepsInOrder step (take i old) es os (take i now)
   pub rest : drop i now ≡ drop i old
   pub size : length now ≡ length old
 
@@ -59,15 +59,15 @@ done_more step i old now x y es fs os ps d within is one =
     let was : get_or old i x ≡ x = sym parts.0 ∙ sym is in
     record {
       front =
-          subst (λ l. InOrder step l (es ++ fs) (os ++ ps) (take (i + 1) (set now i y))) (sym (take_more old i x within2 ∙ ap (λ a. take i old ++ a ∷ []) was))
-          (subst (λ l. InOrder step (take i old ++ x ∷ []) (es ++ fs) (os ++ ps) l) (sym (take_more_set now i y within)) (in_order_push step (take i old) (take i now) x y es fs os ps d.front one));
+          subst (λ l. StepsInOrder step l (es ++ fs) (os ++ ps) (take (i + 1) (set now i y))) (sym (take_more old i x within2 ∙ ap (λ a. take i old ++ a ∷ []) was))
+          (subst (λ l. StepsInOrder step (take i old ++ x ∷ []) (es ++ fs) (os ++ ps) l) (sym (take_more_set now i y within)) (in_order_push step (take i old) (take i now) x y es fs os ps d.front one));
       rest = ap (λ n. drop n (set now i y)) (add-one i) ∙ drop_set now i y ∙ parts.1 ∙ ap (λ n. drop n old) (sym (add-one i));
       size = length_set now i y ∙ d.size;
     }
 
-pub done_all : {X : Type 0} (step : StepOf X) (i : ℕ) (old now : List X) (es : List Event) (os : List Outcome) → IsDoneTo step i old es os now → length now ≤ i → InOrder step old es os now
+pub done_all : {X : Type 0} (step : StepOf X) (i : ℕ) (old now : List X) (es : List Event) (os : List Outcome) → IsDoneTo step i old es os now → length now ≤ i → StepsInOrder step old es os now
 done_all step i old now es os d all =
-    subst (λ l. InOrder step l es os now) (take_all i old (omega (arith, d.size))) (subst (λ l. InOrder step (take i old) es os l) (take_all i now all) d.front)
+    subst (λ l. StepsInOrder step l es os now) (take_all i old (omega (arith, d.size))) (subst (λ l. StepsInOrder step (take i old) es os l) (take_all i now all) d.front)
 
 -- the next of them, as a loop has it
 pub done_next : {X : Type 0} (step : StepOf X) (i : ℕ) (old now : List X) (x y : X) (es fs : List Event) (os ps : List Outcome) → IsDoneTo step i old es os now → i < length now → x ≡ get_or now i x → step (get_or now i x) fs ps y → IsDoneTo step (i + 1) old (es ++ fs) (os ++ ps) (set now i y)

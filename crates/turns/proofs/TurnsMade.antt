@@ -15,7 +15,7 @@ use Rattle.group_world.specs.declared.answer.Drawn.{Drawn}
 use Rattle.group_world.specs.declared.answer.Drawn.TheVariants as drawn
 use Rattle.turns.specs.Runs.{moment_of}
 use Rattle.turns.specs.WireCalls.{WireCall, Read, ReadFailed, Closed, HasMade, IsSent}
-use Rattle.turns.specs.Turns.{Trace, trace, nothing, is_closed, For, Turn, Learns, Ends, Joins, Takes, Follows, Leaves, Hears, HearsNothing, IsTold, Asks, Replies, StepOf, InOrder, Times, Both, IsFlushed, Pass, AreClosed, Passes, heard_event, heard_stage, heard_reply, drawn_bytes, learned_stage, replied_stage, joined_stage, joined_calls}
+use Rattle.turns.specs.Turns.{Trace, trace, nothing, is_closed, For, Turn, Learns, EndsConnection, Joins, ActsInOneTurn, Follows, LeavesAndCloses, HearsOneRead, HearsNothing, IsTold, AsksForReply, DrawsAndSends, StepOf, StepsInOrder, Times, Both, IsFlushed, Pass, AreClosed, MakesPasses, heard_event, heard_stage, heard_reply, drawn_bytes, learned_stage, replied_stage, joined_stage, joined_calls}
 use Rattle.turns.specs.declared.connection.Connection.{Connection}
 use Rattle.turns.specs.declared.connection.Stage.{Stage}
 use Rattle.turns.specs.declared.connection.Stage.TheVariants.{New, Listening, Waiting, Replying, Served, Left}
@@ -46,7 +46,7 @@ heard_moment id now (b ∷ bytes) = refl
 
 -- a read, and the sending of a reply to it
 pub heard_made : (id : ℕ) (old mid new : List WireCall) (piece : List ℕ) (es : List Event) (os : List Outcome) (outcome : Outcome) (after : Stage) → length piece ≤ 512 → mid ≡ old ++ Read 512 piece ∷ [] → IsTold id piece es os outcome →
-    HasMade mid new (λ made. (whole : Bool) × IsSent (heard_reply outcome) made whole) → after ≡ heard_stage id outcome → HasMade old new (λ made. Hears id (trace made es os) after ⊎ HearsNothing (trace made es os) after)
+    HasMade mid new (λ made. (whole : Bool) × IsSent (heard_reply outcome) made whole) → after ≡ heard_stage id outcome → HasMade old new (λ made. HearsOneRead id (trace made es os) after ⊎ HearsNothing (trace made es os) after)
 heard_made id old mid new piece es os outcome after room read told sent is = (
   Read 512 piece ∷ sent.0,
   sent.1 ∙ ap (λ l. l ++ sent.0) read ∙ append_assoc old (Read 512 piece ∷ []) sent.0,
@@ -63,15 +63,15 @@ heard_made id old mid new piece es os outcome after room read told sent is = (
   }),
 )
 
-pub heard_nothing : (id : ℕ) (old new : List WireCall) (after : Stage) → new ≡ old ++ ReadFailed 512 ∷ [] → after ≡ Left → HasMade old new (λ made. Hears id (trace made [] []) after ⊎ HearsNothing (trace made [] []) after)
+pub heard_nothing : (id : ℕ) (old new : List WireCall) (after : Stage) → new ≡ old ++ ReadFailed 512 ∷ [] → after ≡ Left → HasMade old new (λ made. HearsOneRead id (trace made [] []) after ⊎ HearsNothing (trace made [] []) after)
 heard_nothing id old new after read is = (ReadFailed 512 ∷ [], read, inr (record { is = refl; after_is = is }))
 
 -- a draw, and its sending
-pub replied_made : (id : ℕ) (old new : List WireCall) (outcome : Outcome) (whole : Bool) (after : Stage) → length (drawn_bytes outcome) ≤ 512 → HasMade old new (λ made. IsSent (drawn_bytes outcome) made whole) → after ≡ replied_stage id outcome whole → HasMade old new (λ made. Replies id (trace made (events.Draw id 512 ∷ []) (outcome ∷ [])) after)
+pub replied_made : (id : ℕ) (old new : List WireCall) (outcome : Outcome) (whole : Bool) (after : Stage) → length (drawn_bytes outcome) ≤ 512 → HasMade old new (λ made. IsSent (drawn_bytes outcome) made whole) → after ≡ replied_stage id outcome whole → HasMade old new (λ made. DrawsAndSends id (trace made (events.Draw id 512 ∷ []) (outcome ∷ [])) after)
 replied_made id old new outcome whole after room sent is = (sent.0, sent.1, record { outcome = outcome; whole = whole; room = room; events_are = refl; outcomes_are = refl; sent = sent.2; after_is = is })
 
 -- a session whose post waited is asked, and its client hears of what came of it
-pub asked_made : (id : ℕ) (old new : List WireCall) (outcome : Outcome) (after : Stage) → length (drawn_bytes outcome) ≤ 0 → HasMade old new (λ made. (whole : Bool) × IsSent (heard_reply outcome) made whole) → after ≡ learned_stage id outcome → HasMade old new (λ made. Asks id (trace made (events.Draw id 0 ∷ []) (outcome ∷ [])) after)
+pub asked_made : (id : ℕ) (old new : List WireCall) (outcome : Outcome) (after : Stage) → length (drawn_bytes outcome) ≤ 0 → HasMade old new (λ made. (whole : Bool) × IsSent (heard_reply outcome) made whole) → after ≡ learned_stage id outcome → HasMade old new (λ made. AsksForReply id (trace made (events.Draw id 0 ∷ []) (outcome ∷ [])) after)
 asked_made id old new outcome after few sent is =
     (sent.0, sent.1, record { outcome = outcome; whole = sent.2.0; none = none_of (drawn_bytes outcome) few; events_are = refl; outcomes_are = refl; sent = sent.2.1; after_is = is })
   where
@@ -80,7 +80,7 @@ asked_made id old new outcome after few sent is =
     none_of (b ∷ bytes) few = absurd (omega (arith, few))
 
 -- its reply stands
-pub learned_well : (id : ℕ) (calls : List WireCall) (result : Result Drawn HubFault) (d : Drawn) (buffer : List ℕ) → length buffer ≡ 0 → result ≡ Ok d → HasMade calls calls (λ made. Asks id (trace made (events.Draw id 0 ∷ []) (draw_outcome result buffer ∷ [])) (Replying id))
+pub learned_well : (id : ℕ) (calls : List WireCall) (result : Result Drawn HubFault) (d : Drawn) (buffer : List ℕ) → length buffer ≡ 0 → result ≡ Ok d → HasMade calls calls (λ made. AsksForReply id (trace made (events.Draw id 0 ∷ []) (draw_outcome result buffer ∷ [])) (Replying id))
 learned_well id calls result d buffer size is = asked_made id calls calls (draw_outcome result buffer) (Replying id) (draws_few 0 result buffer size)
     (sent_nothing calls (heard_reply (draw_outcome result buffer)) (ap (λ r. heard_reply (draw_outcome r buffer)) is ∙ unheard d)) (sym (ap (λ r. learned_stage id (draw_outcome r buffer)) is ∙ replies d))
   where
@@ -94,17 +94,17 @@ learned_well id calls result d buffer size is = asked_made id calls calls (draw_
 
 -- or a fault, of which it may hear
 pub learned_fault : (id : ℕ) (old new : List WireCall) (result : Result Drawn HubFault) (fault : HubFault) (buffer : List ℕ) → length buffer ≡ 0 → result ≡ Err fault → HasMade old new (λ made. (whole : Bool) × IsSent (heard_reply (outcomes.Fault fault)) made whole) →
-    HasMade old new (λ made. Asks id (trace made (events.Draw id 0 ∷ []) (draw_outcome result buffer ∷ [])) Left)
+    HasMade old new (λ made. AsksForReply id (trace made (events.Draw id 0 ∷ []) (draw_outcome result buffer ∷ [])) Left)
 learned_fault id old new result fault buffer size is sent = asked_made id old new (draw_outcome result buffer) Left (draws_few 0 result buffer size)
     (sent.0, sent.1, (sent.2.0, subst (λ o. IsSent (heard_reply o) sent.0 sent.2.0) (sym outcome) sent.2.1)) (ap (learned_stage id) (sym outcome))
   where
     outcome : draw_outcome result buffer ≡ outcomes.Fault fault
     outcome = ap (λ r. draw_outcome r buffer) is
 
-pub left_made : (id : ℕ) (old new : List WireCall) (outcome : Outcome) → new ≡ old ++ Closed ∷ [] → HasMade old new (λ made. Leaves id (trace made (events.Leave id ∷ []) (outcome ∷ [])))
+pub left_made : (id : ℕ) (old new : List WireCall) (outcome : Outcome) → new ≡ old ++ Closed ∷ [] → HasMade old new (λ made. LeavesAndCloses id (trace made (events.Leave id ∷ []) (outcome ∷ [])))
 left_made id old new outcome closed = (Closed ∷ [], closed, record { outcome = outcome; is = refl })
 
-pub follows_closed : (id : ℕ) (after : Stage) (old new : List WireCall) (es : List Event) (os : List Outcome) → is_closed after ≡ true → HasMade old new (λ made. Leaves id (trace made es os)) → HasMade old new (λ made. Follows id (is_closed after) (trace made es os))
+pub follows_closed : (id : ℕ) (after : Stage) (old new : List WireCall) (es : List Event) (os : List Outcome) → is_closed after ≡ true → HasMade old new (λ made. LeavesAndCloses id (trace made es os)) → HasMade old new (λ made. Follows id (is_closed after) (trace made es os))
 follows_closed id after old new es os closed m = (m.0, m.1, subst (λ b. Follows id b (trace m.0 es os)) (sym closed) m.2)
 
 pub follows_open : (id : ℕ) (after : Stage) (calls : List WireCall) → is_closed after ≡ false → HasMade calls calls (λ made. Follows id (is_closed after) (trace made [] []))
@@ -112,27 +112,27 @@ follows_open id after calls is_open = ([], sym (append-nil calls), subst (λ b. 
 
 -- a turn is what is done, and what follows
 takes_made : (id : ℕ) (Does : Trace → Stage → Type 0) (old mid new : List WireCall) (after : Stage) (es fs : List Event) (os ps : List Outcome) → HasMade old mid (λ made. Does (trace made es os) after) → HasMade mid new (λ made. Follows id (is_closed after) (trace made fs ps)) →
-    HasMade old new (λ made. Takes id Does (trace made (es ++ fs) (os ++ ps)) after)
+    HasMade old new (λ made. ActsInOneTurn id Does (trace made (es ++ fs) (os ++ ps)) after)
 takes_made id Does old mid new after es fs os ps first second =
     (first.0 ++ second.0, second.1 ∙ ap (λ l. l ++ second.0) first.1 ∙ append_assoc old first.0 second.0, record { done = trace first.0 es os; rest = trace second.0 fs ps; is = refl; does = first.2; follows = second.2 })
 
 module _ {W : Type 0} (calls : W → List WireCall) (old new : Connection W) where
-  pub listened : (id : ℕ) (after : Stage) (mid : List WireCall) (es fs : List Event) (os ps : List Outcome) → old.stage ≡ Listening id → new.stage ≡ after → HasMade (calls old.wire) mid (λ made. Hears id (trace made es os) after ⊎ HearsNothing (trace made es os) after) →
+  pub listened : (id : ℕ) (after : Stage) (mid : List WireCall) (es fs : List Event) (os ps : List Outcome) → old.stage ≡ Listening id → new.stage ≡ after → HasMade (calls old.wire) mid (λ made. HearsOneRead id (trace made es os) after ⊎ HearsNothing (trace made es os) after) →
       HasMade mid (calls new.wire) (λ made. Follows id (is_closed after) (trace made fs ps)) → For calls Turn old (es ++ fs) (os ++ ps) new
   listened id after mid es fs os ps was is first second =
-      let m = takes_made id (λ t s. Hears id t s ⊎ HearsNothing t s) (calls old.wire) mid (calls new.wire) after es fs os ps first second in
+      let m = takes_made id (λ t s. HearsOneRead id t s ⊎ HearsNothing t s) (calls old.wire) mid (calls new.wire) after es fs os ps first second in
       record { made = m.0; calls_are = m.1; does = subst (λ s. Turn s (trace m.0 (es ++ fs) (os ++ ps)) new.stage) (sym was) (subst (λ s. Turn (Listening id) (trace m.0 (es ++ fs) (os ++ ps)) s) (sym is) m.2) }
 
-  pub replied : (id : ℕ) (after : Stage) (mid : List WireCall) (es fs : List Event) (os ps : List Outcome) → old.stage ≡ Replying id → new.stage ≡ after → HasMade (calls old.wire) mid (λ made. Replies id (trace made es os) after) →
+  pub replied : (id : ℕ) (after : Stage) (mid : List WireCall) (es fs : List Event) (os ps : List Outcome) → old.stage ≡ Replying id → new.stage ≡ after → HasMade (calls old.wire) mid (λ made. DrawsAndSends id (trace made es os) after) →
       HasMade mid (calls new.wire) (λ made. Follows id (is_closed after) (trace made fs ps)) → For calls Turn old (es ++ fs) (os ++ ps) new
   replied id after mid es fs os ps was is first second =
-      let m = takes_made id (Replies id) (calls old.wire) mid (calls new.wire) after es fs os ps first second in
+      let m = takes_made id (DrawsAndSends id) (calls old.wire) mid (calls new.wire) after es fs os ps first second in
       record { made = m.0; calls_are = m.1; does = subst (λ s. Turn s (trace m.0 (es ++ fs) (os ++ ps)) new.stage) (sym was) (subst (λ s. Turn (Replying id) (trace m.0 (es ++ fs) (os ++ ps)) s) (sym is) m.2) }
 
-  pub learned : (id : ℕ) (after : Stage) (mid : List WireCall) (es fs : List Event) (os ps : List Outcome) → old.stage ≡ Waiting id → new.stage ≡ after → HasMade (calls old.wire) mid (λ made. Asks id (trace made es os) after) →
+  pub learned : (id : ℕ) (after : Stage) (mid : List WireCall) (es fs : List Event) (os ps : List Outcome) → old.stage ≡ Waiting id → new.stage ≡ after → HasMade (calls old.wire) mid (λ made. AsksForReply id (trace made es os) after) →
       HasMade mid (calls new.wire) (λ made. Follows id (is_closed after) (trace made fs ps)) → For calls Learns old (es ++ fs) (os ++ ps) new
   learned id after mid es fs os ps was is first second =
-      let m = takes_made id (Asks id) (calls old.wire) mid (calls new.wire) after es fs os ps first second in
+      let m = takes_made id (AsksForReply id) (calls old.wire) mid (calls new.wire) after es fs os ps first second in
       record { made = m.0; calls_are = m.1; does = subst (λ s. Learns s (trace m.0 (es ++ fs) (os ++ ps)) new.stage) (sym was) (subst (λ s. Learns (Waiting id) (trace m.0 (es ++ fs) (os ++ ps)) s) (sym is) m.2) }
 
   -- nothing is done for a connection that is as it was
@@ -172,16 +172,16 @@ pub take_min : (count room : ℕ) (buffer : List ℕ) → length buffer ≡ room
 take_min count room buffer size = ⊎_elim (λ (lt : room < count). ap (λ n. take n buffer) (omega arith) ∙ take_all room buffer (omega (arith, size)) ∙ sym (take_all count buffer (omega (arith, size)))) (λ (le : count ≤ room). ap (λ n. take n buffer) (omega arith)) (cases_lt room count)
 
 pub replied_drawn : (id : ℕ) (old new : List WireCall) (outcome : Outcome) (bytes : List ℕ) (whole : Bool) (after : Stage) → length (drawn_bytes outcome) ≤ 512 → outcome ≡ outcomes.Drawn bytes → HasMade old new (λ made. IsSent bytes made whole) → after ≡ replied_stage id (outcomes.Drawn bytes) whole →
-    HasMade old new (λ made. Replies id (trace made (events.Draw id 512 ∷ []) (outcome ∷ [])) after)
+    HasMade old new (λ made. DrawsAndSends id (trace made (events.Draw id 512 ∷ []) (outcome ∷ [])) after)
 replied_drawn id old new outcome bytes whole after room is sent so =
     replied_made id old new outcome whole after room (sent.0, sent.1, subst (λ b. IsSent b sent.0 whole) (sym (ap drawn_bytes is)) sent.2) (so ∙ ap (λ o. replied_stage id o whole) (sym is))
 
-pub replied_finished : (id : ℕ) (calls : List WireCall) (outcome : Outcome) → length (drawn_bytes outcome) ≤ 512 → outcome ≡ outcomes.Finished → HasMade calls calls (λ made. Replies id (trace made (events.Draw id 512 ∷ []) (outcome ∷ [])) Served)
+pub replied_finished : (id : ℕ) (calls : List WireCall) (outcome : Outcome) → length (drawn_bytes outcome) ≤ 512 → outcome ≡ outcomes.Finished → HasMade calls calls (λ made. DrawsAndSends id (trace made (events.Draw id 512 ∷ []) (outcome ∷ [])) Served)
 replied_finished id calls outcome room is =
     let sent = sent_none calls in
     replied_made id calls calls outcome true Served room (sent.0, sent.1, subst (λ b. IsSent b sent.0 true) (sym (ap drawn_bytes is)) sent.2) (ap (λ o. replied_stage id o true) (sym is))
 
-pub replied_fault : (id : ℕ) (calls : List WireCall) (outcome : Outcome) (fault : HubFault) → length (drawn_bytes outcome) ≤ 512 → outcome ≡ outcomes.Fault fault → HasMade calls calls (λ made. Replies id (trace made (events.Draw id 512 ∷ []) (outcome ∷ [])) Left)
+pub replied_fault : (id : ℕ) (calls : List WireCall) (outcome : Outcome) (fault : HubFault) → length (drawn_bytes outcome) ≤ 512 → outcome ≡ outcomes.Fault fault → HasMade calls calls (λ made. DrawsAndSends id (trace made (events.Draw id 512 ∷ []) (outcome ∷ [])) Left)
 replied_fault id calls outcome fault room is =
     let sent = sent_none calls in
     replied_made id calls calls outcome true Left room (sent.0, sent.1, subst (λ b. IsSent b sent.0 true) (sym (ap drawn_bytes is)) sent.2) (ap (λ o. replied_stage id o true) (sym is))
@@ -212,7 +212,7 @@ learns_rests (Replying id) a = (refl, refl)
 learns_rests Served a = (refl, refl)
 learns_rests Left a = (refl, refl)
 
-pub ends_rest : (stage : Stage) → ((id : ℕ) → stage ≡ Listening id → ⊥) → ((id : ℕ) → stage ≡ Waiting id → ⊥) → ((id : ℕ) → stage ≡ Replying id → ⊥) → Ends stage nothing stage
+pub ends_rest : (stage : Stage) → ((id : ℕ) → stage ≡ Listening id → ⊥) → ((id : ℕ) → stage ≡ Waiting id → ⊥) → ((id : ℕ) → stage ≡ Replying id → ⊥) → EndsConnection stage nothing stage
 ends_rest New a w b = (refl, refl)
 ends_rest (Listening id) a w b = absurd (a id refl)
 ends_rest (Waiting id) a w b = absurd (w id refl)
@@ -250,7 +250,7 @@ pub times_next : {X : Type 0} (n : ℕ) (step : StepOf X) (old mid new : X) (es 
 times_next n step old mid new es fs os ps before one = subst (λ m. Times m step old (es ++ fs) (os ++ ps) new) (sym (add-one n)) (times_more n step old mid new es fs os ps before one)
 
 -- the passes end
-pub passes_made : {W : Type 0} (calls : W → List WireCall) (count : ℕ) (old new : List (Connection W)) (es : List Event) (os : List Outcome) → count ≤ 1000000 → (count < 1000000 → AreClosed new) → Times count (Pass calls) old es os new → Passes calls old es os new
+pub passes_made : {W : Type 0} (calls : W → List WireCall) (count : ℕ) (old new : List (Connection W)) (es : List Event) (os : List Outcome) → count ≤ 1000000 → (count < 1000000 → AreClosed new) → Times count (Pass calls) old es os new → MakesPasses calls old es os new
 passes_made calls count old new es os few until passes = record { count = count; few = few; passes = passes; until = until }
 
 -- a client hears nothing of what the hub took

@@ -82,7 +82,7 @@ pub data IsTold (id : ℕ) (piece : List ℕ) (es : List Event) (os : List Outco
   again : (now later : ℕ) (flushed : Outcome) → es ≡ heard_event id piece now ∷ events.Flush ∷ heard_event id piece later ∷ [] → os ≡ outcomes.Fault Crowded ∷ flushed ∷ outcome ∷ [] → IsTold id piece es os outcome
 
 -- One read into room for 512 bytes, of which the hub is told.
-pub record Hears (id : ℕ) (t : Trace) (after : Stage) : Type 0 where
+pub record HearsOneRead (id : ℕ) (t : Trace) (after : Stage) : Type 0 where
   pub piece : List ℕ
   pub outcome : Outcome
   pub sent : List WireCall
@@ -110,7 +110,7 @@ replied_stage id outcomes.Finished whole = Served
 replied_stage id outcome whole = Left
 
 -- One draw of at most 512 bytes, which are sent.
-pub record Replies (id : ℕ) (t : Trace) (after : Stage) : Type 0 where
+pub record DrawsAndSends (id : ℕ) (t : Trace) (after : Stage) : Type 0 where
   pub outcome : Outcome
   pub whole : Bool
   pub room : length (drawn_bytes outcome) ≤ 512
@@ -125,7 +125,7 @@ learned_stage id (outcomes.Drawn bytes) = Replying id
 learned_stage id outcomes.Finished = Replying id
 learned_stage id outcome = Left
 
-pub record Asks (id : ℕ) (t : Trace) (after : Stage) : Type 0 where
+pub record AsksForReply (id : ℕ) (t : Trace) (after : Stage) : Type 0 where
   pub outcome : Outcome
   pub whole : Bool
   pub none : drawn_bytes outcome ≡ []
@@ -135,17 +135,17 @@ pub record Asks (id : ℕ) (t : Trace) (after : Stage) : Type 0 where
   pub after_is : after ≡ learned_stage id outcome
 
 -- A session leaves, and its wire is closed.
-pub record Leaves (id : ℕ) (t : Trace) : Type 0 where
+pub record LeavesAndCloses (id : ℕ) (t : Trace) : Type 0 where
   pub outcome : Outcome
   pub is : t ≡ trace (Closed ∷ []) (events.Leave id ∷ []) (outcome ∷ [])
 
 -- What follows in the same turn: a session that doesn't go on leaves.
 abbrev pub Follows : ℕ → Bool → Trace → Type 0
-Follows id true t = Leaves id t
+Follows id true t = LeavesAndCloses id t
 Follows id false t = t ≡ nothing
 
 -- One turn of the session: what it does, and what follows.
-pub record Takes (id : ℕ) (Does : Trace → Stage → Type 0) (t : Trace) (after : Stage) : Type 0 where
+pub record ActsInOneTurn (id : ℕ) (Does : Trace → Stage → Type 0) (t : Trace) (after : Stage) : Type 0 where
   pub done : Trace
   pub rest : Trace
   pub is : t ≡ then done rest
@@ -163,21 +163,21 @@ Joins stage t after = Rests stage t after
 
 -- One turn of a connection: one read or one draw, with its writes.
 abbrev pub Turn : Stage → Trace → Stage → Type 0
-Turn (Listening id) t after = Takes id (λ s stage. Hears id s stage ⊎ HearsNothing s stage) t after
-Turn (Replying id) t after = Takes id (Replies id) t after
+Turn (Listening id) t after = ActsInOneTurn id (λ s stage. HearsOneRead id s stage ⊎ HearsNothing s stage) t after
+Turn (Replying id) t after = ActsInOneTurn id (DrawsAndSends id) t after
 Turn stage t after = Rests stage t after
 
 -- What is done for a connection behind a pass, once the posts that wait were made: a session whose post waited learns what came of it.
 abbrev pub Learns : Stage → Trace → Stage → Type 0
-Learns (Waiting id) t after = Takes id (Asks id) t after
+Learns (Waiting id) t after = ActsInOneTurn id (AsksForReply id) t after
 Learns stage t after = Rests stage t after
 
 -- What is done for a connection at the end: one that is still open leaves.
-abbrev pub Ends : Stage → Trace → Stage → Type 0
-Ends (Listening id) t after = Leaves id t × (after ≡ Left)
-Ends (Waiting id) t after = Leaves id t × (after ≡ Left)
-Ends (Replying id) t after = Leaves id t × (after ≡ Left)
-Ends stage t after = Rests stage t after
+abbrev pub EndsConnection : Stage → Trace → Stage → Type 0
+EndsConnection (Listening id) t after = LeavesAndCloses id t × (after ≡ Left)
+EndsConnection (Waiting id) t after = LeavesAndCloses id t × (after ≡ Left)
+EndsConnection (Replying id) t after = LeavesAndCloses id t × (after ≡ Left)
+EndsConnection stage t after = Rests stage t after
 
 -- ---- connections
 
@@ -215,11 +215,11 @@ pub record OneOf {X : Type 0} (step : StepOf X) (x y : X) (Others : List Event �
   pub outcomes_are : os ≡ first_outcomes ++ later_outcomes
 
 -- For each in order one step.
-abbrev pub InOrder : {X : Type 0} → StepOf X → StepOf (List X)
-InOrder step [] es os [] = (es ≡ []) × (os ≡ [])
-InOrder step (x ∷ xs) es os (y ∷ ys) = OneOf step x y (λ fs ps. InOrder step xs fs ps ys) es os
-InOrder step [] es os (y ∷ ys) = ⊥
-InOrder step (x ∷ xs) es os [] = ⊥
+abbrev pub StepsInOrder : {X : Type 0} → StepOf X → StepOf (List X)
+StepsInOrder step [] es os [] = (es ≡ []) × (os ≡ [])
+StepsInOrder step (x ∷ xs) es os (y ∷ ys) = OneOf step x y (λ fs ps. StepsInOrder step xs fs ps ys) es os
+StepsInOrder step [] es os (y ∷ ys) = ⊥
+StepsInOrder step (x ∷ xs) es os [] = ⊥
 
 -- so many times one after another
 abbrev pub Times : {X : Type 0} → ℕ → StepOf X → StepOf X
@@ -238,7 +238,7 @@ pub record IsFlushed {X : Type 0} (old : X) (es : List Event) (os : List Outcome
 
 -- One pass: each connection has one turn, in order; then the posts that wait are made, and each session whose post waited learns what came of it, in order.
 abbrev pub Pass : {W : Type 0} → (W → List WireCall) → StepOf (List (Connection W))
-Pass calls old es os new = Both (InOrder (For calls Turn)) (Both IsFlushed (InOrder (For calls Learns))) old es os new
+Pass calls old es os new = Both (StepsInOrder (For calls Turn)) (Both IsFlushed (StepsInOrder (For calls Learns))) old es os new
 
 abbrev pub is_waiting : Stage → Bool
 is_waiting (Waiting id) = true
@@ -249,7 +249,7 @@ abbrev pub NobodyWaits : {W : Type 0} → List (Connection W) → Type 0
 NobodyWaits connections = All (λ c. is_waiting c.stage ≡ false) connections
 
 -- Passes over all connections; they end where all are closed, or after 1,000,000.
-pub record Passes {W : Type 0} (calls : W → List WireCall) (old : List (Connection W)) (es : List Event) (os : List Outcome) (new : List (Connection W)) : Type 0 where
+pub record MakesPasses {W : Type 0} (calls : W → List WireCall) (old : List (Connection W)) (es : List Event) (os : List Outcome) (new : List (Connection W)) : Type 0 where
   pub count : ℕ
   pub few : count ≤ 1000000
   pub passes : Times count (Pass calls) old es os new
@@ -257,4 +257,4 @@ pub record Passes {W : Type 0} (calls : W → List WireCall) (old : List (Connec
 
 -- All that is done for some connections: those that are new join in order, passes are made over all, and who is still open leaves.
 abbrev pub Serves : {W : Type 0} → (W → List WireCall) → StepOf (List (Connection W))
-Serves calls old es os new = Both (InOrder (For calls Joins)) (Both (Passes calls) (InOrder (For calls Ends))) old es os new
+Serves calls old es os new = Both (StepsInOrder (For calls Joins)) (Both (MakesPasses calls) (StepsInOrder (For calls EndsConnection))) old es os new

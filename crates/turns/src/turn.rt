@@ -7,7 +7,7 @@ ghost use Rattle.group_world.specs.Outcomes.{bytes_outcome, heard_outcome};
 ghost use Rattle.group_world.specs.declared.event.Outcome.TheVariants.{Fault};
 ghost use Rattle.turns.specs.Runs.{HasRun};
 ghost use Rattle.turns.specs.WireCalls.{WireCall, HasMade, IsSent};
-ghost use Rattle.turns.specs.Turns.{trace, is_closed, For, Joins, Turn, Learns, Ends, Hears, HearsNothing, IsTold, Asks, Replies, Leaves, Follows, heard_event, heard_reply, heard_stage};
+ghost use Rattle.turns.specs.Turns.{trace, is_closed, For, Joins, Turn, Learns, EndsConnection, HearsOneRead, HearsNothing, IsTold, AsksForReply, DrawsAndSends, LeavesAndCloses, Follows, heard_event, heard_reply, heard_stage};
 
 use crate::connection::{Connection, Stage};
 use crate::sending::send;
@@ -110,7 +110,7 @@ fn hear<S: SearchKeeper, W: Wire, C: Clock>(
     clock: &mut C,
     id: u64,
 ) -> Stage
-    ensures { HasRun (HubRun S.site_state S.lacks S.crash_states S.represents) hub.old hub.new (C.given clock.old) (C.given clock.new) (λ es os. HasMade (W.calls wire.old) (W.calls wire.new) (λ made. Hears id (trace made es os) result ⊎ HearsNothing (trace made es os) result)) }
+    ensures { HasRun (HubRun S.site_state S.lacks S.crash_states S.represents) hub.old hub.new (C.given clock.old) (C.given clock.new) (λ es os. HasMade (W.calls wire.old) (W.calls wire.new) (λ made. HearsOneRead id (trace made es os) result ⊎ HearsNothing (trace made es os) result)) }
 {
     let mut buffer = [0; PIECE];
     let Ok(count) = wire.read(&mut buffer) else {
@@ -122,7 +122,7 @@ fn hear<S: SearchKeeper, W: Wire, C: Clock>(
 
 /// One draw, with its writes.
 fn reply<S: SearchKeeper, W: Wire>(hub: &mut Hub<S>, wire: &mut W, id: u64) -> Stage
-    ensures { HasRun (HubRun S.site_state S.lacks S.crash_states S.represents) hub.old hub.new [] [] (λ es os. HasMade (W.calls wire.old) (W.calls wire.new) (λ made. Replies id (trace made es os) result)) }
+    ensures { HasRun (HubRun S.site_state S.lacks S.crash_states S.represents) hub.old hub.new [] [] (λ es os. HasMade (W.calls wire.old) (W.calls wire.new) (λ made. DrawsAndSends id (trace made es os) result)) }
 {
     let mut buffer = [0; PIECE];
     match hub.draw(id, &mut buffer) {
@@ -140,7 +140,7 @@ fn reply<S: SearchKeeper, W: Wire>(hub: &mut Hub<S>, wire: &mut W, id: u64) -> S
 
 /// Where a session is whose post waited, once the posts were made: its reply stands, or its post is left, and its client hears of that.
 fn ask<S: SearchKeeper, W: Wire>(hub: &mut Hub<S>, wire: &mut W, id: u64) -> Stage
-    ensures { HasRun (HubRun S.site_state S.lacks S.crash_states S.represents) hub.old hub.new [] [] (λ es os. HasMade (W.calls wire.old) (W.calls wire.new) (λ made. Asks id (trace made es os) result)) }
+    ensures { HasRun (HubRun S.site_state S.lacks S.crash_states S.represents) hub.old hub.new [] [] (λ es os. HasMade (W.calls wire.old) (W.calls wire.new) (λ made. AsksForReply id (trace made es os) result)) }
 {
     match hub.draw(id, &mut []) {
         Ok(_) => Stage::Replying(id),
@@ -153,7 +153,7 @@ fn ask<S: SearchKeeper, W: Wire>(hub: &mut Hub<S>, wire: &mut W, id: u64) -> Sta
 
 /// The session leaves, and its wire is closed.
 fn leave<S: SearchKeeper, W: Wire>(hub: &mut Hub<S>, wire: &mut W, id: u64)
-    ensures { HasRun (HubRun S.site_state S.lacks S.crash_states S.represents) hub.old hub.new [] [] (λ es os. HasMade (W.calls wire.old) (W.calls wire.new) (λ made. Leaves id (trace made es os))) }
+    ensures { HasRun (HubRun S.site_state S.lacks S.crash_states S.represents) hub.old hub.new [] [] (λ es os. HasMade (W.calls wire.old) (W.calls wire.new) (λ made. LeavesAndCloses id (trace made es os))) }
 {
     let _ = hub.leave(id);
     wire.close();
@@ -227,7 +227,7 @@ pub(crate) fn learn<S: SearchKeeper, W: Wire>(hub: &mut Hub<S>, connection: &mut
 
 /// A session that is still open leaves, and its wire is closed.
 pub(crate) fn end<S: SearchKeeper, W: Wire>(hub: &mut Hub<S>, connection: &mut Connection<W>)
-    ensures { HasRun (HubRun S.site_state S.lacks S.crash_states S.represents) hub.old hub.new [] [] (λ es os. For W.calls Ends connection.old es os connection.new) }
+    ensures { HasRun (HubRun S.site_state S.lacks S.crash_states S.represents) hub.old hub.new [] [] (λ es os. For W.calls EndsConnection connection.old es os connection.new) }
 {
     match connection.stage {
         Stage::Listening(id) | Stage::Waiting(id) | Stage::Replying(id) => {

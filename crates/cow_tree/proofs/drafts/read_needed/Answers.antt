@@ -7,7 +7,7 @@ use Rattle.page_store.specs.Content.{Bounds}
 use Rattle.tree_nodes.specs.Image.{old_of}
 use Rattle.tree_nodes.specs.Supply.{tree_in}
 use Rattle.tree_nodes.specs.Steps.{RootState, needed_under, stepped, supply_step}
-use Rattle.tree_nodes.specs.Needs.{needed_level, IsReadFault}
+use Rattle.tree_nodes.specs.Needs.{needed_level, IsNodeReadFault}
 use Rattle.tree_nodes.specs.declared.fault.NodeFault.{NodeFault}
 use Rattle.tree_nodes.specs.PageViews.{bounds_of}
 use Rattle.tree_nodes.specs.OwnedTrees.{state_of}
@@ -75,6 +75,6 @@ returns-in-Err-Damaged-clause-draft g c = λ keeps edits read pairs d.
     let loaded : page_of view c.args.page ≡ bytes = if_ok_done c.load_page.result c.is_err.result _ c.is_err.ensures.value c.if-is_err.false (c.load_page.ensures.page keeps) in
     let here : bytes_in view c.args.page ≡ bytes = ap (take 4096) loaded ∙ take_all 4096 bytes (omega (arith, long)) in
     let opens = needed_opens (old_under slot view) (old_is slot view) tree key c.args.page d.valid c.requires.needed in
-    let answered = subst (λ (e : NodeFault). IsSomeAnd (needed_under key tree.root) (λ page. IsReadFault page (tree_in (bounds_of c.bounds_of.result) (needed_level key tree) page bytes) e)) c.in-Err-Damaged.field-0-is c.in-Err-Damaged.ensures.fault in
+    let answered = subst (λ (e : NodeFault). IsSomeAnd (needed_under key tree.root) (λ page. IsNodeReadFault page (tree_in (bounds_of c.bounds_of.result) (needed_level key tree) page bytes) e)) c.in-Err-Damaged.field-0-is c.in-Err-Damaged.ensures.fault in
     let some : IsSome (tree_in (bounds_of c.bounds_of.result) (needed_level key tree) c.args.page bytes) = rw c.bounds_of.ensures.bounds (subst (λ (l : List ℕ). IsSome (tree_in (bounds_under slot) (needed_level key tree) c.args.page l)) here opens) in
     not_damaged (needed_under key tree.root) c.args.page c.in-Err-Damaged.page (λ page. tree_in (bounds_of c.bounds_of.result) (needed_level key tree) page bytes) c.requires.needed some answered

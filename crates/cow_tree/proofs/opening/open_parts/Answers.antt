@@ -6,7 +6,7 @@ use Rattle.page_store.specs.Content.{tree_found}
 use Rattle.page_store.specs.Counting.{CountsRefusal}
 use Rattle.page_store.specs.declared.fault.KeeperFault.{KeeperFault}
 use Rattle.page_store.proofs.DeviceSequences.{still_honest, keeps_then_reads}
-use Rattle.cow_tree.specs.Opening.{IsReached, AreWhole, IsOpenFault}
+use Rattle.cow_tree.specs.Opening.{IsReached, LivePagesAreWhole, IsTreeOpenFault}
 use Rattle.cow_tree.proofs.Openings.{holds_now, walk_counts, walk_not_small, walk_fault}
 use Rattle.cow_tree.proofs.WorkDone.{opened_once}
 use Rattle.cow_tree.proofs.opening.open_parts.Goals as goal
@@ -23,7 +23,7 @@ returns-in-Ok-clause-opened g c =
       view = λ keeps. ap (λ (x : Disk). x.view) (only.only.disk (keeps1 keeps)) ∙ opened.view keeps;
       holds = λ keeps. holds_now (d.state c.args.device.now).disk.view slot c.walk_slot.new.ledger (opened.slot_is keeps) c.in_ok-slot.ensures.version
           (subst (λ (i : Image). IsReached (tree_found slot (page_of i)) slot c.walk_slot.new.ledger) (opened.view keeps) (c.in-Ok.ensures.found (keeps1 keeps)))
-          (subst (λ (i : Image). AreWhole i c.walk_slot.new.ledger) (opened.view keeps) (c.in-Ok.ensures.whole (keeps1 keeps)));
+          (subst (λ (i : Image). LivePagesAreWhole i c.walk_slot.new.ledger) (opened.view keeps) (c.in-Ok.ensures.whole (keeps1 keeps)));
       top_is = λ keeps. opened.top_is keeps;
     }
 
@@ -43,7 +43,7 @@ returns-in-Err-clause-opens g c =
       counts_fault = subst (λ (e : KeeperFault). CountsRefusal e old new) (sym c.from.ensures) (walk_counts (Unit {0}) old mid new c.in-Err.fault opens.counts walks.reads.reads reads.only.writes);
       small = λ is. absurd (walk_not_small c.in-Err.fault (sym c.from.ensures ∙ is));
       fault =
-          subst (λ (e : KeeperFault). IsOpenFault old new e) (sym c.from.ensures)
+          subst (λ (e : KeeperFault). IsTreeOpenFault old new e) (sym c.from.ensures)
           (walk_fault (Unit {0}) old mid new c.in_ok-slot.slot c.walk_slot.new.ledger c.in-Err.fault c.in_ok-slot.ensures.large (still_honest old mid opens.device.same) opened.view opened.slot_is c.in_ok-slot.ensures.version opens.counts walks.reads.reads reads.only.writes walks.named c.in-Err.ensures.found c.in-Err.ensures.named);
     }
 

@@ -4,7 +4,7 @@ use Rattle.page_alloc.specs.LedgerState.{LedgerState}
 use Rattle.page_store.specs.Sectors.{page_of}
 use Rattle.page_store.specs.Content.{tree_of}
 use Rattle.cow_tree.specs.NamedWalks.{root_or_name}
-use Rattle.cow_tree.specs.Walks.{IsWalked, Tells, Names}
+use Rattle.cow_tree.specs.Walks.{IsWalked, TellsWalk, Names}
 use Rattle.cow_tree.specs.Opening.{bounds_under}
 use Rattle.cow_tree.proofs.Reaching.{at_rest, no_pins, all_whole}
 use Rattle.cow_tree.proofs.Finding.{exact, is_reached, keys_differ, finds_fault}
@@ -16,7 +16,7 @@ returns-in_err-count-clause-found g c = λ keeps.
     let a = page_of (g.D.Device.state c.args.device.now).disk.view in
     let slot = c.args.slot.now in
     let p = err_from_is_err_and c.from_residual.result c.from_residual.ensures.1 in
-    let answered = subst (λ (s : LedgerState). Tells (tree_of a (bounds_under slot) slot.root.height slot.root.tree) s c.count_tree.new.ledger (Err c.in_err-count.field-0.0)) c.requires.fresh (c.in_err-count.ensures.answered keeps) in
+    let answered = subst (λ (s : LedgerState). TellsWalk (tree_of a (bounds_under slot) slot.root.height slot.root.tree) s c.count_tree.new.ledger (Err c.in_err-count.field-0.0)) c.requires.fresh (c.in_err-count.ensures.answered keeps) in
     rw (p.1, p.2) (finds_fault slot a c.count_tree.new.ledger (Unit {0}) c.in_err-count.field-0.0 answered)
 
 pub returns-then-count-slot-clause-found : goal.returns-then-count-slot-clause-found

@@ -14,7 +14,7 @@ use Rattle.page_store.proofs.DeviceSequences.{still_honest}
 use Rattle.tree_nodes.specs.PageViews.{bounds_of, children_in}
 use Rattle.tree_nodes.proofs.KeyOrder.{both_true}
 use Rattle.cow_tree.specs.NamedWalks.{walk_or_name, fan_or_name}
-use Rattle.cow_tree.specs.Walks.{Tells, IsWalked, IsWalkedTo, NamesAfter, HoldsWhole, CountsPages}
+use Rattle.cow_tree.specs.Walks.{TellsWalk, IsWalked, IsWalkedTo, NamesAfter, HoldsWhole, CountsPages}
 use Rattle.cow_tree.specs.declared.page_fault.PageFault.{PageFault}
 use Rattle.cow_tree.proofs.Reaching.{holds_again, holds_none, holds_read, wholes_again}
 use Rattle.cow_tree.proofs.ReadsInTurn.{reads_again}
@@ -59,9 +59,9 @@ walk_children-returns-in_err-more-clause-answered g t c = λ keeps.
     let children = children_in c.args.branch.now.count c.args.branch.now.entries.now in
     let keeps1 = still_honest (d.state c.args.device.now) (d.state c.loop-key.device) i.device.only.same keeps in
     let so_far = subst (λ (cs : List Child). IsWalkedTo (fan under c.args.low.now (option_copied c.args.high)) children cs c.args.ledger.now c.loop-key.ledger c.loop-key.count) c.in-Some.ensures.children (i.so_far keeps) in
-    let one = at_child (λ x. Tells x c.loop-key.ledger c.walk_tree.new.ledger (Err c.in_err-more.field-0.0)) (page_of (d.state c.loop-key.device).disk.view) v (bounds_of c.args.bounds) c.args.level c.in-Some.page c.lower-from.result.now (low_of c.args.low.now c.in-Some.key.now)
+    let one = at_child (λ x. TellsWalk x c.loop-key.ledger c.walk_tree.new.ledger (Err c.in_err-more.field-0.0)) (page_of (d.state c.loop-key.device).disk.view) v (bounds_of c.args.bounds) c.args.level c.in-Some.page c.lower-from.result.now (low_of c.args.low.now c.in-Some.key.now)
     (option_copied c.upper-to.result) (high_of others (option_copied c.args.high)) (ap (λ (x : Disk). page_of x.view) (i.device.only.disk keeps)) c.lower-from.ensures c.upper-to.ensures (c.in_err-more.ensures.answered keeps1) in
-    subst (λ (r : Result ℕ PageFault). Tells (fan under c.args.low.now (option_copied c.args.high) children) c.args.ledger.now c.walk_tree.new.ledger r) (sym (p.1 ∙ ap (λ (e : PageFault). err e) p.2))
+    subst (λ (r : Result ℕ PageFault). TellsWalk (fan under c.args.low.now (option_copied c.args.high) children) c.args.ledger.now c.walk_tree.new.ledger r) (sym (p.1 ∙ ap (λ (e : PageFault). err e) p.2))
     (breaks_off under c.args.low.now (option_copied c.args.high) children c.args.ledger.now c.in_err-more.field-0.0 c.loop-key.count c.loop-key.ledger c.walk_tree.new.ledger c.walk_tree.new.ledger child others so_far one)
   where
     err : PageFault → Result ℕ PageFault
@@ -140,7 +140,7 @@ walk_tree-returns-clause-answered g t c = λ keeps.
     let r = reached c.reach.result (is_free c.args.ledger.now c.args.page) c.reach.new.ledger c.args.ledger.now c.args.page c.reach.ensures.is c.reach.ensures.held c.if-not-reach.false in
     let keeps1 = still_honest (d.state c.args.device.now) (d.state c.load_page.new.device) c.in_ok-load_page.ensures.reads.device.only.same keeps in
     let children = children_in c.in_ok-branch.branch.count c.in_ok-branch.branch.entries.now in
-    let answered = subst (λ (x : Disk). Tells (fan (walk (page_of x.view) bounds (c.args.level - 1)) c.args.low.now high children) c.reach.new.ledger c.walk_children.new.ledger c.walk_children.result) (c.in_ok-load_page.ensures.reads.device.only.disk keeps) (c.walk_children.ensures.answered keeps1) in
+    let answered = subst (λ (x : Disk). TellsWalk (fan (walk (page_of x.view) bounds (c.args.level - 1)) c.args.low.now high children) c.reach.new.ledger c.walk_children.new.ledger c.walk_children.result) (c.in_ok-load_page.ensures.reads.device.only.disk keeps) (c.walk_children.ensures.answered keeps1) in
     tells_branch c.walk_children.result v bounds c.args.level c.args.page c.args.low.now high c.args.ledger.now c.reach.new.ledger c.walk_children.new.ledger children c.if-level-eq0.false r.0 r.1
     (ap (branch_of (place_in bounds c.args.level c.args.page) c.args.low.now high) (c.in_ok-load_page.ensures.page keeps) ∙ c.in_ok-branch.ensures.children) answered
 

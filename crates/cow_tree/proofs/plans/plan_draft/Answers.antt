@@ -5,7 +5,7 @@ use Rattle.tree_nodes.specs.OwnedTrees.{state_of}
 use Rattle.tree_nodes.specs.Growth.{owned_under}
 use Rattle.tree_pages.specs.Written.{IsTreePage}
 use Rattle.cow_tree.specs.Drafts.{old_under}
-use Rattle.cow_tree.specs.Taken.{Takes}
+use Rattle.cow_tree.specs.Taken.{TakesPages}
 use Rattle.cow_tree.specs.Plans.{IsRootWritten}
 use Rattle.cow_tree.proofs.Taken.{alive_still}
 use Rattle.cow_tree.proofs.PlansMade.{planned_at, made_inside, made_count, made_levels, made_root, given_inside, all_owned, free_few, root_is_inside, numbers_inside}
@@ -36,7 +36,7 @@ returns-clause-made c =
     let lives = c.requires.lives in
     let free_is = c.free-free.ensures in
     let owned = all_owned c.owned_nodes-need.result (owned_under tree.root) c.free-free.result slot.root.pages c.owned_nodes-need.ensures (omega (arith, free)) (omega (arith, few, lives, free_is)) most in
-    let taken : Takes c.owned_nodes-need.result ledger c.take_pages.new.ledger given = c.in_ok-numbers.ensures.taken in
+    let taken : TakesPages c.owned_nodes-need.result ledger c.take_pages.new.ledger given = c.in_ok-numbers.ensures.taken in
     let written : IsRootWritten slot.root.pages c.args.seal given tree.height tree.root c.in_ok-tree.pages.items c.in_ok-tree.tree =
     subst (λ (l : List ℕ). IsRootWritten slot.root.pages c.args.seal l tree.height tree.root c.in_ok-tree.pages.items c.in_ok-tree.tree) c.deref.ensures.value c.in_ok-tree.ensures.written in
     record {
@@ -75,7 +75,7 @@ returns-clause-used c =
     let lives = c.requires.lives in
     let free_is = c.free-free.ensures in
     let owned = all_owned c.owned_nodes-need.result (owned_under tree.root) c.free-free.result slot.root.pages c.owned_nodes-need.ensures (omega (arith, free)) (omega (arith, few, lives, free_is)) most in
-    let taken : Takes c.owned_nodes-need.result ledger c.take_pages.new.ledger given = c.in_ok-numbers.ensures.taken in
+    let taken : TakesPages c.owned_nodes-need.result ledger c.take_pages.new.ledger given = c.in_ok-numbers.ensures.taken in
     let written : IsRootWritten slot.root.pages c.args.seal given tree.height tree.root c.in_ok-tree.pages.items c.in_ok-tree.tree =
     subst (λ (l : List ℕ). IsRootWritten slot.root.pages c.args.seal l tree.height tree.root c.in_ok-tree.pages.items c.in_ok-tree.tree) c.deref.ensures.value c.in_ok-tree.ensures.written in
     made_count slot.root.pages c.args.seal tree.height given tree.root c.in_ok-tree.pages.items c.in_ok-tree.tree (taken.count_is ∙ owned) written
@@ -103,7 +103,7 @@ returns-clause-planned c = λ view top edits pairs held counted seal version.
     let lives = c.requires.lives in
     let free_is = c.free-free.ensures in
     let owned = all_owned c.owned_nodes-need.result (owned_under tree.root) c.free-free.result slot.root.pages c.owned_nodes-need.ensures (omega (arith, free)) (omega (arith, few, lives, free_is)) most in
-    let taken : Takes (owned_under tree.root) ledger c.take_pages.new.ledger given = subst (λ (n : ℕ). Takes n ledger c.take_pages.new.ledger given) owned c.in_ok-numbers.ensures.taken in
+    let taken : TakesPages (owned_under tree.root) ledger c.take_pages.new.ledger given = subst (λ (n : ℕ). TakesPages n ledger c.take_pages.new.ledger given) owned c.in_ok-numbers.ensures.taken in
     let written : IsRootWritten slot.root.pages c.args.seal given tree.height tree.root c.in_ok-tree.pages.items c.in_ok-tree.tree =
     subst (λ (l : List ℕ). IsRootWritten slot.root.pages c.args.seal l tree.height tree.root c.in_ok-tree.pages.items c.in_ok-tree.tree) c.deref.ensures.value c.in_ok-tree.ensures.written in
     planned_at view slot top edits pairs ledger c.take_pages.new.ledger tree given _ c.in_ok-tree.pages.items held counted.draft_is lives most taken refl seal c.ranges.seal.fits version refl counted.keys tree.root refl c.requires.low

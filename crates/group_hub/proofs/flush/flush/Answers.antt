@@ -12,7 +12,7 @@ use Rattle.group_world.specs.declared.fault.HubFault.TheVariants.{Memory}
 use Rattle.group_world.specs.CrashStates.{with_changes}
 use Rattle.group_hub.specs.Sessions.{sessions_of, pins_of, AreSound}
 use Rattle.group_hub.specs.Flushing.{next_pins, AreForWaiting, StandsBeside, put_seats}
-use Rattle.group_hub.specs.Calls.{Call}
+use Rattle.group_hub.specs.Calls.{CallOverKeeper}
 use Rattle.group_hub.specs.Worlds.{world_at}
 use Rattle.group_hub.specs.Together.{group_of, IsApart, IsTogetherFault}
 use Rattle.group_hub.specs.declared.next.Putting.TheVariants.{All, Gone}
@@ -172,7 +172,7 @@ returns-in-Err-answer_singly-clause-call g c = λ next grouped.
     let usable_then : (s.site_state n).usable ≡ a.usable = ap (λ (h : SiteState). h.usable) same ∙ makes.still_usable ∙ sym c.requires.usable in
     let begins : Begins s.site_state s.lacks s.crash_states s.represents k l next grouped old new = record { usable = c.requires.usable; honest = works.worked.honest ∙ honest_then; represent = g.met.S.SiteKeeper.crash_states_represent k; represent_now = g.met.S.SiteKeeper.crash_states_represent l } in
     let fails = c.in-Err-answer_singly.ensures.works.fault in
-    subst (λ (x : HubFault). Call s.site_state s.lacks s.crash_states s.represents (world_at a next grouped old) k Flush (Fault x) (world_at (s.site_state l) next grouped new) l) (sym fails.0)
+    subst (λ (x : HubFault). CallOverKeeper s.site_state s.lacks s.crash_states s.represents (world_at a next grouped old) k Flush (Fault x) (world_at (s.site_state l) next grouped new) l) (sym fails.0)
     (split_failed_call s.site_state s.lacks s.crash_states s.represents k l next grouped old new begins apart.some apart.split fails.1
     (λ honest. subst (λ (x : ℕ). Rose x (s.site_state l).failed_writes) writes_then (c.in-Err-answer_singly.ensures.works.cause (then honest)))
     (λ honest. some_before s.represents a.site (s.site_state n).site (s.site_state l).site (s.crash_states k) (s.crash_states n) (s.crash_states l) (without_forms a.site old) between new (none honest) (site_then honest) (seats_then honest) (c.in-Err-answer_singly.ensures.fails (then honest)))

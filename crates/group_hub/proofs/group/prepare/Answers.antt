@@ -4,7 +4,7 @@ use Rattle.std.proofs.lemmas.Grind.{common_steps}
 use Rattle.host_types.specs.Site.{Site}
 use Rattle.host_types.specs.SiteState.{SiteState}
 use Rattle.group_world.specs.Laws.{all_made}
-use Rattle.group_hub.specs.Flushing.{next_pins, IsNext, AreNextSound, AreForWaiting, ArePrepared, StandsBeside}
+use Rattle.group_hub.specs.Flushing.{next_pins, IsNextReply, AreNextSound, AreForWaiting, ArePrepared, StandsBeside}
 use Rattle.group_hub.specs.Sessions.{phase_of, session_of, sessions_of}
 use Rattle.group_hub.proofs.NextSessions.{taken_one, group_of, prepared_made, prepared_more, seats_more}
 use Rattle.group_hub.proofs.NextPins.{one_beside, none_beside, room_beside, sound_more, for_more}
@@ -58,7 +58,7 @@ loop-session-preserved g c =
       as_many = ap length more ∙ omega (arith, length-append ns (n ∷ []), inv.as_many);
       room = omega (arith, inv.room, c.push.ensures.capacity);
       prepared = λ honest.
-          let next = subst (λ (u : Site). (g : SiteState) (t : Site) → all_made u before ≡ Some t → IsNext s.pinned h u t before after (phase_of s.pinned g x.phase) n) (inv.prepares.site honest) (c.in_ok-made.ensures.next (on honest)) in
+          let next = subst (λ (u : Site). (g : SiteState) (t : Site) → all_made u before ≡ Some t → IsNextReply s.pinned h u t before after (phase_of s.pinned g x.phase) n) (inv.prepares.site honest) (c.in_ok-made.ensures.next (on honest)) in
           let still = one.prepared k.site seats before (inv.prepared honest) in
           let lengths : length ns ≡ length seats = inv.as_many ∙ grind (arith, common_steps) in
           let all = prepared_more s.pinned h k.site seats ns before after (session_of s.pinned k x) n lengths still (next k (group_of s.pinned k.site seats).site (prepared_made s.pinned h k.site seats ns before still)) in

@@ -7,7 +7,7 @@ use Rattle.site_replies.specs.LaterReply.{later_reply}
 use Rattle.site_replies.specs.Replies.{reply_bytes, answer_of}
 use Rattle.group_world.specs.Step.{at_moment}
 use Rattle.group_world.specs.World as world
-use Rattle.group_hub.specs.Flushing.{IsNext}
+use Rattle.group_hub.specs.Flushing.{IsNextReply}
 use Rattle.group_hub.specs.Sessions.{phase_of}
 use Rattle.group_hub.specs.declared.next.Next.TheVariants as nexts
 use Rattle.group_hub.proofs.NextSessions.{replied_next}
@@ -27,5 +27,5 @@ returns-in_ok-phase-in-Ok-clause-next g c = λ honest t made.
     let is : phase_of s.pinned h c.in_ok-phase-in-Ok.phase ≡ world.Reply (reply_bytes k.site answered.reply) =
     subst (λ (x : Site). phase_of s.pinned h c.in_ok-phase-in-Ok.phase ≡ world.Reply (reply_bytes x answered.reply)) (kept.site honest) (c.in_ok-phase-in-Ok.ensures.phase (subst IsTrue (sym kept.honest) honest)) in
     let behind : c.put_behind.new.changes.items ≡ before ++ at_moment c.args.now answered.post = c.in_ok-put_behind-in-Ok.ensures.behind in
-    subst (λ (l : Changes). IsNext s.pinned h k.site t before l (world.Waits request c.args.now) (nexts.Replied c.in_ok-phase-in-Ok.phase)) (sym behind)
+    subst (λ (l : Changes). IsNextReply s.pinned h k.site t before l (world.Waits request c.args.now) (nexts.Replied c.in_ok-phase-in-Ok.phase)) (sym behind)
     (replied_next s.pinned h k.site t before request c.args.now c.in_ok-phase-in-Ok.phase (answer_of k.site answered) (c.requires.valid honest) (c.requires.stands honest) (c.requires.posts honest) made later is)

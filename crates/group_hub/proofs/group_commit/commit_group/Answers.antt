@@ -2,7 +2,7 @@ use Rattle.std.proofs.Common.{◌≡◌, ◌<◌, length, rules, arith, sym, sub
 use Rattle.std.specs.Prelude.{IsTrue}
 use Rattle.std.proofs.lemmas.Grind.{common_steps}
 use Rattle.host_types.specs.Site.{Site, IsSite}
-use Rattle.group_hub.specs.Flushing.{AreTyped}
+use Rattle.group_hub.specs.Flushing.{ChangesAreTyped}
 use Rattle.group_hub.proofs.GroupsMade.{same_site, not_refused, still_valid, crashes, failed_now}
 use Rattle.group_hub.proofs.group_commit.commit_group.Goals as goal
 
@@ -14,7 +14,7 @@ returns-in-Ok g c =
     let all = c.args.changes.items in
     let site = (s.site_state k).site in
     let e = c.in-Ok.ensures in
-    let typed : AreTyped all = subst AreTyped c.deref.ensures.value c.valid_changes.ensures in
+    let typed : ChangesAreTyped all = subst ChangesAreTyped c.deref.ensures.value c.valid_changes.ensures in
     record {
       whole = λ honest is. same_site site (s.site_state l).site all (c.requires.right honest) (e.done honest);
       still_usable = search rules;

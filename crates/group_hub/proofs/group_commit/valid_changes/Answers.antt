@@ -1,5 +1,5 @@
 use Rattle.std.proofs.Common.{◌≤◌, ℕ, [], ◌∷◌, take, sym, subst}
-use Rattle.group_hub.specs.Flushing.{AreTyped}
+use Rattle.group_hub.specs.Flushing.{ChangesAreTyped}
 use Rattle.group_hub.proofs.NextSessions.{taken_one}
 use Rattle.group_hub.proofs.GroupsMade.{typed_more}
 use Rattle.group_hub.proofs.group_commit.valid_changes.Goals as goal
@@ -10,4 +10,4 @@ loop-change-preserved c =
     let i = c.loop-change.change-index in
     let one = c.loop-change-item.result in
     let early : one.1 ≤ 253402300799 = subst (λ (n : ℕ). n ≤ 253402300799) c.seconds.ensures.value c.seconds.ensures.range in
-    subst AreTyped (sym (taken_one all i one c.loop-change-test.true c.loop-change-item.is)) (typed_more (take i all) (one ∷ []) c.loop-change.invariant ((c.valid_names.ensures, early), tt))
+    subst ChangesAreTyped (sym (taken_one all i one c.loop-change-test.true c.loop-change-item.is)) (typed_more (take i all) (one ∷ []) c.loop-change.invariant ((c.valid_names.ensures, early), tt))

@@ -3,7 +3,7 @@ use Rattle.std.specs.String.{string_bytes}
 use Rattle.common_types.specs.CrashStates.{AddsOnly, AddsNone, adds_none_again}
 use Rattle.page_store.specs.Steps.{crash_states_of}
 use Rattle.cow_tree.specs.TreeSeen.{held, device_of, slot_of, is_open}
-use Rattle.cow_tree.specs.Compacting.{IsFilled, MayNeedFilled}
+use Rattle.cow_tree.specs.Compacting.{IsFilledTree, MayNeedFilled}
 use Rattle.page_store.specs.Counting.{writes_after}
 use Rattle.page_store.specs.StoreState.{HasStayed}
 use Rattle.cow_tree.specs.KeeperLaws.{crash_states_have_the_tree}
@@ -72,7 +72,7 @@ returns-in-Ok-free_line-clause-anew g c = λ honest.
     (record {
       slot = k.slot;
       current_is = durable.current_is;
-      filled = subst (λ x. IsFilled (slot_of x) (state (device_of x)).disk.view) (sym same) (c.in-Ok-compacted.ensures.filled still);
+      filled = subst (λ x. IsFilledTree (slot_of x) (state (device_of x)).disk.view) (sym same) (c.in-Ok-compacted.ensures.filled still);
       line_is = c.in-Ok-free_line.ensures ∙ ap free_line (c.figures-free.ensures.free ∙ free_is disk.view k.slot k.ledger k.pinned k.fitted.rest k.pins.seals (k.pins_there now) (k.there now) ∙ unreached_alone disk.view k.slot k.pinned none);
     })
 

@@ -2,7 +2,7 @@ use Rattle.std.proofs.Common.{map, refl, sym, ap, subst, ◌∙◌, arith}
 use Rattle.std.proofs.lemmas.List.{with_items_is}
 use Rattle.turns.proofs.Runnings.{run_both, untold}
 use Rattle.ready_sockets.specs.Rounds.{who}
-use Rattle.ready_sockets.specs.Visits.{WereServed, NobodyWaits}
+use Rattle.ready_sockets.specs.Visits.{WereServed, NoVisitWaits}
 use Rattle.ready_sockets.proofs.serving.clients_turns.Goals as goal
 
 pub returns : goal.returns
@@ -24,6 +24,6 @@ returns g c =
       door = refl;
       may_accept = refl;
       lost = refl;
-      nobody_waits = subst NobodyWaits (sym items) c.serve_all.ensures.nobody_waits;
+      nobody_waits = subst NoVisitWaits (sym items) c.serve_all.ensures.nobody_waits;
       clients = ap (map who) items ∙ c.serve_all.ensures.clients ∙ ap (map who) c.deref_mut.ensures.value;
     })

@@ -1,8 +1,8 @@
 use Rattle.std.specs.Prelude.{IsTrue}
 use Rattle.host_types.specs.Site.{Site}
 use Rattle.site_store.specs.Represented.{RepresentedBy}
-use Rattle.site_store.specs.StoreReads.{ReadsOnly, NoneFailed}
-use Rattle.site_store.specs.Searching.{IsLeft}
+use Rattle.site_store.specs.StoreReads.{StoreReadsOnly, NoneFailed}
+use Rattle.site_store.specs.Searching.{IsLeftToFind}
 use Rattle.site_store.proofs.searching.search_in.Given as goal
 
 -- the items with the word above the last one are left
@@ -10,7 +10,7 @@ abbrev pub invariant-loop : goal.invariant-loop
 invariant-loop g l =
     let store_state = g.K.Keeper.store_state in
     record {
-      only : ReadsOnly store_state g.K.Keeper.may_need g.K.Keeper.crash_states l.fn.keeper l.keeper;
+      only : StoreReadsOnly store_state g.K.Keeper.may_need g.K.Keeper.crash_states l.fn.keeper l.keeper;
       none : NoneFailed (store_state l.fn.keeper) (store_state l.keeper);
-      left : IsTrue (store_state l.fn.keeper).honest → (s : Site) → RepresentedBy (store_state l.fn.keeper) s → IsLeft l.now s l.scope l.word l.asked l.found l.last;
+      left : IsTrue (store_state l.fn.keeper).honest → (s : Site) → RepresentedBy (store_state l.fn.keeper) s → IsLeftToFind l.now s l.scope l.word l.asked l.found l.last;
     }

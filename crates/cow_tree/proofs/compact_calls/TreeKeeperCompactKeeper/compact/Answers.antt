@@ -11,9 +11,9 @@ use Rattle.tree_nodes.specs.Growth.{owned_under}
 use Rattle.tree_loading.specs.Filled.{filled}
 use Rattle.page_store.specs.Steps.{crash_states_of}
 use Rattle.page_store.specs.StoreState.{HasStayed}
-use Rattle.cow_tree.specs.PinnedTrees.{ArePinned, AreKept, HeldPagesStay, PinnedPagesStay, PinnedStay}
+use Rattle.cow_tree.specs.PinnedTrees.{ArePinned, PinnedTreesAreKept, HeldPagesStay, PinnedPagesStay, PinnedStay}
 use Rattle.cow_tree.specs.Plans.{tree_commit}
-use Rattle.cow_tree.specs.TreeState.{IsFitted, IsThere, found_under, tree_holding}
+use Rattle.cow_tree.specs.TreeState.{FitsTree, IsThere, found_under, tree_holding}
 use Rattle.cow_tree.specs.Compacting.{MayNeedFilled}
 use Rattle.cow_tree.specs.Committed.{TreeHas}
 use Rattle.cow_tree.specs.KeeperLaws.{crash_states_have_the_tree}
@@ -128,14 +128,14 @@ invariant_of-self-in-Ok-write_plan g c =
     let done = λ (keeps : IsTrue old.honest). c.in-Ok-write_plan.ensures.done (keeps1 keeps) (ready keeps) in
     let seal = c.in-Ok.ensures.made.seal_is in
     record {
-      fitted = subst (λ (l : LedgerState). IsFitted new.size c.in-Ok.plan.slot l) (sym c.in-Ok-write_plan.ensures.advanced)
+      fitted = subst (λ (l : LedgerState). FitsTree new.size c.in-Ok.plan.slot l) (sym c.in-Ok-write_plan.ensures.advanced)
           (fitted_now old.size new.size k.slot k.ledger c.plan_compaction.new.ledger _ k.slot.root.banner c.in-Ok.plan k.fitted c.plan_compaction.ensures.marks c.in-Ok.ensures.made version k.fitted.port (wrote.same.size ∙ only.same.size));
       sealed = omega (arith, seal);
       pins = subst (λ (l : LedgerState). ArePinned c.in-Ok.plan.slot.root.pages l k.pinned) (sym c.in-Ok-write_plan.ensures.advanced)
           (pins_done k.slot.root.pages c.in-Ok.plan.slot.root.pages c.in-Ok.plan.slot.seal k.ledger c.plan_compaction.new.ledger k.pinned c.plan_compaction.ensures.marks c.in-Ok.ensures.made.size k.pins);
       pins_there = λ keeps2.
           let keeps = back keeps2 in
-          subst (λ (l : LedgerState). AreKept new.disk.view l k.pinned) (sym c.in-Ok-write_plan.ensures.advanced)
+          subst (λ (l : LedgerState). PinnedTreesAreKept new.disk.view l k.pinned) (sym c.in-Ok-write_plan.ensures.advanced)
           (kept_done old.disk.view mid.disk.view new.disk.view k.slot.root.pages k.ledger c.plan_compaction.new.ledger k.pinned k.pins c.plan_compaction.ensures.marks (same keeps) (c.write_plan.ensures.held (keeps1 keeps) (ready keeps)) (k.pins_there keeps) c.in-Ok.plan.slot.seal
           (subst (λ (l : LedgerState). PinnedStay c.plan_compaction.new.ledger l) c.in-Ok-write_plan.ensures.advanced c.in-Ok-write_plan.ensures.pinned));
       leaf = λ keeps2. ∣ inl c.clear.ensures ∣₁;
@@ -256,12 +256,12 @@ invariant_of-self-in-Err-write_plan g c =
     let back = λ (keeps2 : IsTrue new.honest). let h : IsTrue old.honest = subst IsTrue (wrote.same.honest ∙ only.same.honest) keeps2 in h in
     let as_before : c.write_plan.new.ledger ≡ k.ledger = c.in-Err-write_plan.ensures.abandoned ∙ abandoned_again k.ledger c.plan_compaction.new.ledger c.plan_compaction.ensures.marks k.fitted.rest.unmarked in
     record {
-      fitted = subst (λ (l : LedgerState). IsFitted new.size k.slot l) (sym as_before) (subst (λ (n : ℕ). IsFitted n k.slot k.ledger) (sym (wrote.same.size ∙ only.same.size)) k.fitted);
+      fitted = subst (λ (l : LedgerState). FitsTree new.size k.slot l) (sym as_before) (subst (λ (n : ℕ). FitsTree n k.slot k.ledger) (sym (wrote.same.size ∙ only.same.size)) k.fitted);
       sealed = let s = k.sealed in omega (arith, s);
       pins = subst (λ (l : LedgerState). ArePinned k.slot.root.pages l k.pinned) (sym as_before) k.pins;
       pins_there = λ keeps2.
           let keeps = back keeps2 in
-          subst (λ (l : LedgerState). AreKept new.disk.view l k.pinned) (sym as_before)
+          subst (λ (l : LedgerState). PinnedTreesAreKept new.disk.view l k.pinned) (sym as_before)
           (kept_still old.disk.view mid.disk.view new.disk.view k.slot.root.pages k.ledger c.plan_compaction.new.ledger k.pinned k.pins c.plan_compaction.ensures.marks (same keeps) (c.write_plan.ensures.held (keeps1 keeps) (ready keeps)) (k.pins_there keeps));
       leaf = λ keeps2. ∣ inl c.clear.ensures ∣₁;
       there = λ keeps2.

@@ -2,7 +2,7 @@ use Rattle.std.proofs.Common.{◌≡◌, ℕ, List, Option, Some, set, sym, ap, 
 use Rattle.page_alloc.specs.LedgerState.{LedgerState}
 use Rattle.page_alloc.specs.Calls.{pinning}
 use Rattle.page_store.specs.Pins.{IsPinned}
-use Rattle.cow_tree.specs.PinnedTrees.{tree_under, ArePinned, AreKept}
+use Rattle.cow_tree.specs.PinnedTrees.{tree_under, ArePinned, PinnedTreesAreKept}
 use Rattle.cow_tree.specs.TreeState.{tree_holding}
 use Rattle.cow_tree.specs.declared.tree_root.TreeRoot.{TreeRoot}
 use Rattle.cow_tree.proofs.PinsMade.{fitted_with, there_with, pins_more, kept_more, is_pinned, all_are_out}
@@ -24,8 +24,8 @@ invariant_of-self g c =
           (subst (λ (l : LedgerState). ArePinned k.slot.root.pages l (set k.pinned number (Some (tree_under k.slot)))) (sym is) (pins_more k.slot k.ledger k.pinned number given.0 given.1 k.fitted.rest k.pins k.fitted.rooted));
       there = λ keeps. there_with view k.slot k.ledger c.pin.new.self _ is (k.there keeps);
       pins_there = λ keeps.
-          subst (λ (ts : List (Option TreeRoot)). AreKept view c.pin.new.self ts) trees
-          (subst (λ (l : LedgerState). AreKept view l (set k.pinned number (Some (tree_under k.slot)))) (sym is) (kept_more k.slot k.ledger k.pinned number given.0 given.1 k.fitted.rest k.pins view (k.there keeps) (k.pins_there keeps)));
+          subst (λ (ts : List (Option TreeRoot)). PinnedTreesAreKept view c.pin.new.self ts) trees
+          (subst (λ (l : LedgerState). PinnedTreesAreKept view l (set k.pinned number (Some (tree_under k.slot)))) (sym is) (kept_more k.slot k.ledger k.pinned number given.0 given.1 k.fitted.rest k.pins view (k.there keeps) (k.pins_there keeps)));
       durable = k.durable;
       leaf = k.leaf;
     }

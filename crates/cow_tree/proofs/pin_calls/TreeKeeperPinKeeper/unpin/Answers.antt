@@ -1,7 +1,7 @@
 use Rattle.std.proofs.Common.{◌≡◌, ℕ, List, Option, None, is_some, get_or, set, sym, ap, subst, ◌∙◌, arith, true}
 use Rattle.page_alloc.specs.LedgerState.{LedgerState}
 use Rattle.page_store.specs.Pins.{IsUnpinned}
-use Rattle.cow_tree.specs.PinnedTrees.{ArePinned, AreKept}
+use Rattle.cow_tree.specs.PinnedTrees.{ArePinned, PinnedTreesAreKept}
 use Rattle.cow_tree.specs.TreeState.{tree_holding}
 use Rattle.cow_tree.specs.declared.tree_root.TreeRoot.{TreeRoot}
 use Rattle.cow_tree.proofs.PinnedTrees.{out_at}
@@ -25,8 +25,8 @@ invariant_of-self g c =
           (subst (λ (l : LedgerState). ArePinned k.slot.root.pages l (set k.pinned c.args.pin None)) (sym is) (pins_less k.slot.root.pages k.ledger k.pinned c.args.pin out k.pins));
       there = λ keeps. there_with view k.slot k.ledger c.unpin.new.self _ is (k.there keeps);
       pins_there = λ keeps.
-          subst (λ (ts : List (Option TreeRoot)). AreKept view c.unpin.new.self ts) trees
-          (subst (λ (l : LedgerState). AreKept view l (set k.pinned c.args.pin None)) (sym is) (kept_less k.slot.root.pages k.ledger k.pinned c.args.pin out k.pins view (k.pins_there keeps)));
+          subst (λ (ts : List (Option TreeRoot)). PinnedTreesAreKept view c.unpin.new.self ts) trees
+          (subst (λ (l : LedgerState). PinnedTreesAreKept view l (set k.pinned c.args.pin None)) (sym is) (kept_less k.slot.root.pages k.ledger k.pinned c.args.pin out k.pins view (k.pins_there keeps)));
       durable = k.durable;
       leaf = k.leaf;
     }

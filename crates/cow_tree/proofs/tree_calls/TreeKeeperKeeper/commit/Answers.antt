@@ -9,9 +9,9 @@ use Rattle.page_store.specs.Content.{not_flat, Found}
 use Rattle.page_store.specs.Batch.{updated}
 use Rattle.page_store.specs.Steps.{crash_states_of}
 use Rattle.page_store.specs.StoreState.{SoManyPages, HasStayed, most_levels}
-use Rattle.cow_tree.specs.PinnedTrees.{ArePinned, AreKept, HeldPagesStay, PinnedPagesStay, PinnedStay}
+use Rattle.cow_tree.specs.PinnedTrees.{ArePinned, PinnedTreesAreKept, HeldPagesStay, PinnedPagesStay, PinnedStay}
 use Rattle.cow_tree.specs.Plans.{tree_commit}
-use Rattle.cow_tree.specs.TreeState.{IsFitted, IsThere, found_under, tree_holding}
+use Rattle.cow_tree.specs.TreeState.{FitsTree, IsThere, found_under, tree_holding}
 use Rattle.cow_tree.specs.Drafts.{MayBeTooDeep}
 use Rattle.cow_tree.specs.Needs.{MayNeed, GetsTooDeep}
 use Rattle.cow_tree.specs.Committed.{TreeHas}
@@ -135,14 +135,14 @@ invariant_of-self-in-Ok-write_plan g c =
     let done = λ (keeps : IsTrue old.honest). c.in-Ok-write_plan.ensures.done (keeps1 keeps) (ready keeps) in
     let seal = c.in-Ok.ensures.made.seal_is in
     record {
-      fitted = subst (λ (l : LedgerState). IsFitted new.size c.in-Ok.plan.slot l) (sym c.in-Ok-write_plan.ensures.advanced)
+      fitted = subst (λ (l : LedgerState). FitsTree new.size c.in-Ok.plan.slot l) (sym c.in-Ok-write_plan.ensures.advanced)
           (fitted_now old.size new.size k.slot k.ledger c.plan_commit.new.ledger _ c.args.banner c.in-Ok.plan k.fitted c.plan_commit.ensures.marks c.in-Ok.ensures.made version c.requires.port (wrote.same.size ∙ only.same.size));
       sealed = omega (arith, seal);
       pins = subst (λ (l : LedgerState). ArePinned c.in-Ok.plan.slot.root.pages l k.pinned) (sym c.in-Ok-write_plan.ensures.advanced)
           (pins_done k.slot.root.pages c.in-Ok.plan.slot.root.pages c.in-Ok.plan.slot.seal k.ledger c.plan_commit.new.ledger k.pinned c.plan_commit.ensures.marks c.in-Ok.ensures.made.size k.pins);
       pins_there = λ keeps2.
           let keeps = back keeps2 in
-          subst (λ (l : LedgerState). AreKept new.disk.view l k.pinned) (sym c.in-Ok-write_plan.ensures.advanced)
+          subst (λ (l : LedgerState). PinnedTreesAreKept new.disk.view l k.pinned) (sym c.in-Ok-write_plan.ensures.advanced)
           (kept_done old.disk.view mid.disk.view new.disk.view k.slot.root.pages k.ledger c.plan_commit.new.ledger k.pinned k.pins c.plan_commit.ensures.marks (same keeps) (c.write_plan.ensures.held (keeps1 keeps) (ready keeps)) (k.pins_there keeps) c.in-Ok.plan.slot.seal
           (subst (λ (l : LedgerState). PinnedStay c.plan_commit.new.ledger l) c.in-Ok-write_plan.ensures.advanced c.in-Ok-write_plan.ensures.pinned));
       leaf = λ keeps2. ∣ inl c.clear.ensures ∣₁;
@@ -261,12 +261,12 @@ invariant_of-self-in-Err-write_plan g c =
     let back = λ (keeps2 : IsTrue new.honest). let h : IsTrue old.honest = subst IsTrue (wrote.same.honest ∙ only.same.honest) keeps2 in h in
     let as_before : c.write_plan.new.ledger ≡ k.ledger = c.in-Err-write_plan.ensures.abandoned ∙ abandoned_again k.ledger c.plan_commit.new.ledger c.plan_commit.ensures.marks k.fitted.rest.unmarked in
     record {
-      fitted = subst (λ (l : LedgerState). IsFitted new.size k.slot l) (sym as_before) (subst (λ (n : ℕ). IsFitted n k.slot k.ledger) (sym (wrote.same.size ∙ only.same.size)) k.fitted);
+      fitted = subst (λ (l : LedgerState). FitsTree new.size k.slot l) (sym as_before) (subst (λ (n : ℕ). FitsTree n k.slot k.ledger) (sym (wrote.same.size ∙ only.same.size)) k.fitted);
       sealed = let s = k.sealed in omega (arith, s);
       pins = subst (λ (l : LedgerState). ArePinned k.slot.root.pages l k.pinned) (sym as_before) k.pins;
       pins_there = λ keeps2.
           let keeps = back keeps2 in
-          subst (λ (l : LedgerState). AreKept new.disk.view l k.pinned) (sym as_before)
+          subst (λ (l : LedgerState). PinnedTreesAreKept new.disk.view l k.pinned) (sym as_before)
           (kept_still old.disk.view mid.disk.view new.disk.view k.slot.root.pages k.ledger c.plan_commit.new.ledger k.pinned k.pins c.plan_commit.ensures.marks (same keeps) (c.write_plan.ensures.held (keeps1 keeps) (ready keeps)) (k.pins_there keeps));
       leaf = λ keeps2. ∣ inl c.clear.ensures ∣₁;
       there = λ keeps2.

@@ -2,8 +2,8 @@ use Rattle.std.proofs.Common.{◌≡◌, ℕ, IsTrue, inl, refl, sym, subst, ap,
 use Rattle.page_store.specs.Content.{Found, is_among}
 use Rattle.page_store.specs.Roots.{greatest_seal}
 use Rattle.page_store.specs.Sectors.{Image, page_of}
-use Rattle.cow_tree.specs.Opening.{AreWhole}
-use Rattle.cow_tree.specs.TreeState.{IsFitted, found_under}
+use Rattle.cow_tree.specs.Opening.{LivePagesAreWhole}
+use Rattle.cow_tree.specs.TreeState.{FitsTree, found_under}
 use Rattle.cow_tree.proofs.PinnedTrees.{no_tree}
 use Rattle.cow_tree.proofs.TreesAreMaps.{found_map}
 use Rattle.cow_tree.proofs.Openings.{tree_is, durable_content, under_now, has_content}
@@ -14,7 +14,7 @@ invariant_of-result g c =
     let d = g.met.D.Device in
     let opened = c.in-Ok.ensures.opened in
     record {
-      fitted = subst (λ (n : ℕ). IsFitted n c.in-Ok.slot c.in-Ok.ledger) (sym c.open_parts.ensures.opens.device.same.size) c.in-Ok.ensures.fitted;
+      fitted = subst (λ (n : ℕ). FitsTree n c.in-Ok.slot c.in-Ok.ledger) (sym c.open_parts.ensures.opens.device.same.size) c.in-Ok.ensures.fitted;
       there = λ keeps1.
           let keeps : IsTrue (g.D.Device.state c.args.device).honest = subst IsTrue c.open_parts.ensures.opens.device.same.honest keeps1 in
           let holds = opened.holds keeps in
@@ -25,7 +25,7 @@ invariant_of-result g c =
             found_is = tree;
             map = found_map c.in-Ok.slot (page_of view) (found_under c.in-Ok.slot view) tree;
             alive = λ n. holds.alive n ∙ ap (λ (f : Found). is_among n f.pages) (sym (under_now view _ c.in-Ok.slot c.in-Ok.ledger (opened.view keeps) version holds));
-            whole = subst (λ (i : Image). AreWhole i c.in-Ok.ledger) (sym (opened.view keeps)) holds.whole;
+            whole = subst (λ (i : Image). LivePagesAreWhole i c.in-Ok.ledger) (sym (opened.view keeps)) holds.whole;
           };
       sealed = c.in-Ok.ensures.sealed;
       pins = record {

@@ -6,7 +6,7 @@ use Rattle.group_world.specs.declared.event.Event.TheVariants.{Admin}
 use Rattle.group_world.specs.declared.event.Outcome.{Outcome}
 use Rattle.group_world.specs.declared.event.Outcome.TheVariants.{Done, Fault}
 use Rattle.group_world.specs.declared.fault.HubFault.{HubFault}
-use Rattle.group_hub.specs.Calls.{Call}
+use Rattle.group_hub.specs.Calls.{CallOverKeeper}
 use Rattle.group_hub.specs.Hub.{world_of}
 use Rattle.group_hub.specs.Sessions.{sessions_of}
 use Rattle.group_hub.specs.Worlds.{world_at}
@@ -50,7 +50,7 @@ returns-in-Ok g c =
     let made = c.change.new.self in
     let usable : (s.site_state hub.site).usable ≡ true = search rules in
     let stayed = sessions_stay s.pinned (s.site_state hub.site) (s.site_state made) hub.sessions.items c.change.ensures.tried.pins hub.held in
-    subst (λ (sessions : List (ℕ × Phase)). Call s.site_state s.lacks s.crash_states s.represents (world_of s.site_state hub) hub.site (Admin c.args.change c.args.now) Done (world_at (s.site_state made) hub.next hub.grouped sessions) made) (sym stayed.seen)
+    subst (λ (sessions : List (ℕ × Phase)). CallOverKeeper s.site_state s.lacks s.crash_states s.represents (world_of s.site_state hub) hub.site (Admin c.args.change c.args.now) Done (world_at (s.site_state made) hub.next hub.grouped sessions) made) (sym stayed.seen)
     (made_call s.site_state s.lacks s.crash_states s.represents hub.site made hub.next hub.grouped (sessions_of s.pinned (s.site_state hub.site) hub.sessions.items) c.args.change c.args.now
     (record { reads = c.in-Ok.ensures.reads; writes = c.in-Ok.ensures.writes }) usable c.in-Ok.ensures.still_usable c.change.ensures.tried.honest c.in-Ok.ensures.done (g.met.S.SiteKeeper.crash_states_represent made) (λ honest. c.change.ensures.at_crash honest usable))
 
@@ -62,8 +62,8 @@ returns-in-Err g c =
     let usable : (s.site_state hub.site).usable ≡ true = search rules in
     let seats = sessions_of s.pinned (s.site_state hub.site) hub.sessions.items in
     let stayed = sessions_stay s.pinned (s.site_state hub.site) (s.site_state made) hub.sessions.items c.change.ensures.tried.pins hub.held in
-    subst (λ (sessions : List (ℕ × Phase)). Call s.site_state s.lacks s.crash_states s.represents (world_of s.site_state hub) hub.site (Admin c.args.change c.args.now) (Fault c.of_site.result) (world_at (s.site_state made) hub.next hub.grouped sessions) made) (sym stayed.seen)
-    (subst (λ (fault : HubFault). Call s.site_state s.lacks s.crash_states s.represents (world_of s.site_state hub) hub.site (Admin c.args.change c.args.now) (Fault fault) (world_at (s.site_state made) hub.next hub.grouped seats) made) (sym c.of_site.ensures)
+    subst (λ (sessions : List (ℕ × Phase)). CallOverKeeper s.site_state s.lacks s.crash_states s.represents (world_of s.site_state hub) hub.site (Admin c.args.change c.args.now) (Fault c.of_site.result) (world_at (s.site_state made) hub.next hub.grouped sessions) made) (sym stayed.seen)
+    (subst (λ (fault : HubFault). CallOverKeeper s.site_state s.lacks s.crash_states s.represents (world_of s.site_state hub) hub.site (Admin c.args.change c.args.now) (Fault fault) (world_at (s.site_state made) hub.next hub.grouped seats) made) (sym c.of_site.ensures)
     (not_made_call s.site_state s.lacks s.crash_states s.represents hub.site made hub.next hub.grouped seats c.args.change c.args.now c.in-Err.fault
     (change_fault_counts {T = Outcome} c.in-Err.fault (fault_of c.in-Err.fault) (s.site_state hub.site) (s.site_state made) refl c.in-Err.ensures.reads c.in-Err.ensures.writes) usable c.change.ensures.tried.honest
     (g.met.S.SiteKeeper.crash_states_represent hub.site) (λ honest. c.change.ensures.at_crash honest usable) (λ honest. c.in-Err.ensures.no_new_crash_state honest) c.in-Err.ensures.fault (c.in-Err.ensures.spent usable)))

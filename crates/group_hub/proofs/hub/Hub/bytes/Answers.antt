@@ -12,7 +12,7 @@ use Rattle.group_world.specs.declared.fault.HubFault.TheVariants.{Unknown}
 use Rattle.group_world.proofs.Leaving.{no_commits}
 use Rattle.group_hub.specs.Hub.{world_of}
 use Rattle.group_hub.specs.Sessions.{phase_of, sessions_of, is_waiting}
-use Rattle.group_hub.specs.Hears.{is_wait, Hears, Makes}
+use Rattle.group_hub.specs.Hears.{is_wait, Hears, MakesChanges}
 use Rattle.group_hub.specs.declared.session.Session.{Session}
 use Rattle.group_hub.proofs.CallsMade.{quiet, shut_call}
 use Rattle.group_hub.proofs.CountedCalls.{shut_counts, heard_counts}
@@ -82,7 +82,7 @@ invariant_of-self-3 g c =
       grouped = c.posting-posting.ensures.grouped;
       full = c.posting-posting.ensures.full;
       hears = subst (λ (b : Bool). Hears s.pinned (listens b k.site c.args.now c.args.piece.now (phase_of s.pinned k x.phase)) c.posting-posting.result x.phase c.hear-heard.new.phase k l c.hear-heard.result) c.posting-posting.ensures.grouped heard.hears;
-      makes = subst (λ (b : Bool). Makes s.site_state s.lacks s.crash_states s.represents (at_moment c.args.now (listens b k.site c.args.now c.args.piece.now (phase_of s.pinned k x.phase)).post) hub.site c.hear-heard.new.site c.hear-heard.result) c.posting-posting.ensures.grouped heard.site;
+      makes = subst (λ (b : Bool). MakesChanges s.site_state s.lacks s.crash_states s.represents (at_moment c.args.now (listens b k.site c.args.now c.args.piece.now (phase_of s.pinned k x.phase)).post) hub.site c.hear-heard.new.site c.hear-heard.result) c.posting-posting.ensures.grouped heard.site;
       represent = g.met.S.SiteKeeper.crash_states_represent hub.site;
       represent_now = g.met.S.SiteKeeper.crash_states_represent c.hear-heard.new.site;
     } in
@@ -134,7 +134,7 @@ returns g c =
       grouped = c.posting-posting.ensures.grouped;
       full = c.posting-posting.ensures.full;
       hears = subst (λ (b : Bool). Hears s.pinned (listens b k.site c.args.now c.args.piece.now (phase_of s.pinned k x.phase)) c.posting-posting.result x.phase c.hear-heard.new.phase k l c.hear-heard.result) c.posting-posting.ensures.grouped heard.hears;
-      makes = subst (λ (b : Bool). Makes s.site_state s.lacks s.crash_states s.represents (at_moment c.args.now (listens b k.site c.args.now c.args.piece.now (phase_of s.pinned k x.phase)).post) hub.site c.hear-heard.new.site c.hear-heard.result) c.posting-posting.ensures.grouped heard.site;
+      makes = subst (λ (b : Bool). MakesChanges s.site_state s.lacks s.crash_states s.represents (at_moment c.args.now (listens b k.site c.args.now c.args.piece.now (phase_of s.pinned k x.phase)).post) hub.site c.hear-heard.new.site c.hear-heard.result) c.posting-posting.ensures.grouped heard.site;
       represent = g.met.S.SiteKeeper.crash_states_represent hub.site;
       represent_now = g.met.S.SiteKeeper.crash_states_represent c.hear-heard.new.site;
     } in

@@ -10,7 +10,7 @@ use Rattle.group_world.proofs.Leaving.{no_commits}
 use Rattle.group_hub.specs.HeldPins.{HoldsAll}
 use Rattle.group_hub.specs.Hub.{world_of}
 use Rattle.group_hub.specs.Sessions.{phase_of, sessions_of, pins_of, AreSound}
-use Rattle.group_hub.specs.Worlds.{IsValid}
+use Rattle.group_hub.specs.Worlds.{IsValidWhereGrouped}
 use Rattle.group_hub.specs.declared.session.Session.{Session}
 use Rattle.group_hub.proofs.SeatPlaces.{seat, nobody}
 use Rattle.group_hub.proofs.SeatsMoved.{session_goes}
@@ -55,7 +55,7 @@ invariant_of-self g c =
       few = search rules;
       held = subst (λ (xs : List (Session g.row.S-Pin.Denot)). HoldsAll l (pins_of s.pinned xs)) (sym c.remove-phase.ensures.items) gone.held;
       sound = λ honest. subst (λ (xs : List (Session g.row.S-Pin.Denot)). AreSound s.pinned l xs) (sym c.remove-phase.ensures.items) (gone.sound (c.args.self.now.sound (subst IsTrue honest_is honest)));
-      valid = subst (IsValid c.args.self.now.grouped) (sym c.give_back.ensures.only.same) c.args.self.now.valid;
+      valid = subst (IsValidWhereGrouped c.args.self.now.grouped) (sym c.give_back.ensures.only.same) c.args.self.now.valid;
       alone = λ plain honest. ap (λ (xs : List (Session g.row.S-Pin.Denot)). count_waiting (sessions_of s.pinned l xs)) c.remove-phase.ensures.items ∙ ap count_waiting gone.seen
           ∙ omega (arith, c.args.self.now.alone plain (subst IsTrue honest_is honest), count_gone (sessions_of s.pinned k items) c.args.id (phase_of s.pinned k c.remove-phase.result.phase) there);
     }

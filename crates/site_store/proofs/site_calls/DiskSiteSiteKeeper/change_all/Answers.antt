@@ -5,7 +5,7 @@ use Rattle.host_types.specs.ChangesFaults.{one_fault, IsChangesFault}
 use Rattle.page_store.specs.declared.banner.Banner.{Banner}
 use Rattle.page_store.specs.Work.{nothing_at_most}
 use Rattle.site_pairs.specs.Edits.{batch_of, edits_of}
-use Rattle.site_store.specs.Lacking.{MayNeed, IsLacking}
+use Rattle.site_store.specs.Lacking.{MayNeedForEdits, IsLacking}
 use Rattle.site_store.specs.Planned.{banner_after}
 use Rattle.site_store.specs.Represented.{site_of, site_state_of, site_kept}
 use Rattle.site_store.proofs.StoreAsSite.{not_changed, lacks_same, none_at_crash, plan_reads_only, plan_fault_comes, plan_makes, done_made, crash_states_made, commit_fault_comes, commit_fault_of_all, one_commit_fault, keeps_written, port_written, after_port, has_tried, has_tried_reading}
@@ -86,7 +86,7 @@ invariant_of-self g c =
     let named : banner ≡ banner_after h1.banner plan.host plan.admin = c.in_ok-banner.ensures ∙ ap (λ (b : Banner). banner_after b plan.host plan.admin) c.banner.ensures in
     let make = plan_makes h0 h1 d.kept c.args.changes.items plan replacements banner c.deref.ensures.value named read (λ s shown. c.in-Ok.ensures.plan s shown) in
     let batch = batch_of (edits_of replacements) in
-    let may = MayNeed g.K.Keeper.may_need d1.keeper batch in
+    let may = MayNeedForEdits g.K.Keeper.may_need d1.keeper batch in
     let new : 0 < banner.port = subst (λ (b : Banner). 0 < b.port) (sym named) (after_port h1.banner plan.host plan.admin d1.port c.in-Ok.ensures.port) in
     let stay = pins_stay_written c.write_replacements.result h1 h2 (length batch) may c.write_replacements.ensures.out c.write_replacements.ensures.pins c.write_replacements.ensures.fault in
     record {
@@ -193,7 +193,7 @@ returns-in-Ok-write_replacements-clause-tried g c =
     let h1 = store_state c.plan_all.new.lookup.keeper in
     let h2 = store_state c.write_replacements.new.keeper in
     let batch = batch_of (edits_of c.deref.result.now) in
-    let stay = pins_stay_written c.write_replacements.result h1 h2 (length batch) (MayNeed g.K.Keeper.may_need c.plan_all.new.lookup.keeper batch) c.write_replacements.ensures.out c.write_replacements.ensures.pins c.write_replacements.ensures.fault in
+    let stay = pins_stay_written c.write_replacements.result h1 h2 (length batch) (MayNeedForEdits g.K.Keeper.may_need c.plan_all.new.lookup.keeper batch) c.write_replacements.ensures.out c.write_replacements.ensures.pins c.write_replacements.ensures.fault in
     has_tried (store_state d.keeper) h1 h2 d.kept c.self-1.given.0 c.in-Ok.ensures.reads_only.reads_only.read c.write_replacements.ensures.tried stay
 
 pub returns-clause-tried : goal.returns-clause-tried
@@ -203,7 +203,7 @@ returns-clause-tried g c =
     let h1 = store_state c.plan_all.new.lookup.keeper in
     let h2 = store_state c.write_replacements.new.keeper in
     let batch = batch_of (edits_of c.deref.result.now) in
-    let stay = pins_stay_written c.write_replacements.result h1 h2 (length batch) (MayNeed g.K.Keeper.may_need c.plan_all.new.lookup.keeper batch) c.write_replacements.ensures.out c.write_replacements.ensures.pins c.write_replacements.ensures.fault in
+    let stay = pins_stay_written c.write_replacements.result h1 h2 (length batch) (MayNeedForEdits g.K.Keeper.may_need c.plan_all.new.lookup.keeper batch) c.write_replacements.ensures.out c.write_replacements.ensures.pins c.write_replacements.ensures.fault in
     has_tried (store_state d.keeper) h1 h2 d.kept c.self-1.given.0 c.in-Ok.ensures.reads_only.reads_only.read c.write_replacements.ensures.tried stay
 
 pub returns-in-Err-clause-reads : goal.returns-in-Err-clause-reads
@@ -246,7 +246,7 @@ returns-clause-reads g c =
     let h2 = store_state c.write_replacements.new.keeper in
     let batch = batch_of (edits_of c.deref.result.now) in
     subst (λ (f : SiteFault). IsReadCounted h0.honest f h0.failed_reads h2.failed_reads) (sym (ap one_fault c.changes_fault_comes.ensures ∙ one_commit_fault 0 c.in-Err-write_replacements.fault))
-    (commit_reads h0 h1 h2 (length batch) (MayNeed g.K.Keeper.may_need c.plan_all.new.lookup.keeper batch) c.in-Err-write_replacements.fault c.in-Ok.ensures.reads_only.reads_only.read c.in-Ok.ensures.reads_only.none c.in-Err-write_replacements.ensures.fault c.in-Err-write_replacements.ensures.reads)
+    (commit_reads h0 h1 h2 (length batch) (MayNeedForEdits g.K.Keeper.may_need c.plan_all.new.lookup.keeper batch) c.in-Err-write_replacements.fault c.in-Ok.ensures.reads_only.reads_only.read c.in-Ok.ensures.reads_only.none c.in-Err-write_replacements.ensures.fault c.in-Err-write_replacements.ensures.reads)
 
 pub returns-clause-writes : goal.returns-clause-writes
 returns-clause-writes g c =
@@ -282,5 +282,5 @@ returns-clause-lacking g c = λ same.
     let reads_only = c.in-Ok.ensures.reads_only.reads_only in
     let batch = batch_of (edits_of c.deref.result.now) in
     let up : (store_state k1).usable ≡ true = reads_only.read.same.usable ∙ sym c.is_usable.ensures ∙ c.if-not-is_usable.false in
-    lacks_behind store_state g.K.Keeper.may_need d.keeper k1 k2 d.kept c.self-1.given.0 reads_only.read (length batch) (MayNeed g.K.Keeper.may_need k1 batch) c.in-Err-write_replacements.fault reads_only.need c.write_replacements.ensures.tried up c.in-Err-write_replacements.ensures.fault
+    lacks_behind store_state g.K.Keeper.may_need d.keeper k1 k2 d.kept c.self-1.given.0 reads_only.read (length batch) (MayNeedForEdits g.K.Keeper.may_need k1 batch) c.in-Err-write_replacements.fault reads_only.need c.write_replacements.ensures.tried up c.in-Err-write_replacements.ensures.fault
     c.in-Err-write_replacements.ensures.need same
