@@ -5,7 +5,7 @@ ghost use Rattle.std.specs.Prelude.{◌≡◌, []};
 use std::io::{Read, Write};
 use std::net::Shutdown;
 use std::os::unix::net::UnixStream;
-use turns::{CallKind, CallLog, Wire, WireFault};
+use turns::{CallLog, Wire, WireCallKind, WireFault};
 
 /// A connection over a Unix socket, and the calls that were made of it. Its reads wait as long as the office takes.
 #[derive(Drop)]
@@ -33,11 +33,11 @@ impl Wire for AskWire {
         match self.stream.read(buffer) {
             Ok(count) => {
                 self.made
-                    .note(CallKind::Read(buffer.len()), &buffer[..count]);
+                    .note(WireCallKind::Read(buffer.len()), &buffer[..count]);
                 Ok(count)
             }
             Err(_) => {
-                self.made.note(CallKind::ReadFailed(buffer.len()), &[]);
+                self.made.note(WireCallKind::ReadFailed(buffer.len()), &[]);
                 Err(WireFault)
             }
         }
@@ -46,11 +46,11 @@ impl Wire for AskWire {
     fn write(&mut self, bytes: &[u8]) -> Result<usize, WireFault> {
         match self.stream.write(bytes) {
             Ok(count) => {
-                self.made.note(CallKind::Wrote(count), bytes);
+                self.made.note(WireCallKind::Wrote(count), bytes);
                 Ok(count)
             }
             Err(_) => {
-                self.made.note(CallKind::WriteFailed, bytes);
+                self.made.note(WireCallKind::WriteFailed, bytes);
                 Err(WireFault)
             }
         }
@@ -58,6 +58,6 @@ impl Wire for AskWire {
 
     fn close(&mut self) {
         let _ = self.stream.shutdown(Shutdown::Both);
-        self.made.note(CallKind::Closed, &[]);
+        self.made.note(WireCallKind::Closed, &[]);
     }
 }

@@ -9,7 +9,7 @@ use ready_turns::ReadyWire;
 use std::io::{ErrorKind, Read, Write};
 use std::net::Shutdown;
 use std::os::fd::AsRawFd;
-use turns::{CallKind, CallLog, WireFault};
+use turns::{CallLog, WireCallKind, WireFault};
 
 /// A connection over a Unix socket that never waits, and the calls that were made of it.
 #[derive(Drop)]
@@ -49,15 +49,15 @@ impl ReadyWire for UnixWire {
         match self.stream.read(buffer) {
             Ok(count) => {
                 self.made
-                    .note(CallKind::Read(buffer.len()), &buffer[..count]);
+                    .note(WireCallKind::Read(buffer.len()), &buffer[..count]);
                 Ok(Some(count))
             }
             Err(error) if is_for_later(error.kind()) => {
-                self.made.note(CallKind::ReadWaited(buffer.len()), &[]);
+                self.made.note(WireCallKind::ReadWaited(buffer.len()), &[]);
                 Ok(None)
             }
             Err(_) => {
-                self.made.note(CallKind::ReadFailed(buffer.len()), &[]);
+                self.made.note(WireCallKind::ReadFailed(buffer.len()), &[]);
                 Err(WireFault)
             }
         }
@@ -66,15 +66,15 @@ impl ReadyWire for UnixWire {
     fn write(&mut self, bytes: &[u8]) -> Result<Option<usize>, WireFault> {
         match self.stream.write(bytes) {
             Ok(count) => {
-                self.made.note(CallKind::Wrote(count), bytes);
+                self.made.note(WireCallKind::Wrote(count), bytes);
                 Ok(Some(count))
             }
             Err(error) if is_for_later(error.kind()) => {
-                self.made.note(CallKind::WriteWaited, bytes);
+                self.made.note(WireCallKind::WriteWaited, bytes);
                 Ok(None)
             }
             Err(_) => {
-                self.made.note(CallKind::WriteFailed, bytes);
+                self.made.note(WireCallKind::WriteFailed, bytes);
                 Err(WireFault)
             }
         }
@@ -82,7 +82,7 @@ impl ReadyWire for UnixWire {
 
     fn close(&mut self) {
         let _ = self.stream.shutdown(Shutdown::Both);
-        self.made.note(CallKind::Closed, &[]);
+        self.made.note(WireCallKind::Closed, &[]);
     }
 }
 

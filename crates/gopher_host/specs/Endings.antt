@@ -1,7 +1,7 @@
 -- How a command ends, by what the function gave that did its work.
 use Rattle.std.specs.Prelude.{◌≡◌, ◌⊎◌, ℕ, List, Option, Result, Ok, Err}
 use Rattle.std.specs.Io.KnownBytes.{Appends}
-use Rattle.host_script.specs.declared.fault.Fault.{Fault as ScriptFault}
+use Rattle.host_script.specs.declared.fault.ReplayFault.{ReplayFault as ScriptFault}
 use Rattle.host_on_disk.specs.declared.open_fault.OpenFault.{OpenFault}
 use Rattle.image_commands.specs.Faults.{of_opening}
 use Rattle.image_commands.specs.declared.fault.ImageFault.{ImageFault}

@@ -6,7 +6,7 @@ use Rattle.host_types.specs.declared.site_fault.SiteFault.{SiteFault}
 use Rattle.host_types.specs.declared.site_fault.SiteFault.TheVariants as site
 use Rattle.change_file.specs.Printed.{file_line}
 use Rattle.host_script.specs.Printed.{fault_text}
-use Rattle.host_script.specs.declared.fault.Fault.TheVariants as script
+use Rattle.host_script.specs.declared.fault.ReplayFault.TheVariants as script
 use Rattle.image_changes.specs.StoppedLines.{stopped_line}
 use Rattle.image_commands.specs.Faults.{of_opening}
 use Rattle.image_commands.specs.FaultLines.{fault_line, advice, store_advice}

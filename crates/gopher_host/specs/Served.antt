@@ -13,7 +13,7 @@ use Rattle.host_on_disk.specs.OpenFaults.{IsOpeningFault, HandsBack}
 use Rattle.host_on_disk.specs.declared.open_fault.OpenFault.{OpenFault}
 use Rattle.host_on_disk.specs.declared.open_fault.OpenFault.TheVariants as opening
 use Rattle.host_script.specs.Lines.{Ran}
-use Rattle.host_script.specs.declared.fault.Fault.{Fault as ScriptFault}
+use Rattle.host_script.specs.declared.fault.ReplayFault.{ReplayFault as ScriptFault}
 use Rattle.image_sessions.specs.ImageRuns.{OnImage, OverSite, Replays}
 use Rattle.image_server.specs.Lines.{served_line}
 use Rattle.image_server.specs.Serving.{ServedImage, IsServingFault}

@@ -70,7 +70,7 @@ pub enum Fault {
     /// A round of connections.
     Round(ServeFault),
     /// The script, or lack of memory, or an output that takes no more.
-    Script(host_script::Fault),
+    Script(host_script::ReplayFault),
     /// The socket on which administrators were to come.
     Socket(SocketFault),
     /// What a server told that was asked for changes, without the last LF.
@@ -129,10 +129,10 @@ impl From<ImageFault> for Fault {
     }
 }
 
-impl From<host_script::Fault> for Fault {
+impl From<host_script::ReplayFault> for Fault {
     ghost from_gives = { λ script fault. fault ≡ faults.Script script };
 
-    fn from(fault: host_script::Fault) -> Self {
+    fn from(fault: host_script::ReplayFault) -> Self {
         Fault::Script(fault)
     }
 }
@@ -174,7 +174,7 @@ impl Fault {
     pub fn of_output() -> Self
         ensures { result ≡ output_fault }
     {
-        Fault::Script(host_script::Fault::Output)
+        Fault::Script(host_script::ReplayFault::Output)
     }
 
     /// Out of memory.

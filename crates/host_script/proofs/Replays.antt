@@ -11,8 +11,8 @@ use Rattle.std.proofs.lemmas.List.Elements.{All-nil, All-append, All-push}
 use Rattle.group_world.specs.declared.event.Event.{Event as HubEvent}
 use Rattle.group_world.specs.declared.event.Outcome.{Outcome}
 use Rattle.host_script.specs.Lines.{Ran, RanBy, RanSo, LinePlace, start, number_after, RunsLines, IsCutLine, RunsLine, RunsTo, IsRunTo, IsReplayed, IsLastRun, TakesFront, StopsIn, StopsAtEnd, LineComesIn, IsScriptStopped, IsHalted, Halts, ended, is_lf, last_line}
-use Rattle.host_script.specs.declared.fault.Fault.{Fault}
-use Rattle.host_script.specs.declared.fault.Fault.TheVariants.{Script, Memory, Output}
+use Rattle.host_script.specs.declared.fault.ReplayFault.{ReplayFault}
+use Rattle.host_script.specs.declared.fault.ReplayFault.TheVariants.{Script, Memory, Output}
 
 pub some_item : (b : ℕ) (bs : List ℕ) → b ∷ bs ≢ []
 some_item b bs e = absurd (cc e)
@@ -103,14 +103,14 @@ runs_more now then after a b c text rest piece next e f o p first second = recor
   written = subst (λ l. Appends a c l) (sym (ended-append first.printed second.printed)) (appends_more a b c _ _ first.written second.written);
 }
 
-comes_more : (fault : Fault) (left more : List ℕ) → LineComesIn fault left → LineComesIn fault (left ++ more)
+comes_more : (fault : ReplayFault) (left more : List ℕ) → LineComesIn fault left → LineComesIn fault (left ++ more)
 comes_more (Script n) left more p = (p.0 ++ more, ap (λ l. l ++ more) p.1)
 comes_more Output left more p = (p.0 ++ more, ap (λ l. l ++ more) p.1)
 comes_more Memory [] more p = absurd (p refl)
 comes_more Memory (b ∷ bs) more p = some_item b (bs ++ more)
 
 -- a piece of which a front was run ends at a line
-stopped : (fault : Fault) (now then : LinePlace) (a b c : Option (List ℕ)) (before front rest left more piece : List ℕ) (e f : List HubEvent) (o p : List Outcome) → piece ≡ front ++ (left ++ more) →
+stopped : (fault : ReplayFault) (now then : LinePlace) (a b c : Option (List ℕ)) (before front rest left more piece : List ℕ) (e f : List HubEvent) (o p : List Outcome) → piece ≡ front ++ (left ++ more) →
     RunsTo now then a b (before ++ front) rest e o → StopsIn b c then rest left fault f p → IsScriptStopped fault now a c before piece (e ++ f) (o ++ p)
 stopped fault now then a b c before front rest left more piece e f o p is run stop = record {
   front = front;
@@ -130,7 +130,7 @@ stopped fault now then a b c before front rest left more piece e f o p is run st
 }
 
 -- so does a script that ends within a piece
-halted_in : (fault : Fault) (then : LinePlace) (a b c unread : Option (List ℕ)) (text rest piece more script : List ℕ) (e f : List HubEvent) (o p : List Outcome) → script ≡ text ++ (piece ++ more) →
+halted_in : (fault : ReplayFault) (then : LinePlace) (a b c unread : Option (List ℕ)) (text rest piece more script : List ℕ) (e f : List HubEvent) (o p : List Outcome) → script ≡ text ++ (piece ++ more) →
     RunsTo start then a b text rest e o → IsScriptStopped fault then b c rest piece f p → IsHalted fault a c unread script (e ++ f) (o ++ p)
 halted_in fault then a b c unread text rest piece more script e f o p is run q = record {
   front = text ++ q.front;
@@ -150,7 +150,7 @@ halted_in fault then a b c unread text rest piece more script e f o p is run q =
 }
 
 -- and one that ends at its last line, which lacks its LF
-halted_last : (fault : Fault) (then : LinePlace) (a b c unread : Option (List ℕ)) (text rest script : List ℕ) (e f : List HubEvent) (o p : List Outcome) → script ≡ text →
+halted_last : (fault : ReplayFault) (then : LinePlace) (a b c unread : Option (List ℕ)) (text rest script : List ℕ) (e f : List HubEvent) (o p : List Outcome) → script ≡ text →
     RunsTo start then a b text rest e o → StopsAtEnd b c then rest fault f p → IsHalted fault a c unread script (e ++ f) (o ++ p)
 halted_last fault then a b c unread text rest script e f o p is run stop = record {
   front = text;
@@ -306,7 +306,7 @@ module _ {H : Type 0} (ran : Ran H) (none : (w : H) → ran w [] [] w) (join : (
   replayed_known old mid new then a b c (Some script) left rest p end last = replayed old mid new then a b c script left rest p end last
 
   -- a fault at a byte of a piece
-  pub stopped_at : (old mid new : H) (fault : Fault) (now then : LinePlace) (a b c : Option (List ℕ)) (line piece : List ℕ) (i : ℕ) (rest : List ℕ) → i < length piece →
+  pub stopped_at : (old mid new : H) (fault : ReplayFault) (now then : LinePlace) (a b c : Option (List ℕ)) (line piece : List ℕ) (i : ℕ) (rest : List ℕ) → i < length piece →
       IsRunTo ran old mid now then a b (line ++ take i piece) rest → RanBy ran mid new (StopsIn b c then rest (get_or piece i 0 ∷ []) fault) → RanBy ran old new (IsScriptStopped fault now a c line piece)
   stopped_at old mid new fault now then a b c line piece i rest within p q =
       by_more old mid new (RunsTo now then a b (line ++ take i piece) rest) (StopsIn b c then rest (get_or piece i 0 ∷ []) fault) (IsScriptStopped fault now a c line piece)
@@ -314,7 +314,7 @@ module _ {H : Type 0} (ran : Ran H) (none : (w : H) → ran w [] [] w) (join : (
       p q
 
   -- a fault within a piece
-  pub halted_within : (old mid new : H) (fault : Fault) (then : LinePlace) (a b c from left later : Option (List ℕ)) (piece rest : List ℕ) →
+  pub halted_within : (old mid new : H) (fault : ReplayFault) (then : LinePlace) (a b c from left later : Option (List ℕ)) (piece rest : List ℕ) →
       IsReadTo ran old mid then a b from left rest → Consumes left later piece → RanBy ran mid new (IsScriptStopped fault then b c rest piece) → Halts ran old new a c later from fault
   halted_within old mid new fault then a b c None left later piece rest p consumed q = tt
   halted_within old mid new fault then a b c (Some script) None later piece rest p consumed q = absurd p.consumed
@@ -325,7 +325,7 @@ module _ {H : Type 0} (ran : Ran H) (none : (w : H) → ran w [] [] w) (join : (
       p.run q
 
   -- a fault at the last line
-  pub halted_at_last : (old mid new : H) (fault : Fault) (then : LinePlace) (a b c from left unread : Option (List ℕ)) (rest : List ℕ) →
+  pub halted_at_last : (old mid new : H) (fault : ReplayFault) (then : LinePlace) (a b c from left unread : Option (List ℕ)) (rest : List ℕ) →
       IsReadTo ran old mid then a b from left rest → IsAtEnd left → RanBy ran mid new (StopsAtEnd b c then rest fault) → Halts ran old new a c unread from fault
   halted_at_last old mid new fault then a b c None left unread rest p end q = tt
   halted_at_last old mid new fault then a b c (Some script) None unread rest p end q = absurd p.consumed
@@ -362,7 +362,7 @@ on_err (Ok x) p = tt
 on_err (Err e) p = p
 
 -- an LF stands there
-pub comes_lf : (fault : Fault) (byte : ℕ) → byte ≡ 10 → LineComesIn fault (byte ∷ [])
+pub comes_lf : (fault : ReplayFault) (byte : ℕ) → byte ≡ 10 → LineComesIn fault (byte ∷ [])
 comes_lf (Script n) byte is = ([], ap (λ b. b ∷ []) is)
 comes_lf Output byte is = ([], ap (λ b. b ∷ []) is)
 comes_lf Memory byte is = some_item byte []

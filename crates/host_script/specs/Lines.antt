@@ -8,8 +8,8 @@ use Rattle.host_script.specs.Script.{line_command}
 use Rattle.host_script.specs.ParsedLine.{parsed_of}
 use Rattle.host_script.specs.Printed.{line_of, refused_line}
 use Rattle.host_script.specs.declared.script.Command.{Command}
-use Rattle.host_script.specs.declared.fault.Fault.{Fault}
-use Rattle.host_script.specs.declared.fault.Fault.TheVariants.{Script, Memory, Output}
+use Rattle.host_script.specs.declared.fault.ReplayFault.{ReplayFault}
+use Rattle.host_script.specs.declared.fault.ReplayFault.TheVariants.{Script, Memory, Output}
 use Rattle.host_script.specs.declared.replaying.Place.{Place as Standing}
 use Rattle.host_script.specs.declared.asking.ParsedLine.{ParsedLine}
 use Rattle.host_script.specs.declared.asking.ParsedLine.TheVariants.{Moment, Event, Refused}
@@ -171,26 +171,26 @@ pub record TakesFront (given took : Option (List ℕ)) (text : List ℕ) : Type 
   pub written : Appends given took front
 
 -- How a line ends a script: it is none, and has this number; or memory is lacking for it, or for its answer, of which nothing is written; or it was run, and the writer did not take all of its answer.
-abbrev pub Stops : Option (List ℕ) → Option (List ℕ) → LinePlace → List ℕ → Fault → List HubEvent → List Outcome → Type 0
+abbrev pub Stops : Option (List ℕ) → Option (List ℕ) → LinePlace → List ℕ → ReplayFault → List HubEvent → List Outcome → Type 0
 Stops given took at line (Script n) events outcomes = (n ≡ at.number) × (events ≡ []) × (outcomes ≡ []) × (took ≡ given) × IsNoLine line
 Stops given took at line Memory events outcomes = (took ≡ given) × MayRun at.moment line events outcomes
 Stops given took at line Output events outcomes = (after : ℕ) × (printed : List ℕ) × RunsLine at.moment after line printed events outcomes × TakesFront given took (printed ++ 10 ∷ [])
 
 -- It comes where an LF stands; for lack of memory it may come at any byte.
-abbrev pub LineComesIn : Fault → List ℕ → Type 0
+abbrev pub LineComesIn : ReplayFault → List ℕ → Type 0
 LineComesIn Memory left = left ≢ []
 LineComesIn fault left = (more : List ℕ) × (left ≡ 10 ∷ more)
 
 -- A line ends a script within a text of which this is left.
-abbrev pub StopsIn : Option (List ℕ) → Option (List ℕ) → LinePlace → List ℕ → List ℕ → Fault → List HubEvent → List Outcome → Type 0
+abbrev pub StopsIn : Option (List ℕ) → Option (List ℕ) → LinePlace → List ℕ → List ℕ → ReplayFault → List HubEvent → List Outcome → Type 0
 StopsIn given took at line left fault events outcomes = Stops given took at line fault events outcomes × LineComesIn fault left
 
 -- The last line does, which lacks its LF.
-abbrev pub StopsAtEnd : Option (List ℕ) → Option (List ℕ) → LinePlace → List ℕ → Fault → List HubEvent → List Outcome → Type 0
+abbrev pub StopsAtEnd : Option (List ℕ) → Option (List ℕ) → LinePlace → List ℕ → ReplayFault → List HubEvent → List Outcome → Type 0
 StopsAtEnd given took at line fault events outcomes = Stops given took at line fault events outcomes × (line ≢ [])
 
 -- All that was read was run, as far as its last LF, and no more could be read.
-pub record IsCutOff (given took unread : Option (List ℕ)) (at : LinePlace) (left : List ℕ) (fault : Fault) (events : List HubEvent) (outcomes : List Outcome) : Type 0 where
+pub record IsCutOff (given took unread : Option (List ℕ)) (at : LinePlace) (left : List ℕ) (fault : ReplayFault) (events : List HubEvent) (outcomes : List Outcome) : Type 0 where
   pub fault_is : fault ≡ Script at.number
   pub events_are : events ≡ []
   pub outcomes_are : outcomes ≡ []
@@ -215,13 +215,13 @@ pub record RunsThen (from : LinePlace) (given : Option (List ℕ)) (before text 
   pub outcomes_are : outcomes ≡ first_outcomes ++ later_outcomes
 
 -- A piece of a script was run as far as some LF, and the line behind it ended the script.
-abbrev pub IsScriptStopped : Fault → LinePlace → Option (List ℕ) → Option (List ℕ) → List ℕ → List ℕ → List HubEvent → List Outcome → Type 0
+abbrev pub IsScriptStopped : ReplayFault → LinePlace → Option (List ℕ) → Option (List ℕ) → List ℕ → List ℕ → List HubEvent → List Outcome → Type 0
 IsScriptStopped fault from given took before piece = RunsThen from given before piece (λ to between line left e o. StopsIn between took to line left fault e o)
 
 -- A whole script was: each line before the one that ended it was run and printed, and nothing more was done than is said of that one; or the script could not be read on.
-abbrev pub IsHalted : Fault → Option (List ℕ) → Option (List ℕ) → Option (List ℕ) → List ℕ → List HubEvent → List Outcome → Type 0
+abbrev pub IsHalted : ReplayFault → Option (List ℕ) → Option (List ℕ) → Option (List ℕ) → List ℕ → List HubEvent → List Outcome → Type 0
 IsHalted fault given took unread script = RunsThen start given [] script (λ to between line left e o. StopsIn between took to line left fault e o ⊎ ((left ≡ []) × StopsAtEnd between took to line fault e o) ⊎ IsCutOff between took unread to left fault e o)
 
 -- It was, by some events of a hub.
-abbrev pub Halts : {H : Type 0} → Ran H → H → H → Option (List ℕ) → Option (List ℕ) → Option (List ℕ) → Option (List ℕ) → Fault → Type 0
+abbrev pub Halts : {H : Type 0} → Ran H → H → H → Option (List ℕ) → Option (List ℕ) → Option (List ℕ) → Option (List ℕ) → ReplayFault → Type 0
 Halts ran old new given took unread script fault = IfSome script (λ text. RanBy ran old new (IsHalted fault given took unread text))

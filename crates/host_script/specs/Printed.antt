@@ -7,8 +7,8 @@ use Rattle.group_world.specs.declared.event.Outcome.{Outcome}
 use Rattle.group_world.specs.declared.event.Outcome.TheVariants.{Joined, More, Ready, Finished, Waiting, Drawn, Gone, Done, Flushed, Fault}
 use Rattle.group_world.specs.declared.fault.HubFault.{HubFault}
 use Rattle.group_world.specs.declared.fault.HubFault.TheVariants as hub
-use Rattle.host_script.specs.declared.fault.Fault.{Fault as RunFault}
-use Rattle.host_script.specs.declared.fault.Fault.TheVariants.{Script, Memory, Output}
+use Rattle.host_script.specs.declared.fault.ReplayFault.{ReplayFault as RunFault}
+use Rattle.host_script.specs.declared.fault.ReplayFault.TheVariants.{Script, Memory, Output}
 
 -- ---- names
 

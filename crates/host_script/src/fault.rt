@@ -3,7 +3,7 @@ use thiserror::Error;
 
 /// Why a run ends with status 1.
 #[derive(Debug, Drop, Error)]
-pub enum Fault {
+pub enum ReplayFault {
     /// A line of the script has no form, or couldn't be read. Lines count from 1.
     #[error("script: line {0}")]
     Script(u64),

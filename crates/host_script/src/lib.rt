@@ -11,9 +11,9 @@ mod site;
 mod writing;
 
 pub use asking::{ParsedLine, ask};
-pub use fault::Fault;
+pub use fault::ReplayFault;
 pub use laws::worked_examples;
 pub use printed::{fault_line, fault_text, line_of, refused_line};
 pub use replaying::{MOST_READS, replay};
-pub use script::{Command, LineFault, MOST_ROOM, parse};
+pub use script::{Command, MOST_ROOM, ScriptLineFault, parse};
 pub use site::small_site;

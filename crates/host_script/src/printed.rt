@@ -4,7 +4,7 @@ ghost use Rattle.std.specs.String.{string_bytes};
 ghost use Rattle.host_script.specs.Printed as spec;
 ghost use Rattle.group_world.specs.declared.fault.HubFault.TheVariants.{Full};
 
-use crate::fault::Fault;
+use crate::fault::ReplayFault;
 use group_world::{HubFault, Outcome};
 use host_types::Refused;
 use printed_names::{escaped, full_name, refused_name};
@@ -45,13 +45,13 @@ pub fn fault_line(alloc: Global, fault: HubFault) -> Result<String, AllocError>
 }
 
 /// What standard error gets of a run that ends with status 1, without its LF.
-pub fn fault_text(alloc: Global, fault: &Fault) -> Result<String, AllocError>
+pub fn fault_text(alloc: Global, fault: &ReplayFault) -> Result<String, AllocError>
     ensures { IfOk result (λ t. string_bytes t ≡ spec.fault_text fault.now) }
 {
     match fault {
-        Fault::Script(number) => format!(in alloc; "script: line {number}"),
-        Fault::Memory => String::from_str(alloc, "memory"),
-        Fault::Output => String::from_str(alloc, "output"),
+        ReplayFault::Script(number) => format!(in alloc; "script: line {number}"),
+        ReplayFault::Memory => String::from_str(alloc, "memory"),
+        ReplayFault::Output => String::from_str(alloc, "output"),
     }
 }
 

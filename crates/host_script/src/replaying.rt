@@ -8,9 +8,9 @@ ghost use Rattle.host_script.specs.Script.{line_command};
 ghost use Rattle.host_script.specs.Lines.{RanBy, RanSo, Runs, place_at, place_of, IsLineAnswer, RunsLine, MayRun, IsRunTo, Stops, StopsIn, StopsAtEnd, IsScriptStopped, Halts, IsLastRun, IsReplayed, is_lf};
 
 use crate::asking::{ParsedLine, ask};
-use crate::fault::Fault;
+use crate::fault::ReplayFault;
 use crate::printed::{line_of, refused_line};
-use crate::script::{LineFault, parse};
+use crate::script::{ScriptLineFault, parse};
 use crate::writing::write_line;
 use group_hub::Hub;
 use group_world::Event;
@@ -46,10 +46,10 @@ fn answer_line<S: SearchKeeper>(
     hub: &mut Hub<S>,
     line: &[u8],
     now: Stamp,
-) -> Result<(Stamp, String), LineFault>
+) -> Result<(Stamp, String), ScriptLineFault>
     ensures line { Runs (HubRun S.site_state S.lacks S.crash_states S.represents) hub.old hub.new result (λ ran a b (after, printed). RanBy ran a b (RunsLine now after line.now (string_bytes printed))) }
-    ensures form { result ≡ Err LineFault.Form → (hub.new ≡ hub.old) × (IsUtf8 line.now → line_command line.now ≡ None) }
-    ensures lost { result ≡ Err LineFault.Memory → RanBy (HubRun S.site_state S.lacks S.crash_states S.represents) hub.old hub.new (MayRun now line.now) }
+    ensures form { result ≡ Err ScriptLineFault.Form → (hub.new ≡ hub.old) × (IsUtf8 line.now → line_command line.now ≡ None) }
+    ensures lost { result ≡ Err ScriptLineFault.Memory → RanBy (HubRun S.site_state S.lacks S.crash_states S.represents) hub.old hub.new (MayRun now line.now) }
 {
     match ask(alloc, parse(alloc, line)?, now)? {
         ParsedLine::Moment(moment) => Ok((moment, String::from_str(alloc, "ok")?)),
@@ -66,14 +66,14 @@ fn run_line<S: SearchKeeper, W: Write>(
     now: Stamp,
     number: u64,
     line: &[u8],
-) -> Result<Stamp, Fault>
+) -> Result<Stamp, ReplayFault>
     ensures line { Runs (HubRun S.site_state S.lacks S.crash_states S.represents) hub.old hub.new result (λ ran a b after. (printed : List ℕ) × RanBy ran a b (RunsLine now after line.now printed) × Appends (W.contents writer.old) (W.contents writer.new) (printed ++ 10 ∷ [])) }
     ensures stops { IfErr result (λ fault. RanBy (HubRun S.site_state S.lacks S.crash_states S.represents) hub.old hub.new (Stops (W.contents writer.old) (W.contents writer.new) (place_at now number) line.now fault)) }
 {
     let (moment, printed) = match answer_line(alloc, hub, line, now) {
         Ok(answered) => answered,
-        Err(LineFault::Form) => return Err(Fault::Script(number)),
-        Err(LineFault::Memory) => return Err(Fault::Memory),
+        Err(ScriptLineFault::Form) => return Err(ReplayFault::Script(number)),
+        Err(ScriptLineFault::Memory) => return Err(ReplayFault::Memory),
     };
     write_line(writer, &printed)?;
     Ok(moment)
@@ -94,14 +94,14 @@ fn run_byte<S: SearchKeeper, W: Write>(
     writer: &mut W,
     place: &mut Place,
     byte: u8,
-) -> Result<(), Fault>
+) -> Result<(), ReplayFault>
     ensures run { Runs (HubRun S.site_state S.lacks S.crash_states S.represents) hub.old hub.new result (λ ran a b _. list_any is_lf place.old.line.items ≡ false → IsRunTo ran a b (place_of place.old) (place_of place.new) (W.contents writer.old) (W.contents writer.new) (place.old.line.items ++ byte ∷ []) place.new.line.items) }
     ensures stops { IfErr result (λ fault. RanBy (HubRun S.site_state S.lacks S.crash_states S.represents) hub.old hub.new (StopsIn (W.contents writer.old) (W.contents writer.new) (place_of place.old) place.old.line.items (byte ∷ []) fault)) }
 {
     if byte != b'\n' {
         return match place.line.push(byte) {
             Ok(()) => Ok(()),
-            Err(_) => Err(Fault::Memory),
+            Err(_) => Err(ReplayFault::Memory),
         };
     }
     place.moment = run_line(alloc, hub, writer, place.moment, place.number, &place.line)?;
@@ -117,7 +117,7 @@ fn run_piece<S: SearchKeeper, W: Write>(
     writer: &mut W,
     place: &mut Place,
     piece: &[u8],
-) -> Result<(), Fault>
+) -> Result<(), ReplayFault>
     ensures run { Runs (HubRun S.site_state S.lacks S.crash_states S.represents) hub.old hub.new result (λ ran a b _. list_any is_lf place.old.line.items ≡ false → IsRunTo ran a b (place_of place.old) (place_of place.new) (W.contents writer.old) (W.contents writer.new) (place.old.line.items ++ piece.now) place.new.line.items) }
     ensures stops { list_any is_lf place.old.line.items ≡ false → IfErr result (λ fault. RanBy (HubRun S.site_state S.lacks S.crash_states S.represents) hub.old hub.new (IsScriptStopped fault (place_of place.old) (W.contents writer.old) (W.contents writer.new) place.old.line.items piece.now)) }
 {
@@ -133,7 +133,7 @@ fn run_last<S: SearchKeeper, W: Write>(
     hub: &mut Hub<S>,
     writer: &mut W,
     place: &Place,
-) -> Result<(), Fault>
+) -> Result<(), ReplayFault>
     ensures run { Runs (HubRun S.site_state S.lacks S.crash_states S.represents) hub.old hub.new result (λ ran a b _. IsLastRun ran a b place.now.moment (W.contents writer.old) (W.contents writer.new) place.now.line.items) }
     ensures stops { IfErr result (λ fault. RanBy (HubRun S.site_state S.lacks S.crash_states S.represents) hub.old hub.new (StopsAtEnd (W.contents writer.old) (W.contents writer.new) (place_of place.now) place.now.line.items fault)) }
 {
@@ -146,14 +146,14 @@ fn run_last<S: SearchKeeper, W: Write>(
 }
 
 /// Reads a script to its end, a line at a time, and prints one line for each. Lines count from 1, and the last may lack
-/// its LF. A line of another form, a read that fails, and the end of the reads that it may take end it as `Fault::Script`;
+/// its LF. A line of another form, a read that fails, and the end of the reads that it may take end it as `ReplayFault::Script`;
 /// all lines before it were run and printed then, and after the other faults too.
 pub fn replay<R: Read, W: Write, S: SearchKeeper>(
     alloc: Global,
     reader: &mut R,
     writer: &mut W,
     hub: &mut Hub<S>,
-) -> Result<(), Fault>
+) -> Result<(), ReplayFault>
     ensures run { OnOk result (IfSome (R.remaining reader.old) (IsReplayed (HubRun S.site_state S.lacks S.crash_states S.represents) hub.old hub.new (W.contents writer.old) (W.contents writer.new))) }
     ensures halted { IfErr result (Halts (HubRun S.site_state S.lacks S.crash_states S.represents) hub.old hub.new (W.contents writer.old) (W.contents writer.new) (R.remaining reader.new) (R.remaining reader.old)) }
     // Whatever is answered, the hub was run by some events, so a crash at any moment leaves what a run of these may leave.
@@ -167,12 +167,12 @@ pub fn replay<R: Read, W: Write, S: SearchKeeper>(
     };
     for _ in 0..MOST_READS {
         let Ok(count) = reader.read(&mut buffer) else {
-            return Err(Fault::Script(place.number));
+            return Err(ReplayFault::Script(place.number));
         };
         if count == 0 {
             return run_last(alloc, hub, writer, &place);
         }
         run_piece(alloc, hub, writer, &mut place, &buffer[..count])?;
     }
-    Err(Fault::Script(place.number))
+    Err(ReplayFault::Script(place.number))
 }

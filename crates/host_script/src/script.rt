@@ -44,20 +44,20 @@ pub enum Command {
 
 /// Why a line is no command.
 #[derive(Clone, Copy, Debug, PartialEq, Eq)]
-pub enum LineFault {
+pub enum ScriptLineFault {
     /// The line has none of the forms, or a number is out of range.
     Form,
     Memory,
 }
 
-impl From<AllocError> for LineFault {
+impl From<AllocError> for ScriptLineFault {
     ghost use Rattle.std.specs.Prelude.{◌≡◌};
-    ghost use Rattle.host_script.specs.declared.script.LineFault.TheVariants.{Memory};
+    ghost use Rattle.host_script.specs.declared.script.ScriptLineFault.TheVariants.{Memory};
 
     ghost from_gives = { λ _ e. e ≡ Memory };
 
     fn from(_: AllocError) -> Self {
-        LineFault::Memory
+        ScriptLineFault::Memory
     }
 }
 
@@ -92,9 +92,9 @@ fn now(seconds: &str) -> Option<Command>
     Some(Command::Now(stamp))
 }
 
-fn text(alloc: Global, selector: &str, title: &str, body: &str) -> Result<Command, LineFault>
+fn text(alloc: Global, selector: &str, title: &str, body: &str) -> Result<Command, ScriptLineFault>
     ensures ok { IfOk result (λ c. c ≡ text_of selector.now title.now body.now) }
-    ensures err { IfErr result (λ e. e ≡ LineFault.Memory) }
+    ensures err { IfErr result (λ e. e ≡ ScriptLineFault.Memory) }
 {
     Ok(Command::Text {
         selector: unescaped(alloc, selector)?,
@@ -103,12 +103,12 @@ fn text(alloc: Global, selector: &str, title: &str, body: &str) -> Result<Comman
     })
 }
 
-fn bytes(alloc: Global, id: &str, text: &str) -> Result<Command, LineFault>
+fn bytes(alloc: Global, id: &str, text: &str) -> Result<Command, ScriptLineFault>
     ensures ok { IfOk result (λ c. bytes_of id.now text.now ≡ Some c) }
-    ensures form { result ≡ Err LineFault.Form → bytes_of id.now text.now ≡ None }
+    ensures form { result ≡ Err ScriptLineFault.Form → bytes_of id.now text.now ≡ None }
 {
     let Some(id) = number(id) else {
-        return Err(LineFault::Form);
+        return Err(ScriptLineFault::Form);
     };
     Ok(Command::Bytes {
         id,
@@ -164,14 +164,14 @@ fn one_field(word: &str, field: &str) -> Option<Command>
     }
 }
 
-fn two_fields(alloc: Global, word: &str, id: &str, field: &str) -> Result<Command, LineFault>
+fn two_fields(alloc: Global, word: &str, id: &str, field: &str) -> Result<Command, ScriptLineFault>
     ensures ok { IfOk result (λ c. two_fields_of word.now id.now field.now ≡ Some c) }
-    ensures form { result ≡ Err LineFault.Form → two_fields_of word.now id.now field.now ≡ None }
+    ensures form { result ≡ Err ScriptLineFault.Form → two_fields_of word.now id.now field.now ≡ None }
 {
     match word {
         "bytes" => bytes(alloc, id, field),
-        "draw" => draw(id, field).ok_or(LineFault::Form),
-        _ => Err(LineFault::Form),
+        "draw" => draw(id, field).ok_or(ScriptLineFault::Form),
+        _ => Err(ScriptLineFault::Form),
     }
 }
 
@@ -181,35 +181,35 @@ fn three_fields(
     selector: &str,
     title: &str,
     body: &str,
-) -> Result<Command, LineFault>
+) -> Result<Command, ScriptLineFault>
     ensures ok { IfOk result (λ c. three_fields_of word.now selector.now title.now body.now ≡ Some c) }
-    ensures form { result ≡ Err LineFault.Form
+    ensures form { result ≡ Err ScriptLineFault.Form
         → three_fields_of word.now selector.now title.now body.now ≡ None }
 {
     match word {
         "text" => text(alloc, selector, title, body),
-        _ => Err(LineFault::Form),
+        _ => Err(ScriptLineFault::Form),
     }
 }
 
 /// The command that the fields of a line make.
-fn of_fields(alloc: Global, fields: &[&str]) -> Result<Command, LineFault>
+fn of_fields(alloc: Global, fields: &[&str]) -> Result<Command, ScriptLineFault>
     ensures ok { IfOk result (λ c. command_of (map (λ f. f.now) fields.now) ≡ Some c) }
-    ensures form { result ≡ Err LineFault.Form → command_of (map (λ f. f.now) fields.now) ≡ None }
+    ensures form { result ≡ Err ScriptLineFault.Form → command_of (map (λ f. f.now) fields.now) ≡ None }
 {
     match fields {
-        [] => Err(LineFault::Form),
-        [word] => alone(word).ok_or(LineFault::Form),
-        [word, field] => one_field(word, field).ok_or(LineFault::Form),
+        [] => Err(ScriptLineFault::Form),
+        [word] => alone(word).ok_or(ScriptLineFault::Form),
+        [word, field] => one_field(word, field).ok_or(ScriptLineFault::Form),
         [word, id, field] => two_fields(alloc, word, id, field),
         [word, selector, title, body] => three_fields(alloc, word, selector, title, body),
-        _ => Err(LineFault::Form),
+        _ => Err(ScriptLineFault::Form),
     }
 }
 
-fn of_text(alloc: Global, line: &str) -> Result<Command, LineFault>
+fn of_text(alloc: Global, line: &str) -> Result<Command, ScriptLineFault>
     ensures ok { IfOk result (λ c. command_of (fields line.now) ≡ Some c) }
-    ensures form { result ≡ Err LineFault.Form → command_of (fields line.now) ≡ None }
+    ensures form { result ≡ Err ScriptLineFault.Form → command_of (fields line.now) ≡ None }
 {
     let fields: Vec<&str> = line.split(' ').collect(alloc)?;
     of_fields(alloc, fields.as_slice())
@@ -217,16 +217,16 @@ fn of_text(alloc: Global, line: &str) -> Result<Command, LineFault>
 
 /// The command of a line, without its LF. Fields have one space between each two; TEXT, SELECTOR, TITLE and
 /// BODY are escaped, so that a space in them is `\x20`.
-pub fn parse(alloc: Global, line: &[u8]) -> Result<Command, LineFault>
+pub fn parse(alloc: Global, line: &[u8]) -> Result<Command, ScriptLineFault>
     ensures ok { IfOk result (λ c. line_command line.now ≡ Some c) }
     ensures text { IsOk result → IsUtf8 line.now }
-    ensures form { result ≡ Err LineFault.Form → IsUtf8 line.now → line_command line.now ≡ None }
+    ensures form { result ≡ Err ScriptLineFault.Form → IsUtf8 line.now → line_command line.now ≡ None }
 {
     let Ok(text) = std::str::from_utf8(line) else {
-        return Err(LineFault::Form);
+        return Err(ScriptLineFault::Form);
     };
     if matches!(line, [.., b'\r']) {
-        return Err(LineFault::Form);
+        return Err(ScriptLineFault::Form);
     }
     of_text(alloc, text)
 }

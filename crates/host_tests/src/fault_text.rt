@@ -6,7 +6,7 @@ use crate::requests;
 use crate::trouble::Trouble;
 use group_hub::{Hub, OutcomeList};
 use group_world::{Event, HubFault, Outcome};
-use host_script::{Fault, fault_line, fault_text, line_of, small_site};
+use host_script::{ReplayFault, fault_line, fault_text, line_of, small_site};
 use host_types::{Bytes, Refused};
 use std::alloc::Global;
 
@@ -61,10 +61,10 @@ fn hub_faults(alloc: Global, line: &mut Line) -> Result<(), Trouble> {
 /// `run_faults`: the same of what ends a run.
 fn run_faults(alloc: Global, line: &mut Line) -> Result<(), Trouble> {
     for fault in [
-        Fault::Script(1),
-        Fault::Script(u64::MAX),
-        Fault::Memory,
-        Fault::Output,
+        ReplayFault::Script(1),
+        ReplayFault::Script(u64::MAX),
+        ReplayFault::Memory,
+        ReplayFault::Output,
     ] {
         let text = fault_text(alloc, &fault)?;
         if text != fault.to_string(alloc)? {

@@ -7,7 +7,7 @@ use crate::fault_text;
 use crate::line::{Line, number};
 use crate::trouble::Trouble;
 use group_hub::Hub;
-use host_script::{Command, LineFault, parse, replay, small_site};
+use host_script::{Command, ScriptLineFault, parse, replay, small_site};
 use std::alloc::{AllocError, Global};
 use std::io;
 use std::io::{Read, Write};
@@ -187,8 +187,8 @@ fn show_command(line: &mut Line, command: &Command) -> Result<(), AllocError> {
 fn parse_line(alloc: Global, line: &mut Line, text: &[u8]) -> Result<(), Trouble> {
     match parse(alloc, text) {
         Ok(command) => Ok(show_command(line, &command)?),
-        Err(LineFault::Form) => Ok(line.word("none")?),
-        Err(LineFault::Memory) => Err(Trouble::from(AllocError)),
+        Err(ScriptLineFault::Form) => Ok(line.word("none")?),
+        Err(ScriptLineFault::Memory) => Err(Trouble::from(AllocError)),
     }
 }
 

@@ -11,7 +11,7 @@ ghost use Rattle.image_sessions.specs.ImageRuns.{OverSite, OnImage, Replays};
 use cow_tree::TreeKeeper;
 use group_hub::Hub;
 use host_on_disk::{OpenFault, open_site};
-use host_script::{Fault, replay};
+use host_script::{ReplayFault, replay};
 use host_types::SiteKeeper;
 use sector_device::Device;
 use site_store::DiskSite;
@@ -27,7 +27,7 @@ pub fn replay_over<S: SearchKeeper, R: Read, W: Write>(
     site: S,
     reader: &mut R,
     writer: &mut W,
-) -> Result<(Result<(), Fault>, S), (OpenFault, S)>
+) -> Result<(Result<(), ReplayFault>, S), (OpenFault, S)>
     requires usable { (S.site_state site).usable ≡ true }
     requires unpinned { (S.site_state site).pins ≡ [] }
     requires valid { IsValidWhereGrouped grouped (S.site_state site) }
@@ -54,7 +54,7 @@ pub fn replay_on<D: Device, R: Read, W: Write>(
     device: D,
     reader: &mut R,
     writer: &mut W,
-) -> Result<(Result<(), Fault>, D), (OpenFault, D)>
+) -> Result<(Result<(), ReplayFault>, D), (OpenFault, D)>
     ensures replayed { IfOk result (λ r. Replays (OnImage grouped D.state (λ d. device_of (keeper_of d)) ⟦<DiskSite<TreeKeeper<D>> as SiteKeeper>⟧.site_state ⟦<DiskSite<TreeKeeper<D>> as SiteKeeper>⟧.lacks ⟦<DiskSite<TreeKeeper<D>> as SiteKeeper>⟧.crash_states ⟦<DiskSite<TreeKeeper<D>> as SiteKeeper>⟧.represents (crash_states_of D.moment D.possible_since)) device r.1 (R.remaining reader.old) (R.remaining reader.new) (W.contents writer.old) (W.contents writer.new) r.0) }
     ensures refused { IfErr result (λ e. HandsBack IsOpeningFault D.state (crash_states_of D.moment D.possible_since) device e.1 e.0) }
     ensures unread { IfErr result (λ e. (reader.new ≡ reader.old) × (writer.new ≡ writer.old)) }

@@ -21,8 +21,8 @@ use Rattle.group_world.specs.declared.event.Event.TheVariants as events
 use Rattle.group_world.specs.declared.fault.HubFault.{HubFault}
 use Rattle.turns.specs.Turns.{Trace, trace, nothing, IsTold, once, again, heard_event, heard_reply, drawn_bytes}
 use Rattle.ready_turns.specs.Seats.{SeatState, at, has_left, leaving, joined_state, refused_state, heard_state, learned_state, drawn_state, is_held, IsAdapted, TellsUnless, Listens, AsksWhatCame, DrawsOrWrites, WritesOn, Finishes, ActsInHub, LeavesIfOver, WhereReady, Acts, SeatTurn, LearnsAt, LearnsWhatCame, DismissedAt, Dismissed, TurnedDownAt, TurnedDown, is_waiting}
-use Rattle.ready_turns.specs.declared.seat.Stage.{Stage}
-use Rattle.ready_turns.specs.declared.seat.Stage.TheVariants as stages
+use Rattle.ready_turns.specs.declared.seat.SeatStage.{SeatStage}
+use Rattle.ready_turns.specs.declared.seat.SeatStage.TheVariants as stages
 use Rattle.ready_turns.specs.declared.seat.Ending.{Ending}
 use Rattle.ready_turns.specs.declared.seat.Ending.TheVariants.{Served, Cut, Late, Often}
 use Rattle.ready_sockets.specs.Due.{bytes_by, due_by, all_due, is_answered, IsGoingOut, HasGoneOut, GivenIf, IsUnanswered, IsGiven}
@@ -40,7 +40,7 @@ one_unwritten : (calls : List WireCall) (call : WireCall) → bytes_by call ≡ 
 one_unwritten calls call none = flat_map-append bytes_by calls (call ∷ []) ∙ ap (λ l. written calls ++ (l ++ [])) none ∙ append-nil (written calls)
 
 -- what is so by these bytes, stage and unsent bytes is so by the same ones
-given_by : (client : Adapting) (due before now unsent sent : List ℕ) (stage later : Stage) → now ≡ before → later ≡ stage → sent ≡ unsent → GivenIf (has_left stage) client due before unsent → GivenIf (has_left later) client due now sent
+given_by : (client : Adapting) (due before now unsent sent : List ℕ) (stage later : SeatStage) → now ≡ before → later ≡ stage → sent ≡ unsent → GivenIf (has_left stage) client due before unsent → GivenIf (has_left later) client due now sent
 given_by client due before now unsent sent stage later w s u given =
     subst (λ l. GivenIf (has_left later) client due l sent) (sym w) (subst (λ st. GivenIf (has_left st) client due before sent) (sym s) (subst (λ l. GivenIf (has_left stage) client due before l) (sym u) given))
 
@@ -75,7 +75,7 @@ left_given client due calls state left ended = record {
   hears = λ is. absurd (answered state.stage left is);
 }
   where
-    answered : (stage : Stage) → has_left stage ≡ true → is_answered stage ≡ false → ⊥
+    answered : (stage : SeatStage) → has_left stage ≡ true → is_answered stage ≡ false → ⊥
     answered (stages.Listening id) l is = true≢false (sym l)
     answered (stages.Waiting id) l is = true≢false (sym l)
     answered (stages.Replying id) l is = true≢false is
@@ -366,14 +366,14 @@ finishes_due : (client : Adapting) (ending : Ending) (unsent : List ℕ) (t : Tr
 finishes_due client ending [] t after c = closes_due client (leaving ending []) after ending t c.0 c.1
 finishes_due client ending (b ∷ bytes) t after w = writes_due client (leaving ending (b ∷ bytes)) after t w
 
-acts_due : (old new : Adapting) (stage : Stage) (unsent : List ℕ) (t : Trace) (after : SeatState) → Acts old new stage unsent t after → Leads old (at stage unsent false) t new after
+acts_due : (old new : Adapting) (stage : SeatStage) (unsent : List ℕ) (t : Trace) (after : SeatState) → Acts old new stage unsent t after → Leads old (at stage unsent false) t new after
 acts_due old new (stages.Listening id) unsent t after a = takes_due old new id (Listens old new id unsent) (at (stages.Listening id) unsent false) after t (λ done does. listens_due old new id unsent done after does) (λ done does. listens_apart old new id unsent done after does) a
 acts_due old new (stages.Waiting id) unsent t after a = kept_due old new (at (stages.Waiting id) unsent false) after t a.0 (rests_due old (at (stages.Waiting id) unsent false) after t a.1.0 a.1.1)
 acts_due old new (stages.Replying id) unsent t after a = takes_due old new id (DrawsOrWrites old new id unsent) (at (stages.Replying id) unsent false) after t (λ done does. replies_due old new id unsent done after does) (λ done does. replies_apart old new id unsent done after does) a
 acts_due old new (stages.Leaving ending) unsent t after a = kept_due old new (leaving ending unsent) after t a.0 (finishes_due old ending unsent t after a.1)
 acts_due old new (stages.Closed ending) unsent t after a = kept_due old new (at (stages.Closed ending) unsent false) after t a.0 (rests_due old (at (stages.Closed ending) unsent false) after t a.1.0 a.1.1)
 
-ready_due : (old new : Adapting) (waits : Bool) (stage : Stage) (unsent : List ℕ) (t : Trace) (after : SeatState) → WhereReady old new (not waits) (at stage unsent waits) t after → Leads old (at stage unsent waits) t new after
+ready_due : (old new : Adapting) (waits : Bool) (stage : SeatStage) (unsent : List ℕ) (t : Trace) (after : SeatState) → WhereReady old new (not waits) (at stage unsent waits) t after → Leads old (at stage unsent waits) t new after
 ready_due old new true stage unsent t after r = kept_due old new (at stage unsent true) after t r.0 (rests_due old (at stage unsent true) after t r.1.0 r.1.1)
 ready_due old new false stage unsent t after a = acts_due old new stage unsent t after a
 
@@ -382,7 +382,7 @@ turn_due old new before after t turn = ready_due old new before.waits before.sta
 
 -- ---- what came of a post
 
-learns_at_due : (client : Adapting) (stage : Stage) (unsent : List ℕ) (waits : Bool) (t : Trace) (after : SeatState) → LearnsAt stage (at stage unsent waits) t after → Leads client (at stage unsent waits) t client after
+learns_at_due : (client : Adapting) (stage : SeatStage) (unsent : List ℕ) (waits : Bool) (t : Trace) (after : SeatState) → LearnsAt stage (at stage unsent waits) t after → Leads client (at stage unsent waits) t client after
 learns_at_due client (stages.Waiting id) unsent waits t after l = takes_due client client id (AsksWhatCame id) (at (stages.Waiting id) unsent waits) after t (λ done does. asks_due client id unsent waits done after does) (λ done does. asks_apart id done after does) l
 learns_at_due client (stages.Listening id) unsent waits t after l = rests_due client (at (stages.Listening id) unsent waits) after t l.0 l.1
 learns_at_due client (stages.Replying id) unsent waits t after l = rests_due client (at (stages.Replying id) unsent waits) after t l.0 l.1
@@ -398,7 +398,7 @@ late_due : (client : Adapting) (id : ℕ) (before after : SeatState) (t : Trace)
 late_due client id before after t outcome e is after_is due calls given = subst (λ (u : Trace). IsGiven client (due ++ all_due u.events u.outcomes) (calls ++ u.calls) after) (sym is)
     (more_due client due (all_due (e ∷ []) (outcome ∷ [])) (calls ++ Closed ∷ []) after (ap (λ s. has_left s.stage) after_is) (dropped_behind client due calls Closed before after refl (ap (λ s. has_left s.stage) after_is) (ap (λ s. s.unsent) after_is) given))
 
-dismissed_at_due : (client : Adapting) (stage : Stage) (before after : SeatState) (t : Trace) → DismissedAt stage before t after → Leads client before t client after
+dismissed_at_due : (client : Adapting) (stage : SeatStage) (before after : SeatState) (t : Trace) → DismissedAt stage before t after → Leads client before t client after
 dismissed_at_due client (stages.Listening id) before after t d = late_due client id before after t d.0 _ d.1 d.2
 dismissed_at_due client (stages.Waiting id) before after t d = late_due client id before after t d.0 _ d.1 d.2
 dismissed_at_due client (stages.Replying id) before after t d = late_due client id before after t d.0 _ d.1 d.2
@@ -413,7 +413,7 @@ dismissal_due client before after t d = dismissed_at_due client before.stage bef
 abbrev later_text : List ℕ
 later_text = error_reply true TryAgainLater []
 
-refused_at_due : (client : Adapting) (stage : Stage) (before after : SeatState) (t : Trace) → before.stage ≡ stage → is_waiting stage ≡ true → TurnedDownAt stage before t after → (due : List ℕ) (calls : List WireCall) → IsGiven client due calls before → IsGiven client (due ++ later_text) (calls ++ t.calls) after
+refused_at_due : (client : Adapting) (stage : SeatStage) (before after : SeatState) (t : Trace) → before.stage ≡ stage → is_waiting stage ≡ true → TurnedDownAt stage before t after → (due : List ℕ) (calls : List WireCall) → IsGiven client due calls before → IsGiven client (due ++ later_text) (calls ++ t.calls) after
 refused_at_due client (stages.Waiting id) before after t is waits d due calls given =
     let first = given.hears (ap is_answered is) in
     subst (λ s. IsGiven client (due ++ later_text) (calls ++ t.calls) s) (sym d.2)

@@ -4,7 +4,7 @@ use Rattle.std.proofs.lemmas.List.{append-nil}
 use Rattle.group_world.specs.declared.event.Event.{Event}
 use Rattle.group_world.specs.declared.event.Outcome.{Outcome}
 use Rattle.ready_turns.specs.Seats.{is_waiting}
-use Rattle.ready_turns.specs.declared.seat.Stage.{Stage}
+use Rattle.ready_turns.specs.declared.seat.SeatStage.{SeatStage}
 use Rattle.ready_sockets.specs.Posts.{may_post, noted}
 use Rattle.ready_sockets.specs.Visits.{Beside, HadTurn, HadLimitedTurn, IsLetThrough, IsLetThroughBy, IsLimited}
 use Rattle.ready_sockets.specs.declared.posts.RecentPost.{RecentPost}
@@ -24,13 +24,13 @@ let_through most n now visit posts after may is may_is free noted_is =
 
 -- ---- whether a post came to wait in a turn
 
-pub waits_now : (old mid : Stage) (before after : Bool) → before ≡ is_waiting old → before ≡ false → after ≡ is_waiting mid → after ≡ true → (not (is_waiting old) && is_waiting mid) ≡ true
+pub waits_now : (old mid : SeatStage) (before after : Bool) → before ≡ is_waiting old → before ≡ false → after ≡ is_waiting mid → after ≡ true → (not (is_waiting old) && is_waiting mid) ≡ true
 waits_now old mid before after before_is first after_is now = ap (λ b. not b && is_waiting mid) (sym before_is ∙ first) ∙ sym after_is ∙ now
 
-pub waits_not : (old mid : Stage) (before after : Bool) → before ≡ is_waiting old → before ≡ false → after ≡ is_waiting mid → after ≡ false → (not (is_waiting old) && is_waiting mid) ≡ false
+pub waits_not : (old mid : SeatStage) (before after : Bool) → before ≡ is_waiting old → before ≡ false → after ≡ is_waiting mid → after ≡ false → (not (is_waiting old) && is_waiting mid) ≡ false
 waits_not old mid before after before_is first after_is now = ap (λ b. not b && is_waiting mid) (sym before_is ∙ first) ∙ sym after_is ∙ now
 
-pub waited_before : (old mid : Stage) (before : Bool) → before ≡ is_waiting old → before ≡ true → (not (is_waiting old) && is_waiting mid) ≡ false
+pub waited_before : (old mid : SeatStage) (before : Bool) → before ≡ is_waiting old → before ≡ true → (not (is_waiting old) && is_waiting mid) ≡ false
 waited_before old mid before before_is first = ap (λ b. not b && is_waiting mid) (sym before_is ∙ first)
 
 -- ---- a turn

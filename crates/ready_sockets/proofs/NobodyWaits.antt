@@ -8,8 +8,8 @@ use Rattle.group_world.specs.declared.fault.HubFault.TheVariants as faults
 use Rattle.turns.specs.Turns.{Trace, Both, StepsInOrder, IsFlushed}
 use Rattle.turns.proofs.AllClosed.{all_after, anything}
 use Rattle.ready_turns.specs.Seats.{SeatState, is_waiting, refused_state, learned_state, LearnsAt, DismissedAt, state_of}
-use Rattle.ready_turns.specs.declared.seat.Stage.{Stage}
-use Rattle.ready_turns.specs.declared.seat.Stage.TheVariants as stages
+use Rattle.ready_turns.specs.declared.seat.SeatStage.{SeatStage}
+use Rattle.ready_turns.specs.declared.seat.SeatStage.TheVariants as stages
 use Rattle.ready_sockets.specs.Visits.{NoVisitWaits, Learned, GoesIf, WasDismissed, is_late}
 use Rattle.ready_sockets.specs.declared.visit.Visit.{Visit}
 
@@ -26,14 +26,14 @@ learned_out id (outcomes.Fault fault) = refused_out fault
 learned_out id o = refl
 
 -- who has learned what came of its post waits no more
-learns_out : (stage : Stage) (before : SeatState) (t : Trace) (after : SeatState) → before.stage ≡ stage → LearnsAt stage before t after → is_waiting after.stage ≡ false
+learns_out : (stage : SeatStage) (before : SeatState) (t : Trace) (after : SeatState) → before.stage ≡ stage → LearnsAt stage before t after → is_waiting after.stage ≡ false
 learns_out (stages.Waiting id) before t after is l = ap (λ s. is_waiting s.stage) l.does.after_is ∙ learned_out id l.does.outcome
 learns_out (stages.Listening id) before t after is l = ap (λ s. is_waiting s.stage) l.1 ∙ ap is_waiting is
 learns_out (stages.Replying id) before t after is l = ap (λ s. is_waiting s.stage) l.1 ∙ ap is_waiting is
 learns_out (stages.Leaving ending) before t after is l = ap (λ s. is_waiting s.stage) l.1 ∙ ap is_waiting is
 learns_out (stages.Closed ending) before t after is l = ap (λ s. is_waiting s.stage) l.1 ∙ ap is_waiting is
 
-dismissed_out : (stage : Stage) (before : SeatState) (t : Trace) (after : SeatState) → before.stage ≡ stage → DismissedAt stage before t after → is_waiting after.stage ≡ false
+dismissed_out : (stage : SeatStage) (before : SeatState) (t : Trace) (after : SeatState) → before.stage ≡ stage → DismissedAt stage before t after → is_waiting after.stage ≡ false
 dismissed_out (stages.Waiting id) before t after is d = ap (λ s. is_waiting s.stage) d.2
 dismissed_out (stages.Listening id) before t after is d = ap (λ s. is_waiting s.stage) d.2
 dismissed_out (stages.Replying id) before t after is d = ap (λ s. is_waiting s.stage) d.2

@@ -16,8 +16,8 @@ use Rattle.old_clients.specs.Streams.{Hearing, will_pass}
 use Rattle.turns.specs.WireCalls.{WireCall, Read, ReadFailed, ReadWaited, Wrote, WriteFailed, WriteWaited, Closed}
 use Rattle.turns.specs.Turns.{Trace, trace, nothing, IsTold, once, again, heard_event}
 use Rattle.ready_turns.specs.Seats.{SeatState, at, has_left, leaving, is_held, IsAdapted, TellsUnless, Listens, AsksWhatCame, DrawsOrWrites, WritesOn, Finishes, ActsInHub, LeavesIfOver, WhereReady, Acts, SeatTurn, LearnsAt, LearnsWhatCame, DismissedAt, Dismissed, TurnedDownAt, TurnedDown}
-use Rattle.ready_turns.specs.declared.seat.Stage.{Stage}
-use Rattle.ready_turns.specs.declared.seat.Stage.TheVariants as stages
+use Rattle.ready_turns.specs.declared.seat.SeatStage.{SeatStage}
+use Rattle.ready_turns.specs.declared.seat.SeatStage.TheVariants as stages
 use Rattle.ready_turns.specs.declared.seat.Ending.{Ending}
 use Rattle.ready_sockets.specs.Sent.{read_by}
 use Rattle.ready_sockets.specs.Told.{bytes_told, all_told, is_end, passed_on}
@@ -146,7 +146,7 @@ finishes : (old_client : Bool) (old new : Adapting) (ending : Ending) (unsent : 
 finishes old_client old new ending [] t after same c = quiet_by old_client old new t _ c.0 (stays old new same) refl refl
 finishes old_client old new ending (b ∷ bytes) t after same w = (writes old_client old new (leaving ending (b ∷ bytes)) after t same w).0
 
-acts : (old_client : Bool) (old new : Adapting) (stage : Stage) (unsent : List ℕ) (t : Trace) (after : SeatState) → Acts old new stage unsent t after → Leads old_client old t new
+acts : (old_client : Bool) (old new : Adapting) (stage : SeatStage) (unsent : List ℕ) (t : Trace) (after : SeatState) → Acts old new stage unsent t after → Leads old_client old t new
 acts old_client old new (stages.Listening id) unsent t after a = takes old_client old new id (Listens old new id unsent) t after (λ done does. listens old_client old new id unsent done after does) a
 acts old_client old new (stages.Waiting id) unsent t after a = quiet_by old_client old new t _ a.1.0 (stays old new a.0) refl refl
 acts old_client old new (stages.Replying id) unsent t after a = takes old_client old new id (DrawsOrWrites old new id unsent) t after (λ done does. replies old_client old new id unsent done after does) a
@@ -162,7 +162,7 @@ turn_tells old_client old new before after t turn = ready old_client old new bef
 
 -- ---- what came of a post, and a dismissal
 
-learns_at : (old_client : Bool) (client : Adapting) (stage : Stage) (before after : SeatState) (t : Trace) → LearnsAt stage before t after → Leads old_client client t client
+learns_at : (old_client : Bool) (client : Adapting) (stage : SeatStage) (before after : SeatState) (t : Trace) → LearnsAt stage before t after → Leads old_client client t client
 learns_at old_client client (stages.Waiting id) before after t l = takes old_client client client id (AsksWhatCame id) t after (λ done does. (quiet_by old_client client client done _ does.is refl refl refl, subst (λ (u : Trace). TellsApart u.events) (sym does.is) (λ leaving. refl))) l
 learns_at old_client client (stages.Listening id) before after t l = quiet_by old_client client client t _ l.0 refl refl refl
 learns_at old_client client (stages.Replying id) before after t l = quiet_by old_client client client t _ l.0 refl refl refl
@@ -172,7 +172,7 @@ learns_at old_client client (stages.Closed ending) before after t l = quiet_by o
 pub learning_tells : (old_client : Bool) (client : Adapting) (before after : SeatState) (t : Trace) → LearnsWhatCame before t after → Leads old_client client t client
 learning_tells old_client client before after t l = learns_at old_client client before.stage before after t l
 
-dismissed_at : (old_client : Bool) (client : Adapting) (stage : Stage) (before after : SeatState) (t : Trace) → DismissedAt stage before t after → Leads old_client client t client
+dismissed_at : (old_client : Bool) (client : Adapting) (stage : SeatStage) (before after : SeatState) (t : Trace) → DismissedAt stage before t after → Leads old_client client t client
 dismissed_at old_client client (stages.Listening id) before after t d = quiet_by old_client client client t _ d.1 refl refl refl
 dismissed_at old_client client (stages.Waiting id) before after t d = quiet_by old_client client client t _ d.1 refl refl refl
 dismissed_at old_client client (stages.Replying id) before after t d = quiet_by old_client client client t _ d.1 refl refl refl
@@ -182,7 +182,7 @@ dismissed_at old_client client (stages.Closed ending) before after t d = quiet_b
 pub dismissal_tells : (old_client : Bool) (client : Adapting) (before after : SeatState) (t : Trace) → Dismissed before t after → Leads old_client client t client
 dismissal_tells old_client client before after t d = dismissed_at old_client client before.stage before after t d
 
-turned_down_at : (old_client : Bool) (client : Adapting) (stage : Stage) (before after : SeatState) (t : Trace) → TurnedDownAt stage before t after → Leads old_client client t client
+turned_down_at : (old_client : Bool) (client : Adapting) (stage : SeatStage) (before after : SeatState) (t : Trace) → TurnedDownAt stage before t after → Leads old_client client t client
 turned_down_at old_client client (stages.Waiting id) before after t d = quiet_by old_client client client t _ d.1 refl refl refl
 turned_down_at old_client client (stages.Listening id) before after t d = quiet_by old_client client client t _ d.0 refl refl refl
 turned_down_at old_client client (stages.Replying id) before after t d = quiet_by old_client client client t _ d.0 refl refl refl

@@ -12,8 +12,8 @@ use Rattle.turns.specs.WireCalls.{WireCall, Read, ReadFailed, ReadWaited, Wrote,
 use Rattle.text_writer.specs.Errors.{error_reply}
 use Rattle.text_writer.specs.declared.error.ErrorText.TheVariants.{TryAgainLater}
 use Rattle.ready_turns.specs.Seats.{SeatState, has_left, is_waiting, state_of}
-use Rattle.ready_turns.specs.declared.seat.Stage.{Stage}
-use Rattle.ready_turns.specs.declared.seat.Stage.TheVariants.{Listening, Waiting}
+use Rattle.ready_turns.specs.declared.seat.SeatStage.{SeatStage}
+use Rattle.ready_turns.specs.declared.seat.SeatStage.TheVariants.{Listening, Waiting}
 use Rattle.ready_sockets.specs.Visits.{HadTurn, WasTurnedDown, Learned, WasDismissed, IsNew, woken}
 use Rattle.ready_sockets.specs.declared.terms.Terms.{Terms}
 use Rattle.ready_sockets.specs.declared.visit.Visit.{Visit}
@@ -40,7 +40,7 @@ all_due (e ∷ es) (o ∷ os) = due_by o ++ all_due es os
 all_due es os = []
 
 -- a reply is given, or it has left
-abbrev pub is_answered : Stage → Bool
+abbrev pub is_answered : SeatStage → Bool
 is_answered (Listening id) = false
 is_answered (Waiting id) = false
 is_answered stage = true

@@ -1,7 +1,7 @@
 -- Worked examples of a word of the log, and of how long a client may stay.
 use Rattle.std.specs.Prelude.{◌≡◌, true, false, codes}
 use Rattle.ready_turns.specs.declared.seat.Ending.TheVariants.{Served, Crowd}
-use Rattle.ready_turns.specs.declared.seat.Stage.TheVariants.{Listening, Waiting, Replying, Leaving}
+use Rattle.ready_turns.specs.declared.seat.SeatStage.TheVariants.{Listening, Waiting, Replying, Leaving}
 use Rattle.ready_sockets.specs.Limits.{is_over, longest_stay}
 use Rattle.ready_sockets.specs.Lines.{ending_word}
 

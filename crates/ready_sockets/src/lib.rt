@@ -33,7 +33,7 @@ pub use laws::{
 pub use limits::{
     LONGEST_LINE, LONGEST_REQUEST, LONGEST_SILENCE, LONGEST_VISIT, is_over, longest_stay,
 };
-pub use lines::{Record, log_line};
+pub use lines::{LogRecord, log_line};
 pub use listen_fault::{ListenFault, NetCause};
 pub use office::{NoOffice, Office};
 pub use pace::Pace;

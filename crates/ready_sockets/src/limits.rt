@@ -2,7 +2,7 @@
 ghost use Rattle.std.specs.Prelude.{◌≡◌};
 ghost use Rattle.ready_sockets.specs.Limits as spec;
 
-use ready_turns::Stage;
+use ready_turns::SeatStage;
 
 /// For how many seconds a client may neither send nor take anything.
 pub const LONGEST_SILENCE: u64 = 30;
@@ -17,12 +17,12 @@ pub const LONGEST_REQUEST: u64 = 120;
 pub const LONGEST_VISIT: u64 = 600;
 
 /// For how many seconds a client may stay whose session is so far, by whether a line has come whole.
-pub fn longest_stay(stage: Stage, has_line: bool) -> u64
+pub fn longest_stay(stage: SeatStage, has_line: bool) -> u64
     ensures { result ≡ spec.longest_stay stage has_line }
 {
     match stage {
-        Stage::Listening(_) if has_line => LONGEST_REQUEST,
-        Stage::Listening(_) => LONGEST_LINE,
+        SeatStage::Listening(_) if has_line => LONGEST_REQUEST,
+        SeatStage::Listening(_) => LONGEST_LINE,
         _ => LONGEST_VISIT,
     }
 }

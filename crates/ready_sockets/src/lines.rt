@@ -15,7 +15,7 @@ use std::net::IpAddr;
 
 /// What the log says of a client that has gone.
 #[derive(Clone, Copy, Debug)]
-pub struct Record<'a> {
+pub struct LogRecord<'a> {
     /// When it had gone.
     pub moment: Stamp,
     /// Its address.
@@ -64,7 +64,7 @@ fn stored_words(alloc: Global, stored: Option<&[u8]>) -> Result<Vec<u8>, AllocEr
 }
 
 /// The line in this program's own form: seconds since the start of 1970, the client's address, the selector in quotes with escapes, how it ended, how many bytes it took, and the selector of the post that it stored, if one was.
-fn own_line(alloc: Global, gone: &Record<'_>) -> Result<Vec<u8>, AllocError>
+fn own_line(alloc: Global, gone: &LogRecord<'_>) -> Result<Vec<u8>, AllocError>
     ensures { IfOk result (λ t. t.items ≡ spec.own_line gone.now.moment gone.now.from.now gone.now.selector.now gone.now.ending gone.now.taken (option_copied gone.now.stored)) }
 {
     let (seconds, taken) = (gone.moment.seconds(), gone.taken);
@@ -117,7 +117,7 @@ fn size_of(alloc: Global, taken: u64) -> Result<String, AllocError>
 }
 
 /// The line in the common log format.
-fn common_line(alloc: Global, gone: &Record<'_>) -> Result<Vec<u8>, AllocError>
+fn common_line(alloc: Global, gone: &LogRecord<'_>) -> Result<Vec<u8>, AllocError>
     ensures { IfOk result (λ t. t.items ≡ spec.common_line gone.now.moment gone.now.from.now gone.now.selector.now gone.now.ending gone.now.taken) }
 {
     let mut line = Vec::new(alloc);
@@ -134,7 +134,7 @@ fn common_line(alloc: Global, gone: &Record<'_>) -> Result<Vec<u8>, AllocError>
 }
 
 /// The line of a client that has gone, without its LF.
-pub fn log_line(alloc: Global, form: LogForm, gone: &Record<'_>) -> Result<Vec<u8>, AllocError>
+pub fn log_line(alloc: Global, form: LogForm, gone: &LogRecord<'_>) -> Result<Vec<u8>, AllocError>
     ensures { IfOk result (λ t. t.items ≡ spec.log_line form gone.now.moment gone.now.from.now gone.now.selector.now gone.now.ending gone.now.taken (option_copied gone.now.stored)) }
 {
     match form {

@@ -11,7 +11,7 @@ use mio::net::TcpStream;
 use ready_turns::ReadyWire;
 use std::io::{ErrorKind, Read, Write};
 use std::net::Shutdown;
-use turns::{CallKind, CallLog, WireFault};
+use turns::{CallLog, WireCallKind, WireFault};
 
 /// A connection that never waits, the calls that were made of it, and what the log says of it.
 #[derive(Drop)]
@@ -99,17 +99,17 @@ impl ReadyWire for ReadySocket {
         match self.stream.read(buffer) {
             Ok(count) => {
                 self.made
-                    .note(CallKind::Read(buffer.len()), &buffer[..count]);
+                    .note(WireCallKind::Read(buffer.len()), &buffer[..count]);
                 self.head.hear(&buffer[..count]);
                 self.line |= has_lf(&buffer[..count]);
                 Ok(Some(count))
             }
             Err(error) if is_for_later(error.kind()) => {
-                self.made.note(CallKind::ReadWaited(buffer.len()), &[]);
+                self.made.note(WireCallKind::ReadWaited(buffer.len()), &[]);
                 Ok(None)
             }
             Err(_) => {
-                self.made.note(CallKind::ReadFailed(buffer.len()), &[]);
+                self.made.note(WireCallKind::ReadFailed(buffer.len()), &[]);
                 Err(WireFault)
             }
         }
@@ -119,16 +119,16 @@ impl ReadyWire for ReadySocket {
         self.told.hear(bytes);
         match self.stream.write(bytes) {
             Ok(count) => {
-                self.made.note(CallKind::Wrote(count), bytes);
+                self.made.note(WireCallKind::Wrote(count), bytes);
                 self.taken = self.taken.saturating_add(count as u64);
                 Ok(Some(count))
             }
             Err(error) if is_for_later(error.kind()) => {
-                self.made.note(CallKind::WriteWaited, bytes);
+                self.made.note(WireCallKind::WriteWaited, bytes);
                 Ok(None)
             }
             Err(_) => {
-                self.made.note(CallKind::WriteFailed, bytes);
+                self.made.note(WireCallKind::WriteFailed, bytes);
                 Err(WireFault)
             }
         }
@@ -136,6 +136,6 @@ impl ReadyWire for ReadySocket {
 
     fn close(&mut self) {
         let _ = self.stream.shutdown(Shutdown::Both);
-        self.made.note(CallKind::Closed, &[]);
+        self.made.note(WireCallKind::Closed, &[]);
     }
 }

@@ -8,7 +8,7 @@ ghost use Rattle.ready_sockets.specs.Visits.{HasSpace, NoVisitWaits, HadTurn, Ha
 ghost use Rattle.ready_sockets.specs.Logged.{crowd_line, HasLine, IsTold, IsToldOff, AreTold, AreToldOff, IsLogged};
 
 use crate::crowd::{Away, Crowd, decline, is_crowded, note_away};
-use crate::lines::{Record, address_text, log_line};
+use crate::lines::{LogRecord, address_text, log_line};
 use crate::posts::{RecentPosts, take_post};
 use crate::room::{MOST_VISITS, Room, VisitFault};
 use crate::stopwatch::Stopwatch;
@@ -317,7 +317,7 @@ fn away_line(
     log_line(
         alloc,
         form,
-        &Record {
+        &LogRecord {
             moment,
             from: &from,
             selector: b"",

@@ -5,7 +5,7 @@ ghost use Rattle.ready_sockets.specs.Rounds.{who};
 ghost use Rattle.ready_sockets.specs.Visits.{has_gone, has_turn, is_late, woken};
 
 use crate::limits::{is_over, longest_stay};
-use crate::lines::{Record, address_text, log_line};
+use crate::lines::{LogRecord, address_text, log_line};
 use crate::{LogForm, ReadySocket};
 use host_types::Stamp;
 use mio::Token;
@@ -81,7 +81,7 @@ impl Visit {
         log_line(
             alloc,
             form,
-            &Record {
+            &LogRecord {
                 moment,
                 from: &from,
                 selector: socket.selector(),

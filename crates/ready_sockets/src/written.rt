@@ -5,7 +5,7 @@ ghost use Rattle.turns.specs.WireCalls.{write_call};
 ghost use Rattle.ready_sockets.specs.Logged.{IsWritten};
 
 use std::io::{ErrorKind, Write};
-use turns::{CallKind, CallLog, WireFault};
+use turns::{CallLog, WireCallKind, WireFault};
 
 /// How many times a write is made that a signal ends, at most.
 const TRIES: u32 = 1000;
@@ -23,17 +23,17 @@ fn write_once<L: Write>(
     for _try in 0..TRIES {
         match log.write(bytes) {
             Ok(count) => {
-                written.note(CallKind::Wrote(count), bytes);
+                written.note(WireCallKind::Wrote(count), bytes);
                 return Ok(count);
             }
             Err(error) if error.kind() == ErrorKind::Interrupted => {}
             Err(_) => {
-                written.note(CallKind::WriteFailed, bytes);
+                written.note(WireCallKind::WriteFailed, bytes);
                 return Err(WireFault);
             }
         }
     }
-    written.note(CallKind::WriteFailed, bytes);
+    written.note(WireCallKind::WriteFailed, bytes);
     Err(WireFault)
 }
 

@@ -21,10 +21,10 @@ use Rattle.turns.proofs.TurnsMade.{draws_few}
 use Rattle.turns.specs.Turns.{Trace, trace, nothing, IsTold, drawn_bytes}
 use Rattle.ready_turns.specs.Tries.{write_try, read_try}
 use Rattle.ready_turns.specs.declared.seat.Seat.{Seat}
-use Rattle.ready_turns.specs.declared.seat.Stage.{Stage}
+use Rattle.ready_turns.specs.declared.seat.SeatStage.{SeatStage}
 use Rattle.ready_turns.specs.declared.seat.Ending.{Ending}
 use Rattle.ready_turns.specs.declared.seat.Ending.TheVariants.{Served, Failed}
-use Rattle.ready_turns.specs.declared.seat.Stage.TheVariants as stages
+use Rattle.ready_turns.specs.declared.seat.SeatStage.TheVariants as stages
 use Rattle.ready_turns.specs.Seats.{SeatState, at, state_of, leaving, has_left, joined_state, refused_state, heard_state, learned_state, drawn_state, draw_room, draw_size, most_drawn, is_held, IsAdapted, TellsUnless, HearsPiece, Listens, KeepsClient, HasTurn, HasKept, AsksWhatCame, Draws, DrawsOrWrites, WritesOn, Finishes, ActsInHub, LeavesIfOver, WhereReady, Acts, SeatTurn, LearnsAt, LearnsWhatCame, DismissedAt, Dismissed, TurnedDownAt, TurnedDown, DoneFor}
 
 abbrev ok_of : {E : Type 0} → Option ℕ → Result (Option ℕ) E
@@ -45,7 +45,7 @@ within_some field count P within is = subst (λ f. IfSome f P) is within
 pub some_left : (bytes : List ℕ) (none : Bool) → none ≡ (length bytes == 0) → none ≡ false → bytes ≡ [] → ⊥
 some_left bytes none is given nothing_is = absurd (true≢false (sym (is ∙ ap (λ l. length l == 0) nothing_is) ∙ given))
 
-pub at_same : (stage other : Stage) (u v : List ℕ) (w x : Bool) → stage ≡ other → u ≡ v → w ≡ x → at stage u w ≡ at other v x
+pub at_same : (stage other : SeatStage) (u v : List ℕ) (w x : Bool) → stage ≡ other → u ≡ v → w ≡ x → at stage u w ≡ at other v x
 at_same stage other u v w x is are same = ap (λ s. at s u w) is ∙ ap (λ l. at other l w) are ∙ ap (λ b. at other v b) same
 
 -- a write that took some
@@ -75,7 +75,7 @@ pub finishes_more : (ending : Ending) (unsent : List ℕ) (t : Trace) (before af
 finishes_more ending [] t before after some is w = absurd (some refl)
 finishes_more ending (b ∷ bytes) t before after some is w = subst (λ s. WritesOn s t after) is w
 
-pub joined_at : (result : Result ℕ HubFault) (stage : Stage) (unsent : List ℕ) → at stage [] false ≡ joined_state (join_outcome result) → unsent ≡ [] → at stage unsent false ≡ joined_state (join_outcome result)
+pub joined_at : (result : Result ℕ HubFault) (stage : SeatStage) (unsent : List ℕ) → at stage [] false ≡ joined_state (join_outcome result) → unsent ≡ [] → at stage unsent false ≡ joined_state (join_outcome result)
 joined_at result stage unsent is none = ap (λ u. at stage u false) none ∙ is
 
 pub drawn_made : (old new : Adapting) (id room : ℕ) (outcome : Outcome) (part : List ℕ) (after : SeatState) → draw_room old ≡ room → length (drawn_bytes outcome) ≤ room → IsAdapted old outcome part new → after ≡ drawn_state id outcome part →
@@ -181,7 +181,7 @@ later_fits text is = let size : length text ≡ 27 = ap length is in omega (arit
 
 -- ---- turns
 
-pub turn_of : {W : Type 0} (old new : Seat W) (stage : Stage) (t : Trace) → old.waits ≡ false → old.stage ≡ stage → Acts old.client new.client stage old.unsent.items t (state_of new) → SeatTurn old.client new.client (state_of old) t (state_of new)
+pub turn_of : {W : Type 0} (old new : Seat W) (stage : SeatStage) (t : Trace) → old.waits ≡ false → old.stage ≡ stage → Acts old.client new.client stage old.unsent.items t (state_of new) → SeatTurn old.client new.client (state_of old) t (state_of new)
 turn_of old new stage t ready is acts = subst (λ b. WhereReady old.client new.client (not b) (state_of old) t (state_of new)) (sym ready) (subst (λ s. Acts old.client new.client s old.unsent.items t (state_of new)) (sym is) acts)
 
 -- one that rests
@@ -189,7 +189,7 @@ pub rested : {W : Type 0} (calls : W → List WireCall) (seat : Seat W) → seat
 rested calls seat waits = record { made = []; calls_are = sym (append-nil (calls seat.wire)); does = subst (λ b. WhereReady seat.client seat.client (not b) (state_of seat) nothing (state_of seat)) (sym waits) (refl, (refl, refl)) }
 
 -- a turn is what is done, and what follows
-pub took : {W : Type 0} (calls : W → List WireCall) (old new : Seat W) (stage : Stage) (id : ℕ) (Does : Trace → SeatState → Type 0) (es fs : List Event) (os ps : List Outcome) → old.waits ≡ false → old.stage ≡ stage →
+pub took : {W : Type 0} (calls : W → List WireCall) (old new : Seat W) (stage : SeatStage) (id : ℕ) (Does : Trace → SeatState → Type 0) (es fs : List Event) (os ps : List Outcome) → old.waits ≡ false → old.stage ≡ stage →
     ((t : Trace) → ActsInHub id Does t (state_of new) → Acts old.client new.client stage old.unsent.items t (state_of new)) →
     HasMade (calls old.wire) (calls new.wire) (λ made. Does (trace made es os) (state_of new)) → LeavesIfOver id (has_left new.stage) (trace [] fs ps) → HasTurn calls old (es ++ fs) (os ++ ps) new
 took calls old new stage id Does es fs os ps ready is acts first second = record {
@@ -237,7 +237,7 @@ learned calls old new id es fs os ps is wire client first second = (
 pub learns_nothing : {W : Type 0} (calls : W → List WireCall) (seat : Seat W) → ((id : ℕ) → seat.stage ≡ stages.Waiting id → ⊥) → HasKept calls LearnsWhatCame seat [] [] seat
 learns_nothing calls seat other = (record { made = []; calls_are = sym (append-nil (calls seat.wire)); does = rests seat.stage (state_of seat) other }, refl)
   where
-    rests : (stage : Stage) (state : SeatState) → ((id : ℕ) → stage ≡ stages.Waiting id → ⊥) → LearnsAt stage state nothing state
+    rests : (stage : SeatStage) (state : SeatState) → ((id : ℕ) → stage ≡ stages.Waiting id → ⊥) → LearnsAt stage state nothing state
     rests (stages.Waiting id) state other = absurd (other id refl)
     rests (stages.Listening id) state other = (refl, refl)
     rests (stages.Replying id) state other = (refl, refl)
@@ -246,7 +246,7 @@ learns_nothing calls seat other = (record { made = []; calls_are = sym (append-n
 
 -- ---- those whose time is over
 
-pub dismissed_at : {W : Type 0} (calls : W → List WireCall) (old new : Seat W) (stage : Stage) (made : List WireCall) (es : List Event) (os : List Outcome) → old.stage ≡ stage → new.client ≡ old.client → calls new.wire ≡ calls old.wire ++ made → DismissedAt stage (state_of old) (trace made es os) (state_of new) → HasKept calls Dismissed old es os new
+pub dismissed_at : {W : Type 0} (calls : W → List WireCall) (old new : Seat W) (stage : SeatStage) (made : List WireCall) (es : List Event) (os : List Outcome) → old.stage ≡ stage → new.client ≡ old.client → calls new.wire ≡ calls old.wire ++ made → DismissedAt stage (state_of old) (trace made es os) (state_of new) → HasKept calls Dismissed old es os new
 dismissed_at calls old new stage made es os is kept called does = (record { made = made; calls_are = called; does = subst (λ s. DismissedAt s (state_of old) (trace made es os) (state_of new)) (sym is) does }, kept)
 
 -- ---- one whose post is not to be made
@@ -264,7 +264,7 @@ turned_down calls old new id es os is wire client does = (
 pub turns_nobody_down : {W : Type 0} (calls : W → List WireCall) (seat : Seat W) → ((id : ℕ) → seat.stage ≡ stages.Waiting id → ⊥) → HasKept calls TurnedDown seat [] [] seat
 turns_nobody_down calls seat other = (record { made = []; calls_are = sym (append-nil (calls seat.wire)); does = rests seat.stage (state_of seat) other }, refl)
   where
-    rests : (stage : Stage) (state : SeatState) → ((id : ℕ) → stage ≡ stages.Waiting id → ⊥) → TurnedDownAt stage state nothing state
+    rests : (stage : SeatStage) (state : SeatState) → ((id : ℕ) → stage ≡ stages.Waiting id → ⊥) → TurnedDownAt stage state nothing state
     rests (stages.Waiting id) state other = absurd (other id refl)
     rests (stages.Listening id) state other = (refl, refl)
     rests (stages.Replying id) state other = (refl, refl)

@@ -3,7 +3,7 @@ use Rattle.std.specs.Prelude.{◌≡◌, true, false, [], codes, Some, None}
 use Rattle.group_world.specs.declared.event.Outcome.TheVariants as outcomes
 use Rattle.group_world.specs.declared.fault.HubFault.TheVariants as faults
 use Rattle.ready_turns.specs.declared.seat.Ending.TheVariants.{Served, Full, Failed, Cut}
-use Rattle.ready_turns.specs.declared.seat.Stage.TheVariants.{Listening, Waiting, Replying, Leaving, Closed}
+use Rattle.ready_turns.specs.declared.seat.SeatStage.TheVariants.{Listening, Waiting, Replying, Leaving, Closed}
 use Rattle.ready_turns.specs.Seats.{at, leaving, acts, has_left, ending_of, joined_state, heard_state, learned_state, drawn_state, is_held}
 
 pub record SeatExamples : Type 0 where

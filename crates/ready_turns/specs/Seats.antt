@@ -13,17 +13,17 @@ use Rattle.turns.specs.WireCalls.{WireCall, Read, ReadFailed, ReadWaited, Wrote,
 use Rattle.turns.specs.Turns.{Trace, trace, nothing, then, IsTold, drawn_bytes}
 use Rattle.ready_turns.specs.declared.seat.Ending.{Ending}
 use Rattle.ready_turns.specs.declared.seat.Ending.TheVariants.{Served, Full, Failed, Cut, Late, Often}
-use Rattle.ready_turns.specs.declared.seat.Stage.{Stage}
-use Rattle.ready_turns.specs.declared.seat.Stage.TheVariants as stages
+use Rattle.ready_turns.specs.declared.seat.SeatStage.{SeatStage}
+use Rattle.ready_turns.specs.declared.seat.SeatStage.TheVariants as stages
 use Rattle.ready_turns.specs.declared.seat.Seat.{Seat}
 
 -- How far a session is, which bytes its wire has not taken yet, and whether it rests until its wire is ready again.
 pub record SeatState : Type 0 where
-  pub stage : Stage
+  pub stage : SeatStage
   pub unsent : List ℕ
   pub waits : Bool
 
-abbrev pub at : Stage → List ℕ → Bool → SeatState
+abbrev pub at : SeatStage → List ℕ → Bool → SeatState
 at stage unsent waits = record { stage = stage; unsent = unsent; waits = waits }
 
 abbrev pub state_of : {W : Type 0} → Seat W → SeatState
@@ -33,7 +33,7 @@ state_of seat = at seat.stage seat.unsent.items seat.waits
 abbrev pub leaving : Ending → List ℕ → SeatState
 leaving ending unsent = at (stages.Leaving ending) unsent false
 
-abbrev pub has_left : Stage → Bool
+abbrev pub has_left : SeatStage → Bool
 has_left (stages.Listening id) = false
 has_left (stages.Waiting id) = false
 has_left (stages.Replying id) = false
@@ -41,7 +41,7 @@ has_left (stages.Leaving ending) = true
 has_left (stages.Closed ending) = true
 
 -- there is something to do in its turn
-abbrev pub acts : Stage → Bool
+abbrev pub acts : SeatStage → Bool
 acts (stages.Listening id) = true
 acts (stages.Waiting id) = false
 acts (stages.Replying id) = true
@@ -49,12 +49,12 @@ acts (stages.Leaving ending) = true
 acts (stages.Closed ending) = false
 
 -- its post waits for others
-abbrev pub is_waiting : Stage → Bool
+abbrev pub is_waiting : SeatStage → Bool
 is_waiting (stages.Waiting id) = true
 is_waiting stage = false
 
 -- how the session of a closed wire ended
-abbrev pub ending_of : Stage → Option Ending
+abbrev pub ending_of : SeatStage → Option Ending
 ending_of (stages.Closed ending) = Some ending
 ending_of stage = None
 
@@ -212,7 +212,7 @@ Finishes ending [] t after = Closes ending t after
 Finishes ending (b ∷ bytes) t after = WritesOn (leaving ending (b ∷ bytes)) t after
 
 -- One turn of a session that doesn't rest.
-abbrev pub Acts : Adapting → Adapting → Stage → List ℕ → Trace → SeatState → Type 0
+abbrev pub Acts : Adapting → Adapting → SeatStage → List ℕ → Trace → SeatState → Type 0
 Acts old new (stages.Listening id) unsent t after = ActsInHub id (Listens old new id unsent) t after
 Acts old new (stages.Waiting id) unsent t after = KeepsClient old new (StaysAtRest (at (stages.Waiting id) unsent false) t after)
 Acts old new (stages.Replying id) unsent t after = ActsInHub id (DrawsOrWrites old new id unsent) t after
@@ -227,7 +227,7 @@ WhereReady old new false before t after = KeepsClient old new (StaysAtRest befor
 abbrev pub SeatTurn : Adapting → Adapting → SeatState → Trace → SeatState → Type 0
 SeatTurn old new before t after = WhereReady old new (not before.waits) before t after
 
-abbrev pub LearnsAt : Stage → SeatState → Trace → SeatState → Type 0
+abbrev pub LearnsAt : SeatStage → SeatState → Trace → SeatState → Type 0
 LearnsAt (stages.Waiting id) before t after = ActsInHub id (AsksWhatCame id) t after
 LearnsAt stage before t after = StaysAtRest before t after
 
@@ -239,7 +239,7 @@ LearnsWhatCame before t after = LearnsAt before.stage before t after
 abbrev pub LeavesLate : ℕ → Trace → SeatState → Type 0
 LeavesLate id t after = (outcome : Outcome) × (t ≡ trace (Closed ∷ []) (events.Leave id ∷ []) (outcome ∷ [])) × (after ≡ at (stages.Closed Late) [] false)
 
-abbrev pub DismissedAt : Stage → SeatState → Trace → SeatState → Type 0
+abbrev pub DismissedAt : SeatStage → SeatState → Trace → SeatState → Type 0
 DismissedAt (stages.Listening id) before t after = LeavesLate id t after
 DismissedAt (stages.Waiting id) before t after = LeavesLate id t after
 DismissedAt (stages.Replying id) before t after = LeavesLate id t after
@@ -254,7 +254,7 @@ Dismissed before t after = DismissedAt before.stage before t after
 abbrev pub LeavesUnmade : ℕ → Trace → SeatState → Type 0
 LeavesUnmade id t after = (outcome : Outcome) × (t ≡ trace [] (events.Leave id ∷ []) (outcome ∷ [])) × (after ≡ leaving Often (error_reply true TryAgainLater []))
 
-abbrev pub TurnedDownAt : Stage → SeatState → Trace → SeatState → Type 0
+abbrev pub TurnedDownAt : SeatStage → SeatState → Trace → SeatState → Type 0
 TurnedDownAt (stages.Waiting id) before t after = LeavesUnmade id t after
 TurnedDownAt stage before t after = StaysAtRest before t after
 

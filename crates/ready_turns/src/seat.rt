@@ -26,7 +26,7 @@ pub enum Ending {
 
 /// How far the session on a wire is.
 #[derive(Clone, Copy, Debug, PartialEq, Eq)]
-pub enum Stage {
+pub enum SeatStage {
     /// The session of this number hears what is read.
     Listening(u64),
     /// The post of the session of this number waits for others.
@@ -39,14 +39,14 @@ pub enum Stage {
     Closed(Ending),
 }
 
-impl Stage {
+impl SeatStage {
     /// Whether the session has left the hub.
     pub fn has_left(self) -> bool
         ensures { result ≡ has_left self }
     {
         match self {
-            Stage::Listening(_) | Stage::Waiting(_) | Stage::Replying(_) => false,
-            Stage::Leaving(_) | Stage::Closed(_) => true,
+            SeatStage::Listening(_) | SeatStage::Waiting(_) | SeatStage::Replying(_) => false,
+            SeatStage::Leaving(_) | SeatStage::Closed(_) => true,
         }
     }
 
@@ -55,8 +55,8 @@ impl Stage {
         ensures { result ≡ acts self }
     {
         match self {
-            Stage::Listening(_) | Stage::Replying(_) | Stage::Leaving(_) => true,
-            Stage::Waiting(_) | Stage::Closed(_) => false,
+            SeatStage::Listening(_) | SeatStage::Replying(_) | SeatStage::Leaving(_) => true,
+            SeatStage::Waiting(_) | SeatStage::Closed(_) => false,
         }
     }
 
@@ -64,7 +64,7 @@ impl Stage {
     pub fn is_waiting(self) -> bool
         ensures { result ≡ is_waiting self }
     {
-        matches!(self, Stage::Waiting(_))
+        matches!(self, SeatStage::Waiting(_))
     }
 
     /// How the session of a closed wire ended.
@@ -72,7 +72,7 @@ impl Stage {
         ensures { result ≡ ending_of self }
     {
         match self {
-            Stage::Closed(ending) => Some(ending),
+            SeatStage::Closed(ending) => Some(ending),
             _ => None,
         }
     }
@@ -82,7 +82,7 @@ impl Stage {
 #[derive(Drop)]
 pub struct Seat<W> {
     pub(crate) wire: W,
-    pub(crate) stage: Stage,
+    pub(crate) stage: SeatStage,
     pub(crate) unsent: Unsent,
     pub(crate) waits: bool,
     pub(crate) client: ClientAdapter,
@@ -90,7 +90,7 @@ pub struct Seat<W> {
 
 impl<W> Seat<W> {
     /// How far the session is.
-    pub fn stage(&self) -> Stage
+    pub fn stage(&self) -> SeatStage
         ensures { result ≡ self.now.stage }
     {
         self.stage
@@ -120,7 +120,7 @@ impl<W> Seat<W> {
     }
 
     /// From here on the session is so far, with these bytes to be sent.
-    pub(crate) fn become_stage(&mut self, stage: Stage, unsent: &[u8])
+    pub(crate) fn become_stage(&mut self, stage: SeatStage, unsent: &[u8])
         requires { length unsent.now ≤ draw_size }
         ensures state { state_of self.new ≡ at stage unsent.now false }
         ensures wire { self.new.wire ≡ self.old.wire }
@@ -132,7 +132,7 @@ impl<W> Seat<W> {
     }
 
     /// From here on the session is so far, with the same bytes to be sent.
-    pub(crate) fn go_on(&mut self, stage: Stage)
+    pub(crate) fn go_on(&mut self, stage: SeatStage)
         ensures state { state_of self.new ≡ at stage self.old.unsent.items false }
         ensures wire { self.new.wire ≡ self.old.wire }
         ensures client { self.new.client ≡ self.old.client }

@@ -6,11 +6,11 @@ ghost use Rattle.group_world.specs.Outcomes.{join_outcome, bytes_outcome};
 ghost use Rattle.turns.specs.Runs.{HasRun};
 ghost use Rattle.turns.specs.WireCalls.{HasMade, Closed};
 ghost use Rattle.turns.specs.Turns.{trace};
-ghost use Rattle.ready_turns.specs.declared.seat.Stage.TheVariants as Stage;
+ghost use Rattle.ready_turns.specs.declared.seat.SeatStage.TheVariants as SeatStage;
 ghost use Rattle.ready_turns.specs.Seats.{at, state_of, has_left, joined_state, refused_state, heard_state, HearsPiece, Listens, AsksWhatCame, Draws, DrawsOrWrites, LeavesIfOver, Finishes, LearnsWhatCame, Dismissed, TurnedDown, IsSeated, HasTurn, HasKept};
 
 use crate::ReadyWire;
-use crate::seat::{Ending, Seat, Stage};
+use crate::seat::{Ending, Seat, SeatStage};
 use crate::unsent::{DRAW_SIZE, Unsent};
 use crate::writing::write_on;
 use group_hub::Hub;
@@ -20,12 +20,12 @@ use turns::{Clock, PIECE, tell, try_again_later};
 use word_index::SearchKeeper;
 
 /// How far a session is that joined, or could not.
-fn joined(answer: Result<u64, HubFault>) -> Stage
+fn joined(answer: Result<u64, HubFault>) -> SeatStage
     ensures { at result [] false ≡ joined_state (join_outcome answer) }
 {
     match answer {
-        Ok(id) => Stage::Listening(id),
-        Err(_) => Stage::Leaving(Ending::Failed),
+        Ok(id) => SeatStage::Listening(id),
+        Err(_) => SeatStage::Leaving(Ending::Failed),
     }
 }
 
@@ -51,9 +51,9 @@ fn refused<W>(seat: &mut Seat<W>, fault: HubFault)
 {
     match fault {
         HubFault::Full { .. } | HubFault::Crowded | HubFault::NotReady => {
-            seat.become_stage(Stage::Leaving(Ending::Full), try_again_later());
+            seat.become_stage(SeatStage::Leaving(Ending::Full), try_again_later());
         }
-        _ => seat.become_stage(Stage::Leaving(Ending::Failed), b""),
+        _ => seat.become_stage(SeatStage::Leaving(Ending::Failed), b""),
     }
 }
 
@@ -64,10 +64,10 @@ fn heard<W>(seat: &mut Seat<W>, id: u64, answer: Result<InputStatus, HubFault>)
     ensures client { seat.new.client ≡ seat.old.client }
 {
     match answer {
-        Ok(InputStatus::More) => seat.become_stage(Stage::Listening(id), b""),
-        Ok(InputStatus::Ready) => seat.become_stage(Stage::Replying(id), b""),
-        Ok(InputStatus::Finished) => seat.become_stage(Stage::Leaving(Ending::Cut), b""),
-        Ok(InputStatus::Waiting) => seat.become_stage(Stage::Waiting(id), b""),
+        Ok(InputStatus::More) => seat.become_stage(SeatStage::Listening(id), b""),
+        Ok(InputStatus::Ready) => seat.become_stage(SeatStage::Replying(id), b""),
+        Ok(InputStatus::Finished) => seat.become_stage(SeatStage::Leaving(Ending::Cut), b""),
+        Ok(InputStatus::Waiting) => seat.become_stage(SeatStage::Waiting(id), b""),
         Err(fault) => refused(seat, fault),
     }
 }
@@ -94,7 +94,7 @@ fn hear_piece<S: SearchKeeper, W, C: Clock>(
     let mut passed = [0; PASSED];
     let count = seat.client.hear(piece, &mut passed);
     if is_held(piece, count) {
-        seat.become_stage(Stage::Listening(id), b"");
+        seat.become_stage(SeatStage::Listening(id), b"");
     } else {
         let answer = tell(hub, id, &passed[..count], clock);
         heard(seat, id, answer);
@@ -108,14 +108,14 @@ fn hear<S: SearchKeeper, W: ReadyWire, C: Clock>(
     clock: &mut C,
     id: u64,
 )
-    requires { seat.old.stage ≡ Stage.Listening id }
+    requires { seat.old.stage ≡ SeatStage.Listening id }
     ensures { HasRun (HubRun S.site_state S.lacks S.crash_states S.represents) hub.old hub.new (C.given clock.old) (C.given clock.new) (λ es os. HasMade (W.calls seat.old.wire) (W.calls seat.new.wire) (λ made. Listens seat.old.client seat.new.client id seat.old.unsent.items (trace made es os) (state_of seat.new))) }
 {
     let mut buffer = [0; PIECE];
     match seat.wire.read(&mut buffer) {
         Ok(Some(count)) => hear_piece(hub, seat, clock, id, &buffer[..count]),
         Ok(None) => seat.waits = true,
-        Err(_) => seat.become_stage(Stage::Leaving(Ending::Cut), b""),
+        Err(_) => seat.become_stage(SeatStage::Leaving(Ending::Cut), b""),
     }
 }
 
@@ -126,9 +126,9 @@ fn draw_through<S: SearchKeeper, W>(hub: &mut Hub<S>, seat: &mut Seat<W>, id: u6
     ensures wire { seat.new.wire ≡ seat.old.wire }
 {
     match seat.unsent.draw(hub, id) {
-        Ok(Drawn::Bytes(_)) => seat.go_on(Stage::Replying(id)),
-        Ok(Drawn::Finished) => seat.become_stage(Stage::Leaving(Ending::Served), b""),
-        Err(_) => seat.become_stage(Stage::Leaving(Ending::Failed), b""),
+        Ok(Drawn::Bytes(_)) => seat.go_on(SeatStage::Replying(id)),
+        Ok(Drawn::Finished) => seat.become_stage(SeatStage::Leaving(Ending::Served), b""),
+        Err(_) => seat.become_stage(SeatStage::Leaving(Ending::Failed), b""),
     }
 }
 
@@ -143,13 +143,13 @@ fn draw_adapted<S: SearchKeeper, W>(hub: &mut Hub<S>, seat: &mut Seat<W>, id: u6
     match hub.draw(id, &mut drawn) {
         Ok(Drawn::Bytes(count)) => {
             let given = seat.client.answer(&drawn[..count.min(SHARE)], &mut part);
-            seat.become_stage(Stage::Replying(id), &part[..given]);
+            seat.become_stage(SeatStage::Replying(id), &part[..given]);
         }
         Ok(Drawn::Finished) => {
             let given = seat.client.close(&mut part);
-            seat.become_stage(Stage::Leaving(Ending::Served), &part[..given]);
+            seat.become_stage(SeatStage::Leaving(Ending::Served), &part[..given]);
         }
-        Err(_) => seat.become_stage(Stage::Leaving(Ending::Failed), b""),
+        Err(_) => seat.become_stage(SeatStage::Leaving(Ending::Failed), b""),
     }
 }
 
@@ -172,13 +172,13 @@ fn ask<S: SearchKeeper, W>(hub: &mut Hub<S>, seat: &mut Seat<W>, id: u64)
     ensures client { seat.new.client ≡ seat.old.client }
 {
     match hub.draw(id, &mut []) {
-        Ok(_) => seat.become_stage(Stage::Replying(id), b""),
+        Ok(_) => seat.become_stage(SeatStage::Replying(id), b""),
         Err(fault) => refused(seat, fault),
     }
 }
 
 /// A session that goes no further leaves the hub.
-fn follow<S: SearchKeeper>(hub: &mut Hub<S>, stage: Stage, id: u64)
+fn follow<S: SearchKeeper>(hub: &mut Hub<S>, stage: SeatStage, id: u64)
     ensures { HasRun (HubRun S.site_state S.lacks S.crash_states S.represents) hub.old hub.new [] [] (λ es os. LeavesIfOver id (has_left stage) (trace [] es os)) }
 {
     if stage.has_left() {
@@ -188,7 +188,7 @@ fn follow<S: SearchKeeper>(hub: &mut Hub<S>, stage: Stage, id: u64)
 
 /// One draw, or one write of what is to be sent.
 fn reply<S: SearchKeeper, W: ReadyWire>(hub: &mut Hub<S>, seat: &mut Seat<W>, id: u64)
-    requires stage { seat.old.stage ≡ Stage.Replying id }
+    requires stage { seat.old.stage ≡ SeatStage.Replying id }
     requires ready { seat.old.waits ≡ false }
     ensures { HasRun (HubRun S.site_state S.lacks S.crash_states S.represents) hub.old hub.new [] [] (λ es os. HasMade (W.calls seat.old.wire) (W.calls seat.new.wire) (λ made. DrawsOrWrites seat.old.client seat.new.client id seat.old.unsent.items (trace made es os) (state_of seat.new))) }
 {
@@ -202,16 +202,16 @@ fn reply<S: SearchKeeper, W: ReadyWire>(hub: &mut Hub<S>, seat: &mut Seat<W>, id
 /// The wire of a session is closed.
 fn shut<W: ReadyWire>(seat: &mut Seat<W>, ending: Ending)
     ensures calls { W.calls seat.new.wire ≡ W.calls seat.old.wire ++ Closed ∷ [] }
-    ensures state { state_of seat.new ≡ at (Stage.Closed ending) [] false }
+    ensures state { state_of seat.new ≡ at (SeatStage.Closed ending) [] false }
     ensures client { seat.new.client ≡ seat.old.client }
 {
     seat.wire.close();
-    seat.become_stage(Stage::Closed(ending), b"");
+    seat.become_stage(SeatStage::Closed(ending), b"");
 }
 
 /// The rest is sent to a session that has left the hub, and then its wire is closed.
 fn finish<W: ReadyWire>(seat: &mut Seat<W>, ending: Ending)
-    requires stage { seat.old.stage ≡ Stage.Leaving ending }
+    requires stage { seat.old.stage ≡ SeatStage.Leaving ending }
     requires ready { seat.old.waits ≡ false }
     ensures made { HasMade (W.calls seat.old.wire) (W.calls seat.new.wire) (λ made. Finishes ending seat.old.unsent.items (trace made [] []) (state_of seat.new)) }
     ensures client { seat.new.client ≡ seat.old.client }
@@ -235,17 +235,17 @@ pub fn take_turn<S: SearchKeeper, W: ReadyWire, C: Clock>(
         return;
     }
     match seat.stage {
-        Stage::Listening(id) => {
+        SeatStage::Listening(id) => {
             hear(hub, seat, clock, id);
             follow(hub, seat.stage, id);
         }
-        Stage::Replying(id) => {
+        SeatStage::Replying(id) => {
             reply(hub, seat, id);
             follow(hub, seat.stage, id);
         }
-        Stage::Leaving(ending) => finish(seat, ending),
-        Stage::Waiting(_) => {}
-        Stage::Closed(_) => {}
+        SeatStage::Leaving(ending) => finish(seat, ending),
+        SeatStage::Waiting(_) => {}
+        SeatStage::Closed(_) => {}
     }
 }
 
@@ -254,7 +254,7 @@ pub fn learn<S: SearchKeeper, W: ReadyWire>(hub: &mut Hub<S>, seat: &mut Seat<W>
     ensures { HasRun (HubRun S.site_state S.lacks S.crash_states S.represents) hub.old hub.new [] [] (λ es os. HasKept W.calls LearnsWhatCame seat.old es os seat.new) }
 {
     match seat.stage {
-        Stage::Waiting(id) => {
+        SeatStage::Waiting(id) => {
             ask(hub, seat, id);
             follow(hub, seat.stage, id);
         }
@@ -267,12 +267,12 @@ pub fn dismiss<S: SearchKeeper, W: ReadyWire>(hub: &mut Hub<S>, seat: &mut Seat<
     ensures { HasRun (HubRun S.site_state S.lacks S.crash_states S.represents) hub.old hub.new [] [] (λ es os. HasKept W.calls Dismissed seat.old es os seat.new) }
 {
     match seat.stage {
-        Stage::Listening(id) | Stage::Waiting(id) | Stage::Replying(id) => {
+        SeatStage::Listening(id) | SeatStage::Waiting(id) | SeatStage::Replying(id) => {
             let _ = hub.leave(id);
             shut(seat, Ending::Late);
         }
-        Stage::Leaving(_) => shut(seat, Ending::Late),
-        Stage::Closed(_) => {}
+        SeatStage::Leaving(_) => shut(seat, Ending::Late),
+        SeatStage::Closed(_) => {}
     }
 }
 
@@ -281,9 +281,9 @@ pub fn turn_down<S: SearchKeeper, W: ReadyWire>(hub: &mut Hub<S>, seat: &mut Sea
     ensures { HasRun (HubRun S.site_state S.lacks S.crash_states S.represents) hub.old hub.new [] [] (λ es os. HasKept W.calls TurnedDown seat.old es os seat.new) }
 {
     match seat.stage {
-        Stage::Waiting(session) => {
+        SeatStage::Waiting(session) => {
             let _ = hub.leave(session);
-            seat.become_stage(Stage::Leaving(Ending::Often), try_again_later());
+            seat.become_stage(SeatStage::Leaving(Ending::Often), try_again_later());
         }
         _ => {}
     }

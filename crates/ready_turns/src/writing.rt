@@ -5,7 +5,7 @@ ghost use Rattle.turns.specs.Turns.{trace};
 ghost use Rattle.ready_turns.specs.Seats.{at, state_of, WritesOn};
 
 use crate::ReadyWire;
-use crate::seat::{Ending, Seat, Stage};
+use crate::seat::{Ending, Seat, SeatStage};
 
 /// One write of what is to be sent.
 pub(crate) fn write_on<W: ReadyWire>(seat: &mut Seat<W>)
@@ -16,12 +16,12 @@ pub(crate) fn write_on<W: ReadyWire>(seat: &mut Seat<W>)
     match seat.wire.write(seat.unsent.as_slice()) {
         Ok(Some(count)) => {
             if count == 0 {
-                seat.become_stage(Stage::Leaving(Ending::Cut), b"");
+                seat.become_stage(SeatStage::Leaving(Ending::Cut), b"");
             } else {
                 seat.unsent.pass(count);
             }
         }
         Ok(None) => seat.waits = true,
-        Err(_) => seat.become_stage(Stage::Leaving(Ending::Cut), b""),
+        Err(_) => seat.become_stage(SeatStage::Leaving(Ending::Cut), b""),
     }
 }

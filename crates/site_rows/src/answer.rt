@@ -1,12 +1,12 @@
 // What one hub answers to a line.
 use crate::asking::{Cut, ROOM, by_calls, by_run};
 use crate::changes::change;
-use crate::fault::Fault;
+use crate::fault::RowFault;
 use crate::fields::{bytes, number};
 use crate::turns::by_turns;
 use group_hub::Hub;
 use group_world::Event;
-use host_script::{LineFault, ParsedLine, ask, fault_line, line_of, parse};
+use host_script::{ParsedLine, ScriptLineFault, ask, fault_line, line_of, parse};
 use host_types::Stamp;
 use std::alloc::Global;
 use word_index::SearchKeeper;
@@ -24,16 +24,16 @@ fn even_cut(size: usize) -> Cut {
 }
 
 /// The event of a line that the script has too.
-fn scripted(alloc: Global, line: &str, now: Stamp) -> Result<Event, Fault> {
+fn scripted(alloc: Global, line: &str, now: Stamp) -> Result<Event, RowFault> {
     let command = match parse(alloc, line.as_bytes()) {
         Ok(command) => command,
-        Err(LineFault::Form) => return Err(Fault::Line),
-        Err(LineFault::Memory) => return Err(Fault::Memory),
+        Err(ScriptLineFault::Form) => return Err(RowFault::Line),
+        Err(ScriptLineFault::Memory) => return Err(RowFault::Memory),
     };
     match ask(alloc, command, now)? {
         ParsedLine::Event(event) => Ok(event),
-        ParsedLine::Refused(refused) => Err(Fault::from(refused)),
-        ParsedLine::Moment(_) => Err(Fault::Line),
+        ParsedLine::Refused(refused) => Err(RowFault::from(refused)),
+        ParsedLine::Moment(_) => Err(RowFault::Line),
     }
 }
 
@@ -44,7 +44,7 @@ fn of_event<S: SearchKeeper>(
     fields: &[&str],
     line: &str,
     now: Stamp,
-) -> Result<String, Fault> {
+) -> Result<String, RowFault> {
     let event = match change(alloc, fields)? {
         Some(change) => Event::Admin { change, now },
         None => scripted(alloc, line, now)?,
@@ -52,7 +52,7 @@ fn of_event<S: SearchKeeper>(
     let outcomes = hub.run(&[event])?;
     match outcomes.as_slice() {
         [outcome] => Ok(line_of(alloc, outcome)?),
-        _ => Err(Fault::Line),
+        _ => Err(RowFault::Line),
     }
 }
 
@@ -62,7 +62,7 @@ fn of_line<S: SearchKeeper>(
     fields: &[&str],
     line: &str,
     now: Stamp,
-) -> Result<String, Fault> {
+) -> Result<String, RowFault> {
     match fields {
         ["ask", all @ ..] => {
             let cut = Cut {
@@ -100,9 +100,9 @@ pub fn answer<S: SearchKeeper>(
     fields: &[&str],
     line: &str,
     now: Stamp,
-) -> Result<String, Fault> {
+) -> Result<String, RowFault> {
     match of_line(alloc, hub, fields, line, now) {
-        Err(Fault::Hub(fault)) => Ok(fault_line(alloc, fault)?),
+        Err(RowFault::Hub(fault)) => Ok(fault_line(alloc, fault)?),
         other => other,
     }
 }

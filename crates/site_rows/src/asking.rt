@@ -1,5 +1,5 @@
 // Sessions that ask, and what they are answered.
-use crate::fault::Fault;
+use crate::fault::RowFault;
 use group_hub::Hub;
 use group_world::{Drawn, Event, InputStatus, Outcome};
 use host_script::line_of;
@@ -32,7 +32,7 @@ pub struct Cut {
 }
 
 /// A whole reply, as its line tells it.
-pub fn reply_text(alloc: Global, reply: &[u8]) -> Result<String, Fault> {
+pub fn reply_text(alloc: Global, reply: &[u8]) -> Result<String, RowFault> {
     let mut line = String::from_str(alloc, "drawn ")?;
     line.push_str(&escaped(alloc, reply)?)?;
     Ok(line)
@@ -55,7 +55,7 @@ fn are_even(draws: &[Outcome], reply: &[u8], room: usize) -> bool {
 }
 
 /// What some draws of this room gave together.
-fn text_of_draws(alloc: Global, draws: &[Outcome], room: usize) -> Result<String, Fault> {
+fn text_of_draws(alloc: Global, draws: &[Outcome], room: usize) -> Result<String, RowFault> {
     let mut reply = Vec::new(alloc);
     for outcome in draws {
         match outcome {
@@ -71,13 +71,13 @@ fn text_of_draws(alloc: Global, draws: &[Outcome], room: usize) -> Result<String
 }
 
 /// What the last piece of a run, its draws of this room and the leave come to.
-fn text_of_run(alloc: Global, outcomes: &[Outcome], room: usize) -> Result<String, Fault> {
+fn text_of_run(alloc: Global, outcomes: &[Outcome], room: usize) -> Result<String, RowFault> {
     match outcomes {
         [Outcome::Ready, draws @ .., Outcome::Finished, Outcome::Gone] => text_of_draws(
             alloc, draws, room,
         ),
         [heard, ..] => Ok(line_of(alloc, heard)?),
-        [] => Err(Fault::Line),
+        [] => Err(RowFault::Line),
     }
 }
 
@@ -88,7 +88,7 @@ pub fn by_run<S: SearchKeeper>(
     request: &[u8],
     cut: Cut,
     now: Stamp,
-) -> Result<String, Fault> {
+) -> Result<String, RowFault> {
     let id = hub.join()?;
     let room = cut.room;
     let mut events = Vec::new(alloc);
@@ -112,7 +112,7 @@ fn draw_all<S: SearchKeeper>(
     hub: &mut Hub<S>,
     id: u64,
     room: usize,
-) -> Result<String, Fault> {
+) -> Result<String, RowFault> {
     let mut out = vec![in alloc; 0u8; room]?;
     let mut reply = Vec::new(alloc);
     for _ in 0..MOST_DRAWS {
@@ -121,7 +121,7 @@ fn draw_all<S: SearchKeeper>(
             Drawn::Finished => return reply_text(alloc, &reply),
         }
     }
-    Err(Fault::Line)
+    Err(RowFault::Line)
 }
 
 /// A request by calls, with the draws of its reply and the leave.
@@ -131,7 +131,7 @@ pub fn by_calls<S: SearchKeeper>(
     request: &[u8],
     cut: Cut,
     now: Stamp,
-) -> Result<String, Fault> {
+) -> Result<String, RowFault> {
     let id = hub.join()?;
     let mut heard = InputStatus::More;
     for piece in request.chunks(cut.piece.max(1)) {

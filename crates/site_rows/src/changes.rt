@@ -1,5 +1,5 @@
 // Changes of a site, as lines name them.
-use crate::fault::Fault;
+use crate::fault::RowFault;
 use crate::fields::{bytes, kind, link_kind, number, selector, title};
 use host_types::{
     Admin, Body, Bytes, Change, ChoiceList, Entry, EntryList, Host, Item, Kind, Question,
@@ -8,11 +8,11 @@ use host_types::{
 use std::alloc::Global;
 
 /// The views of `NAME LANGUAGE BYTES` and so on.
-fn views(alloc: Global, fields: &[&str]) -> Result<ViewList, Fault> {
+fn views(alloc: Global, fields: &[&str]) -> Result<ViewList, RowFault> {
     let mut views = ViewList::new(alloc);
     for view in fields.chunks(3) {
         let [name, language, text] = view else {
-            return Err(Fault::Line);
+            return Err(RowFault::Line);
         };
         views.push(View {
             name: bytes(alloc, &[name])?,
@@ -24,7 +24,7 @@ fn views(alloc: Global, fields: &[&str]) -> Result<ViewList, Fault> {
 }
 
 /// Adds the first entry of some fields, where they have one, and answers how many fields it has.
-fn push_entry(alloc: Global, entries: &mut EntryList, fields: &[&str]) -> Result<usize, Fault> {
+fn push_entry(alloc: Global, entries: &mut EntryList, fields: &[&str]) -> Result<usize, RowFault> {
     let (entry, taken) = match fields {
         [] => return Ok(0),
         ["local", at, ..] => (Entry::Local(selector(alloc, at)?), 2),
@@ -44,13 +44,13 @@ fn push_entry(alloc: Global, entries: &mut EntryList, fields: &[&str]) -> Result
             };
             (entry, 6)
         }
-        _ => return Err(Fault::Line),
+        _ => return Err(RowFault::Line),
     };
     entries.push(entry)?;
     Ok(taken)
 }
 
-fn entries(alloc: Global, fields: &[&str]) -> Result<EntryList, Fault> {
+fn entries(alloc: Global, fields: &[&str]) -> Result<EntryList, RowFault> {
     let mut entries = EntryList::new(alloc);
     let mut taken = 0usize;
     // There are no more entries than fields.
@@ -61,7 +61,7 @@ fn entries(alloc: Global, fields: &[&str]) -> Result<EntryList, Fault> {
     Ok(entries)
 }
 
-fn choices(alloc: Global, fields: &[&str]) -> Result<ChoiceList, Fault> {
+fn choices(alloc: Global, fields: &[&str]) -> Result<ChoiceList, RowFault> {
     let mut choices = ChoiceList::new(alloc);
     for choice in fields {
         choices.push(bytes(alloc, &[choice])?)?;
@@ -74,7 +74,7 @@ fn push_question(
     alloc: Global,
     questions: &mut QuestionList,
     fields: &[&str],
-) -> Result<usize, Fault> {
+) -> Result<usize, RowFault> {
     let (question, taken) = match fields {
         [] => return Ok(0),
         ["ask", prompt, ..] => (Question::Ask(title(alloc, prompt)?), 2),
@@ -87,7 +87,7 @@ fn push_question(
         ["choose", prompt, count, rest @ ..] => {
             let count = number::<usize>(count)?;
             let Some(texts) = rest.get(..count) else {
-                return Err(Fault::Line);
+                return Err(RowFault::Line);
             };
             let prompt = title(alloc, prompt)?;
             let choices = choices(alloc, texts)?;
@@ -96,13 +96,13 @@ fn push_question(
                 count.saturating_add(3),
             )
         }
-        _ => return Err(Fault::Line),
+        _ => return Err(RowFault::Line),
     };
     questions.push(question)?;
     Ok(taken)
 }
 
-fn questions(alloc: Global, fields: &[&str]) -> Result<QuestionList, Fault> {
+fn questions(alloc: Global, fields: &[&str]) -> Result<QuestionList, RowFault> {
     let mut questions = QuestionList::new(alloc);
     let mut taken = 0usize;
     // There are no more questions than fields.
@@ -113,7 +113,7 @@ fn questions(alloc: Global, fields: &[&str]) -> Result<QuestionList, Fault> {
     Ok(questions)
 }
 
-fn body(alloc: Global, fields: &[&str]) -> Result<Body, Fault> {
+fn body(alloc: Global, fields: &[&str]) -> Result<Body, RowFault> {
     Ok(match fields {
         ["views", letter, all @ ..] => Body::Views(kind(letter)?, views(alloc, all)?),
         ["menu", all @ ..] => Body::Menu(entries(alloc, all)?),
@@ -137,14 +137,14 @@ fn body(alloc: Global, fields: &[&str]) -> Result<Body, Fault> {
             })?;
             Body::Views(Kind::Text, views)
         }
-        _ => return Err(Fault::Line),
+        _ => return Err(RowFault::Line),
     })
 }
 
 /// What puts an item at a selector, by `SELECTOR TITLE SUMMARY BODY` and the moment until which it is found.
-fn put(alloc: Global, until: Option<Stamp>, fields: &[&str]) -> Result<Change, Fault> {
+fn put(alloc: Global, until: Option<Stamp>, fields: &[&str]) -> Result<Change, RowFault> {
     let [at, text, summary, rest @ ..] = fields else {
-        return Err(Fault::Line);
+        return Err(RowFault::Line);
     };
     let at = selector(alloc, at)?;
     let item = Item {
@@ -158,7 +158,7 @@ fn put(alloc: Global, until: Option<Stamp>, fields: &[&str]) -> Result<Change, F
 }
 
 /// The change that a line names, or none where its first word is another one.
-pub fn change(alloc: Global, fields: &[&str]) -> Result<Option<Change>, Fault> {
+pub fn change(alloc: Global, fields: &[&str]) -> Result<Option<Change>, RowFault> {
     Ok(Some(match fields {
         ["put", rest @ ..] => put(alloc, None, rest)?,
         ["until", seconds, rest @ ..] => { put(alloc, Some(Stamp::new(number(seconds)?)?), rest)? }

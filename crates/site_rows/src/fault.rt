@@ -5,7 +5,7 @@ use std::alloc::{AllocError, AllocFailed};
 
 /// Why a line has no other answer. All but a fault of the hub end the program.
 #[derive(Drop)]
-pub enum Fault {
+pub enum RowFault {
     /// The line is none of the language.
     Line,
     /// The hub doesn't do what it is asked, or a name is none: this is the line's answer.
@@ -15,26 +15,26 @@ pub enum Fault {
     Output,
 }
 
-impl From<HubFault> for Fault {
+impl From<HubFault> for RowFault {
     fn from(fault: HubFault) -> Self {
-        Fault::Hub(fault)
+        RowFault::Hub(fault)
     }
 }
 
-impl From<Refused> for Fault {
+impl From<Refused> for RowFault {
     fn from(refused: Refused) -> Self {
-        Fault::Hub(HubFault::Refused(refused))
+        RowFault::Hub(HubFault::Refused(refused))
     }
 }
 
-impl From<AllocError> for Fault {
+impl From<AllocError> for RowFault {
     fn from(_: AllocError) -> Self {
-        Fault::Memory
+        RowFault::Memory
     }
 }
 
-impl<T: Drop> From<AllocFailed<T>> for Fault {
+impl<T: Drop> From<AllocFailed<T>> for RowFault {
     fn from(_: AllocFailed<T>) -> Self {
-        Fault::Memory
+        RowFault::Memory
     }
 }

@@ -1,34 +1,34 @@
 // Fields of a line, and what they represent.
-use crate::fault::Fault;
+use crate::fault::RowFault;
 use bstr::ByteVec;
 use host_types::{Bytes, Kind, LinkKind, Selector, Title};
 use std::alloc::Global;
 use std::str::FromStr;
 
 /// A number in decimal digits.
-pub fn number<N: FromStr>(field: &str) -> Result<N, Fault>
+pub fn number<N: FromStr>(field: &str) -> Result<N, RowFault>
 where
     N::Err: Drop,
 {
     match field.parse::<N>() {
         Ok(number) => Ok(number),
-        Err(_) => Err(Fault::Line),
+        Err(_) => Err(RowFault::Line),
     }
 }
 
 /// How often a field's text stands: `*N*TEXT` is N times TEXT, and all else stands once.
-fn repeated(field: &str) -> Result<(usize, &str), Fault> {
+fn repeated(field: &str) -> Result<(usize, &str), RowFault> {
     let Some(rest) = field.strip_prefix('*') else {
         return Ok((1, field));
     };
     let Some((count, text)) = rest.split_once('*') else {
-        return Err(Fault::Line);
+        return Err(RowFault::Line);
     };
     Ok((number(count)?, text))
 }
 
 /// The bytes of some fields, one behind the other, with their escapes undone.
-pub fn bytes(alloc: Global, fields: &[&str]) -> Result<Bytes, Fault> {
+pub fn bytes(alloc: Global, fields: &[&str]) -> Result<Bytes, RowFault> {
     let mut all = Vec::new(alloc);
     for field in fields {
         let (count, text) = repeated(field)?;
@@ -40,16 +40,16 @@ pub fn bytes(alloc: Global, fields: &[&str]) -> Result<Bytes, Fault> {
     Ok(Bytes::from(all))
 }
 
-pub fn selector(alloc: Global, field: &str) -> Result<Selector, Fault> {
+pub fn selector(alloc: Global, field: &str) -> Result<Selector, RowFault> {
     Ok(Selector::new(bytes(alloc, &[field])?.as_slice())?)
 }
 
-pub fn title(alloc: Global, field: &str) -> Result<Title, Fault> {
+pub fn title(alloc: Global, field: &str) -> Result<Title, RowFault> {
     Ok(Title::new(bytes(alloc, &[field])?.as_slice())?)
 }
 
 /// The kind of document that a menu's letter tells.
-pub fn kind(letter: &str) -> Result<Kind, Fault> {
+pub fn kind(letter: &str) -> Result<Kind, RowFault> {
     Ok(match letter {
         "0" => Kind::Text,
         "4" => Kind::BinHex,
@@ -59,12 +59,12 @@ pub fn kind(letter: &str) -> Result<Kind, Fault> {
         "g" => Kind::Gif,
         "I" => Kind::Image,
         "h" => Kind::Html,
-        _ => return Err(Fault::Line),
+        _ => return Err(RowFault::Line),
     })
 }
 
 /// The kind of link that a menu's letter tells.
-pub fn link_kind(letter: &str) -> Result<LinkKind, Fault> {
+pub fn link_kind(letter: &str) -> Result<LinkKind, RowFault> {
     Ok(match letter {
         "0" => LinkKind::Text,
         "1" => LinkKind::Menu,
@@ -80,6 +80,6 @@ pub fn link_kind(letter: &str) -> Result<LinkKind, Fault> {
         "g" => LinkKind::Gif,
         "I" => LinkKind::Image,
         "h" => LinkKind::Html,
-        _ => return Err(Fault::Line),
+        _ => return Err(RowFault::Line),
     })
 }

@@ -28,7 +28,7 @@ mod fields;
 mod sites;
 mod turns;
 
-use fault::Fault;
+use fault::RowFault;
 use sites::Sites;
 use std::io;
 use std::io::{BufRead, BufReader, BufWriter, Write};
@@ -40,14 +40,14 @@ fn print_line<W: Write>(
     sites: &mut Sites,
     writer: &mut W,
     line: &str,
-) -> Result<(), Fault> {
+) -> Result<(), RowFault> {
     let printed = if line.is_empty() || line.starts_with('#') {
         writeln!(writer, "{line}")
     } else {
         let answer = sites.answer(rt.alloc(), line)?;
         writeln!(writer, "{answer}")
     };
-    printed.or(Err(Fault::Output))
+    printed.or(Err(RowFault::Output))
 }
 
 fn main(rt: HostRuntime) -> io::Result<ExitCode> {

@@ -2,7 +2,7 @@
 ghost use Rattle.std.specs.Prelude.{◌≡◌, [], IfOk};
 
 use crate::answer::answer;
-use crate::fault::Fault;
+use crate::fault::RowFault;
 use crate::fields::number;
 use cow_tree::TreeKeeper;
 use group_hub::Hub;
@@ -17,7 +17,7 @@ use std::alloc::Global;
 use word_index::SearchKeeper;
 
 /// The small site on a disk of so many pages. No pin of it is out.
-fn small_disk_site(alloc: Global, pages: u16) -> Result<DiskSite<TreeKeeper<MemDisk>>, Fault>
+fn small_disk_site(alloc: Global, pages: u16) -> Result<DiskSite<TreeKeeper<MemDisk>>, RowFault>
     ensures { IfOk result (λ site. (⟦<DiskSite<TreeKeeper<MemDisk>> as SiteKeeper>⟧.site_state site).pins ≡ []) }
 {
     let names = SiteNames::new(b"localhost", b"Ada <ada@localhost>", b"Top")?;
@@ -32,24 +32,24 @@ fn small_disk_site(alloc: Global, pages: u16) -> Result<DiskSite<TreeKeeper<MemD
     )
     .is_err()
     {
-        return Err(Fault::Line);
+        return Err(RowFault::Line);
     }
     match open_site(alloc, disk) {
         Ok(site) => Ok(site),
-        Err(_) => Err(Fault::Line),
+        Err(_) => Err(RowFault::Line),
     }
 }
 
 /// A hub over a site of which no pin is out. Its first session has this number.
-fn hub_over<S: SearchKeeper + Drop>(alloc: Global, site: S, first: u64) -> Result<Hub<S>, Fault>
+fn hub_over<S: SearchKeeper + Drop>(alloc: Global, site: S, first: u64) -> Result<Hub<S>, RowFault>
     requires { (S.site_state site).pins ≡ [] }
 {
     if !site.is_usable() {
-        return Err(Fault::Line);
+        return Err(RowFault::Line);
     }
     match Hub::new(alloc, site, first) {
         Ok(hub) => Ok(hub),
-        Err(_) => Err(Fault::Memory),
+        Err(_) => Err(RowFault::Memory),
     }
 }
 
@@ -74,7 +74,7 @@ impl Drop for Sites {
 
 impl Sites {
     /// Two small sites, of which the one stands on a disk of so many pages, with sessions from this number on.
-    pub fn new(alloc: Global, pages: u16, first: u64) -> Result<Sites, Fault> {
+    pub fn new(alloc: Global, pages: u16, first: u64) -> Result<Sites, RowFault> {
         let site = small_disk_site(alloc, pages)?;
         let memory = hub_over(alloc, small_site(alloc)?, first)?;
         match hub_over(alloc, site, first) {
@@ -91,7 +91,7 @@ impl Sites {
     }
 
     /// What the sites answer to a line, where they answer the same.
-    fn both(&mut self, alloc: Global, fields: &[&str], line: &str) -> Result<String, Fault> {
+    fn both(&mut self, alloc: Global, fields: &[&str], line: &str) -> Result<String, RowFault> {
         let memory = answer(alloc, &mut self.memory, fields, line, self.now)?;
         let disk = answer(alloc, &mut self.disk, fields, line, self.now)?;
         if memory == disk {
@@ -101,7 +101,7 @@ impl Sites {
     }
 
     /// What is printed for a line.
-    pub fn answer(&mut self, alloc: Global, line: &str) -> Result<String, Fault> {
+    pub fn answer(&mut self, alloc: Global, line: &str) -> Result<String, RowFault> {
         let fields: Vec<&str> = line.split(' ').collect(alloc)?;
         match fields.as_slice() {
             ["sites", pages, first] => {

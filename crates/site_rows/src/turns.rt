@@ -1,6 +1,6 @@
 // Sessions that ask by turns.
 use crate::asking::reply_text;
-use crate::fault::Fault;
+use crate::fault::RowFault;
 use crate::fields::bytes;
 use group_hub::Hub;
 use group_world::Drawn;
@@ -25,7 +25,7 @@ fn askers<S: SearchKeeper>(
     hub: &mut Hub<S>,
     count: usize,
     requests: &[&str],
-) -> Result<Vec<Asker>, Fault> {
+) -> Result<Vec<Asker>, RowFault> {
     let mut askers = Vec::new(alloc);
     for request in requests.iter().cycle().take(count) {
         askers.push(Asker {
@@ -43,7 +43,7 @@ fn send<S: SearchKeeper>(
     askers: &[Asker],
     at: usize,
     now: Stamp,
-) -> Result<(), Fault> {
+) -> Result<(), RowFault> {
     for asker in askers {
         let request = asker.request.as_slice();
         if let Some(byte) = request.get(at) {
@@ -56,7 +56,7 @@ fn send<S: SearchKeeper>(
 }
 
 /// Each session draws one byte, where one is left; whether there was any.
-fn draw<S: SearchKeeper>(hub: &mut Hub<S>, askers: &mut [Asker]) -> Result<bool, Fault> {
+fn draw<S: SearchKeeper>(hub: &mut Hub<S>, askers: &mut [Asker]) -> Result<bool, RowFault> {
     let mut out = [0];
     let mut any = false;
     for asker in askers.iter_mut() {
@@ -73,7 +73,7 @@ fn text_of_all<S: SearchKeeper>(
     alloc: Global,
     hub: &mut Hub<S>,
     askers: &[Asker],
-) -> Result<String, Fault> {
+) -> Result<String, RowFault> {
     let mut lines = String::new(alloc);
     for asker in askers {
         hub.leave(asker.id)?;
@@ -92,7 +92,7 @@ pub fn by_turns<S: SearchKeeper>(
     count: usize,
     requests: &[&str],
     now: Stamp,
-) -> Result<String, Fault> {
+) -> Result<String, RowFault> {
     let mut askers = askers(alloc, hub, count, requests)?;
     for at in 0..MOST_TURNS {
         send(hub, &askers, at, now)?;

@@ -6,7 +6,7 @@ ghost use Rattle.socket_wires.specs.Taking.{IsFreshWire};
 use std::io::{self, ErrorKind, Read, Write};
 use std::net::{OpenStream, Shutdown, SocketAddr, TcpStream};
 use std::time::Duration;
-use turns::{CallKind, CallLog, Wire, WireFault};
+use turns::{CallLog, Wire, WireCallKind, WireFault};
 
 /// For how many seconds a read or a write may wait.
 const PATIENCE: u64 = 30;
@@ -66,11 +66,11 @@ impl Wire for SocketWire {
         match self.stream.read(buffer) {
             Ok(count) => {
                 self.made
-                    .note(CallKind::Read(buffer.len()), &buffer[..count]);
+                    .note(WireCallKind::Read(buffer.len()), &buffer[..count]);
                 Ok(count)
             }
             Err(_) => {
-                self.made.note(CallKind::ReadFailed(buffer.len()), &[]);
+                self.made.note(WireCallKind::ReadFailed(buffer.len()), &[]);
                 Err(WireFault)
             }
         }
@@ -79,11 +79,11 @@ impl Wire for SocketWire {
     fn write(&mut self, bytes: &[u8]) -> Result<usize, WireFault> {
         match self.stream.write(bytes) {
             Ok(count) => {
-                self.made.note(CallKind::Wrote(count), bytes);
+                self.made.note(WireCallKind::Wrote(count), bytes);
                 Ok(count)
             }
             Err(_) => {
-                self.made.note(CallKind::WriteFailed, bytes);
+                self.made.note(WireCallKind::WriteFailed, bytes);
                 Err(WireFault)
             }
         }
@@ -91,6 +91,6 @@ impl Wire for SocketWire {
 
     fn close(&mut self) {
         let _ = self.stream.shutdown(Shutdown::Both);
-        self.made.note(CallKind::Closed, &[]);
+        self.made.note(WireCallKind::Closed, &[]);
     }
 }

@@ -3,7 +3,7 @@ ghost use Rattle.std.specs.Prelude.{◌≡◌};
 
 use host_types::Stamp;
 use std::alloc::{AllocError, Global};
-use turns::{CallKind, CallLog, Clock, MomentLog, Wire, WireFault};
+use turns::{CallLog, Clock, MomentLog, Wire, WireCallKind, WireFault};
 
 /// A wire whose reads give some bytes, and which keeps what was written to it.
 #[derive(Drop)]
@@ -79,13 +79,13 @@ impl Wire for MemoryWire {
         let left = self.input.get(self.place..).unwrap_or(&[]);
         let count = left.len().min(self.piece).min(buffer.len());
         if count == 0 && !self.ends {
-            self.made.note(CallKind::ReadFailed(buffer.len()), &[]);
+            self.made.note(WireCallKind::ReadFailed(buffer.len()), &[]);
             return Err(WireFault);
         }
         buffer[..count].copy_from_slice(&left[..count]);
         self.place = self.place.saturating_add(count);
         self.made
-            .note(CallKind::Read(buffer.len()), &buffer[..count]);
+            .note(WireCallKind::Read(buffer.len()), &buffer[..count]);
         Ok(count)
     }
 
@@ -93,16 +93,16 @@ impl Wire for MemoryWire {
         let left = self.room.saturating_sub(self.written.len());
         let count = bytes.len().min(self.at_once).min(left);
         if count == 0 || self.written.extend_from_slice(&bytes[..count]).is_err() {
-            self.made.note(CallKind::WriteFailed, bytes);
+            self.made.note(WireCallKind::WriteFailed, bytes);
             return Err(WireFault);
         }
-        self.made.note(CallKind::Wrote(count), bytes);
+        self.made.note(WireCallKind::Wrote(count), bytes);
         Ok(count)
     }
 
     fn close(&mut self) {
         self.closed = self.closed.saturating_add(1);
-        self.made.note(CallKind::Closed, &[]);
+        self.made.note(WireCallKind::Closed, &[]);
     }
 }
 

@@ -3,7 +3,7 @@ ghost use Rattle.std.specs.Prelude.{◌≡◌};
 
 use crate::memory_wire::MemoryWire;
 use ready_turns::ReadyWire;
-use turns::{CallKind, CallLog, Wire, WireFault};
+use turns::{CallLog, Wire, WireCallKind, WireFault};
 
 /// A wire of which every other call finds nothing ready, beginning with the first.
 #[derive(Drop)]
@@ -41,17 +41,17 @@ impl ReadyWire for ShyWire {
 
     fn read(&mut self, buffer: &mut [u8]) -> Result<Option<usize>, WireFault> {
         if !self.turns_ready() {
-            self.made.note(CallKind::ReadWaited(buffer.len()), &[]);
+            self.made.note(WireCallKind::ReadWaited(buffer.len()), &[]);
             return Ok(None);
         }
         match self.wire.read(buffer) {
             Ok(count) => {
                 self.made
-                    .note(CallKind::Read(buffer.len()), &buffer[..count]);
+                    .note(WireCallKind::Read(buffer.len()), &buffer[..count]);
                 Ok(Some(count))
             }
             Err(fault) => {
-                self.made.note(CallKind::ReadFailed(buffer.len()), &[]);
+                self.made.note(WireCallKind::ReadFailed(buffer.len()), &[]);
                 Err(fault)
             }
         }
@@ -59,16 +59,16 @@ impl ReadyWire for ShyWire {
 
     fn write(&mut self, bytes: &[u8]) -> Result<Option<usize>, WireFault> {
         if !self.turns_ready() {
-            self.made.note(CallKind::WriteWaited, bytes);
+            self.made.note(WireCallKind::WriteWaited, bytes);
             return Ok(None);
         }
         match self.wire.write(bytes) {
             Ok(count) => {
-                self.made.note(CallKind::Wrote(count), bytes);
+                self.made.note(WireCallKind::Wrote(count), bytes);
                 Ok(Some(count))
             }
             Err(fault) => {
-                self.made.note(CallKind::WriteFailed, bytes);
+                self.made.note(WireCallKind::WriteFailed, bytes);
                 Err(fault)
             }
         }
@@ -76,6 +76,6 @@ impl ReadyWire for ShyWire {
 
     fn close(&mut self) {
         self.wire.close();
-        self.made.note(CallKind::Closed, &[]);
+        self.made.note(WireCallKind::Closed, &[]);
     }
 }

@@ -6,7 +6,7 @@ use crate::site::{NotReady, memory_hub};
 use crate::tree::tree_hub;
 use group_hub::Hub;
 use host_types::Stamp;
-use ready_sockets::{Head, LogForm, Record, log_line};
+use ready_sockets::{Head, LogForm, LogRecord, log_line};
 use ready_turns::{Ending, Seat, dismiss, join, learn, take_turn};
 use std::alloc::Global;
 use std::io;
@@ -140,7 +140,7 @@ pub fn show_log_line(rt: &HostRuntime) -> io::Result<()> {
     let mut head = Head::new();
     head.hear(b"/bo");
     head.hear(b"ok page\tgopher\r\n");
-    let gone = Record {
+    let gone = LogRecord {
         moment: Stamp::start(),
         from: "127.0.0.1",
         selector: head.selector(),

@@ -1,8 +1,8 @@
 -- What is done on a wire, and how bytes are sent over it.
 use Rattle.std.specs.Prelude.{◌≡◌, ◌≢◌, ◌⊎◌, ℕ, Bool, true, false, List, [], ◌∷◌, ◌++◌, Result, Ok, Err, All, length, take}
 use Rattle.std.specs.List.{concat}
-use Rattle.turns.specs.declared.call_log.CallKind.{CallKind}
-use Rattle.turns.specs.declared.call_log.CallKind.TheVariants as kinds
+use Rattle.turns.specs.declared.call_log.WireCallKind.{WireCallKind}
+use Rattle.turns.specs.declared.call_log.WireCallKind.TheVariants as kinds
 
 -- A call of a wire, with what it was given and what it gave: a read, by its room and the bytes that were read, none at the end; a write, by the bytes that it was offered
 -- and how many of them were taken. One that waited would have had to wait, and did nothing.
@@ -16,7 +16,7 @@ pub data WireCall : Type 0 where
   Closed : WireCall
 
 -- a call that is noted by its kind and its bytes
-abbrev pub call_of : CallKind → List ℕ → WireCall
+abbrev pub call_of : WireCallKind → List ℕ → WireCall
 call_of (kinds.Read room) bytes = Read room bytes
 call_of (kinds.ReadFailed room) bytes = ReadFailed room
 call_of (kinds.ReadWaited room) bytes = ReadWaited room

@@ -7,7 +7,7 @@ use std::marker::Model;
 
 /// Which call of a wire it was, without its bytes.
 #[derive(Clone, Copy, Debug, PartialEq, Eq)]
-pub enum CallKind {
+pub enum WireCallKind {
     /// Bytes were read into so much room, or none at the end.
     Read(usize),
     /// A read into so much room failed.
@@ -41,14 +41,14 @@ impl CallLog {
     }
 
     /// One call more.
-    fn with(_before: &CallLog, _kind: &CallKind, _bytes: &[u8]) -> CallLog
+    fn with(_before: &CallLog, _kind: &WireCallKind, _bytes: &[u8]) -> CallLog
         ensures { result.calls ≡ _before.now.calls ++ call_of _kind.now _bytes.now ∷ [] }
     {
         CallLog {}
     }
 
     /// Notes a call that was made, with the bytes that were read or offered.
-    pub fn note(&mut self, kind: CallKind, bytes: &[u8])
+    pub fn note(&mut self, kind: WireCallKind, bytes: &[u8])
         ensures { self.new.calls ≡ self.old.calls ++ call_of kind bytes.now ∷ [] }
     {
         *self = CallLog::with(self, &kind, bytes);

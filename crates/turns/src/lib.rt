@@ -10,7 +10,7 @@ mod turn;
 mod turns;
 mod wire;
 
-pub use call_log::{CallKind, CallLog};
+pub use call_log::{CallLog, WireCallKind};
 pub use clock::{Clock, MomentLog};
 pub use connection::{Connection, Stage};
 pub use laws::{nobody_waits_behind_a_pass, worked_examples};

@@ -1,5 +1,5 @@
 use Rattle.turns.proofs.Runnings.{run_none, run_both, untold}
-use Rattle.ready_turns.specs.declared.seat.Stage.TheVariants as stages
+use Rattle.ready_turns.specs.declared.seat.SeatStage.TheVariants as stages
 use Rattle.ready_turns.specs.Seats.{Listens, DrawsOrWrites}
 use Rattle.ready_turns.proofs.SeatsMade.{rested, took, finished, still_waits, nothing_left}
 use Rattle.ready_turns.proofs.turn.take_turn.Goals as goal

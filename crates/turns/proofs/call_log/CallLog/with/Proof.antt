@@ -35,7 +35,7 @@ use Rattle.turns.specs.contracts.call_log.CallLog.with as f
 use Rattle.turns.proofs.call_log.CallLog.with.Statement as stated
 use Rattle.turns.proofs.call_log.CallLog.with.Code as code
 use Rattle.turns.specs.contracts.call_log.CallLog as made
-use Rattle.turns.specs.contracts.call_log.CallKind as kind_of
+use Rattle.turns.specs.contracts.call_log.WireCallKind as kind_of
 use Rattle.turns.specs.WireCalls.{call_of}
 
 abbrev stayed : Stays (f.ended).signature.params (f.ended).kept
