@@ -9,7 +9,7 @@ use Rattle.image_server.specs.declared.serving.ServingFault.TheVariants as servi
 use Rattle.ready_sockets.specs.declared.listen_fault.NetCause.{NetCause}
 use Rattle.std.specs.declared.net.socket_addr.SocketAddr.{SocketAddr}
 use Rattle.gopher_host.specs.declared.fault.Fault.{Fault}
-use Rattle.gopher_host.specs.declared.fault.Fault.TheVariants.{Image, NotHad, NotMade, There, Compact, Copy, Changes, Flaw, NoChanges, Stopped, Refused, Item, NoFolder, LeftOut, Serving, Round, Script, Socket, Told, ToldOf, Reply, NotHeld}
+use Rattle.gopher_host.specs.declared.fault.Fault.TheVariants.{Image, NotHad, NotMade, There, Compact, Copy, Changes, Flaw, NoChanges, Stopped, Refused, RefusedName, Item, NoFolder, LeftOut, Serving, Round, Script, Socket, Told, ToldOf, Reply, NotHeld}
 
 met_so : (made : ℕ) (fault : SiteFault) (number : ℕ) → met_other made fault ≡ Some number → stopped_advice made fault ≡ met_by number
 met_so made (site.Refused refused) number is = absurd (cc is)
@@ -32,6 +32,7 @@ met_is_told (Changes fault) number is = absurd (cc is)
 met_is_told (Flaw fault line) number is = absurd (cc is)
 met_is_told NoChanges number is = absurd (cc is)
 met_is_told (Refused made refused line) number is = absurd (cc is)
+met_is_told (RefusedName refused word) number is = absurd (cc is)
 met_is_told (Item fault) number is = absurd (cc is)
 met_is_told NoFolder number is = absurd (cc is)
 met_is_told (LeftOut lines) number is = absurd (cc is)
@@ -59,6 +60,7 @@ listener_is_told (Flaw fault line) at cause is = absurd (cc is)
 listener_is_told NoChanges at cause is = absurd (cc is)
 listener_is_told (Stopped stopped) at cause is = absurd (cc is)
 listener_is_told (Refused made refused line) at cause is = absurd (cc is)
+listener_is_told (RefusedName refused word) at cause is = absurd (cc is)
 listener_is_told (Item fault) at cause is = absurd (cc is)
 listener_is_told NoFolder at cause is = absurd (cc is)
 listener_is_told (LeftOut lines) at cause is = absurd (cc is)

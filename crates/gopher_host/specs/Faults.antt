@@ -1,4 +1,4 @@
--- What the program says of a fault: one line, a second one where there is something to do about it, and one about the change that was refused.
+-- What the program says of a fault: one line, a second one where there is something to do about it, and one about the change or the name that was refused.
 use Rattle.std.specs.Prelude.{◌⊎◌, ℕ, List, [], ◌∷◌, ◌++◌, Option, Some, None, codes, string_bytes}
 use Rattle.std.specs.Io.KnownBytes.{Appends}
 use Rattle.std.specs.declared.net.socket_addr.SocketAddr.{SocketAddr}
@@ -28,7 +28,9 @@ use Rattle.change_file.specs.declared.fault.ApplyFault.{ApplyFault}
 use Rattle.change_file.specs.declared.fault.ChangeFileFault.TheVariants as file
 use Rattle.gopher_host.specs.Advice.{lack_advice, making_advice, refused_advice, stopped_advice, file_advice, item_advice, listener_advice, folder_advice, socket_advice, reply_advice}
 use Rattle.gopher_host.specs.declared.fault.Fault.{Fault}
-use Rattle.gopher_host.specs.declared.fault.Fault.TheVariants.{Image, NotHad, NotMade, There, Compact, Copy, Changes, Flaw, NoChanges, Stopped, Refused, Item, NoFolder, LeftOut, Serving, Round, Script, Socket, Told, ToldOf, Reply, NotHeld}
+use Rattle.gopher_host.specs.declared.refused_words.NameWord.{NameWord}
+use Rattle.gopher_host.specs.declared.refused_words.NameWord.TheVariants as words
+use Rattle.gopher_host.specs.declared.fault.Fault.TheVariants.{Image, NotHad, NotMade, There, Compact, Copy, Changes, Flaw, NoChanges, Stopped, Refused, RefusedName, Item, NoFolder, LeftOut, Serving, Round, Script, Socket, Told, ToldOf, Reply, NotHeld}
 
 -- standard output takes no more
 abbrev pub output_fault : Fault
@@ -65,6 +67,7 @@ line_of (Flaw fault line) = file_line fault
 line_of NoChanges = file_line file.NotToml
 line_of (Stopped stopped) = stopped_line stopped
 line_of (Refused number refused line) = change_line number (refused_name refused)
+line_of (RefusedName refused word) = fault_line (images.Refused refused)
 line_of (Item fault) = item_line fault
 line_of NoFolder = codes "folder: NoFolder"
 line_of (LeftOut lines) = string_bytes lines
@@ -99,6 +102,7 @@ advice_of (Flaw fault line) = string_bytes line
 advice_of NoChanges = codes "The file is not there, or can not be read."
 advice_of (Stopped stopped) = stopped_advice stopped.number stopped.fault
 advice_of (Refused number refused line) = refused_advice refused
+advice_of (RefusedName refused word) = advice (images.Refused refused)
 advice_of (Item fault) = item_advice fault
 advice_of NoFolder = folder_advice
 advice_of (LeftOut lines) = []
@@ -113,9 +117,16 @@ advice_of (ToldOf lines line) = []
 advice_of (Reply fault) = reply_advice fault
 advice_of NotHeld = codes "The server that has the image did not hold still for long enough while it was read: try again."
 
--- the line about a change that was refused, where there is one
+-- the line about a word whose name was refused
+abbrev pub word_line : NameWord → List ℕ
+word_line words.Host = codes "The host is refused: --host."
+word_line words.Admin = codes "The administrator is refused: --admin."
+word_line words.Title = codes "The title is refused: --title."
+
+-- the line about a change or a name that was refused, where there is one
 abbrev pub item_of : Fault → List ℕ
 item_of (Refused number refused line) = string_bytes line
+item_of (RefusedName refused word) = word_line word
 item_of (ToldOf lines line) = string_bytes line
 item_of _ = []
 
@@ -142,7 +153,7 @@ ended_if_any (b ∷ bytes) = ended (b ∷ bytes)
 abbrev pub TellsLine : Fault → Option (List ℕ) → Option (List ℕ) → Type 0
 TellsLine fault old new = Appends old new (ended (line_of fault)) ⊎ Appends old new (ended (codes "memory"))
 
--- That line was written, then what to do about it, and then the line about its change.
+-- That line was written, then what to do about it, and then the line about its change or name.
 pub record TellsFault (fault : Fault) (old new : Option (List ℕ)) : Type 0 where
   pub between : Option (List ℕ)
   pub advised : Option (List ℕ)

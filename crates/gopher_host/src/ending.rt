@@ -21,7 +21,9 @@ pub fn serving_ended(given: Result<Result<(), VisitFault>, ServingFault>) -> Res
 }
 
 /// A script came to its end, or a fault ended it.
-pub fn replay_ended(given: Result<Result<(), host_script::ReplayFault>, OpenFault>) -> Result<(), Fault>
+pub fn replay_ended(
+    given: Result<Result<(), host_script::ReplayFault>, OpenFault>,
+) -> Result<(), Fault>
     ensures { result ≡ spec.replay_ended given }
 {
     match given {

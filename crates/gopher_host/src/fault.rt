@@ -12,6 +12,7 @@ use crate::advice::{
     cause_advice, file_advice, item_advice, lack_advice, making_advice, refused_advice,
     reply_advice, socket_advice,
 };
+use crate::refused_words::NameWord;
 use admin_lines::ReplyFault;
 use admin_socket::SocketFault;
 use change_file::{ApplyFault, ChangeFileFault, file_line};
@@ -59,6 +60,8 @@ pub enum Fault {
     Stopped(ApplyFault),
     /// A change that was refused, and a line about it, without its LF.
     Refused(u64, Refused, String),
+    /// A name of a new site that was refused, and its word.
+    RefusedName(Refused, NameWord),
     /// An item that is not what a command wants.
     Item(ItemFault),
     /// A folder that is none, or can't be read.
@@ -191,6 +194,7 @@ impl Fault {
         match self {
             Fault::Image(fault) | Fault::Compact(fault) => fault_line(alloc, *fault),
             Fault::NotHad(_) | Fault::NotMade(_) => fault_line(alloc, ImageFault::NoFile),
+            Fault::RefusedName(refused, _) => fault_line(alloc, ImageFault::Refused(*refused)),
             Fault::There => String::from_str(alloc, "image: There"),
             Fault::Copy(fault) => copy_fault_line(alloc, *fault),
             Fault::Changes(fault) | Fault::Flaw(fault, _) => file_line(alloc, *fault),
@@ -240,6 +244,7 @@ impl Fault {
     {
         match self {
             Fault::Image(fault) => advice(*fault),
+            Fault::RefusedName(refused, _) => advice(ImageFault::Refused(*refused)),
             Fault::NotHad(lack) => lack_advice(*lack),
             Fault::NotMade(lack) => making_advice(*lack),
             Fault::Compact(ImageFault::Store(KeeperFault::Full { .. })) => {
@@ -278,12 +283,13 @@ impl Fault {
         }
     }
 
-    /// The line about a change that was refused, or nothing.
+    /// The line about a change or a name that was refused, or nothing.
     fn item(&self) -> &str
         ensures { result.now ≡ item_of self.now }
     {
         match self {
             Fault::Refused(_, _, line) | Fault::ToldOf(_, line) => line.as_str(),
+            Fault::RefusedName(_, word) => word.line(),
             _ => "",
         }
     }
@@ -315,7 +321,7 @@ impl Fault {
         writeln!(writer, "{advice}")
     }
 
-    /// Writes a line about the change that was refused, where there is one.
+    /// Writes a line about the change or the name that was refused, where there is one.
     fn tell_item<W: Write>(&self, writer: &mut W) -> io::Result<()>
         ensures { OnOk result (Appends (W.contents writer.old) (W.contents writer.new) (ended_if_any (item_of self.now))) }
     {
@@ -326,7 +332,7 @@ impl Fault {
         writeln!(writer, "{item}")
     }
 
-    /// Writes the fault as one line, where there is something to do about it a second one, and one about a change that was refused; and gives the status.
+    /// Writes the fault as one line, where there is something to do about it a second one, and one about a change or a name that was refused; and gives the status.
     pub fn tell<W: Write>(&self, alloc: Global, writer: &mut W) -> io::Result<ExitCode>
         ensures status { IfOk result (λ code. exit_status code ≡ 1) }
         ensures told { OnOk result (TellsFault self.now (W.contents writer.old) (W.contents writer.new)) }

@@ -26,6 +26,7 @@ mod opening;
 mod printing;
 mod progress;
 mod reading;
+mod refused_words;
 mod removing;
 mod saying;
 mod sessions;
@@ -42,6 +43,7 @@ use host_types::SiteKeeper;
 use image_server::ListenLog;
 use lacking::{explained, image_of, makes_image};
 use ready_sockets::{DoorLog, LogForm, Terms};
+use refused_words::{refused_word, with_word};
 use site_store::DiskSite;
 use socket_wires::SystemClock;
 use std::alloc::Global;
@@ -208,6 +210,7 @@ fn main(rt: HostRuntime) -> io::Result<ExitCode> {
         Err(misread) => return misread.tell(&rt),
     };
     let (image, makes) = (image_of(&task), makes_image(&task));
+    let word = refused_word(&task);
     let mut used = UsedFiles::new(&rt);
     let mut clock = SystemClock::new(&rt);
     let ended = run(
@@ -219,5 +222,6 @@ fn main(rt: HostRuntime) -> io::Result<ExitCode> {
         &mut rt.stderr(),
     );
     let ended = explained(&rt, &mut NameLog::new(), image, makes, ended);
+    let ended = with_word(word, ended);
     status(rt.alloc(), ended, &mut rt.stderr())
 }
