@@ -27,7 +27,7 @@ impl Progress for Seen {
 
 /// The lines of a file so far.
 #[derive(Drop)]
-pub struct Bench {
+pub(crate) struct Bench {
     alloc: Global,
     file: Vec<u8>,
 }

@@ -5,7 +5,7 @@ use std::alloc::{AllocError, Global};
 
 /// A text that is printed, made part by part.
 #[derive(Drop)]
-pub struct Shown {
+pub(crate) struct Shown {
     alloc: Global,
     pub text: String,
 }

@@ -58,7 +58,7 @@ fn seal_all(disk: &mut MemDisk, seal: u64) -> Result<(), Trouble> {
 
 /// A disk, on which the commands are tried.
 #[derive(Drop)]
-pub struct Bench {
+pub(crate) struct Bench {
     alloc: Global,
     disk: MemDisk,
     now: Stamp,

@@ -58,7 +58,7 @@ fn show_outcomes(line: &mut Line, outcomes: &OutcomeList) -> Result<(), Trouble>
 
 /// What the lines work on.
 #[derive(Drop)]
-pub enum Held {
+pub(crate) enum Held {
     Nothing,
     Disk(MemDisk),
     Device(TestedDisk),
@@ -84,7 +84,7 @@ impl Held {
 
 /// What is held, the image that was saved, events, and those that a site is used by.
 #[derive(Drop)]
-pub struct Bench {
+pub(crate) struct Bench {
     pub alloc: Global,
     pub now: Stamp,
     pub held: Held,

@@ -4,7 +4,7 @@ use std::alloc::{AllocError, Global};
 
 /// A line that is printed: fields after spaces, in the form that fields are read in.
 #[derive(Drop)]
-pub struct Line {
+pub(crate) struct Line {
     pub alloc: Global,
     pub text: Vec<u8>,
 }

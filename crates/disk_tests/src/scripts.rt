@@ -8,7 +8,7 @@ use std::alloc::Global;
 
 /// Numbers that look random, by a seed.
 #[derive(Drop)]
-pub struct Dice {
+pub(crate) struct Dice {
     state: u64,
 }
 

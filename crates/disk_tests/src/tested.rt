@@ -2,7 +2,7 @@
 use sector_device::{FuseDisk, LieDisk, MemDisk, OnceDisk};
 
 /// A disk in memory, which may fail for good, fail once, and lie about a sector.
-pub type TestedDisk = FuseDisk<OnceDisk<LieDisk<MemDisk>>>;
+pub(crate) type TestedDisk = FuseDisk<OnceDisk<LieDisk<MemDisk>>>;
 
 /// More calls than are ever made.
 const NEVER: u64 = u64::MAX;

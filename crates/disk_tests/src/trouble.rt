@@ -10,7 +10,7 @@ use std::fmt;
 
 /// Why a line has no other answer.
 #[derive(Clone, Copy)]
-pub enum Trouble {
+pub(crate) enum Trouble {
     /// It has no form that is known.
     Line,
     /// Something is not as it has to be.

@@ -97,7 +97,7 @@ fn call_sector<D: Device>(
 
 /// The folder of the files, and the device that is open.
 #[derive(Drop)]
-pub struct Bench<'a> {
+pub(crate) struct Bench<'a> {
     rt: &'a HostRuntime,
     folder: &'a str,
     used: UsedFiles<'a, HostRuntime>,

@@ -5,7 +5,7 @@ use std::{fmt, io};
 
 /// Why a line has no other answer.
 #[derive(Clone, Copy)]
-pub enum Trouble {
+pub(crate) enum Trouble {
     /// It has no form that is known.
     Line,
     Device(DeviceFault),

@@ -33,7 +33,7 @@ fn run_once(alloc: Global, image: &Image, call: u64, events: &[Event]) -> Result
 
 /// How often a read failed in the flush, which was made again then, and how often a write or a sync did.
 #[derive(Clone, Copy)]
-pub struct Seen {
+pub(crate) struct Seen {
     pub broken: usize,
     pub failed: usize,
 }

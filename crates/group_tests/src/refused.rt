@@ -34,7 +34,7 @@ const SECOND: &[u8] = b"post//book/2\r\n";
 
 /// What sessions drew, up to the first 0 of each, and the generation of the image: 0 in memory.
 #[derive(Drop)]
-pub struct Trial {
+pub(crate) struct Trial {
     pub texts: [[u8; ROOM]; PLACES],
     pub generation: u64,
 }

@@ -14,7 +14,7 @@ const WHOLE: usize = 40_000;
 
 /// Events in order, of which so many fill the site beforehand, and the posts among them as the changes that they make.
 #[derive(Drop)]
-pub struct Script {
+pub(crate) struct Script {
     alloc: Global,
     now: Stamp,
     all: Vec<Event>,

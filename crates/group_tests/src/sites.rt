@@ -19,7 +19,7 @@ use std::alloc::Global;
 use word_index::SearchKeeper;
 
 /// A site over a tree on a disk in memory, which fails after so many calls.
-pub type TreeSite = DiskSite<TreeKeeper<FuseDisk<MemDisk>>>;
+pub(crate) type TreeSite = DiskSite<TreeKeeper<FuseDisk<MemDisk>>>;
 
 const PORT: u16 = 7070;
 
@@ -124,7 +124,7 @@ pub fn run_events<S: SearchKeeper + Drop>(
 
 /// What a hub over a disk answered, the generation of the image then, and the disk.
 #[derive(Drop)]
-pub struct Ran {
+pub(crate) struct Ran {
     pub outcomes: OutcomeList,
     pub generation: u64,
     pub disk: MemDisk,
@@ -151,7 +151,7 @@ pub fn ran_on(
 
 /// The image of a site, and its generation.
 #[derive(Drop)]
-pub struct Image {
+pub(crate) struct Image {
     sectors: Vec<[u8; 512]>,
     pub generation: u64,
 }

@@ -15,7 +15,7 @@ type Contents = Vec<Vec<Bytes>>;
 
 /// How often the flush was stopped, how many images that left, and how often each number of posts was there.
 #[derive(Drop)]
-pub struct Seen {
+pub(crate) struct Seen {
     alloc: Global,
     pub stops: usize,
     pub images: usize,

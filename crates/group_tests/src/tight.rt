@@ -12,7 +12,7 @@ use std::alloc::Global;
 
 /// How many images took the whole group in one commit, how many took each post by itself, and how many left some.
 #[derive(Clone, Copy)]
-pub struct Seen {
+pub(crate) struct Seen {
     pub whole: usize,
     pub singly: usize,
     pub short: usize,

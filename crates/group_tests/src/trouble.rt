@@ -8,7 +8,7 @@ use thiserror::Error;
 
 /// Why a line has no other answer.
 #[derive(Clone, Copy, Debug, PartialEq, Eq, Error)]
-pub enum Trouble {
+pub(crate) enum Trouble {
     /// It has no form that is known.
     #[error("line")]
     Line,

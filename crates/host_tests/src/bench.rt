@@ -7,7 +7,7 @@ use std::alloc::{AllocError, Global};
 
 /// A site in memory, the moment of its changes, and a reader of requests.
 #[derive(Drop)]
-pub struct Bench {
+pub(crate) struct Bench {
     pub alloc: Global,
     pub site: MemSite,
     pub now: Stamp,

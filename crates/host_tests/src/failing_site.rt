@@ -12,7 +12,7 @@ use word_index::{SearchKeeper, SelectorList};
 
 /// A site of which one read fails, or a change.
 #[derive(Drop)]
-pub struct FailingSite {
+pub(crate) struct FailingSite {
     site: MemSite,
     reads: u64,
     changes: u64,

@@ -7,7 +7,7 @@ use std::alloc::{AllocError, Global};
 
 /// A line that is printed: a word, and each field after a space, escaped.
 #[derive(Drop)]
-pub struct Line {
+pub(crate) struct Line {
     alloc: Global,
     text: String,
 }

@@ -7,7 +7,7 @@ use url_page::UrlFault;
 
 /// Why a line has no answer.
 #[derive(Clone, Copy)]
-pub enum Trouble {
+pub(crate) enum Trouble {
     /// It has no form that is known.
     Line,
     /// Two ways that have to agree do not.

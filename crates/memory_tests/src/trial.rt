@@ -24,7 +24,7 @@ const REQUESTS: [&[u8]; 6] = [
 
 /// The replies.
 #[derive(Drop)]
-pub struct Trial {
+pub(crate) struct Trial {
     pub replies: [[u8; ROOM]; PLACES],
 }
 

@@ -16,7 +16,7 @@ const PAGES: u32 = 64;
 
 /// A tree over an image.
 #[derive(Drop)]
-pub struct Bench {
+pub(crate) struct Bench {
     alloc: Global,
     store: Store,
 }

@@ -5,7 +5,7 @@ use std::alloc::{AllocError, Global};
 
 /// Numbers that look random, by a seed.
 #[derive(Drop)]
-pub struct Dice {
+pub(crate) struct Dice {
     state: u64,
 }
 

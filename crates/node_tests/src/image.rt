@@ -11,7 +11,7 @@ use tree_nodes::{Branch, ImageBounds, Leaf, Node, encode, is_writable};
 
 /// The pages of an image, and the ledger of them. A commit runs from one switch to the next.
 #[derive(Drop)]
-pub struct Image {
+pub(crate) struct Image {
     pub alloc: Global,
     count: u32,
     pages: Vec<[u8; 4096]>,

@@ -14,7 +14,7 @@ const WAVE: usize = 1000;
 
 /// A tree and the map beside it, and what was seen of them.
 #[derive(Drop)]
-pub struct Run {
+pub(crate) struct Run {
     alloc: Global,
     dice: Dice,
     store: Store,

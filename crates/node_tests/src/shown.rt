@@ -5,7 +5,7 @@ use tree_nodes::{Answer, Node};
 
 /// A line that is printed: fields after spaces.
 #[derive(Drop)]
-pub struct Shown {
+pub(crate) struct Shown {
     alloc: Global,
     pub text: String,
 }

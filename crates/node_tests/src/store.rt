@@ -13,7 +13,7 @@ pub const LEVELS: usize = 16;
 
 /// A tree over an image.
 #[derive(Drop)]
-pub struct Store {
+pub(crate) struct Store {
     pub image: Image,
     pub tree: OwnedTree,
     /// The page and the height of the tree as the last commit wrote it.

@@ -10,7 +10,7 @@ pub const ENTRIES: usize = 4096;
 
 /// What a walk has still to meet, and how many pages it has met.
 #[derive(Drop)]
-pub struct Walk<'a> {
+pub(crate) struct Walk<'a> {
     image: &'a Image,
     left: Iter<'a, Vec<u8>, Vec<u8>>,
     pub pages: usize,

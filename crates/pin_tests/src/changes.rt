@@ -9,7 +9,7 @@ const LINE: usize = 512;
 
 /// A text of lines of letters, and what is sent of it.
 #[derive(Drop)]
-pub struct Document {
+pub(crate) struct Document {
     pub text: Vec<u8>,
     pub sent: Vec<u8>,
 }

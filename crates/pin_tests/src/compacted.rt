@@ -19,7 +19,7 @@ const MOST_CHUNKS: usize = 100;
 
 /// How many bytes were read at the first pin, and how many pages were free before it was spent and after it.
 #[derive(Clone, Copy)]
-pub struct Seen {
+pub(crate) struct Seen {
     pub bytes: usize,
     pub before: u64,
     pub after: u64,

@@ -3,7 +3,7 @@ ghost use Rattle.std.specs.Prelude.{◌<◌};
 
 /// Numbers that look random, by a seed.
 #[derive(Drop)]
-pub struct Dice {
+pub(crate) struct Dice {
     state: u64,
 }
 

@@ -32,7 +32,7 @@ const STORED: &[u8] = b"Your name: Ann\r\nMessage:\r\n.\r\n";
 
 /// How many pages the least image has, and how many posts were stored until it was full.
 #[derive(Clone, Copy)]
-pub struct Seen {
+pub(crate) struct Seen {
     pub pages: u32,
     pub posts: usize,
 }

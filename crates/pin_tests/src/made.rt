@@ -14,7 +14,7 @@ use std::alloc::Global;
 use word_index::SearchKeeper;
 
 /// A site over a tree on a disk in memory.
-pub type TreeSite = DiskSite<TreeKeeper<MemDisk>>;
+pub(crate) type TreeSite = DiskSite<TreeKeeper<MemDisk>>;
 
 const PORT: u16 = 7070;
 

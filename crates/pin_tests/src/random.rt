@@ -44,7 +44,7 @@ const EVENTS: usize = 60;
 
 /// What was seen: events, those that the image had no room for, those that were answered otherwise in memory, and how often the site on the disk was compacted.
 #[derive(Clone, Copy)]
-pub struct Seen {
+pub(crate) struct Seen {
     pub events: usize,
     pub full: usize,
     pub differ: usize,

@@ -4,11 +4,11 @@ use std::cell::Cell;
 use std::rc::Rc;
 
 /// How many sectors were read.
-pub type Reads = Rc<Cell<u64>>;
+pub(crate) type Reads = Rc<Cell<u64>>;
 
 /// A device that counts the sectors that are read of it.
 #[derive(Drop)]
-pub struct CountingDisk<D: Device> {
+pub(crate) struct CountingDisk<D: Device> {
     inner: D,
     reads: Reads,
 }

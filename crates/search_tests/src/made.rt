@@ -11,10 +11,10 @@ use site_store::{DiskSite, first_pairs};
 use std::alloc::Global;
 
 /// A site over a tree on a disk in memory.
-pub type TreeSite = DiskSite<Tree>;
+pub(crate) type TreeSite = DiskSite<Tree>;
 
 /// A tree on a disk in memory whose reads are counted.
-pub type Tree = TreeKeeper<CountingDisk<MemDisk>>;
+pub(crate) type Tree = TreeKeeper<CountingDisk<MemDisk>>;
 
 /// How many pages an image has.
 const PAGES: u16 = 256;

@@ -35,7 +35,7 @@ const QUERIES: usize = 5;
 
 /// What was seen of a run.
 #[derive(Clone, Copy)]
-pub struct Seen {
+pub(crate) struct Seen {
     /// How many changes were made, and how many were refused.
     pub changes: usize,
     pub refused: usize,

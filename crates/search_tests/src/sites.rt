@@ -12,7 +12,7 @@ use word_index::{SearchKeeper, SelectorList};
 
 /// What is asked for: words within a scope, at a moment.
 #[derive(Drop)]
-pub struct Query {
+pub(crate) struct Query {
     pub scope: Selector,
     pub words: Vec<u8>,
     pub now: Stamp,
@@ -20,14 +20,14 @@ pub struct Query {
 
 /// What is found for each query, and how many of them have another answer elsewhere.
 #[derive(Drop)]
-pub struct Answers {
+pub(crate) struct Answers {
     pub found: Vec<SelectorList>,
     pub differ: usize,
 }
 
 /// The same site on a disk and in memory.
 #[derive(Drop)]
-pub struct Sites {
+pub(crate) struct Sites {
     alloc: Global,
     disk: Option<TreeSite>,
     memory: MemSite,

@@ -22,7 +22,7 @@ const MOST_DRAWS: u32 = 100_000;
 
 /// How a request comes, and how its reply is drawn.
 #[derive(Clone, Copy)]
-pub struct Cut {
+pub(crate) struct Cut {
     /// How many bytes a piece of the request has.
     pub piece: usize,
     /// The room of a draw.

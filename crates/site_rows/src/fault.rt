@@ -5,7 +5,7 @@ use std::alloc::{AllocError, AllocFailed};
 
 /// Why a line has no other answer. All but a fault of the hub end the program.
 #[derive(Drop)]
-pub enum RowFault {
+pub(crate) enum RowFault {
     /// The line is none of the language.
     Line,
     /// The hub doesn't do what it is asked, or a name is none: this is the line's answer.

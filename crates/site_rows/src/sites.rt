@@ -54,7 +54,7 @@ fn hub_over<S: SearchKeeper + Drop>(alloc: Global, site: S, first: u64) -> Resul
 }
 
 /// The hubs of the two sites, and the moment.
-pub struct Sites {
+pub(crate) struct Sites {
     memory: Hub<MemSite>,
     disk: Hub<DiskSite<TreeKeeper<MemDisk>>>,
     now: Stamp,

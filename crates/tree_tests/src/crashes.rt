@@ -27,7 +27,7 @@ const CALLS: u64 = 2_000;
 
 /// What was seen of a commit that is stopped at each call.
 #[derive(Clone, Copy)]
-pub struct Seen {
+pub(crate) struct Seen {
     /// At how many calls it was stopped.
     pub crashes: usize,
     /// How many images were left, and how many of them with the new pairs.

@@ -9,7 +9,7 @@ use sector_device::{Device, MemDisk};
 use std::alloc::Global;
 
 /// A disk's sectors.
-pub type Sectors = Vec<[u8; 512]>;
+pub(crate) type Sectors = Vec<[u8; 512]>;
 
 /// A banner of a version and a port.
 fn banner(version: u16, port: u16) -> Result<Banner, Trouble> {

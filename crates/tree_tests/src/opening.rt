@@ -9,7 +9,7 @@ use std::alloc::Global;
 
 /// How many calls an opening makes, and how many pages the tree has.
 #[derive(Clone, Copy)]
-pub struct Seen {
+pub(crate) struct Seen {
     pub calls: u64,
     pub held: u64,
 }

@@ -6,7 +6,7 @@ use std::alloc::Global;
 
 /// What a keeper has: keys and values by turns, and its figures.
 #[derive(Drop, PartialEq)]
-pub struct Kept {
+pub(crate) struct Kept {
     pub pairs: Vec<Bytes>,
     pub figures: Figures,
 }

@@ -35,7 +35,7 @@ type Edits = BTreeMap<Vec<u8>, Option<Vec<u8>>>;
 
 /// What was seen of a run.
 #[derive(Clone, Copy)]
-pub struct Seen {
+pub(crate) struct Seen {
     /// How many batches were committed, and how many edits they had.
     pub commits: usize,
     pub edits: usize,
@@ -49,7 +49,7 @@ pub struct Seen {
 
 /// A tree that stays open for many commits, the image from before and the batches of them, and flat pages.
 #[derive(Drop)]
-pub struct Run {
+pub(crate) struct Run {
     alloc: Global,
     dice: Dice,
     tree: TreeKeeper<MemDisk>,

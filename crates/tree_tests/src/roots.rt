@@ -15,7 +15,7 @@ const PAGES: u16 = 16;
 
 /// A commit on an image whose slot 0 is of generation 98 and slot 1 of 99.
 #[derive(Clone, Copy)]
-pub struct Switch {
+pub(crate) struct Switch {
     /// The generations that open before and after it.
     pub before: u64,
     pub after: u64,

@@ -7,7 +7,7 @@ use turns::{CallLog, Clock, MomentLog, Wire, WireCallKind, WireFault};
 
 /// A wire whose reads give some bytes, and which keeps what was written to it.
 #[derive(Drop)]
-pub struct MemoryWire {
+pub(crate) struct MemoryWire {
     input: Vec<u8>,
     /// How many bytes of the input were read.
     place: usize,
@@ -108,7 +108,7 @@ impl Wire for MemoryWire {
 
 /// A clock that always tells the start of 1970.
 #[derive(Drop)]
-pub struct StandingClock {
+pub(crate) struct StandingClock {
     given: MomentLog,
 }
 

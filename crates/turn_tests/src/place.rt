@@ -2,7 +2,7 @@
 
 /// A site in memory or on a disk, in a hub in which posts wait for one another or don't.
 #[derive(Clone, Copy)]
-pub struct Place {
+pub(crate) struct Place {
     pub is_on_disk: bool,
     pub is_grouped: bool,
     pub old_clients: bool,

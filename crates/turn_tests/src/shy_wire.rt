@@ -7,7 +7,7 @@ use turns::{CallLog, Wire, WireCallKind, WireFault};
 
 /// A wire of which every other call finds nothing ready, beginning with the first.
 #[derive(Drop)]
-pub struct ShyWire {
+pub(crate) struct ShyWire {
     wire: MemoryWire,
     is_ready: bool,
     made: CallLog,

@@ -13,7 +13,7 @@ use word_index::SearchKeeper;
 
 /// A test could not be made ready.
 #[derive(Clone, Copy, Debug, PartialEq, Eq)]
-pub struct NotReady;
+pub(crate) struct NotReady;
 
 impl From<AllocError> for NotReady {
     fn from(_: AllocError) -> Self {

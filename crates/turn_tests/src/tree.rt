@@ -15,7 +15,7 @@ use std::alloc::Global;
 /// How many pages the disk has.
 const PAGES: u16 = 64;
 
-pub type TreeSite = DiskSite<TreeKeeper<MemDisk>>;
+pub(crate) type TreeSite = DiskSite<TreeKeeper<MemDisk>>;
 
 /// An empty site on a disk. No pin of it is out.
 fn empty_tree(alloc: Global) -> Result<TreeSite, NotReady>
