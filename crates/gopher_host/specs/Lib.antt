@@ -16,3 +16,4 @@ pub mod Items
 pub mod Imports
 pub mod Lacking
 pub mod Naming
+pub mod RefusedWords

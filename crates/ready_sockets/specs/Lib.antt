@@ -1,3 +1,4 @@
+pub mod NetCauses
 pub mod DoorCalls
 pub mod Doors
 pub mod Heads

@@ -11,6 +11,7 @@ use Rattle.group_world.specs.declared.fault.HubFault.{HubFault}
 use Rattle.group_world.specs.declared.fault.HubFault.TheVariants as faults
 use Rattle.turns.specs.WireCalls.{WireCall, Read, ReadFailed, ReadWaited, Wrote, WriteFailed, WriteWaited, Closed}
 use Rattle.turns.specs.Turns.{Trace, trace, nothing, then, IsTold, drawn_bytes}
+use Rattle.ready_turns.specs.DrawSizes.{draw_size}
 use Rattle.ready_turns.specs.declared.seat.Ending.{Ending}
 use Rattle.ready_turns.specs.declared.seat.Ending.TheVariants.{Served, Full, Failed, Cut, Late, Often}
 use Rattle.ready_turns.specs.declared.seat.SeatStage.{SeatStage}
@@ -125,9 +126,6 @@ abbrev pub Waits : WireCall → SeatState → Trace → SeatState → Type 0
 Waits call before t after = (t ≡ trace (call ∷ []) [] []) × (after ≡ at before.stage before.unsent true)
 
 -- how many bytes are drawn in a turn, at most: fewer where they are adapted
-abbrev pub draw_size : ℕ
-draw_size = 16384
-
 abbrev pub most_drawn : Bool → ℕ
 most_drawn true = draw_size
 most_drawn false = 500

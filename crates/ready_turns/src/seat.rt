@@ -1,6 +1,7 @@
 // A wire and the session on it.
 ghost use Rattle.std.specs.Prelude.{◌≡◌, ◌≤◌, false, [], length, Option, Some, None};
-ghost use Rattle.ready_turns.specs.Seats.{at, acts, draw_size, has_left, ending_of, is_waiting, state_of};
+ghost use Rattle.ready_turns.specs.DrawSizes.{draw_size};
+ghost use Rattle.ready_turns.specs.Seats.{at, acts, has_left, ending_of, is_waiting, state_of};
 
 use crate::unsent::Unsent;
 use old_clients::ClientAdapter;

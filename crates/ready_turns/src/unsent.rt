@@ -5,7 +5,7 @@ ghost use Rattle.group_hub.specs.Calls.{HubCall};
 ghost use Rattle.group_world.specs.declared.event.Event.TheVariants.{Draw};
 ghost use Rattle.group_world.specs.Outcomes.{draw_outcome};
 ghost use Rattle.turns.specs.Turns.{drawn_bytes};
-ghost use Rattle.ready_turns.specs.Seats.{draw_size};
+ghost use Rattle.ready_turns.specs.DrawSizes.{draw_size};
 
 use group_hub::Hub;
 use group_world::{Drawn, HubFault};

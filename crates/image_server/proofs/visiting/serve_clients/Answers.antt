@@ -67,7 +67,7 @@ returns-in-Err-Net-clause-asked g c =
     let opened = c.in-Ok.ensures in
     let place = place_of (g.D.Device.state c.args.device) c.args.address c.given_or_own-at.result c.front.inside.port (seen_site c.in-Ok.site) c.given_or_own-at.ensures opened.site
     (λ honest. ap (λ a. a.port) (c.front.view_is) ∙ ap (λ a. a.port) (c.front-front.ensures (subst IsTrue (sym opened.honest) honest))) in
-    (place, rw c.in-Err-Net.field-0-is at c.in-Err-Net.ensures.asked)
+    rw c.in-Err-Net.field-0-is (place, rw c.in-Err-Net.field-0-is at c.in-Err-Net.ensures.asked)
 
 pub returns-in-Err-Memory-clause-asked : goal.returns-in-Err-Memory-clause-asked
 returns-in-Err-Memory-clause-asked g c = inl ((rw c.in-Err-Memory.field-0-is at c.in-Err-Memory.ensures.asked) ∙ append-nil c.args.asked.now.calls)

@@ -4,7 +4,8 @@ use Rattle.group_world.specs.declared.event.Event.TheVariants.{Draw}
 use Rattle.turns.specs.Turns.{drawn_bytes}
 use Rattle.turns.proofs.Runnings.{run_one}
 use Rattle.turns.proofs.TurnsMade.{finished_is}
-use Rattle.ready_turns.specs.Seats.{draw_size, drawn_state}
+use Rattle.ready_turns.specs.DrawSizes.{draw_size}
+use Rattle.ready_turns.specs.Seats.{drawn_state}
 use Rattle.ready_turns.proofs.SeatsMade.{drawn_made, drawn_on, room_through, through_adapted}
 use Rattle.ready_turns.proofs.turn.draw_through.Goals as goal
 

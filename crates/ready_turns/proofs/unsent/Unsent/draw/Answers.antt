@@ -3,7 +3,7 @@ use Rattle.group_hub.specs.Calls.{HubCall}
 use Rattle.group_world.specs.Outcomes.{draw_outcome}
 use Rattle.group_world.specs.declared.event.Event.TheVariants.{Draw}
 use Rattle.turns.specs.Turns.{drawn_bytes}
-use Rattle.ready_turns.specs.Seats.{draw_size}
+use Rattle.ready_turns.specs.DrawSizes.{draw_size}
 use Rattle.ready_turns.proofs.Draws.{kept_tell}
 use Rattle.ready_turns.proofs.unsent.Unsent.draw.Goals as goal
 
