@@ -1,5 +1,5 @@
 -- What is said of a change that met a fault of the image, and of an address that can't be listened on.
-use Rattle.std.proofs.Common.{◌≡◌, ℕ, Bool, true, false, List, [], ◌∷◌, Some, ap, refl, sym, ◌∙◌, length}
+use Rattle.std.proofs.Common.{◌≡◌, ℕ, Bool, true, false, List, [], ◌∷◌, ◌++◌, Option, None, Some, ap, refl, sym, ◌∙◌, length}
 use Rattle.std.specs.Prelude.{◌==◌}
 use Rattle.host_types.specs.declared.site_fault.SiteFault.{SiteFault}
 use Rattle.host_types.specs.declared.site_fault.SiteFault.TheVariants as site
@@ -45,8 +45,13 @@ met_is_told (ToldOf lines line) number is = absurd (cc is)
 met_is_told (Reply fault) number is = absurd (cc is)
 met_is_told NotHeld number is = absurd (cc is)
 
+advice_at : Option (SocketAddr × NetCause) → List ℕ
+advice_at None = []
+advice_at (Some r) = listener_advice r.0 r.1
+
 pub listener_is_told : (fault : Fault) (at : SocketAddr) (cause : NetCause) → listener_of fault ≡ Some (at, cause) → advice_of fault ≡ listener_advice at cause
-listener_is_told (Serving (serving.Listener here why)) at cause is = let same : (here, why) ≡ (at, cause) = cc is in ap (λ r. listener_advice r.0 r.1) same
+unfolding advice_at
+listener_is_told (Serving (serving.Listener here why)) at cause is = ap advice_at is
 listener_is_told (Serving (serving.Image fault)) at cause is = absurd (cc is)
 listener_is_told (Serving serving.Net) at cause is = absurd (cc is)
 listener_is_told (Image fault) at cause is = absurd (cc is)
@@ -76,3 +81,8 @@ listener_is_told NotHeld at cause is = absurd (cc is)
 pub some_ended : (bytes : List ℕ) (none : Bool) → none ≡ (length bytes == 0) → none ≡ false → ended bytes ≡ ended_if_any bytes
 some_ended [] none is some = absurd (cc (sym is ∙ some))
 some_ended (b ∷ bytes) none is some = refl
+
+-- so does what names an address
+pub listener_ended : (front rest : List ℕ) → ended ((front ++ 58 ∷ 32 ∷ []) ++ rest) ≡ ended_if_any ((front ++ 58 ∷ 32 ∷ []) ++ rest)
+listener_ended [] rest = refl
+listener_ended (x ∷ xs) rest = refl
