@@ -2,10 +2,11 @@
 import functools
 import hashlib
 import os
+import re
 import subprocess
 import time
 
-from crate_list import CRATES, KIT, PARTS, TOP, below, read
+from crate_list import CRATES, KIT, TOP, below, read
 from edits import bare
 
 # what decides of a wrong body how it is tried, and what its verdict is
@@ -17,6 +18,9 @@ LEDGER_HEAD = """# The wrong bodies that were refused, each with the checksum of
 LOT = 8
 # so many digits of a checksum stand in the ledger
 DIGITS = 16
+# lemmas that are imported, and those that an attribute names
+IMPORTED = re.compile(r"Rattle\.(\w+)\.proofs\.(\w+(?:\.\w+)*)")
+USED = re.compile(r"(\w+)::proofs::(\w+)")
 
 
 def at_head():
@@ -62,11 +66,6 @@ def files_in(folder):
     return found
 
 
-def is_own_proof(path):
-    """Whether a file is part of the proof of one function. Another function goes by that function's contract, and can't open its proof."""
-    return os.path.basename(path) in ("Answers.antt", "Invariants.antt", "Proof.antt")
-
-
 def seen_outside(path, content):
     """What another function can see of a file: of a source all but comments and the bodies of functions, of any other file all."""
     return bare(content.decode()).encode() if path.endswith(".rt") else content
@@ -81,23 +80,49 @@ def sum_of(path, seen=lambda _, content: content):
 
 @functools.lru_cache(maxsize=None)
 def outside_of(name):
-    """Of a crate's files what is seen outside of the functions: definitions, lemmas, and sources without comments and bodies."""
-    return [sum_of(it, seen_outside) for part in PARTS for it in files_in(f"{TOP}/crates/{name}/{part}") if not is_own_proof(it)]
+    """Of a crate's files what is seen outside of the functions: definitions, and sources without comments and bodies."""
+    return [sum_of(it, seen_outside) for part in ("src", "specs") for it in files_in(f"{TOP}/crates/{name}/{part}")]
 
 
 @functools.lru_cache(maxsize=None)
 def around(name):
-    """The checksum of all that each function of a crate can see: the kit, the scripts, and what is seen outside of the functions of this crate and of those below."""
+    """The checksum of what each function of a crate can see, but for lemmas: the kit, the scripts, and what is seen outside of the functions of this crate and of those below."""
     crates = [*below(name), name]
     lines = [f"{it}: {' '.join(CRATES[it])}" for it in crates]
     lines += [sum_of(it) for it in [f"{KIT}/KIT-ID", *(f"{TOP}/tests/{it}" for it in SCRIPTS)]]
     return hashed([*lines, *(it for crate in crates for it in outside_of(crate))])
 
 
+@functools.lru_cache(maxsize=None)
+def lemmas_named_in(path):
+    """The files of lemmas that a file names: those that it imports, and those that an attribute of a function has the search use."""
+    text, own = read(path), os.path.relpath(path, f"{TOP}/crates").split(os.sep)[0]
+    named = [(crate, module.replace(".", "/")) for crate, module in IMPORTED.findall(text)]
+    named += [(own if crate == "crate" else crate, module) for crate, module in USED.findall(text)]
+    return [it for it in dict.fromkeys(f"{TOP}/crates/{crate}/proofs/{module}.antt" for crate, module in named) if os.path.isfile(it)]
+
+
+@functools.lru_cache(maxsize=None)
+def files_seen(name):
+    """The files from which a function of a crate may come by lemmas, beside its own proof: the crate's sources, and its definitions and those below."""
+    return [*files_in(f"{TOP}/crates/{name}/src"), *(it for crate in [*below(name), name] for it in files_in(f"{TOP}/crates/{crate}/specs"))]
+
+
+def lemmas_behind(files):
+    """The files of lemmas that are named in these, and in those again."""
+    found, left = {}, [*files]
+    while left:
+        for it in lemmas_named_in(left.pop()):
+            if it not in found:
+                found[it] = True
+                left.append(it)
+    return sorted(found)
+
+
 def forget():
     """Forgets what was read of the files, since they may have changed."""
-    outside_of.cache_clear()
-    around.cache_clear()
+    for it in (outside_of, around, lemmas_named_in, files_seen):
+        it.cache_clear()
 
 
 def proof_of(crate, proof):
@@ -114,13 +139,14 @@ def inside_of(crate, functions):
         if it.proof in proofs:
             first, end = it.body
             lines.append(f"{it.file} {it.name} {hashed([crate.texts[it.file][first:end]])}")
-    return [*lines, *(sum_of(it) for proof in proofs for it in proof_of(crate, proof))]
+    own = [it for proof in proofs for it in proof_of(crate, proof)]
+    return [*lines, *(sum_of(it) for it in [*own, *lemmas_behind([*own, *files_seen(crate.name)])])]
 
 
 class Kept:
     """What was refused on this machine before: for each wrong body a file that is named by the checksum of all that decides it. That is the wrong body and its control,
-    the bodies and proofs of the functions that it changes, and what these functions see: of their crate and of those below the definitions, the lemmas, and the
-    sources without comments and bodies."""
+    the bodies and proofs of the functions that it changes, and what these functions see: of their crate and of those below the definitions, the sources without comments
+    and bodies, and the lemmas that are named in what they see."""
 
     FOLDER = os.path.join(os.environ.get("XDG_CACHE_HOME") or os.path.expanduser("~/.cache"), "zigdular", "wrong-bodies")
 

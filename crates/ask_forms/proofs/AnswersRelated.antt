@@ -10,9 +10,9 @@ use Rattle.host_types.specs.declared.form.Question.TheVariants.{Ask, AskL, AskP,
 use Rattle.ask_forms.specs.declared.answer.Answer.{Answer}
 use Rattle.ask_forms.specs.declared.answer.Answer.TheVariants.{One, Many}
 use Rattle.ask_forms.specs.Answers.{Answers, AnswersAll, Chooses, is_among}
-use Rattle.ask_forms.specs.Reading.{Read, ReadsAnswers, first_read, chosen, lines_read, one_read, answers_behind, onto_answers, if_none_left, answers_of}
+use Rattle.ask_forms.specs.Reading.{AnswerRead, ReadsAnswers, first_read, chosen, lines_read, one_read, answers_behind, onto_answers, if_none_left, answers_of}
 
-abbrev read_as : Answer → List (List ℕ) → Option Read
+abbrev read_as : Answer → List (List ℕ) → Option AnswerRead
 read_as a rest = Some (record { answer = a; rest = rest })
 
 choice_complete : (choices : List (List ℕ)) (line choice : List ℕ) (rest : List (List ℕ)) → Chooses choices line choice → one_read (chosen choices line) rest ≡ read_as (One choice) rest
@@ -44,13 +44,13 @@ complete (q ∷ questions) lines (a ∷ answers) h =
     ∙ ap (onto_answers a) (complete questions h.1 answers h.4)
 
 -- what was read, with the lines that it took
-abbrev Took : Question → List (List ℕ) → Read → Type 0
+abbrev Took : Question → List (List ℕ) → AnswerRead → Type 0
 Took q lines r = (own : List (List ℕ)) × (lines ≡ own ++ r.rest) × Answers q own r.answer
 
-is_read : (r s : Read) → Some r ≡ Some s → r ≡ s
+is_read : (r s : AnswerRead) → Some r ≡ Some s → r ≡ s
 is_read r s e = cc e
 
-one_sound : (prompt : List ℕ) (choices : List (List ℕ)) (line : List ℕ) (rest : List (List ℕ)) (r : Read) (o : Option (List ℕ)) →
+one_sound : (prompt : List ℕ) (choices : List (List ℕ)) (line : List ℕ) (rest : List (List ℕ)) (r : AnswerRead) (o : Option (List ℕ)) →
     ((choice : List ℕ) → o ≡ Some choice → Chooses choices line choice) → one_read o rest ≡ Some r → Took (Choose prompt choices) (line ∷ rest) r
 one_sound prompt choices line rest r None chooses e = absurd (cc e)
 one_sound prompt choices line rest r (Some choice) chooses e =
@@ -67,10 +67,10 @@ chosen_chooses choices line choice e =
       ]
     ]
 
-choice_sound : (prompt : List ℕ) (choices : List (List ℕ)) (line : List ℕ) (rest : List (List ℕ)) (r : Read) → one_read (chosen choices line) rest ≡ Some r → Took (Choose prompt choices) (line ∷ rest) r
+choice_sound : (prompt : List ℕ) (choices : List (List ℕ)) (line : List ℕ) (rest : List (List ℕ)) (r : AnswerRead) → one_read (chosen choices line) rest ≡ Some r → Took (Choose prompt choices) (line ∷ rest) r
 choice_sound prompt choices line rest r e = one_sound prompt choices line rest r (chosen choices line) (chosen_chooses choices line) e
 
-count_sound : (prompt count : List ℕ) (rest : List (List ℕ)) (r : Read) → lines_read count rest ≡ Some r → Took (AskL prompt) (count ∷ rest) r
+count_sound : (prompt count : List ℕ) (rest : List (List ℕ)) (r : AnswerRead) → lines_read count rest ≡ Some r → Took (AskL prompt) (count ∷ rest) r
 count_sound prompt count rest r e =
     elim (cases_Bool (is_number 5 count)) [
       | inl num ↦ elim (cases_Bool (nat_le (number_of count) (length rest))) [
@@ -84,7 +84,7 @@ count_sound prompt count rest r e =
       | inr none ↦ (let k = rw none at e in absurd (cc k))
     ]
 
-first_sound : (q : Question) (lines : List (List ℕ)) (r : Read) → first_read q lines ≡ Some r → Took q lines r
+first_sound : (q : Question) (lines : List (List ℕ)) (r : AnswerRead) → first_read q lines ≡ Some r → Took q lines r
 first_sound (Ask prompt) [] r e = absurd (cc e)
 first_sound (AskL prompt) [] r e = absurd (cc e)
 first_sound (AskP prompt word) [] r e = absurd (cc e)
@@ -94,7 +94,7 @@ first_sound (AskP prompt word) (line ∷ rest) r e = subst (Took (AskP prompt wo
 first_sound (Choose prompt choices) (line ∷ rest) r e = choice_sound prompt choices line rest r e
 first_sound (AskL prompt) (line ∷ rest) r e = count_sound prompt line rest r e
 
-mutual_answers : (q : Question) (questions : List Question) (lines : List (List ℕ)) (answers others : List Answer) (r : Read) →
+mutual_answers : (q : Question) (questions : List Question) (lines : List (List ℕ)) (answers others : List Answer) (r : AnswerRead) →
     Took q lines r → AnswersAll questions r.rest others → Some (r.answer ∷ others) ≡ Some answers → AnswersAll (q ∷ questions) lines answers
 mutual_answers q questions lines answers others r took behind e =
     let same : r.answer ∷ others ≡ answers = cc e in
@@ -105,11 +105,11 @@ none_sound [] answers e = let same : [] ≡ answers = cc e in subst (AnswersAll 
 none_sound (line ∷ lines) answers e = absurd (cc e)
 
 module _ (q : Question) (questions : List Question) (behind : (lines : List (List ℕ)) (answers : List Answer) → answers_of questions lines ≡ Some answers → AnswersAll questions lines answers) where
-  others_sound : (lines : List (List ℕ)) (answers : List Answer) (r : Read) (o : Option (List Answer)) → Took q lines r → answers_of questions r.rest ≡ o → onto_answers r.answer o ≡ Some answers → AnswersAll (q ∷ questions) lines answers
+  others_sound : (lines : List (List ℕ)) (answers : List Answer) (r : AnswerRead) (o : Option (List Answer)) → Took q lines r → answers_of questions r.rest ≡ o → onto_answers r.answer o ≡ Some answers → AnswersAll (q ∷ questions) lines answers
   others_sound lines answers r None took is e = absurd (cc e)
   others_sound lines answers r (Some others) took is e = mutual_answers q questions lines answers others r took (behind r.rest others is) e
 
-  behind_sound : (lines : List (List ℕ)) (answers : List Answer) (o : Option Read) → first_read q lines ≡ o → answers_behind o (answers_of questions) ≡ Some answers → AnswersAll (q ∷ questions) lines answers
+  behind_sound : (lines : List (List ℕ)) (answers : List Answer) (o : Option AnswerRead) → first_read q lines ≡ o → answers_behind o (answers_of questions) ≡ Some answers → AnswersAll (q ∷ questions) lines answers
   behind_sound lines answers None is e = absurd (cc e)
   behind_sound lines answers (Some r) is e = others_sound lines answers r (answers_of questions r.rest) (first_sound q lines r is) refl e
 

@@ -10,7 +10,7 @@ use Rattle.ask_forms.specs.declared.ask_fault.AskFault.TheVariants.{WrongAnswers
 use Rattle.ask_forms.specs.Answers.{AnswersAll, is_among, are_words_right}
 
 -- An answer, and the lines behind it.
-pub record Read : Type 0 where
+pub record AnswerRead : Type 0 where
   pub answer : Answer
   pub rest : List (List ℕ)
 
@@ -21,18 +21,18 @@ chosen choices line =
     else if is_number 2 line then slice_get choices (number_of line)
     else None
 
-abbrev pub one_read : Option (List ℕ) → List (List ℕ) → Option Read
+abbrev pub one_read : Option (List ℕ) → List (List ℕ) → Option AnswerRead
 one_read None rest = None
 one_read (Some line) rest = Some (record { answer = One line; rest = rest })
 
-abbrev pub lines_read : List ℕ → List (List ℕ) → Option Read
+abbrev pub lines_read : List ℕ → List (List ℕ) → Option AnswerRead
 lines_read count rest =
     if is_number 5 count && nat_le (number_of count) (length rest)
     then Some (record { answer = Many (take (number_of count) rest); rest = drop (number_of count) rest })
     else None
 
 -- the answer to the first question
-abbrev pub first_read : Question → List (List ℕ) → Option Read
+abbrev pub first_read : Question → List (List ℕ) → Option AnswerRead
 first_read q [] = None
 first_read (Ask prompt) (line ∷ rest) = one_read (Some line) rest
 first_read (AskP prompt word) (line ∷ rest) = one_read (Some line) rest
@@ -43,7 +43,7 @@ abbrev pub onto_answers : Answer → Option (List Answer) → Option (List Answe
 onto_answers a None = None
 onto_answers a (Some answers) = Some (a ∷ answers)
 
-abbrev pub answers_behind : Option Read → (List (List ℕ) → Option (List Answer)) → Option (List Answer)
+abbrev pub answers_behind : Option AnswerRead → (List (List ℕ) → Option (List Answer)) → Option (List Answer)
 answers_behind None others = None
 answers_behind (Some read) others = onto_answers read.answer (others read.rest)
 

@@ -7,6 +7,6 @@ use Rattle.change_file.specs.declared.fault.FormFault.TheVariants.{Form, Memory}
 abbrev pub HasNoForm : {A : Type 0} → Option A → FormFault → Type 0
 HasNoForm read e = (e ≡ Form) × (read ≡ None)
 
-abbrev pub Fails : {A : Type 0} → Option A → FormFault → Type 0
-Fails read Form = read ≡ None
-Fails read Memory = IsSome read
+abbrev pub FormFails : {A : Type 0} → Option A → FormFault → Type 0
+FormFails read Form = read ≡ None
+FormFails read Memory = IsSome read

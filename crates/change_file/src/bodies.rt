@@ -4,7 +4,7 @@ ghost use Rattle.std.specs.Result.{result_map_both};
 ghost use Rattle.host_types.specs.Site.{text_item};
 ghost use Rattle.toml.specs.View.{table_view};
 ghost use Rattle.change_file.specs.Bodies as spec;
-ghost use Rattle.change_file.specs.Fails.{HasNoForm, Fails};
+ghost use Rattle.change_file.specs.Fails.{HasNoForm, FormFails};
 ghost use Rattle.change_file.specs.Tables.{text_at, values_at};
 ghost use Rattle.change_file.specs.Views.{kind_at};
 
@@ -60,7 +60,7 @@ fn text(alloc: Global, text: &str) -> Result<Body, AllocError>
 
 fn text_body(alloc: Global, table: &Table) -> Result<Result<Body, Refused>, FormFault>
     ensures ok { IfOk result (λ b. spec.text_body (table_view table.now) ≡ Some b) }
-    ensures fault { IfErr result (Fails (spec.text_body (table_view table.now))) }
+    ensures fault { IfErr result (FormFails (spec.text_body (table_view table.now))) }
 {
     match text_at(table, "text") {
         Some(bytes) => Ok(Ok(text(alloc, bytes)?)),

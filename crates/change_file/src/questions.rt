@@ -2,7 +2,7 @@
 ghost use Rattle.std.specs.Prelude.{◌≡◌, Some, None, IfOk, IfErr, map};
 ghost use Rattle.toml.specs.Data.{as_str};
 ghost use Rattle.toml.specs.View.{table_view, view};
-ghost use Rattle.change_file.specs.Fails.{HasNoForm, Fails};
+ghost use Rattle.change_file.specs.Fails.{HasNoForm, FormFails};
 ghost use Rattle.change_file.specs.Tables.{each};
 ghost use Rattle.change_file.specs.Questions as spec;
 
@@ -80,7 +80,7 @@ fn askl_in(table: &Table) -> Result<Result<Question, Refused>, FormFault>
 
 fn askp_in(alloc: Global, table: &Table) -> Result<Result<Question, Refused>, FormFault>
     ensures ok { IfOk result (λ q. spec.askp_in (table_view table.now) ≡ Some q) }
-    ensures fault { IfErr result (Fails (spec.askp_in (table_view table.now))) }
+    ensures fault { IfErr result (FormFails (spec.askp_in (table_view table.now))) }
 {
     let Some(prompt) = prompt_at(table, "askp") else {
         return Err(FormFault::Form);

@@ -1,7 +1,7 @@
 // The views of a document, as a file of changes writes them.
 ghost use Rattle.std.specs.Prelude.{◌≡◌, ◌%◌, Some, None, IfOk, IfErr, IsSomeAnd, length, map};
 ghost use Rattle.toml.specs.View.{table_view, view};
-ghost use Rattle.change_file.specs.Fails.{Fails};
+ghost use Rattle.change_file.specs.Fails.{FormFails};
 ghost use Rattle.change_file.specs.Tables.{each, text_at};
 ghost use Rattle.change_file.specs.Views as spec;
 
@@ -56,7 +56,7 @@ fn hex_at(alloc: Global, table: &Table, key: &str) -> Result<Bytes, FormFault>
 
 fn view_with(alloc: Global, table: &Table, bytes: Bytes) -> Result<View, FormFault>
     ensures ok { IfOk result (λ v. spec.view_with (table_view table.now) bytes ≡ Some v) }
-    ensures fault { IfErr result (Fails (spec.view_with (table_view table.now) bytes)) }
+    ensures fault { IfErr result (FormFails (spec.view_with (table_view table.now) bytes)) }
 {
     let Some(name) = text_at(table, "name") else {
         return Err(FormFault::Form);

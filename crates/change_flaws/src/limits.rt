@@ -7,12 +7,9 @@ ghost use Rattle.change_file.specs.Tables.{table_at, text_at, values_at};
 ghost use Rattle.change_flaws.specs.Refusals as spec;
 
 use crate::keys::{text_at, value_at};
-use host_types::MOST_VIEW_BYTES;
+use host_types::{LONGEST_SUMMARY, MOST_VIEW_BYTES};
 use std::alloc::{AllocError, Global};
 use toml::{Table, Value};
-
-/// How many bytes a summary has, at most.
-const MOST_SUMMARY: usize = 400;
 
 /// Whether the text at a key has more than so many bytes.
 fn is_above(table: &Table, key: &str, most: usize) -> bool
@@ -115,7 +112,7 @@ fn long_name(alloc: Global, table: &Table) -> Result<Option<String>, AllocError>
 fn long_text(alloc: Global, table: &Table) -> Result<Option<String>, AllocError>
     ensures { IfOk result (λ said. option_map string_bytes said ≡ spec.long_text (table_view table.now)) }
 {
-    if let Some(said) = long_at(alloc, table, "abstract", MOST_SUMMARY)? {
+    if let Some(said) = long_at(alloc, table, "abstract", LONGEST_SUMMARY)? {
         return Ok(Some(said));
     }
     long_at(alloc, table, "text", MOST_VIEW_BYTES)

@@ -8,7 +8,7 @@ ghost use Rattle.change_plan.specs.Plans.{AreMade, IsPosted, IsPlanFault, Unless
 ghost use Rattle.change_plan.specs.Replacements.{AreFit, removal_of};
 
 use crate::{ItemLookup, Replacement};
-use host_types::{Bytes, Item, Refused, Selector, SiteFault, Stamp, Title};
+use host_types::{Bytes, Item, MOST_POST_BYTES, Refused, Selector, SiteFault, Stamp, Title};
 use std::alloc::{AllocError, Global};
 
 /// The selector of the post that is pushed out by the post `next`.
@@ -124,7 +124,7 @@ pub fn plan_post<L: ItemLookup>(
     ensures reads_only { UnlessFailed result (L.reads_only lookup.old lookup.new) }
     ensures fault { IfErr result (IsPlanFault L.shows L.failed lookup.old lookup.new (λ s. post s board title text now)) }
 {
-    if text.len() > 65_536 {
+    if text.len() > MOST_POST_BYTES {
         return Err(SiteFault::Refused(Refused::TooLong));
     }
     let item = match lookup.item(&board) {

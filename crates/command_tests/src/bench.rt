@@ -11,7 +11,7 @@ use image_commands::{
     show_image,
 };
 use page_store::{Banner, format_flat};
-use sector_device::{Device, MemDisk};
+use sector_device::{Device, MemDisk, SECTOR_SIZE};
 use std::alloc::{AllocError, Global};
 
 /// 28 July 1993, 17:02:01.
@@ -31,7 +31,7 @@ fn port_of(field: &str) -> Result<u16, Trouble> {
 }
 
 /// Puts a number at a place of a sector, the highest byte first.
-fn put_number(sector: &mut [u8; 512], at: usize, number: u64)
+fn put_number(sector: &mut [u8; SECTOR_SIZE], at: usize, number: u64)
     requires { at ≤ 504 }
 {
     sector[at..at + 8].copy_from_slice(&number.to_be_bytes());
@@ -42,7 +42,7 @@ fn seal_sector(disk: &mut MemDisk, n: u64, seal: u64) -> Result<(), Trouble> {
     if n >= disk.sectors() || n < 8 {
         return Err(Trouble::Line);
     }
-    let mut sector = [0; 512];
+    let mut sector = [0; SECTOR_SIZE];
     disk.read(n - 8, &mut sector)?;
     put_number(&mut sector, 8, n);
     put_number(&mut sector, 16, seal);

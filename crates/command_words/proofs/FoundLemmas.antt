@@ -10,11 +10,11 @@ use Rattle.std.specs.declared.num.ParseIntError.{ParseIntError}
 use Rattle.clap.specs.Words.{ReadsOne, Text, all_of, first_of, first_value, matched_of, one_text, raw_values, rows_of}
 use Rattle.clap.specs.declared.parser.matches.Found.{Found}
 use Rattle.clap.proofs.WalkLemmas.{first_value-rows, one_text-rows, raw_values-rows}
-use Rattle.command_words.specs.Tasks.{Gives, HasAddress, HasFlag, HasNumber, HasNumberIfAny, HasText, HasTexts}
+use Rattle.command_words.specs.Tasks.{GivesOne, HasAddress, HasFlag, HasNumber, HasNumberIfAny, HasText, HasTexts}
 
 -- nothing is given where nothing is as it should be
-pub gives_none : {A : Type 0} (Is : A → Type 0) (r : Option A) → r ≡ None → ((a : A) → Is a → ⊥) → Gives Is r
-gives_none Is r e never = subst (Gives Is) (sym e) never
+pub gives_none : {A : Type 0} (Is : A → Type 0) (r : Option A) → r ≡ None → ((a : A) → Is a → ⊥) → GivesOne Is r
+gives_none Is r e never = subst (GivesOne Is) (sym e) never
 
 pub found_text : (f : Found) (id : Text) (r : Option (Bor Text)) (s : Bor Text) → option_map (λ x. x.now) r ≡ first_value f id → r ≡ Some s → HasText (rows_of f) id s
 found_text f id r s e is = sym (first_value-rows f id) ∙ (sym e ∙ ap (option_map (λ x. x.now)) is)
@@ -58,10 +58,10 @@ module _ (bits : ℕ) (f : Found) (id : Text) (r : Option ℕ) where
       p (h.2, subst (λ k. k < 2 ^ bits) (sym h.3) h.4)
 
   -- the number that is found, and none where none is
-  pub number_or_none : (one_text f id ≡ None → r ≡ None) → ((t : Text) → one_text f id ≡ Some t → ReadsOne (IsParsed bits) t r) → Gives (HasNumber (rows_of f) id bits) r
+  pub number_or_none : (one_text f id ≡ None → r ≡ None) → ((t : Text) → one_text f id ≡ Some t → ReadsOne (IsParsed bits) t r) → GivesOne (HasNumber (rows_of f) id bits) r
   number_or_none none value = go r refl
     where
-      go : (o : Option ℕ) → r ≡ o → Gives (HasNumber (rows_of f) id bits) o
+      go : (o : Option ℕ) → r ≡ o → GivesOne (HasNumber (rows_of f) id bits) o
       go None is = no_number value is
       go (Some n) is = found_number n none value is
 

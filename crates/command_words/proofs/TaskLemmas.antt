@@ -6,7 +6,7 @@ use Rattle.std.proofs.lemmas.Slice.Eq.{bytes_eq-Decides}
 use Rattle.std.specs.declared.net.SocketAddr.{SocketAddr}
 use Rattle.clap.specs.Words.{Row, Text, first_of, first_value, rows_of}
 use Rattle.clap.specs.declared.parser.matches.Found.{Found}
-use Rattle.command_words.specs.Tasks.{AsksFor, AsksToServe, Gives, HasAddress, HasFlag, HasNumber, HasNumberIfAny, HasTextIfAny, HasTexts, IsSiteIn}
+use Rattle.command_words.specs.Tasks.{AsksFor, AsksToServe, GivesOne, HasAddress, HasFlag, HasNumber, HasNumberIfAny, HasTextIfAny, HasTexts, IsSiteIn}
 use Rattle.command_words.specs.declared.words.NewSite.{NewSite}
 use Rattle.command_words.specs.declared.words.Task.{Task}
 use Rattle.command_words.specs.declared.words.Task.TheVariants as task
@@ -285,7 +285,7 @@ replayed name f None group is e flag = (is, no_text f (codes "IMAGE") None e ref
 replayed name f (Some image) group is e flag = (is, found_text f (codes "IMAGE") (Some image) image e refl, flag)
 
 -- the command serves what `serving` answers
-pub served : (name : Text) (rows : List Row) (image : Text) (r : Option Task) → name ≡ codes "serve" → first_of (codes "IMAGE") rows ≡ Some image → Gives (AsksToServe image rows) r → Gives (AsksFor name rows) r
+pub served : (name : Text) (rows : List Row) (image : Text) (r : Option Task) → name ≡ codes "serve" → first_of (codes "IMAGE") rows ≡ Some image → GivesOne (AsksToServe image rows) r → GivesOne (AsksFor name rows) r
 served name rows image (Some t) is found asks = serves t asks
   where
     serves : (t : Task) → AsksToServe image rows t → AsksFor name rows t

@@ -12,9 +12,9 @@ use Rattle.command_words.specs.declared.words.Task.{Task}
 use Rattle.command_words.specs.declared.words.Task.TheVariants as task
 
 -- one value that is as it should be, or none where no value is
-abbrev pub Gives : {A : Type 0} → (A → Type 0) → Option A → Type 0
-Gives Is (Some a) = Is a
-Gives Is None = (a : _) → ¬ (Is a)
+abbrev pub GivesOne : {A : Type 0} → (A → Type 0) → Option A → Type 0
+GivesOne Is (Some a) = Is a
+GivesOne Is None = (a : _) → ¬ (Is a)
 
 -- the text found for an id
 abbrev pub HasText : List Row → Text → Bor Text → Type 0
@@ -37,7 +37,7 @@ HasNumber rows id bits n =
 
 -- the number found for an id, or that there is none
 abbrev pub HasNumberOrNone : List Row → Text → ℕ → Option ℕ → Type 0
-HasNumberOrNone rows id bits = Gives (HasNumber rows id bits)
+HasNumberOrNone rows id bits = GivesOne (HasNumber rows id bits)
 
 -- the number found for an id, or that there is nothing
 abbrev pub HasNumberIfAny : List Row → Text → ℕ → Option ℕ → Type 0

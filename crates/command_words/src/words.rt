@@ -5,7 +5,7 @@ ghost use Rattle.std.specs.Process.{exit_status};
 ghost use Rattle.clap.specs.Words.{found_of, rows_of};
 ghost use Rattle.command_words.specs.Misreads.{misread_of, status_of};
 ghost use Rattle.command_words.specs.Reading.{IsReadAs};
-ghost use Rattle.command_words.specs.Tasks.{AsksFor, AsksToServe, Gives, HasNumber, HasNumberIfAny, HasNumberOr, HasPlace, IsSiteIn};
+ghost use Rattle.command_words.specs.Tasks.{AsksFor, AsksToServe, GivesOne, HasNumber, HasNumberIfAny, HasNumberOr, HasPlace, IsSiteIn};
 ghost use Rattle.command_words.specs.declared.words.Misread.TheVariants.{Memory};
 
 use crate::command_line::command_line;
@@ -210,7 +210,7 @@ pub fn given(rt: &HostRuntime) -> Result<Vec<String>, Misread>
 }
 
 fn new_site<'a>(matches: &ArgMatches<'a>) -> Option<NewSite<'a>>
-    ensures { Gives (IsSiteIn (rows_of (found_of matches.now))) result }
+    ensures { GivesOne (IsSiteIn (rows_of (found_of matches.now))) result }
 {
     Some(NewSite {
         host: matches.get_str("host")?,
@@ -232,21 +232,21 @@ fn per_address(matches: &ArgMatches<'_>) -> u32
 
 /// How many posts of one address are taken in a minute, where that is limited.
 fn posts_a_minute(matches: &ArgMatches<'_>) -> Option<u32>
-    ensures { Gives (HasNumber (rows_of (found_of matches.now)) (codes "posts-per-minute") 32) result }
+    ensures { GivesOne (HasNumber (rows_of (found_of matches.now)) (codes "posts-per-minute") 32) result }
 {
     matches.get_one::<u32>("posts-per-minute")
 }
 
 /// How many pages an image is to have.
 fn pages(matches: &ArgMatches<'_>) -> Option<u32>
-    ensures { Gives (HasNumber (rows_of (found_of matches.now)) (codes "pages") 32) result }
+    ensures { GivesOne (HasNumber (rows_of (found_of matches.now)) (codes "pages") 32) result }
 {
     matches.get_one::<u32>("pages")
 }
 
 /// The moment that is given, or that none is; nothing where what is given is no number.
 fn moment(matches: &ArgMatches<'_>) -> Option<Option<u64>>
-    ensures { Gives (HasNumberIfAny (rows_of (found_of matches.now)) (codes "now") 64) result }
+    ensures { GivesOne (HasNumberIfAny (rows_of (found_of matches.now)) (codes "now") 64) result }
 {
     match matches.get_str("now") {
         Some(_) => Some(Some(matches.get_one::<u64>("now")?)),
@@ -269,7 +269,7 @@ fn socket_place<'a>(matches: &ArgMatches<'a>) -> SocketPlace<'a>
 
 /// How an image is to be served.
 fn serving<'a>(image: &'a str, matches: &ArgMatches<'a>) -> Option<Task<'a>>
-    ensures { Gives (AsksToServe image.entry.now (rows_of (found_of matches.now))) result }
+    ensures { GivesOne (AsksToServe image.entry.now (rows_of (found_of matches.now))) result }
 {
     let Some(rounds) = matches.get_one::<u32>("rounds") else {
         let listen = match matches.get_str("listen") {
@@ -298,7 +298,7 @@ fn serving<'a>(image: &'a str, matches: &ArgMatches<'a>) -> Option<Task<'a>>
 
 /// Which items are to be removed.
 fn removing<'a>(alloc: Global, matches: &ArgMatches<'a>) -> Result<Option<Task<'a>>, AllocError>
-    ensures { IfOk result (Gives (AsksFor (codes "drop") (rows_of (found_of matches.now)))) }
+    ensures { IfOk result (GivesOne (AsksFor (codes "drop") (rows_of (found_of matches.now)))) }
 {
     let Some(image) = matches.get_str("IMAGE") else {
         return Ok(None);
@@ -318,7 +318,7 @@ fn removing<'a>(alloc: Global, matches: &ArgMatches<'a>) -> Result<Option<Task<'
 
 /// What the words behind a command ask for, but for the one that removes items.
 fn other_task_of<'a>(name: &str, matches: &ArgMatches<'a>) -> Option<Task<'a>>
-    ensures { (name.now ≡ codes "drop" → ⊥) → Gives (AsksFor name.now (rows_of (found_of matches.now))) result }
+    ensures { (name.now ≡ codes "drop" → ⊥) → GivesOne (AsksFor name.now (rows_of (found_of matches.now))) result }
 {
     let image = matches.get_str("IMAGE");
     match name {
@@ -381,7 +381,7 @@ fn task_of<'a>(
     name: &str,
     matches: &ArgMatches<'a>,
 ) -> Result<Option<Task<'a>>, AllocError>
-    ensures { IfOk result (Gives (AsksFor name.now (rows_of (found_of matches.now)))) }
+    ensures { IfOk result (GivesOne (AsksFor name.now (rows_of (found_of matches.now)))) }
 {
     if name == "drop" {
         return removing(alloc, matches);

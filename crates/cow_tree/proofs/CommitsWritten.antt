@@ -9,7 +9,7 @@ use Rattle.page_store.specs.Sectors.{Image, sector, page_of}
 use Rattle.page_store.specs.Pages.{Pair}
 use Rattle.page_store.specs.Same.{Agree}
 use Rattle.page_store.specs.Content.{Found, is_among, pairs_and_banner}
-use Rattle.page_store.specs.Commit.{numbers, Commit, IsReady, IsBetween, IsDone, Shows}
+use Rattle.page_store.specs.Commit.{numbers, Commit, IsReady, IsBetween, IsDone, ShowsFound}
 use Rattle.page_store.proofs.UntouchedPages.{page_of-same}
 use Rattle.page_store.specs.declared.banner.Banner.{Banner}
 use Rattle.page_store.specs.declared.commit.NewPage.{NewPage}
@@ -26,7 +26,7 @@ use Rattle.cow_tree.proofs.RootWalks.{found_tree}
 use Rattle.cow_tree.proofs.Reaching.{among_within}
 use Rattle.cow_tree.proofs.Planned.{is_ready, now_current, now_found, now_there, now_seals}
 
-shows_has : (slot : Slot) (found : Found) (bytes : ℕ → List ℕ) (c : Image) → IsTrue (is_tree_version slot.root.banner.version) → Shows slot found bytes c → TreeHas c found.pairs slot.root.banner
+shows_has : (slot : Slot) (found : Found) (bytes : ℕ → List ℕ) (c : Image) → IsTrue (is_tree_version slot.root.banner.version) → ShowsFound slot found bytes c → TreeHas c found.pairs slot.root.banner
 shows_has slot found bytes c version s = (ap pairs_and_banner s.content_is, version)
 
 -- what a crash within a commit leaves has the pairs and the banner from before, or the new ones

@@ -12,7 +12,7 @@ use Rattle.page_store.proofs.Fields.{bind_some, test_passed}
 use Rattle.tree_nodes.proofs.KeyOrder.{both_true}
 use Rattle.tree_nodes.proofs.WalksWithinBounds.{some_is}
 use Rattle.page_store.specs.Content.{Found, tree_of, tree_found, are_distinct}
-use Rattle.page_store.specs.StoreState.{NeedsTheSame, HasRead, IsReadFault}
+use Rattle.page_store.specs.StoreState.{NeedsTheSame, StoreHasRead, IsStoreReadFault}
 use Rattle.page_store.specs.Compaction.{CompactsTheSame}
 use Rattle.page_store.specs.declared.slot.Slot.{Slot}
 use Rattle.cow_tree.specs.Walks.{CountsPages}
@@ -29,7 +29,7 @@ use Rattle.cow_tree.specs.declared.page_fault.PageFault.{PageFault}
 use Rattle.cow_tree.specs.declared.page_fault.PageFault.TheVariants.{Device, Damaged}
 
 module _ (old new : State) (slot : Slot) (ledger : LedgerState) (top : ℕ) (usable : Bool) (trees : List (Option TreeRoot)) (only : OnlyReads old new) where
-  pub has_read : old.failed_reads ≤ new.failed_reads → HasRead (tree_holding old slot ledger top usable trees) (tree_holding new slot ledger top usable trees)
+  pub has_read : old.failed_reads ≤ new.failed_reads → StoreHasRead (tree_holding old slot ledger top usable trees) (tree_holding new slot ledger top usable trees)
   has_read rises = record {
     same = record {
       pairs = λ keeps. ap (λ (d : Disk). (found_under slot d.view).pairs) (only.disk keeps);
@@ -50,7 +50,7 @@ module _ (old new : State) (slot : Slot) (ledger : LedgerState) (top : ℕ) (usa
   }
 
   pub read_fault : (T : Type 0) (e : PageFault) (P : T → Type 0) → CountsPages {T = T} (Err e) old.failed_reads new.failed_reads → (IsTrue old.honest → AnswersBy {T = T} (Err e) P)
-      → IsReadFault (tree_holding old slot ledger top usable trees) (tree_holding new slot ledger top usable trees) (fault_of e)
+      → IsStoreReadFault (tree_holding old slot ledger top usable trees) (tree_holding new slot ledger top usable trees) (fault_of e)
   read_fault T Device P counts answered = counts
   read_fault T (Damaged page) P counts answered = lies old.honest answered
     where

@@ -13,7 +13,7 @@ use Rattle.page_alloc.proofs.Counting.{count_same}
 use Rattle.page_store.specs.Sectors.{Image, page_of}
 use Rattle.page_store.specs.Content.{Found, is_among}
 use Rattle.page_store.specs.StoreState.{StoreState}
-use Rattle.page_store.specs.Pins.{is_out, IsPinned, IsUnpinned}
+use Rattle.page_store.specs.Pins.{is_out, IsStorePinned, IsStoreUnpinned}
 use Rattle.page_store.specs.Pages.{Pair}
 use Rattle.page_store.specs.declared.slot.Slot.{Slot}
 use Rattle.cow_tree.specs.Opening.{IsRooted}
@@ -183,7 +183,7 @@ module _ (slot : Slot) (old : LedgerState) (trees : List (Option TreeRoot)) (num
               ∙ sym (ap (λ (b : Bool). b || is_out before n) (ne_eqb n number ne))
         ]
 
-    pub is_pinned : IsPinned before after number
+    pub is_pinned : IsStorePinned before after number
     is_pinned = record {
       usable = up;
       room = let room = room_left view 0 number trees lower none in let count = pins.count in omega (arith, room, count);
@@ -279,7 +279,7 @@ module _ (pages : ℕ) (old : LedgerState) (trees : List (Option TreeRoot)) (num
     abbrev then : StoreState
     then = tree_holding state slot (unpinned number old) top usable fewer
 
-    pub is_unpinned : IsUnpinned first then number
+    pub is_unpinned : IsStoreUnpinned first then number
     is_unpinned = record {
       out = λ n.
           out_at image 0 n n fewer (omega arith)

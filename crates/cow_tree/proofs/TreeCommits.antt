@@ -13,7 +13,7 @@ use Rattle.page_store.specs.Pages.{Pair}
 use Rattle.page_store.specs.Batch.{is_map}
 use Rattle.page_store.specs.Same.{Agree}
 use Rattle.page_store.specs.Steps.{AllAre}
-use Rattle.page_store.specs.Counting.{CountsReads, reads_after}
+use Rattle.page_store.specs.Counting.{CountsStoreReads, reads_after}
 use Rattle.page_store.specs.Content.{tree_as, Found, content_under, found_as, tree_found, is_among}
 use Rattle.page_store.specs.StoreState.{StoreState, CommitNeed, SoManyPages, TooManyLevels, HasStayed, IsCommitFault, MayBeDeep}
 use Rattle.page_store.specs.Compaction.{IsCompactFault}
@@ -84,7 +84,7 @@ pub lies : (b : Bool) → (IsTrue b → ⊥) → b ≡ false
 lies true h = absurd (h refl)
 lies false h = refl
 
-pub commit_fault : {T : Type 0} (old new : StoreState) (edits : ℕ) (may : CommitNeed → Type 0) (slot : Slot) (deep : Type 0) (P : T → Type 0) (N : ℕ → Type 0) (e : KeeperFault) → HasStayed old new → CountsReads {T = T} (Err e) old.failed_reads new.failed_reads
+pub commit_fault : {T : Type 0} (old new : StoreState) (edits : ℕ) (may : CommitNeed → Type 0) (slot : Slot) (deep : Type 0) (P : T → Type 0) (N : ℕ → Type 0) (e : KeeperFault) → HasStayed old new → CountsStoreReads {T = T} (Err e) old.failed_reads new.failed_reads
     → (IsTrue old.honest → TellsDraft {T = T} deep (Err e) P) → (deep → MayBeDeep old edits × may TooManyLevels) → IsTreePlanFault old.free N e → ((n : ℕ) → N n → IsTrue old.honest → may (SoManyPages n)) → IsCommitFault old new edits may e
 commit_fault old new edits may slot deep P N faults.Device stayed reads answered levels fault need = (stayed, reads)
 commit_fault old new edits may slot deep P N faults.NoImage stayed reads answered levels fault need = absurd fault
@@ -98,7 +98,7 @@ commit_fault old new edits may slot deep P N faults.Memory stayed reads answered
 commit_fault old new edits may slot deep P N faults.Deep stayed reads answered levels fault need = (stayed, λ keeps. levels (answered keeps))
 
 -- a compaction that is refused
-pub compact_fault : {T : Type 0} (old new : StoreState) (may : ℕ → Type 0) (P : T → Type 0) (N : ℕ → Type 0) (e : KeeperFault) → HasStayed old new → CountsReads {T = T} (Err e) old.failed_reads new.failed_reads
+pub compact_fault : {T : Type 0} (old new : StoreState) (may : ℕ → Type 0) (P : T → Type 0) (N : ℕ → Type 0) (e : KeeperFault) → HasStayed old new → CountsStoreReads {T = T} (Err e) old.failed_reads new.failed_reads
     → (IsTrue old.honest → TellsDraft {T = T} ⊥ (Err e) P) → IsFillFault old.free N e → ((n : ℕ) → N n → IsTrue old.honest → may n) → IsCompactFault old new may e
 compact_fault old new may P N faults.Device stayed reads answered fault need = (stayed, reads)
 compact_fault old new may P N faults.NoImage stayed reads answered fault need = absurd fault

@@ -1,5 +1,6 @@
 -- Writing all pairs of a tree anew, in filled pages.
 use Rattle.std.specs.Prelude.{◌≡◌, ◌≤◌, ◌*◌, ℕ, length, Result, IsTrue, IfErr}
+pub use Rattle.page_store.specs.Sizes.{most_pairs}
 use Rattle.common_types.specs.CrashStates.{CrashStates}
 use Rattle.sector_device.specs.Device.{State}
 use Rattle.page_alloc.specs.LedgerState.{LedgerState}
@@ -13,10 +14,6 @@ use Rattle.cow_tree.specs.TreeState.{found_under}
 use Rattle.cow_tree.specs.Drafts.{IsCountedRead}
 use Rattle.cow_tree.specs.Plans.{IsPlanned, IsTreeFault, IsRoomFault}
 use Rattle.cow_tree.specs.declared.plans.Plan.{Plan}
-
--- no image has more pairs: it has 65,536 pages, and a page has 1,024 pairs, at most
-abbrev pub most_pairs : ℕ
-most_pairs = 1024 * 65536
 
 -- Writing the pairs of the tree under a slot anew takes so many pages: one for each node of the filled tree.
 pub record NeedsFilled (slot : Slot) (image : Image) (need : ℕ) : Type 0 where

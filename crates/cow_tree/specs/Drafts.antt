@@ -1,12 +1,13 @@
 -- A tree that a commit changes, before anything is written.
 use Rattle.std.specs.Prelude.{◌≡◌, ◌≤◌, ◌<◌, ◌+◌, ◌-◌, ◌*◌, ◌^◌, ◌==◌, min, ℕ, Bool, true, false, List, length, take, Result, Ok, Err, IsTrue, IfSome, IfErr, if◌then◌else◌}
+use Rattle.sector_device.specs.Sizes.{page_size}
 use Rattle.common_types.specs.CrashStates.{CrashStates}
 use Rattle.sector_device.specs.Device.{State}
 use Rattle.page_alloc.specs.LedgerState.{LedgerState, mark_of, is_taken, is_alive, free_count}
 use Rattle.page_store.specs.Sectors.{Image, page_of}
 use Rattle.page_store.specs.Pages.{Pair, head_at, page_word}
 use Rattle.page_store.specs.Batch.{is_map}
-use Rattle.page_store.specs.Counting.{CountsReads}
+use Rattle.page_store.specs.Counting.{CountsStoreReads}
 use Rattle.page_store.specs.DeviceEffects.{IsReadCall}
 use Rattle.page_store.specs.StoreState.{most_levels, edits_to_be_deep}
 use Rattle.page_store.specs.declared.slot.Slot.{Slot}
@@ -24,7 +25,7 @@ use Rattle.cow_tree.specs.declared.drafts.Draft.{Draft}
 
 -- the first 4,096 bytes of each page of an image: all of them of a page that was read
 abbrev pub bytes_in : Image → ℕ → List ℕ
-bytes_in image n = take 4096 (page_of image n)
+bytes_in image n = take page_size (page_of image n)
 
 -- the pages of an image under a slot, as a tree may name them
 abbrev pub old_under : Slot → Image → OldPages
@@ -45,7 +46,7 @@ most_nodes slot edits = edits * (slot.root.height + most_levels)
 -- Each page that is alive is a whole page of the image, of a level of the slot's tree.
 pub record AreAlive (slot : Slot) (image : Image) (ledger : LedgerState) : Type 0 where
   pub inside : (n : ℕ) → IsTrue (is_alive ledger n) → (2 ≤ n) × (n < slot.root.pages)
-  pub whole : (n : ℕ) → IsTrue (is_alive ledger n) → length (page_of image n) ≡ 4096
+  pub whole : (n : ℕ) → IsTrue (is_alive ledger n) → length (page_of image n) ≡ page_size
   pub levels : (n : ℕ) → IsTrue (is_alive ledger n) → head_level (head_at page_word (bytes_in image n)) < slot.root.height
   pub marked : length ledger.marks ≡ slot.root.pages
   pub untaken : (n : ℕ) → is_taken (mark_of ledger n) ≡ false
@@ -81,7 +82,7 @@ TellsDraft deep (Err other) P = Unit {0}
 -- Only reads were made of a device; one that failed was counted, and nothing else.
 pub record IsCountedRead {T D : Type 0} (state : D → State) (crash_states : D → CrashStates Image) (old new : D) (result : Result T KeeperFault) : Type 0 where
   pub device : IsReadCall state crash_states old new
-  pub reads : CountsReads result (state old).failed_reads (state new).failed_reads
+  pub reads : CountsStoreReads result (state old).failed_reads (state new).failed_reads
 
 -- the faults of a step of a commit before any page is taken
 abbrev pub IsDraftFault : KeeperFault → Type 0

@@ -1,5 +1,6 @@
 -- A fresh image of a tree.
 use Rattle.std.specs.Prelude.{◌≡◌, ℕ, List, [], ◌∷◌, ◌++◌, length, replicate, take, drop, Some, codes}
+use Rattle.sector_device.specs.Sizes.{page_size}
 use Rattle.page_store.specs.Sectors.{Image, page_of}
 use Rattle.page_store.specs.Roots.{current}
 use Rattle.page_store.specs.Pages.{Pair}
@@ -43,7 +44,7 @@ pub record IsFirstTree (pages : ℕ) (banner : Banner) (pairs : List Pair) (imag
 pub record IsFirstWritten (pages : List NewPage) (root : List ℕ) (old new : Image) : Type 0 where
   pub cleared : Image
   pub patched : Image
-  pub clears : AreWritten 8 8 (replicate 4096 0) old cleared
+  pub clears : AreWritten 8 8 (replicate page_size 0) old cleared
   pub patches : ArePatched pages cleared patched
   pub switches : AreWritten 0 8 root patched new
 

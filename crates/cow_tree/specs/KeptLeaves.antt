@@ -1,6 +1,7 @@
 -- Leaves of a tree whose pairs are kept, and what they tell of the next pair.
 use Rattle.std.specs.Prelude.{◌≡◌, ◌⊎◌, ℕ, Bool, false, IsTrue, ◌≤◌, List, [], ◌∷◌, ◌++◌, ◌&&◌, not, Option, Some, None, IfSome, Ok, option_map, take, drop, if◌then◌else◌}
 use Rattle.std.specs.Option.{is_some}
+use Rattle.page_store.specs.Sizes.{longest_key, longest_value}
 use Rattle.page_store.specs.Keys.{precedes}
 use Rattle.page_store.specs.Pages.{Pair, leaf_of}
 use Rattle.page_store.specs.Batch.{pair_after}
@@ -72,7 +73,7 @@ pub record IsReachedAfter (key : List ℕ) (found : Pair) (later pairs : List Pa
 
 -- The key and the value of a pair stand in front of two buffers, and their sizes are told; what stands behind them stays. Where there is no pair, both stay.
 pub record CopiesPair (pair : Option Pair) (sizes : Option (ℕ × ℕ)) (key_old key_new value_old value_new : List ℕ) : Type 0 where
-  pub within : IfSome sizes (λ n. (n.0 ≤ 300) × (n.1 ≤ 1024))
+  pub within : IfSome sizes (λ n. (n.0 ≤ longest_key) × (n.1 ≤ longest_value))
   pub is : option_map (λ n. (take n.0 key_new, take n.1 value_new)) sizes ≡ pair
   pub key : IsFilled {E = PageFault} (λ n. n.0) (Ok sizes) key_old key_new
   pub value : IsFilled {E = PageFault} (λ n. n.1) (Ok sizes) value_old value_new

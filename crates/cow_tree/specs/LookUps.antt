@@ -1,6 +1,7 @@
 -- What looking pairs up in a tree does to a device, and what it answers.
 use Rattle.std.specs.Prelude.{◌≡◌, ◌≤◌, ℕ, Bool, List, [], Option, Some, Result, IsTrue, IfOk, OnOk, IfSome, option_map, take}
 use Rattle.std.specs.Option.{is_some}
+use Rattle.page_store.specs.Sizes.{longest_value}
 use Rattle.common_types.specs.CrashStates.{CrashStates}
 use Rattle.sector_device.specs.Device.{State}
 use Rattle.page_store.specs.Sectors.{Image, page_of}
@@ -15,7 +16,7 @@ use Rattle.cow_tree.specs.declared.page_fault.PageFault.{PageFault}
 
 -- A call that looks up the value at a key: it only reads pages, an honest device's tree has the value that it answers, and it fills the buffer with it from the front.
 pub record LooksUpValue {D : Type 0} (state : D → State) (crash_states : D → CrashStates Image) (tree : (ℕ → List ℕ) → Option Found) (key : List ℕ) (old new : D) (before after : List ℕ) (result : Result (Option ℕ) PageFault) : Type 0 where
-  pub within : IfOk result (λ found. IfSome found (λ n. n ≤ 1024))
+  pub within : IfOk result (λ found. IfSome found (λ n. n ≤ longest_value))
   pub value : IsTrue (state old).honest → (found : Found) → tree (page_of (state old).disk.view) ≡ Some found → AnswersBy result (λ size. option_map (λ n. take n after) size ≡ value_at found.pairs key)
   pub buffer : IsFilled (λ n. n) result before after
   pub reads : ReadsTreePages state crash_states old new result

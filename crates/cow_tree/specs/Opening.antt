@@ -1,5 +1,6 @@
 -- What an opening finds, and when it is refused.
 use Rattle.std.specs.Prelude.{false, ◌≡◌, ◌⊎◌, ◌≤◌, ◌<◌, ℕ, length, Option, Some, None, Result, Ok, Err, IsTrue}
+use Rattle.sector_device.specs.Sizes.{page_size}
 use Rattle.common_types.specs.Counts.{counted}
 use Rattle.common_types.specs.CrashStates.{CrashStates}
 use Rattle.sector_device.specs.Device.{State, OneCounted}
@@ -60,7 +61,7 @@ Finds what slot ledger (Err (Damaged page)) = what ≡ None
 
 -- each page that is alive is a whole page of the image
 abbrev pub LivePagesAreWhole : Image → LedgerState → Type 0
-LivePagesAreWhole image ledger = (n : ℕ) → IsTrue (is_alive ledger n) → length (page_of image n) ≡ 4096
+LivePagesAreWhole image ledger = (n : ℕ) → IsTrue (is_alive ledger n) → length (page_of image n) ≡ page_size
 
 -- An image has a content of this slot, and the ledger has exactly its pages, each of them whole.
 pub record IsImageOfSlot (image : Image) (slot : Slot) (ledger : LedgerState) : Type 0 where

@@ -1,5 +1,7 @@
 -- What a commit of a tree is to write, by the ledger that its pages were taken from.
 use Rattle.std.specs.Prelude.{◌≡◌, ◌≤◌, ◌<◌, ◌+◌, ◌-◌, ◌*◌, ℕ, true, List, [], length, All, Option, None, Some, IsTrue, false}
+use Rattle.sector_device.specs.Sizes.{page_size}
+use Rattle.page_store.specs.Sizes.{most_pairs}
 use Rattle.page_alloc.specs.LedgerState.{LedgerState, has_page, has_page_next, is_alive, is_held}
 use Rattle.page_store.specs.Sectors.{Image, page_of}
 use Rattle.page_store.specs.Roots.{greatest_seal}
@@ -45,7 +47,7 @@ pub record IsTreePlan (view : Image) (slot : Slot) (top : ℕ) (pages : List New
 pub record LeadsToNext (view : Image) (ledger : LedgerState) (pages : List NewPage) (new : Slot) (found : Found) : Type 0 where
   pub size : length ledger.lives ≡ new.root.pages
   pub next : (n : ℕ) → has_page_next ledger n ≡ is_among n found.pages
-  pub whole : (n : ℕ) → IsTrue (is_among n found.pages) → length (patched pages (page_of view) n) ≡ 4096
+  pub whole : (n : ℕ) → IsTrue (is_among n found.pages) → length (patched pages (page_of view) n) ≡ page_size
   pub unheld : (n : ℕ) → IsTrue (is_among n (numbers pages)) → is_held ledger n ≡ false
 
 -- The tree under a slot before a commit: it has these pairs, as many as the slot says, and the ledger has exactly its pages.
@@ -53,7 +55,7 @@ pub record Starts (slot : Slot) (view : Image) (pairs : List Pair) (ledger : Led
   pub draft : IsDraft slot view 0 0 pairs ledger (root_under slot)
   pub keys : slot.root.keys ≡ length pairs
   pub map : is_map pairs ≡ true
-  pub few : length pairs ≤ 1024 * 65536
+  pub few : length pairs ≤ most_pairs
 
 -- Pages and a root over them that may be committed, after which the tree has these pairs, and as its pages the new ones and those that are alive, each once.
 pub record IsPlannedAt (view : Image) (slot : Slot) (top : ℕ) (pairs : List Pair) (ledger : LedgerState) (pages : List NewPage) (new : Slot) : Type 0 where

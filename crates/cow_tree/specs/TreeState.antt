@@ -1,5 +1,6 @@
 -- What a keeper of a tree is, and what its callers see of it.
 use Rattle.std.specs.Prelude.{IsTrue, ◌≡◌, ◌≤◌, ◌<◌, ◌*◌, ◌&&◌, ◌||◌, not, nat_le, ℕ, Bool, true, List, length, Option, Some}
+use Rattle.page_store.specs.Sizes.{most_pages}
 use Rattle.sector_device.specs.Device.{State}
 use Rattle.sector_device.specs.Disk.{Disk, IsImage}
 use Rattle.page_alloc.specs.LedgerState.{LedgerState, is_alive, free_count, count_below}
@@ -25,7 +26,7 @@ pub record IsAtRest (slot : Slot) (ledger : LedgerState) : Type 0 where
 pub record IsFittedSlot (slot : Slot) : Type 0 where
   pub number : slot.number < 2
   pub least : 16 ≤ slot.root.pages
-  pub most : slot.root.pages ≤ 65536
+  pub most : slot.root.pages ≤ most_pages
   pub version : IsTrue (is_tree_version slot.root.banner.version)
   pub port : 0 < slot.root.banner.port
   pub rooted : IsRooted slot.root
@@ -34,7 +35,7 @@ pub record IsFittedSlot (slot : Slot) : Type 0 where
 pub record FitsTree (sectors : ℕ) (slot : Slot) (ledger : LedgerState) : Type 0 where
   pub number : slot.number < 2
   pub least : 16 ≤ slot.root.pages
-  pub most : slot.root.pages ≤ 65536
+  pub most : slot.root.pages ≤ most_pages
   pub fits : 8 * slot.root.pages ≤ sectors
   pub version : IsTrue (is_tree_version slot.root.banner.version)
   pub port : 0 < slot.root.banner.port

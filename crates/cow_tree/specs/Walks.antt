@@ -1,5 +1,6 @@
 -- What a walk over a tree tells.
 use Rattle.std.specs.Prelude.{◌≡◌, ◌⊎◌, ◌≤◌, ◌<◌, ◌-◌, ◌*◌, ◌^◌, min, not, ℕ, true, false, List, length, Option, Some, Result, Ok, Err, IsTrue, OnOk, IfErr}
+use Rattle.sector_device.specs.Sizes.{page_size}
 use Rattle.common_types.specs.Counts.{counted}
 use Rattle.common_types.specs.CrashStates.{CrashStates}
 use Rattle.sector_device.specs.Device.{State}
@@ -59,7 +60,7 @@ pub record OnlyHolds (old new : LedgerState) : Type 0 where
 
 -- Each page that is newly alive was read whole.
 pub record HoldsWhole (image : Image) (old new : LedgerState) : Type 0 where
-  pub each : (n : ℕ) → IsTrue (is_alive new n) → IsTrue (is_alive old n) ⊎ (length (page_of image n) ≡ 4096)
+  pub each : (n : ℕ) → IsTrue (is_alive new n) → IsTrue (is_alive old n) ⊎ (length (page_of image n) ≡ page_size)
 
 -- A read that fails is counted, and nothing else.
 abbrev pub CountsPages : {T : Type 0} → Result T PageFault → ℕ → ℕ → Type 0

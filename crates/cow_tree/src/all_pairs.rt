@@ -13,7 +13,7 @@ ghost use Rattle.cow_tree.specs.Compacting.{most_pairs, ReadsPairs};
 
 use crate::kept_leaf::KeptLeaf;
 use crate::lookups::find_next;
-use page_store::{KeeperFault, Pair, Slot};
+use page_store::{KeeperFault, LONGEST_KEY, LONGEST_VALUE, Pair, Slot};
 use sector_device::Device;
 use std::alloc::Global;
 
@@ -47,7 +47,7 @@ fn pair_behind<D: Device>(
     ensures rises { IfOk result (λ next. IfSome next (λ p. (precedes (last_key pairs.now) p.0 ≡ true) × (is_pair p ≡ true))) }
     ensures reads { ReadsPairs D.state (crash_states_of D.moment D.possible_since) device.old device.new result }
 {
-    let (mut key, mut value) = ([0; 300], [0; 1024]);
+    let (mut key, mut value) = ([0; LONGEST_KEY], [0; LONGEST_VALUE]);
     match find_next(device, slot, kept, last_key(pairs), &mut key, &mut value) {
         Ok(Some((size, length))) => {
             let pair = Pair::from_slices(alloc, &key[..size], &value[..length])?;

@@ -4,8 +4,8 @@ ghost use Rattle.page_store.specs.Work.{WritesAtMost};
 ghost use Rattle.cow_tree.specs.Work.{WritesPages};
 ghost use Rattle.common_types.specs.CrashStates.{AddsOnly, AddsNone};
 ghost use Rattle.page_store.specs.Compaction.{IsCompacted, IsCompactFault, CompactsTheSame};
-ghost use Rattle.page_store.specs.Counting.{CountsReads, CountsWrites};
-ghost use Rattle.page_store.specs.StoreState.{HasTried, NeedsTheSame, last_generation};
+ghost use Rattle.page_store.specs.Counting.{CountsStoreReads, CountsStoreWrites};
+ghost use Rattle.page_store.specs.StoreState.{StoreHasTried, NeedsTheSame, last_generation};
 ghost use Rattle.page_store.specs.Steps.{crash_states_of};
 ghost use Rattle.page_store.specs.declared.fault.KeeperFault.TheVariants.{Failed, Spent};
 ghost use Rattle.cow_tree.specs.Needs.{MayNeed};
@@ -36,9 +36,9 @@ impl<D: Device> CompactKeeper for TreeKeeper<D> {
         ensures closed { (held D.state self.old).usable ≡ false → IsErrOf result Failed }
         ensures spent { (held D.state self.old).usable ≡ true → (held D.state self.old).top ≡ last_generation → IsErrOf result Spent }
         ensures unchanged { (held D.state self.old).usable ≡ false → held D.state self.new ≡ held D.state self.old }
-        ensures tried { HasTried (held D.state self.old) (held D.state self.new) }
-        ensures reads { CountsReads result (held D.state self.old).failed_reads (held D.state self.new).failed_reads }
-        ensures writes { CountsWrites (held D.state self.old).usable result (held D.state self.old).failed_writes (held D.state self.new).failed_writes }
+        ensures tried { StoreHasTried (held D.state self.old) (held D.state self.new) }
+        ensures reads { CountsStoreReads result (held D.state self.old).failed_reads (held D.state self.new).failed_reads }
+        ensures writes { CountsStoreWrites (held D.state self.old).usable result (held D.state self.old).failed_writes (held D.state self.new).failed_writes }
         ensures at_crash { IsTrue (held D.state self.old).honest → (held D.state self.old).usable ≡ true →
             AddsOnly (crash_states_of D.moment D.possible_since (device_of self.old)) (crash_states_of D.moment D.possible_since (device_of self.new)) (λ c. TreeHas c (held D.state self.old).pairs (held D.state self.old).banner) }
         ensures tight { IsTrue (held D.state self.old).honest → (held D.state self.old).usable ≡ true → (held D.state self.new).usable ≡ false → (n : ℕ) × MayNeedFilled (slot_of self.old) (D.state (device_of self.old)) n × (n ≤ (held D.state self.old).free) }

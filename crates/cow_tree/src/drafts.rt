@@ -18,7 +18,7 @@ use crate::opening_walk::load_page;
 use crate::page_bounds::bounds_of;
 use page_alloc::Ledger;
 use page_store::{Edit, KeeperFault, Slot};
-use sector_device::Device;
+use sector_device::{Device, PAGE_SIZE};
 use std::alloc::Global;
 use tree_nodes::{NodeFault, OwnedTree};
 
@@ -56,7 +56,7 @@ fn read_needed<D: Device>(
     if !ledger.lives(page) {
         return Err(KeeperFault::Damaged { page });
     }
-    let mut bytes = [0; 4096];
+    let mut bytes = [0; PAGE_SIZE];
     if load_page(device, page, &mut bytes).is_err() {
         return Err(KeeperFault::Device);
     }

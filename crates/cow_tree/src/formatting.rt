@@ -1,6 +1,7 @@
 // Making an image of a tree.
 ghost use Rattle.std.specs.Prelude.{◌≡◌, ◌≢◌, ◌≤◌, ◌<◌, ◌+◌, ◌*◌, All, IsTrue, IfOk, OnOk, IfErr, true, length};
 ghost use Rattle.std.specs.List.{list_all};
+ghost use Rattle.page_store.specs.Sizes.{least_pages, most_pages};
 ghost use Rattle.sector_device.specs.Device.{NothingCounted};
 ghost use Rattle.sector_device.specs.Effects.{IsSameDevice, WriteOutcome, MadeIfOk};
 ghost use Rattle.page_store.specs.Batch.{is_map, is_pair};
@@ -12,9 +13,10 @@ ghost use Rattle.tree_nodes.specs.Tree.{entry_room, leaf_bytes};
 ghost use Rattle.cow_tree.specs.Formatting.{first_pages, first_slot, IsFirstTree, IsFirstWritten, FirstLeafExample};
 
 use page_store::{
-    Banner, KeeperFault, NewPage, Pair, Root, Slot, slot_page, sync_all, write_page, write_pages,
+    Banner, KeeperFault, LEAST_PAGES, MOST_PAGES, NewPage, Pair, Root, Slot, slot_page, sync_all,
+    write_page, write_pages,
 };
-use sector_device::{Device, DeviceFault};
+use sector_device::{Device, DeviceFault, PAGE_SIZE};
 use std::alloc::{AllocError, Global};
 use tree_nodes::encode_leaf;
 
@@ -56,7 +58,7 @@ fn first_slot(pages: u32, banner: Banner, pairs: &[Pair]) -> Slot
 fn write_first<D: Device>(
     device: &mut D,
     pages: &[NewPage],
-    root: &[u8; 4096],
+    root: &[u8; PAGE_SIZE],
 ) -> Result<(), DeviceFault>
     requires fits { All (λ page. 8 * page.number + 8 ≤ (D.state device.old).size) pages.now }
     requires slots { 16 ≤ (D.state device.old).size }
@@ -64,7 +66,7 @@ fn write_first<D: Device>(
     ensures outcome { WriteOutcome result (D.state device.old) (D.state device.new) }
     ensures work { MadeIfOk result 0 (16 + 8 * length pages.now) 1 (D.state device.old) (D.state device.new) }
 {
-    let cleared = [0; 4096];
+    let cleared = [0; PAGE_SIZE];
     write_page(device, 1, &cleared)?;
     write_pages(device, pages)?;
     write_page(device, 0, root)?;
@@ -89,14 +91,14 @@ pub fn format<D: Device>(
     ensures first { IsTrue (D.state device.old).honest → OnOk result (IsFirst pages (D.state device.new).disk.view) }
     ensures tree { IsTrue (D.state device.old).honest → OnOk result (IsFirstTree pages banner pairs.now (D.state device.new).disk.view) }
     ensures sure { IsTrue (D.state device.old).honest → OnOk result (AllAre (crash_states_of D.moment D.possible_since device.new) (D.state device.new).disk.view) }
-    ensures fits { OnOk result ((16 ≤ pages) × (pages ≤ 65536) × (8 * pages ≤ (D.state device.old).size)) }
+    ensures fits { OnOk result ((least_pages ≤ pages) × (pages ≤ most_pages) × (8 * pages ≤ (D.state device.old).size)) }
     ensures fault { IfErr result (IsFormatFault pages (D.state device.old) (D.state device.new)) }
     ensures counts { OnOk result (NothingCounted (D.state device.old) (D.state device.new)) }
     ensures work { MadeIfOk result 0 (16 + 8 * length (first_pages pairs.now)) 1 (D.state device.old) (D.state device.new) }
     ensures unwritten { IfErr result (λ e. e ≢ Failed → device.new ≡ device.old) }
     ensures same { IsSameDevice (D.state device.old) (D.state device.new) }
 {
-    if pages < 16 || pages > 65_536 || 8 * u64::from(pages) > device.sectors() {
+    if pages < LEAST_PAGES || pages > MOST_PAGES || 8 * u64::from(pages) > device.sectors() {
         return Err(KeeperFault::Small);
     }
     let tree = first_pages(alloc, pairs)?;

@@ -1,7 +1,8 @@
 // The leaf that a next pair was last read from.
 ghost use Rattle.std.specs.Prelude.{◌≡◌, ◌≤◌, ◌<◌, ◌*◌, ◌∷◌, ◌⊎◌, false, List, [], None, Some, Ok, IsTrue, OnOk, IfSome, MatchOption, option_map, length, take};
-ghost use Rattle.sector_device.specs.Effects.{MadeIfOk};
+ghost use Rattle.sector_device.specs.Effects.{MadeAtMost};
 ghost use Rattle.std.specs.Option.{is_some};
+ghost use Rattle.page_store.specs.Sizes.{longest_key, longest_value};
 ghost use Rattle.page_store.specs.Sectors.{page_of};
 ghost use Rattle.page_store.specs.Steps.{crash_states_of};
 ghost use Rattle.page_store.specs.Pages.{Pair, leaf_of};
@@ -14,11 +15,12 @@ ghost use Rattle.cow_tree.specs.Ways.{AnswersBy};
 ghost use Rattle.cow_tree.specs.Walks.{ReadsTreePages};
 ghost use Rattle.cow_tree.specs.declared.page_fault.PageFault.{PageFault as PageFaultValue};
 
-use crate::opening_walk::{count_pairs, load_page};
+use crate::opening_walk::count_pairs;
+use crate::page_copies::copy_page;
 use crate::page_fault::PageFault;
 use crate::page_heads::leaf_by_head;
-use page_store::pair_at;
-use sector_device::Device;
+use page_store::{LONGEST_KEY, LONGEST_VALUE, pair_at};
+use sector_device::{Device, PAGE_SIZE};
 use std::cmp::Ordering;
 use std::marker::Model;
 use tree_nodes::{ImageBounds, Leaf};
@@ -43,7 +45,7 @@ struct Place {
 #[derive(Drop)]
 pub(crate) struct KeptLeaf {
     count: u16,
-    bytes: [u8; 4096],
+    bytes: [u8; PAGE_SIZE],
     last: Place,
 }
 
@@ -67,7 +69,7 @@ impl KeptLeaf {
     {
         KeptLeaf {
             count: 0,
-            bytes: [0; 4096],
+            bytes: [0; PAGE_SIZE],
             last: NOWHERE,
         }
     }
@@ -93,10 +95,10 @@ impl KeptLeaf {
             AnswersBy result (λ done. self.new ≡ pairs) }
         ensures some { OnOk result (self.new ≡ [] → ⊥) }
         ensures reads { ReadsTreePages D.state (crash_states_of D.moment D.possible_since) device.old device.new result }
-        ensures work { MadeIfOk result 8 0 0 (D.state device.old) (D.state device.new) }
+        ensures work { MadeAtMost 8 0 0 (D.state device.old) (D.state device.new) }
     {
         self.last.left = 0;
-        load_page(device, page, &mut self.bytes)?;
+        copy_page(device, page, &mut self.bytes)?;
         let leaf = leaf_by_head(bounds, page, &self.bytes)?;
         self.count = count_pairs(leaf);
         if self.count < 1 {
@@ -123,8 +125,8 @@ impl KeptLeaf {
     pub(crate) fn copy_next(
         &mut self,
         after: &[u8],
-        key: &mut [u8; 300],
-        value: &mut [u8; 1024],
+        key: &mut [u8; LONGEST_KEY],
+        value: &mut [u8; LONGEST_VALUE],
     ) -> Option<(usize, usize)>
         ensures copied { CopiesPair (next_in self.old after.now) result key.old key.new value.old value.new }
         ensures kept { self.new ≡ self.old }
@@ -139,8 +141,8 @@ impl KeptLeaf {
     pub(crate) fn copy_after(
         &mut self,
         after: &[u8],
-        key: &mut [u8; 300],
-        value: &mut [u8; 1024],
+        key: &mut [u8; LONGEST_KEY],
+        value: &mut [u8; LONGEST_VALUE],
     ) -> Option<(usize, usize)>
         ensures copied { CopiesPair (pair_after self.old after.now) result key.old key.new value.old value.new }
         ensures kept { self.new ≡ self.old }
@@ -165,10 +167,10 @@ fn first_place(count: u16) -> Place
 }
 
 /// The pair at a place, and the place behind it.
-fn pair_from(bytes: &[u8; 4096], place: Place) -> Option<(&[u8], &[u8], Place)>
+fn pair_from(bytes: &[u8; PAGE_SIZE], place: Place) -> Option<(&[u8], &[u8], Place)>
     ensures pairs { MatchOption result (pairs_from bytes.now place.at place.left ≡ []) (λ x. pairs_from bytes.now place.at place.left ≡ (x.0.now, x.1.now) ∷ pairs_from bytes.now x.2.at x.2.left) }
     ensures fewer { IfSome result (λ x. x.2.left < place.left) }
-    ensures sizes { IfSome result (λ x. (length x.0.now ≤ 300) × (length x.1.now ≤ 1024)) }
+    ensures sizes { IfSome result (λ x. (length x.0.now ≤ longest_key) × (length x.1.now ≤ longest_value)) }
 {
     if place.left < 1 {
         return None;
@@ -176,14 +178,14 @@ fn pair_from(bytes: &[u8; 4096], place: Place) -> Option<(&[u8], &[u8], Place)>
     let entries = bytes.get(place.at..)?;
     let ((key, value), rest) = pair_at(entries)?;
     let behind = Place {
-        at: 4096 - rest.len(),
+        at: PAGE_SIZE - rest.len(),
         left: place.left - 1,
     };
     Some((key, value, behind))
 }
 
 /// Whether the pair at a place isn't above a key.
-fn begins_by(bytes: &[u8; 4096], place: Place, key: &[u8]) -> bool
+fn begins_by(bytes: &[u8; PAGE_SIZE], place: Place, key: &[u8]) -> bool
     ensures { result ≡ begins_by key.now (pairs_from bytes.now place.at place.left) }
 {
     match pair_from(bytes, place) {
@@ -194,13 +196,13 @@ fn begins_by(bytes: &[u8; 4096], place: Place, key: &[u8]) -> bool
 
 /// The first pair above a key, from a place on, and its place.
 fn place_after<'a>(
-    bytes: &'a [u8; 4096],
+    bytes: &'a [u8; PAGE_SIZE],
     from: Place,
     key: &[u8],
 ) -> Option<(Place, &'a [u8], &'a [u8])>
     ensures reached { MatchOption result (pair_after (pairs_from bytes.now from.at from.left) key.now ≡ None)
         (λ x. IsReachedAfter key.now (x.1.now, x.2.now) (pairs_from bytes.now x.0.at x.0.left) (pairs_from bytes.now from.at from.left)) }
-    ensures sizes { IfSome result (λ x. (length x.1.now ≤ 300) × (length x.2.now ≤ 1024)) }
+    ensures sizes { IfSome result (λ x. (length x.1.now ≤ longest_key) × (length x.2.now ≤ longest_value)) }
 {
     let mut place = from;
     while let Some((here, value, behind)) = pair_from(bytes, place) {
@@ -213,7 +215,7 @@ fn place_after<'a>(
 }
 
 /// The one of two places whose pair isn't above a key, the second only where the first is none.
-fn place_by(bytes: &[u8; 4096], one: Place, other: Place, key: &[u8]) -> Option<Place>
+fn place_by(bytes: &[u8; PAGE_SIZE], one: Place, other: Place, key: &[u8]) -> Option<Place>
     ensures first { IsTrue (begins_by key.now (pairs_from bytes.now one.at one.left)) → result ≡ Some one }
     ensures place { MatchOption result (begins_by key.now (pairs_from bytes.now other.at other.left) ≡ false) (λ place. IsTrue (begins_by key.now (pairs_from bytes.now place.at place.left)) × ((place ≡ one) ⊎ (place ≡ other))) }
 {
@@ -228,13 +230,13 @@ fn place_by(bytes: &[u8; 4096], one: Place, other: Place, key: &[u8]) -> Option<
 
 /// Puts the first pair above a key, from a place on, into the buffers, and gives its place.
 fn copy_from(
-    bytes: &[u8; 4096],
+    bytes: &[u8; PAGE_SIZE],
     from: Place,
     after: &[u8],
-    key: &mut [u8; 300],
-    value: &mut [u8; 1024],
+    key: &mut [u8; LONGEST_KEY],
+    value: &mut [u8; LONGEST_VALUE],
 ) -> Option<(Place, (usize, usize))>
-    ensures within { IfSome result (λ x. (x.1.0 ≤ 300) × (x.1.1 ≤ 1024)) }
+    ensures within { IfSome result (λ x. (x.1.0 ≤ longest_key) × (x.1.1 ≤ longest_value)) }
     ensures reached { MatchOption result (pair_after (pairs_from bytes.now from.at from.left) after.now ≡ None)
         (λ x. IsReachedAfter after.now (take x.1.0 key.new, take x.1.1 value.new) (pairs_from bytes.now x.0.at x.0.left) (pairs_from bytes.now from.at from.left)) }
     ensures key { IsFilled {E = PageFaultValue} (λ x. x.1.0) (Ok result) key.old key.new }

@@ -13,6 +13,7 @@ mod lookups;
 mod opening;
 mod opening_walk;
 mod page_bounds;
+mod page_copies;
 mod page_fault;
 mod page_heads;
 mod page_reads;

@@ -1,6 +1,7 @@
 // Looking pairs up in a tree: the pages on the way to them are read, and no others.
 ghost use Rattle.std.specs.Prelude.{◌≡◌, ◌≤◌, ◌<◌, ◌*◌, [], IsTrue, OnOk, IfOk, IfSome, Some, option_map, take};
-ghost use Rattle.sector_device.specs.Effects.{MadeAtMost, MadeIfOk};
+ghost use Rattle.page_store.specs.Sizes.{longest_key, longest_value};
+ghost use Rattle.sector_device.specs.Effects.{MadeAtMost};
 ghost use Rattle.page_store.specs.Steps.{crash_states_of};
 ghost use Rattle.page_store.specs.Content.{tree_found};
 ghost use Rattle.page_store.specs.Batch.{pair_after};
@@ -15,7 +16,7 @@ use crate::kept_leaf::KeptLeaf;
 use crate::page_fault::PageFault;
 use crate::page_reads::{get_under, leaf_after};
 use crate::tree_root::TreeRoot;
-use page_store::Slot;
+use page_store::{LONGEST_KEY, LONGEST_VALUE, Slot};
 use sector_device::Device;
 
 /// Puts the value at a key of a tree into the buffer.
@@ -23,12 +24,12 @@ pub(crate) fn find_value<D: Device>(
     device: &mut D,
     tree: TreeRoot,
     key: &[u8],
-    buffer: &mut [u8; 1024],
+    buffer: &mut [u8; LONGEST_VALUE],
 ) -> Result<Option<usize>, PageFault>
     requires fits { 8 * tree.pages ≤ (D.state device.old).size }
     requires rooted { IsRootedAt tree }
     ensures found { LooksUpValue D.state (crash_states_of D.moment D.possible_since) (λ pages. tree_at tree pages) key.now device.old device.new buffer.old buffer.new result }
-    ensures work { MadeIfOk result (8 * tree.height) 0 0 (D.state device.old) (D.state device.new) }
+    ensures work { MadeAtMost (8 * tree.height) 0 0 (D.state device.old) (D.state device.new) }
 {
     if tree.height == 0 {
         return Ok(None);
@@ -82,12 +83,12 @@ pub(crate) fn find_next<D: Device>(
     slot: &Slot,
     kept: &mut KeptLeaf,
     after: &[u8],
-    key: &mut [u8; 300],
-    value: &mut [u8; 1024],
+    key: &mut [u8; LONGEST_KEY],
+    value: &mut [u8; LONGEST_VALUE],
 ) -> Result<Option<(usize, usize)>, PageFault>
     requires fits { 8 * slot.now.root.pages ≤ (D.state device.old).size }
     requires rooted { IsRooted slot.now.root }
-    ensures within { IfOk result (λ found. IfSome found (λ n. (n.0 ≤ 300) × (n.1 ≤ 1024))) }
+    ensures within { IfOk result (λ found. IfSome found (λ n. (n.0 ≤ longest_key) × (n.1 ≤ longest_value))) }
     ensures next { KeepsNext D.state (crash_states_of D.moment D.possible_since) (λ pages found. (tree_found slot.now pages ≡ Some found) × IsKeptLeaf pages (bounds_under slot.now) found kept.old)
         (bounds_under slot.now) after.now device.old device.new kept.new (λ sizes. option_map (λ n. (take n.0 key.new, take n.1 value.new)) sizes) result }
     ensures from_kept { IfOk result (λ sizes. option_map (λ n. (take n.0 key.new, take n.1 value.new)) sizes ≡ pair_after kept.new after.now) }

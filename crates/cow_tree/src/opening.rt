@@ -1,10 +1,11 @@
 // Opening an image of a tree.
 ghost use Rattle.std.specs.Prelude.{◌≡◌, ◌≤◌, ◌<◌, ◌*◌, ℕ, true, [], Some, None, IsTrue, IfOk, OnOk, IfErr, length, replicate, ◌+◌, ◌-◌};
+ghost use Rattle.page_store.specs.Sizes.{most_pages};
 ghost use Rattle.sector_device.specs.Effects.{MadeExactly, MadeAtMost, MadeIfOk};
 ghost use Rattle.common_types.specs.CrashStates.{AddsNone};
 ghost use Rattle.sector_device.specs.Device.{State, NothingCounted};
 ghost use Rattle.page_alloc.specs.Calls.{fresh};
-ghost use Rattle.page_store.specs.Counting.{CountsReads, CountsRefusal};
+ghost use Rattle.page_store.specs.Counting.{CountsStoreReads, CountsRefusal};
 ghost use Rattle.page_store.specs.Sectors.{page_of};
 ghost use Rattle.page_store.specs.Roots.{IsFoundSlot, current, greatest_seal};
 ghost use Rattle.page_store.specs.Steps.{crash_states_of};
@@ -46,7 +47,7 @@ fn tree_slot<D: Device>(device: &mut D) -> Result<(Slot, u64), KeeperFault>
     ensures sealed { IfOk result (λ found. found.0.seal ≤ found.1) }
     ensures fault { IfErr result (IsTreeSlotFault (D.state device.old)) }
     ensures device { IsReadCall D.state (crash_states_of D.moment D.possible_since) device.old device.new }
-    ensures reads { CountsReads result (D.state device.old).failed_reads (D.state device.new).failed_reads }
+    ensures reads { CountsStoreReads result (D.state device.old).failed_reads (D.state device.new).failed_reads }
     ensures work { MadeIfOk result 16 0 0 (D.state device.old) (D.state device.new) }
 {
     let Ok(roots) = open_roots(device) else {
@@ -127,7 +128,7 @@ fn count_tree<D: Device>(device: &mut D, ledger: &mut Ledger, slot: &Slot) -> Re
 /// Walks the tree of a slot, and tests the count of its keys.
 fn walk_slot<D: Device>(device: &mut D, ledger: &mut Ledger, slot: &Slot) -> Result<(), PageFault>
     requires fresh { ledger.old ≡ fresh slot.now.root.pages slot.now.seal }
-    requires small { slot.now.root.pages ≤ 65536 }
+    requires small { slot.now.root.pages ≤ most_pages }
     requires fits { 8 * slot.now.root.pages ≤ (D.state device.old).size }
     ensures found { IsTrue (D.state device.old).honest → Finds (tree_found slot.now (page_of (D.state device.old).disk.view)) slot.now ledger.new result }
     ensures named { IsTrue (D.state device.old).honest → IfErr result (IsNamed (tree_or_name slot.now (page_of (D.state device.old).disk.view))) }

@@ -18,14 +18,14 @@ ghost use Rattle.cow_tree.specs.declared.page_fault.PageFault.TheVariants.{Devic
 use crate::page_fault::PageFault;
 use page_alloc::Ledger;
 use page_store::fill_page;
-use sector_device::Device;
+use sector_device::{Device, PAGE_SIZE};
 use tree_nodes::{Branch, ImageBounds, Leaf};
 
 /// Reads a page.
 pub(crate) fn load_page<D: Device>(
     device: &mut D,
     page: u32,
-    bytes: &mut [u8; 4096],
+    bytes: &mut [u8; PAGE_SIZE],
 ) -> Result<(), PageFault>
     requires { 8 * page + 8 ≤ (D.state device.old).size }
     ensures page { IsTrue (D.state device.old).honest → IfOk result (λ done. page_of (D.state device.old).disk.view page ≡ bytes.new) }
@@ -45,7 +45,7 @@ pub(crate) fn leaf_in<'a>(
     page: u32,
     low: &[u8],
     high: Option<&[u8]>,
-    bytes: &'a [u8; 4096],
+    bytes: &'a [u8; PAGE_SIZE],
 ) -> Result<Leaf<'a>, PageFault>
     ensures pairs { IfOk result (λ leaf. leaf_of (place_in (bounds_of bounds) 0 page) low.now (option_copied high.entry) bytes.now ≡ Some (pairs_in leaf.count leaf.entries.now)) }
     ensures sizes { IfOk result (λ leaf. IsTrue (list_all is_pair (pairs_in leaf.count leaf.entries.now))) }
@@ -64,7 +64,7 @@ pub(crate) fn branch_in<'a>(
     page: u32,
     low: &[u8],
     high: Option<&[u8]>,
-    bytes: &'a [u8; 4096],
+    bytes: &'a [u8; PAGE_SIZE],
 ) -> Result<Branch<'a>, PageFault>
     ensures children { IfOk result (λ branch. branch_of (place_in (bounds_of bounds) level page) low.now (option_copied high.entry) bytes.now ≡ Some (children_in branch.count branch.entries.now)) }
     ensures inside { IfOk result (λ branch. list_all (is_inside bounds.pages) (children_in branch.count branch.entries.now) ≡ true) }
@@ -174,7 +174,7 @@ pub(crate) fn walk_tree<D: Device>(
     if !reach(ledger, page) {
         return Err(PageFault::Damaged { page });
     }
-    let mut bytes = [0; 4096];
+    let mut bytes = [0; PAGE_SIZE];
     load_page(device, page, &mut bytes)?;
     if level == 0 {
         let leaf = leaf_in(bounds, page, low, high, &bytes)?;

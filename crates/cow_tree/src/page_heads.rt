@@ -6,13 +6,14 @@ ghost use Rattle.tree_nodes.specs.PageViews.{bounds_of, pairs_in, children_in, e
 ghost use Rattle.cow_tree.specs.declared.page_fault.PageFault.TheVariants.{Damaged};
 
 use crate::page_fault::PageFault;
+use sector_device::PAGE_SIZE;
 use tree_nodes::{Branch, ImageBounds, Leaf};
 
 /// The leaf that a page's bytes have by their head; `Damaged` exactly where that isn't the head of this leaf.
 pub(crate) fn leaf_by_head<'a>(
     bounds: ImageBounds,
     page: u32,
-    bytes: &'a [u8; 4096],
+    bytes: &'a [u8; PAGE_SIZE],
 ) -> Result<Leaf<'a>, PageFault>
     ensures pairs { IfOk result (λ leaf. pairs_in leaf.count leaf.entries.now ≡ entries_by_head pair_at bytes.now) }
     ensures head { IfOk result (λ leaf. has_head (place_in (bounds_of bounds) 0 page) bytes.now ≡ true) }
@@ -29,7 +30,7 @@ pub(crate) fn branch_by_head<'a>(
     bounds: ImageBounds,
     level: u16,
     page: u32,
-    bytes: &'a [u8; 4096],
+    bytes: &'a [u8; PAGE_SIZE],
 ) -> Result<Branch<'a>, PageFault>
     ensures children { IfOk result (λ branch. children_in branch.count branch.entries.now ≡ entries_by_head child_at bytes.now) }
     ensures head { IfOk result (λ branch. has_head (place_in (bounds_of bounds) level page) bytes.now ≡ true) }

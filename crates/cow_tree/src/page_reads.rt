@@ -1,5 +1,7 @@
 // Pages on the way of a key. Each page of a tree was tested when the image was opened, or written by a commit since: only its head is tested again.
 ghost use Rattle.std.specs.Prelude.{◌≡◌, ◌≤◌, ◌<◌, ◌-◌, ◌*◌, [], None, Some, true, false, IsTrue, IfOk, IfErr, IfSome, length, option_map, take, ◌+◌};
+ghost use Rattle.page_store.specs.Sizes.{longest_value};
+ghost use Rattle.sector_device.specs.Sizes.{page_size};
 ghost use Rattle.sector_device.specs.Effects.{MadeAtMost, MadeIfOk};
 ghost use Rattle.page_store.specs.Sectors.{page_of};
 ghost use Rattle.page_store.specs.Steps.{crash_states_of};
@@ -18,7 +20,8 @@ use crate::kept_leaf::KeptLeaf;
 use crate::opening_walk::load_page;
 use crate::page_fault::PageFault;
 use crate::page_heads::{branch_by_head, leaf_by_head};
-use sector_device::Device;
+use page_store::LONGEST_VALUE;
+use sector_device::{Device, PAGE_SIZE};
 use std::cmp::Ordering;
 use tree_nodes::{Branch, ImageBounds, Leaf};
 
@@ -56,9 +59,10 @@ fn around_in(
     bounds: ImageBounds,
     level: u16,
     page: u32,
-    bytes: &[u8; 4096],
+    bytes: &[u8; PAGE_SIZE],
     key: &[u8],
 ) -> Result<(u32, Option<u32>), PageFault>
+    ensures long { length bytes.now ≡ page_size }
     ensures around { IfOk result (λ around. around_in (place_in (bounds_of bounds) level page) key.now bytes.now ≡ Some around) }
     ensures first { IfOk result (λ around. around.0 < bounds.pages) }
     ensures second { IfOk result (λ around. IfSome around.1 (λ page. page < bounds.pages)) }
@@ -69,6 +73,29 @@ fn around_in(
         Some(around) if are_inside(bounds.pages, around) => Ok(around),
         _ => Err(PageFault::Damaged { page }),
     }
+}
+
+/// The page under a branch's page under which a key stands, and the page after it, by a copy of the page.
+fn read_around<D: Device>(
+    device: &mut D,
+    bounds: ImageBounds,
+    level: u16,
+    page: u32,
+    key: &[u8],
+) -> Result<(u32, Option<u32>), PageFault>
+    requires level { 0 < level }
+    requires fits { 8 * bounds.pages ≤ (D.state device.old).size }
+    requires most { page < bounds.pages }
+    ensures way { IsTrue (D.state device.old).honest → (found : Found) → walk (page_of (D.state device.old).disk.view) (bounds_of bounds) level page [] None ≡ Some found →
+        AnswersBy result (IsOnWay (page_of (D.state device.old).disk.view) (bounds_of bounds) (level - 1) key.now found) }
+    ensures first { IfOk result (λ around. around.0 < bounds.pages) }
+    ensures second { IfOk result (λ around. IfSome around.1 (λ page. page < bounds.pages)) }
+    ensures reads { ReadsTreePages D.state (crash_states_of D.moment D.possible_since) device.old device.new result }
+    ensures work { MadeIfOk result 8 0 0 (D.state device.old) (D.state device.new) }
+{
+    let mut bytes = [0; PAGE_SIZE];
+    load_page(device, page, &mut bytes)?;
+    around_in(bounds, level, page, &bytes, key)
 }
 
 /// The page under a branch's page under which a key stands, and the page after it.
@@ -87,17 +114,18 @@ fn children_around<D: Device>(
     ensures first { IfOk result (λ around. around.0 < bounds.pages) }
     ensures second { IfOk result (λ around. IfSome around.1 (λ page. page < bounds.pages)) }
     ensures reads { ReadsTreePages D.state (crash_states_of D.moment D.possible_since) device.old device.new result }
-    ensures work { MadeIfOk result 8 0 0 (D.state device.old) (D.state device.new) }
+    ensures work { MadeAtMost 8 0 0 (D.state device.old) (D.state device.new) }
 {
-    let mut bytes = [0; 4096];
-    load_page(device, page, &mut bytes)?;
-    around_in(bounds, level, page, &bytes, key)
+    if let Some(lent) = device.page(page) {
+        return around_in(bounds, level, page, lent, key);
+    }
+    read_around(device, bounds, level, page, key)
 }
 
 /// The value at a key of a leaf.
 fn value_of<'a>(leaf: &Leaf<'a>, key: &[u8]) -> Option<&'a [u8]>
     ensures value { option_map (λ v. v.now) result ≡ value_at (pairs_in leaf.now.count leaf.now.entries.now) key.now }
-    ensures size { IfSome result (λ v. length v.now ≤ 1024) }
+    ensures size { IfSome result (λ v. length v.now ≤ longest_value) }
 {
     let value = leaf.get(key)?;
     Some(value)
@@ -107,11 +135,12 @@ fn value_of<'a>(leaf: &Leaf<'a>, key: &[u8]) -> Option<&'a [u8]>
 fn copy_value(
     bounds: ImageBounds,
     page: u32,
-    bytes: &[u8; 4096],
+    bytes: &[u8; PAGE_SIZE],
     key: &[u8],
-    buffer: &mut [u8; 1024],
+    buffer: &mut [u8; LONGEST_VALUE],
 ) -> Result<Option<usize>, PageFault>
-    ensures within { IfOk result (λ found. IfSome found (λ n. n ≤ 1024)) }
+    ensures long { length bytes.now ≡ page_size }
+    ensures within { IfOk result (λ found. IfSome found (λ n. n ≤ longest_value)) }
     ensures value { IfOk result (λ found. option_map (λ n. take n buffer.new) found ≡ value_at (entries_by_head pair_at bytes.now) key.now) }
     ensures head { IfOk result (λ found. has_head (place_in (bounds_of bounds) 0 page) bytes.now ≡ true) }
     ensures fault { IfErr result (λ e. (e ≡ Damaged page) × (has_head (place_in (bounds_of bounds) 0 page) bytes.now ≡ false)) }
@@ -125,22 +154,41 @@ fn copy_value(
     Ok(Some(value.len()))
 }
 
-/// Puts the value at a key of a leaf into the buffer.
-fn get_in_leaf<D: Device>(
+/// Puts the value at a key of a leaf into the buffer, by a copy of the page.
+fn read_value<D: Device>(
     device: &mut D,
     bounds: ImageBounds,
     page: u32,
     key: &[u8],
-    buffer: &mut [u8; 1024],
+    buffer: &mut [u8; LONGEST_VALUE],
 ) -> Result<Option<usize>, PageFault>
     requires fits { 8 * bounds.pages ≤ (D.state device.old).size }
     requires most { page < bounds.pages }
     ensures found { LooksUpValue D.state (crash_states_of D.moment D.possible_since) (λ pages. walk pages (bounds_of bounds) 0 page [] None) key.now device.old device.new buffer.old buffer.new result }
     ensures work { MadeIfOk result 8 0 0 (D.state device.old) (D.state device.new) }
 {
-    let mut bytes = [0; 4096];
+    let mut bytes = [0; PAGE_SIZE];
     load_page(device, page, &mut bytes)?;
     copy_value(bounds, page, &bytes, key, buffer)
+}
+
+/// Puts the value at a key of a leaf into the buffer.
+fn get_in_leaf<D: Device>(
+    device: &mut D,
+    bounds: ImageBounds,
+    page: u32,
+    key: &[u8],
+    buffer: &mut [u8; LONGEST_VALUE],
+) -> Result<Option<usize>, PageFault>
+    requires fits { 8 * bounds.pages ≤ (D.state device.old).size }
+    requires most { page < bounds.pages }
+    ensures found { LooksUpValue D.state (crash_states_of D.moment D.possible_since) (λ pages. walk pages (bounds_of bounds) 0 page [] None) key.now device.old device.new buffer.old buffer.new result }
+    ensures work { MadeAtMost 8 0 0 (D.state device.old) (D.state device.new) }
+{
+    if let Some(lent) = device.page(page) {
+        return copy_value(bounds, page, lent, key, buffer);
+    }
+    read_value(device, bounds, page, key, buffer)
 }
 
 /// Reads a leaf, and tells whether it has a pair after a key.
@@ -154,7 +202,7 @@ fn read_leaf<D: Device>(
     requires fits { 8 * bounds.pages ≤ (D.state device.old).size }
     requires most { page < bounds.pages }
     ensures next { ReadsNextLeaf D.state (crash_states_of D.moment D.possible_since) (λ pages found. walk pages (bounds_of bounds) 0 page [] None ≡ Some found) (bounds_of bounds) after.now device.old device.new kept.new result }
-    ensures work { MadeIfOk result 8 0 0 (D.state device.old) (D.state device.new) }
+    ensures work { MadeAtMost 8 0 0 (D.state device.old) (D.state device.new) }
 {
     kept.read(device, bounds, page)?;
     Ok(kept.has_above(after))
@@ -167,12 +215,12 @@ pub(crate) fn get_under<D: Device>(
     level: u16,
     page: u32,
     key: &[u8],
-    buffer: &mut [u8; 1024],
+    buffer: &mut [u8; LONGEST_VALUE],
 ) -> Result<Option<usize>, PageFault>
     requires fits { 8 * bounds.pages ≤ (D.state device.old).size }
     requires most { page < bounds.pages }
     ensures found { LooksUpValue D.state (crash_states_of D.moment D.possible_since) (λ pages. walk pages (bounds_of bounds) level page [] None) key.now device.old device.new buffer.old buffer.new result }
-    ensures work { MadeIfOk result (8 * (level + 1)) 0 0 (D.state device.old) (D.state device.new) }
+    ensures work { MadeAtMost (8 * (level + 1)) 0 0 (D.state device.old) (D.state device.new) }
 {
     if level == 0 {
         return get_in_leaf(device, bounds, page, key, buffer);

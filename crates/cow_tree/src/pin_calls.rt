@@ -5,11 +5,11 @@ ghost use Rattle.page_store.specs.Work.{ReadsPages, pages_tried};
 ghost use Rattle.cow_tree.specs.Needs.{MayNeed};
 ghost use Rattle.page_store.specs.Steps.{crash_states_of};
 ghost use Rattle.page_store.specs.declared.fault.KeeperFault.TheVariants.{Failed};
-ghost use Rattle.page_store.specs.StoreState.{HasRead, NeedsTheSame, IsFilled, IsReadFault, most_levels};
-ghost use Rattle.page_store.specs.Counting.{CountsReads};
+ghost use Rattle.page_store.specs.StoreState.{StoreHasRead, NeedsTheSame, IsFilled, IsStoreReadFault, most_levels};
+ghost use Rattle.page_store.specs.Counting.{CountsStoreReads};
 ghost use Rattle.page_store.specs.Batch.{value_at, pair_after};
 ghost use Rattle.common_types.specs.CrashStates.{AddsNone};
-ghost use Rattle.sector_device.specs.Effects.{MadeAtMost, MadeIfOk};
+ghost use Rattle.sector_device.specs.Effects.{MadeAtMost};
 ghost use Rattle.page_store.specs.Pins.{is_out, pairs_at};
 ghost use Rattle.cow_tree.specs.KeeperLaws.{few_out};
 ghost use Rattle.cow_tree.specs.TreeSeen.{held, pinned_by, device_of, slot_of};
@@ -19,7 +19,7 @@ use crate::lookups::find_value;
 use crate::pinned_reads::read_next;
 use crate::tree_root::TreeRoot;
 use page_alloc::Pin;
-use page_store::{KeeperFault, PinFault, PinKeeper};
+use page_store::{KeeperFault, LONGEST_KEY, LONGEST_VALUE, PinFault, PinKeeper};
 use sector_device::Device;
 
 /// Whether none of these is a tree.
@@ -75,24 +75,24 @@ impl<D: Device> PinKeeper for TreeKeeper<D> {
         &mut self,
         pin: &Pin,
         key: &[u8],
-        buffer: &mut [u8; 1024],
+        buffer: &mut [u8; LONGEST_VALUE],
     ) -> Result<Option<usize>, KeeperFault>
         requires out { IsTrue (is_out (held D.state self.old) pin.now) }
         ensures within { IfOk result (λ found. IfSome found (λ n. n ≤ length buffer.new)) }
         ensures value { IsTrue (held D.state self.old).honest → IfOk result (λ found. IfSome (pairs_at (held D.state self.old) pin.now) (λ pairs. option_map (λ n. take n buffer.new) found ≡ value_at pairs key.now)) }
         ensures buffer { IsFilled (λ n. n) result buffer.old buffer.new }
-        ensures kept { HasRead (held D.state self.old) (held D.state self.new) }
+        ensures kept { StoreHasRead (held D.state self.old) (held D.state self.new) }
         ensures need { NeedsTheSame (MayNeed (slot_of self.old) (D.state (device_of self.old))) (MayNeed (slot_of self.new) (D.state (device_of self.new))) }
-        ensures reads { CountsReads result (held D.state self.old).failed_reads (held D.state self.new).failed_reads }
-        ensures fault { IfErr result (IsReadFault (held D.state self.old) (held D.state self.new)) }
+        ensures reads { CountsStoreReads result (held D.state self.old).failed_reads (held D.state self.new).failed_reads }
+        ensures fault { IfErr result (IsStoreReadFault (held D.state self.old) (held D.state self.new)) }
         ensures closed { (held D.state self.old).usable ≡ false → IsErrOf result Failed }
         ensures unchanged { (held D.state self.old).usable ≡ false → held D.state self.new ≡ held D.state self.old }
         ensures at_crash { IsTrue (held D.state self.old).honest → AddsNone (crash_states_of D.moment D.possible_since (device_of self.old)) (crash_states_of D.moment D.possible_since (device_of self.new)) }
 
         ensures work { ReadsPages most_levels (held D.state self.old).made (held D.state self.new).made }
 
-        // One page of each level of the pinned tree is read.
-        ensures each_level { IfSome (slice_index_or (pinned_by self.old) pin.now None) (λ tree. MadeIfOk result (8 * tree.height) 0 0 (D.state (device_of self.old)) (D.state (device_of self.new))) }
+        // At most one page of each level of the pinned tree is read.
+        ensures each_level { IfSome (slice_index_or (pinned_by self.old) pin.now None) (λ tree. MadeAtMost (8 * tree.height) 0 0 (D.state (device_of self.old)) (D.state (device_of self.new))) }
     {
         if !self.usable {
             return Err(KeeperFault::Failed);
@@ -108,18 +108,18 @@ impl<D: Device> PinKeeper for TreeKeeper<D> {
         &mut self,
         pin: &Pin,
         after: &[u8],
-        key: &mut [u8; 300],
-        value: &mut [u8; 1024],
+        key: &mut [u8; LONGEST_KEY],
+        value: &mut [u8; LONGEST_VALUE],
     ) -> Result<Option<(usize, usize)>, KeeperFault>
         requires out { IsTrue (is_out (held D.state self.old) pin.now) }
         ensures within { IfOk result (λ found. IfSome found (λ n. (n.0 ≤ length key.new) × (n.1 ≤ length value.new))) }
         ensures pair { IsTrue (held D.state self.old).honest → IfOk result (λ found. IfSome (pairs_at (held D.state self.old) pin.now) (λ pairs. option_map (λ n. (take n.0 key.new, take n.1 value.new)) found ≡ pair_after pairs after.now)) }
         ensures key { IsFilled (λ n. n.0) result key.old key.new }
         ensures value { IsFilled (λ n. n.1) result value.old value.new }
-        ensures kept { HasRead (held D.state self.old) (held D.state self.new) }
+        ensures kept { StoreHasRead (held D.state self.old) (held D.state self.new) }
         ensures need { NeedsTheSame (MayNeed (slot_of self.old) (D.state (device_of self.old))) (MayNeed (slot_of self.new) (D.state (device_of self.new))) }
-        ensures reads { CountsReads result (held D.state self.old).failed_reads (held D.state self.new).failed_reads }
-        ensures fault { IfErr result (IsReadFault (held D.state self.old) (held D.state self.new)) }
+        ensures reads { CountsStoreReads result (held D.state self.old).failed_reads (held D.state self.new).failed_reads }
+        ensures fault { IfErr result (IsStoreReadFault (held D.state self.old) (held D.state self.new)) }
         ensures closed { (held D.state self.old).usable ≡ false → IsErrOf result Failed }
         ensures unchanged { (held D.state self.old).usable ≡ false → held D.state self.new ≡ held D.state self.old }
         ensures at_crash { IsTrue (held D.state self.old).honest → AddsNone (crash_states_of D.moment D.possible_since (device_of self.old)) (crash_states_of D.moment D.possible_since (device_of self.new)) }

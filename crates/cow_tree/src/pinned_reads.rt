@@ -1,5 +1,6 @@
 // Walking over a tree that a pin keeps.
 ghost use Rattle.std.specs.Prelude.{◌≡◌, ◌≤◌, ◌*◌, Some, IsTrue, IfOk, IfSome, option_map, take};
+ghost use Rattle.page_store.specs.Sizes.{longest_key, longest_value};
 ghost use Rattle.sector_device.specs.Effects.{MadeAtMost};
 ghost use Rattle.page_store.specs.Sectors.{page_of};
 ghost use Rattle.page_store.specs.Steps.{crash_states_of};
@@ -15,6 +16,7 @@ use crate::kept_leaf::KeptLeaf;
 use crate::lookups::read_next_leaf;
 use crate::page_fault::PageFault;
 use crate::tree_root::TreeRoot;
+use page_store::{LONGEST_KEY, LONGEST_VALUE};
 use sector_device::Device;
 
 /// Puts the pair of a tree after a key into the buffers. It reads the pages from the root on each time.
@@ -22,12 +24,12 @@ pub(crate) fn read_next<D: Device>(
     device: &mut D,
     tree: TreeRoot,
     after: &[u8],
-    key: &mut [u8; 300],
-    value: &mut [u8; 1024],
+    key: &mut [u8; LONGEST_KEY],
+    value: &mut [u8; LONGEST_VALUE],
 ) -> Result<Option<(usize, usize)>, PageFault>
     requires fits { 8 * tree.pages ≤ (D.state device.old).size }
     requires rooted { IsRootedAt tree }
-    ensures within { IfOk result (λ found. IfSome found (λ n. (n.0 ≤ 300) × (n.1 ≤ 1024))) }
+    ensures within { IfOk result (λ found. IfSome found (λ n. (n.0 ≤ longest_key) × (n.1 ≤ longest_value))) }
     ensures pair { IsTrue (D.state device.old).honest → (found : Found) → tree_at tree (page_of (D.state device.old).disk.view) ≡ Some found →
         AnswersBy result (λ sizes. option_map (λ n. (take n.0 key.new, take n.1 value.new)) sizes ≡ pair_after found.pairs after.now) }
     ensures key { IsFilled (λ n. n.0) result key.old key.new }

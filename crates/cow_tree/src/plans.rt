@@ -23,7 +23,7 @@ use crate::drafts::{Draft, draft_batch};
 use crate::taking::take_pages;
 use page_alloc::Ledger;
 use page_store::{Banner, Edit, KeeperFault, NewPage, Root, Slot, slot_page};
-use sector_device::Device;
+use sector_device::{Device, PAGE_SIZE};
 use std::alloc::Global;
 use tree_nodes::OwnedTree;
 use tree_pages::{fits_pages, write_node};
@@ -33,7 +33,7 @@ use tree_pages::{fits_pages, write_node};
 pub(crate) struct Plan {
     pub(crate) pages: Vec<NewPage>,
     pub(crate) slot: Slot,
-    pub(crate) root: [u8; 4096],
+    pub(crate) root: [u8; PAGE_SIZE],
 }
 
 /// The owned nodes of a tree as pages of a generation, and the number of its root's page: 0 where there is no tree. `Damaged` where the tree doesn't fit its pages or

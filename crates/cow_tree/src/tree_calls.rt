@@ -2,12 +2,11 @@
 ghost use Rattle.std.specs.Prelude.{◌≡◌, ◌≤◌, ◌<◌, ◌+◌, ◌⊎◌, ℕ, [], true, false, IsTrue, OnOk, IfOk, IfErr, IfSome, IsErrOf, length, option_map, take, ◌*◌};
 ghost use Rattle.page_store.specs.Work.{ReadsPages, CommitsWithin, pages_tried};
 ghost use Rattle.cow_tree.specs.Work.{WritesPages};
-ghost use Rattle.sector_device.specs.Effects.{MadeIfOk};
 ghost use Rattle.common_types.specs.CrashStates.{AddsOnly, AddsNone};
 ghost use Rattle.page_store.specs.Sectors.{Image, page_of};
 ghost use Rattle.page_store.specs.Batch.{is_batch, updated, value_at, pair_after};
-ghost use Rattle.page_store.specs.Counting.{CountsReads, CountsWrites};
-ghost use Rattle.page_store.specs.StoreState.{SoManyPages, HasRead, HasTried, NeedsTheSame, IsFilled, IsReadFault, IsCommitFault, numbers_out, last_generation, most_levels};
+ghost use Rattle.page_store.specs.Counting.{CountsStoreReads, CountsStoreWrites};
+ghost use Rattle.page_store.specs.StoreState.{SoManyPages, StoreHasRead, StoreHasTried, NeedsTheSame, IsFilled, IsStoreReadFault, IsCommitFault, numbers_out, last_generation, most_levels};
 ghost use Rattle.page_store.specs.declared.fault.KeeperFault.TheVariants.{Failed, Spent};
 ghost use Rattle.page_store.specs.Steps.{crash_states_of};
 ghost use Rattle.cow_tree.specs.Needs.{MayNeed};
@@ -23,7 +22,7 @@ use crate::commits::write_plan;
 use crate::lookups::{find_next, find_value};
 use crate::plans::plan_commit;
 use crate::tree_root::TreeRoot;
-use page_store::{Banner, Edit, Figures, Keeper, KeeperFault};
+use page_store::{Banner, Edit, Figures, Keeper, KeeperFault, LONGEST_KEY, LONGEST_VALUE};
 use sector_device::Device;
 
 impl<D: Device> Keeper for TreeKeeper<D> {
@@ -67,22 +66,23 @@ impl<D: Device> Keeper for TreeKeeper<D> {
         }
     }
 
-    fn get(&mut self, key: &[u8], buffer: &mut [u8; 1024]) -> Result<Option<usize>, KeeperFault>
+    fn get(
+        &mut self,
+        key: &[u8],
+        buffer: &mut [u8; LONGEST_VALUE],
+    ) -> Result<Option<usize>, KeeperFault>
         ensures within { IfOk result (λ found. IfSome found (λ n. n ≤ length buffer.new)) }
         ensures value { IsTrue (held D.state self.old).honest → IfOk result (λ found. option_map (λ n. take n buffer.new) found ≡ value_at (held D.state self.old).pairs key.now) }
         ensures buffer { IsFilled (λ n. n) result buffer.old buffer.new }
-        ensures kept { HasRead (held D.state self.old) (held D.state self.new) }
+        ensures kept { StoreHasRead (held D.state self.old) (held D.state self.new) }
         ensures need { NeedsTheSame (MayNeed (slot_of self.old) (D.state (device_of self.old))) (MayNeed (slot_of self.new) (D.state (device_of self.new))) }
-        ensures reads { CountsReads result (held D.state self.old).failed_reads (held D.state self.new).failed_reads }
-        ensures fault { IfErr result (IsReadFault (held D.state self.old) (held D.state self.new)) }
+        ensures reads { CountsStoreReads result (held D.state self.old).failed_reads (held D.state self.new).failed_reads }
+        ensures fault { IfErr result (IsStoreReadFault (held D.state self.old) (held D.state self.new)) }
         ensures closed { (held D.state self.old).usable ≡ false → IsErrOf result Failed }
         ensures unchanged { (held D.state self.old).usable ≡ false → held D.state self.new ≡ held D.state self.old }
         ensures at_crash { IsTrue (held D.state self.old).honest → AddsNone (crash_states_of D.moment D.possible_since (device_of self.old)) (crash_states_of D.moment D.possible_since (device_of self.new)) }
 
         ensures work { ReadsPages (held D.state self.old).height (held D.state self.old).made (held D.state self.new).made }
-
-        // One page of each level is read.
-        ensures each_level { MadeIfOk result (8 * (slot_of self.old).root.height) 0 0 (D.state (device_of self.old)) (D.state (device_of self.new)) }
 
         // The leaf that a walk has kept stays, so that the walk goes on from it.
         ensures leaf { kept_by self.new ≡ kept_by self.old }
@@ -99,17 +99,17 @@ impl<D: Device> Keeper for TreeKeeper<D> {
     fn next(
         &mut self,
         after: &[u8],
-        key: &mut [u8; 300],
-        value: &mut [u8; 1024],
+        key: &mut [u8; LONGEST_KEY],
+        value: &mut [u8; LONGEST_VALUE],
     ) -> Result<Option<(usize, usize)>, KeeperFault>
         ensures within { IfOk result (λ found. IfSome found (λ n. (n.0 ≤ length key.new) × (n.1 ≤ length value.new))) }
         ensures pair { IsTrue (held D.state self.old).honest → IfOk result (λ found. option_map (λ n. (take n.0 key.new, take n.1 value.new)) found ≡ pair_after (held D.state self.old).pairs after.now) }
         ensures key { IsFilled (λ n. n.0) result key.old key.new }
         ensures value { IsFilled (λ n. n.1) result value.old value.new }
-        ensures kept { HasRead (held D.state self.old) (held D.state self.new) }
+        ensures kept { StoreHasRead (held D.state self.old) (held D.state self.new) }
         ensures need { NeedsTheSame (MayNeed (slot_of self.old) (D.state (device_of self.old))) (MayNeed (slot_of self.new) (D.state (device_of self.new))) }
-        ensures reads { CountsReads result (held D.state self.old).failed_reads (held D.state self.new).failed_reads }
-        ensures fault { IfErr result (IsReadFault (held D.state self.old) (held D.state self.new)) }
+        ensures reads { CountsStoreReads result (held D.state self.old).failed_reads (held D.state self.new).failed_reads }
+        ensures fault { IfErr result (IsStoreReadFault (held D.state self.old) (held D.state self.new)) }
         ensures closed { (held D.state self.old).usable ≡ false → IsErrOf result Failed }
         ensures unchanged { (held D.state self.old).usable ≡ false → held D.state self.new ≡ held D.state self.old }
         ensures at_crash { IsTrue (held D.state self.old).honest → AddsNone (crash_states_of D.moment D.possible_since (device_of self.old)) (crash_states_of D.moment D.possible_since (device_of self.new)) }
@@ -154,9 +154,9 @@ impl<D: Device> Keeper for TreeKeeper<D> {
         ensures closed { (held D.state self.old).usable ≡ false → IsErrOf result Failed }
         ensures spent { (held D.state self.old).usable ≡ true → (held D.state self.old).top ≡ last_generation → IsErrOf result Spent }
         ensures unchanged { (held D.state self.old).usable ≡ false → held D.state self.new ≡ held D.state self.old }
-        ensures tried { HasTried (held D.state self.old) (held D.state self.new) }
-        ensures reads { CountsReads result (held D.state self.old).failed_reads (held D.state self.new).failed_reads }
-        ensures writes { CountsWrites (held D.state self.old).usable result (held D.state self.old).failed_writes (held D.state self.new).failed_writes }
+        ensures tried { StoreHasTried (held D.state self.old) (held D.state self.new) }
+        ensures reads { CountsStoreReads result (held D.state self.old).failed_reads (held D.state self.new).failed_reads }
+        ensures writes { CountsStoreWrites (held D.state self.old).usable result (held D.state self.old).failed_writes (held D.state self.new).failed_writes }
         ensures at_crash { IsTrue (held D.state self.old).honest → (held D.state self.old).usable ≡ true →
             AddsOnly (crash_states_of D.moment D.possible_since (device_of self.old)) (crash_states_of D.moment D.possible_since (device_of self.new))
             (λ c. TreeHas c (held D.state self.old).pairs (held D.state self.old).banner ⊎ TreeHas c (updated (held D.state self.old).pairs batch.now) banner) }

@@ -13,7 +13,7 @@ use host_on_disk::{open_site, run_on, upgrade_on};
 use host_types::{Bytes, Change, Stamp};
 use mem_site::MemSite;
 use page_store::FlatKeeper;
-use sector_device::MemDisk;
+use sector_device::{MemDisk, SECTOR_SIZE};
 use site_store::DiskSite;
 use std::alloc::Global;
 use std::mem;
@@ -88,7 +88,7 @@ pub(crate) struct Bench {
     pub alloc: Global,
     pub now: Stamp,
     pub held: Held,
-    pub image: Vec<[u8; 512]>,
+    pub image: Vec<[u8; SECTOR_SIZE]>,
     pub events: Vec<Event>,
     pub used: Vec<Event>,
     pub remembered: Vec<Bytes>,
@@ -279,7 +279,7 @@ impl Bench {
     /// `lie CALLS SECTOR BYTES`, with zeros behind the bytes.
     fn hold_lie(&mut self, calls: &[u8], n: &[u8], bytes: &[u8]) -> Result<(), Trouble> {
         let (calls, n) = (number(calls)?, number(n)?);
-        let mut told = [0; 512];
+        let mut told = [0; SECTOR_SIZE];
         copy(&mut told, bytes);
         self.held = Held::Device(lying(self.take_disk()?, calls, n, told));
         Ok(())

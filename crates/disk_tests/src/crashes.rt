@@ -14,7 +14,7 @@ use host_types::{Admin, Bytes, Host, SiteKeeper, Stamp, Title};
 use image_commands::compact_image;
 use mem_site::MemSite;
 use page_store::{Keeper, PinKeeper};
-use sector_device::{Device, FuseDisk, MemDisk};
+use sector_device::{Device, FuseDisk, MemDisk, SECTOR_SIZE};
 use site_store::DiskSite;
 use std::alloc::Global;
 use word_index::SearchKeeper;
@@ -82,7 +82,7 @@ fn ran<S: SearchKeeper + Drop>(
 }
 
 /// A new disk with an image.
-pub fn disk_of(alloc: Global, image: &[[u8; 512]]) -> Result<MemDisk, Trouble> {
+pub fn disk_of(alloc: Global, image: &[[u8; SECTOR_SIZE]]) -> Result<MemDisk, Trouble> {
     Ok(MemDisk::of(alloc, image.to_vec(alloc)?)?)
 }
 
@@ -111,7 +111,7 @@ fn pairs_left(
 /// What a script is answered by the site of an image. What is left opens as what the site kept.
 fn outcomes_on_disk(
     alloc: Global,
-    image: &[[u8; 512]],
+    image: &[[u8; SECTOR_SIZE]],
     events: &[Event],
 ) -> Result<OutcomeList, Trouble> {
     let (outcomes, site) = ran(alloc, opened(alloc, disk_of(alloc, image)?)?, events)?;
@@ -127,7 +127,7 @@ fn outcomes_on_disk(
 pub fn is_alike(
     alloc: Global,
     fill: &[Event],
-    image: &[[u8; 512]],
+    image: &[[u8; SECTOR_SIZE]],
     events: &[Event],
 ) -> Result<bool, Trouble> {
     let in_memory = outcomes_in_memory(alloc, fill, events)?;
@@ -151,7 +151,7 @@ pub fn kept_and_used(alloc: Global, disk: MemDisk, used: &[Event]) -> Result<Vec
 /// Events on a disk that crashes after so many calls: how many were answered until the first call that met a failure, and the disk. None where not even the opening ended.
 fn stopped(
     alloc: Global,
-    image: &[[u8; 512]],
+    image: &[[u8; SECTOR_SIZE]],
     events: &[Event],
     calls: u64,
 ) -> Result<Option<(usize, MemDisk)>, Trouble> {
@@ -168,7 +168,7 @@ fn stopped(
 /// What is kept after the first so many events without any crash.
 pub fn kept_after(
     alloc: Global,
-    image: &[[u8; 512]],
+    image: &[[u8; SECTOR_SIZE]],
     events: &[Event],
     count: usize,
 ) -> Result<Vec<Bytes>, Trouble> {
@@ -242,7 +242,7 @@ pub fn leaves(
 /// the change that was under way too, and can be used.
 pub fn survives(
     alloc: Global,
-    image: &[[u8; 512]],
+    image: &[[u8; SECTOR_SIZE]],
     events: &[Event],
     calls: u64,
     used: &[Event],
@@ -268,7 +268,7 @@ pub fn compacted<D: Device + Drop>(alloc: Global, device: D) -> (bool, D) {
 /// can be used.
 pub fn compacts(
     alloc: Global,
-    image: &[[u8; 512]],
+    image: &[[u8; SECTOR_SIZE]],
     calls: u64,
     used: &[Event],
 ) -> Result<bool, Trouble> {

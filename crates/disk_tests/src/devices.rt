@@ -5,7 +5,7 @@ use page_store::{
     Banner, NewPage, Roots, Slot, open_roots, read_page, read_sector, sync_all, write_page,
     write_pages, write_sector,
 };
-use sector_device::{Device, DeviceFault};
+use sector_device::{Device, DeviceFault, PAGE_SIZE, SECTOR_SIZE};
 
 /// What a call of a device comes to.
 fn reported(ended: Result<(), DeviceFault>) -> Result<(), Trouble> {
@@ -17,7 +17,7 @@ fn of_sector<D: Device>(
     device: &mut D,
     word: &str,
     n: u64,
-    sector: &mut [u8; 512],
+    sector: &mut [u8; SECTOR_SIZE],
 ) -> Result<(), Trouble> {
     if n >= device.sectors() {
         return Err(Trouble::Line);
@@ -36,7 +36,7 @@ fn of_page<D: Device>(
     device: &mut D,
     word: &str,
     number: u32,
-    page: &mut [u8; 4096],
+    page: &mut [u8; PAGE_SIZE],
 ) -> Result<(), Trouble> {
     if 8 * u64::from(number) + 8 > device.sectors() {
         return Err(Trouble::Line);
@@ -99,7 +99,7 @@ fn on_sector<D: Device>(
     n: &[u8],
     bytes: &[u8],
 ) -> Result<(), Trouble> {
-    let mut sector = [0; 512];
+    let mut sector = [0; SECTOR_SIZE];
     copy(&mut sector, bytes);
     of_sector(device, word, u64::from(small_number(n)?), &mut sector)?;
     match word.starts_with("read") {
@@ -116,7 +116,7 @@ fn on_page<D: Device>(
     n: &[u8],
     bytes: &[u8],
 ) -> Result<(), Trouble> {
-    let mut page = [0; 4096];
+    let mut page = [0; PAGE_SIZE];
     copy(&mut page, bytes);
     of_page(device, word, u32::from(small_number(n)?), &mut page)?;
     match word.starts_with("read") {

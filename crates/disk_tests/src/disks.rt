@@ -4,7 +4,7 @@ use crate::line::{Line, number, small_number};
 use crate::made::{banner, make_site};
 use crate::trouble::Trouble;
 use page_store::{Banner, Pair, format_flat};
-use sector_device::{Call, MemDisk};
+use sector_device::{Call, MemDisk, SECTOR_SIZE};
 use std::alloc::Global;
 
 /// How many writes a disk took since its last sync.
@@ -24,7 +24,7 @@ pub fn left_of(
     alloc: Global,
     disk: &MemDisk,
     fields: &[Vec<u8>],
-) -> Result<Vec<[u8; 512]>, Trouble> {
+) -> Result<Vec<[u8; SECTOR_SIZE]>, Trouble> {
     let mut picks = Vec::new(alloc);
     for field in fields {
         picks.push(number(field)? as usize)?;
@@ -40,7 +40,7 @@ fn show_left(
     fields: &[Vec<u8>],
 ) -> Result<(), Trouble> {
     for (n, sector) in left_of(alloc, disk, fields)?.iter().enumerate() {
-        if *sector != [0; 512] {
+        if *sector != [0; SECTOR_SIZE] {
             line.number(n as u64)?;
             line.bytes(sector)?;
         }
@@ -51,11 +51,11 @@ fn show_left(
 /// Puts bytes at a place of a sector. The bytes from before are shown.
 fn set_part(
     line: &mut Line,
-    sector: &mut [u8; 512],
+    sector: &mut [u8; SECTOR_SIZE],
     place: usize,
     bytes: &[u8],
 ) -> Result<(), Trouble> {
-    if place > 512 || bytes.len() > 512 - place {
+    if place > SECTOR_SIZE || bytes.len() > SECTOR_SIZE - place {
         return Err(Trouble::Line);
     }
     let part = &mut sector[place..place + bytes.len()];

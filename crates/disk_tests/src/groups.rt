@@ -6,7 +6,7 @@ use group_world::Event;
 use host_on_disk::open_site;
 use host_types::{Change, ChangesFault, SiteKeeper, Stamp};
 use page_store::Keeper;
-use sector_device::{FuseDisk, MemDisk};
+use sector_device::{FuseDisk, MemDisk, SECTOR_SIZE};
 use std::alloc::Global;
 
 /// The administrator's changes among some events, each with its moment.
@@ -40,7 +40,7 @@ fn made(
 /// with all of them, and can be used.
 pub fn groups(
     alloc: Global,
-    image: &[[u8; 512]],
+    image: &[[u8; SECTOR_SIZE]],
     events: &[Event],
     calls: u64,
     used: &[Event],
@@ -65,7 +65,7 @@ pub fn groups(
 /// How the changes of a group go, and the generation of the image then.
 pub fn together(
     alloc: Global,
-    image: &[[u8; 512]],
+    image: &[[u8; SECTOR_SIZE]],
     events: &[Event],
 ) -> Result<(Result<(), ChangesFault>, u64), Trouble> {
     let fuse = FuseDisk::new(disk_of(alloc, image)?, u64::MAX);

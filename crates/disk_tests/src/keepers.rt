@@ -4,13 +4,13 @@ use crate::line::Line;
 use crate::made::change;
 use crate::trouble::Trouble;
 use host_types::Bytes;
-use page_store::{Figures, Keeper, Pair};
+use page_store::{Figures, Keeper, LONGEST_KEY, LONGEST_VALUE, Pair};
 use std::alloc::Global;
 
 /// All pairs of a keeper: keys and values by turns.
 pub fn pairs_of<K: Keeper>(alloc: Global, keeper: &mut K) -> Result<Vec<Bytes>, Trouble> {
     let mut all = Vec::new(alloc);
-    let (mut key, mut value) = ([0; 300], [0; 1024]);
+    let (mut key, mut value) = ([0; LONGEST_KEY], [0; LONGEST_VALUE]);
     let mut after = Vec::new(alloc);
     for _ in 0..100_000 {
         let Some((key_length, value_length)) = keeper.next(&after, &mut key, &mut value)? else {
@@ -25,7 +25,7 @@ pub fn pairs_of<K: Keeper>(alloc: Global, keeper: &mut K) -> Result<Vec<Bytes>, 
 
 /// `get KEY`: its value, or `none`.
 fn get<K: Keeper>(keeper: &mut K, line: &mut Line, key: &[u8]) -> Result<(), Trouble> {
-    let mut value = [0; 1024];
+    let mut value = [0; LONGEST_VALUE];
     match keeper.get(key, &mut value)? {
         Some(length) => line.bytes(&value[..length]),
         None => line.word("none"),
@@ -34,7 +34,7 @@ fn get<K: Keeper>(keeper: &mut K, line: &mut Line, key: &[u8]) -> Result<(), Tro
 
 /// `next KEY`: the pair behind a key, or `none`.
 fn next<K: Keeper>(keeper: &mut K, line: &mut Line, after: &[u8]) -> Result<(), Trouble> {
-    let (mut key, mut value) = ([0; 300], [0; 1024]);
+    let (mut key, mut value) = ([0; LONGEST_KEY], [0; LONGEST_VALUE]);
     let Some((key_length, value_length)) = keeper.next(after, &mut key, &mut value)? else {
         return line.word("none");
     };

@@ -1,7 +1,7 @@
 // Images in memory, and changes of their pairs, for the program and the tests.
 use host_types::{Admin, Bytes, Host, Stamp};
 use image_commands::{SiteNames, format_image};
-use page_store::{Banner, Edit, Keeper, KeeperFault};
+use page_store::{Banner, Edit, Keeper, KeeperFault, LONGEST_KEY, LONGEST_VALUE};
 use sector_device::MemDisk;
 use std::alloc::Global;
 
@@ -36,13 +36,13 @@ pub fn change<K: Keeper>(
     value: Option<&[u8]>,
 ) -> Result<(), KeeperFault> {
     let banner = keeper.banner().clone()?;
-    if key.is_empty() || key.len() > 300 || banner.port == 0 {
+    if key.is_empty() || key.len() > LONGEST_KEY || banner.port == 0 {
         return Err(KeeperFault::Version);
     }
     let key = Bytes::from_slice(alloc, key)?;
     let value = match value {
         Some(bytes) => {
-            if bytes.len() > 1024 {
+            if bytes.len() > LONGEST_VALUE {
                 return Err(KeeperFault::Version);
             }
             Some(Bytes::from_slice(alloc, bytes)?)
@@ -54,7 +54,7 @@ pub fn change<K: Keeper>(
 
 /// What stands at the key `k`: none, or its first byte.
 pub fn found<K: Keeper>(keeper: &mut K) -> Result<Option<u8>, KeeperFault> {
-    let mut buffer = [0; 1024];
+    let mut buffer = [0; LONGEST_VALUE];
     match keeper.get(b"k", &mut buffer)? {
         Some(_) => Ok(Some(buffer[0])),
         None => Ok(None),

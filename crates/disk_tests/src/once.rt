@@ -4,7 +4,7 @@ use crate::trouble::Trouble;
 use group_hub::OutcomeList;
 use group_world::{Event, HubFault, Outcome};
 use host_on_disk::run_on;
-use sector_device::{MemDisk, OnceDisk};
+use sector_device::{MemDisk, OnceDisk, SECTOR_SIZE};
 use std::alloc::Global;
 
 /// The events, and the last of them again.
@@ -28,7 +28,12 @@ struct Told {
 }
 
 /// Events on a disk of whose calls one fails. Where that is one of the opening, the device that is handed back opens.
-fn ran(alloc: Global, image: &[[u8; 512]], events: &[Event], call: u64) -> Result<Told, Trouble> {
+fn ran(
+    alloc: Global,
+    image: &[[u8; SECTOR_SIZE]],
+    events: &[Event],
+    call: u64,
+) -> Result<Told, Trouble> {
     let device = OnceDisk::new(disk_of(alloc, image)?, call);
     let (first, is_second) = match run_on(alloc, false, device, 1, events) {
         Ok(first) => (Ok(first), false),
@@ -74,7 +79,7 @@ fn kind_of(answered: &[Outcome], wanted: &[Outcome]) -> Kind {
 /// leaves after a failure is it, or the one without the last change, and can be used.
 pub fn once(
     alloc: Global,
-    image: &[[u8; 512]],
+    image: &[[u8; SECTOR_SIZE]],
     events: &[Event],
     call: u64,
     used: &[Event],
@@ -104,7 +109,7 @@ pub fn once(
 /// disk is written anew then.
 pub fn compacts_once(
     alloc: Global,
-    image: &[[u8; 512]],
+    image: &[[u8; SECTOR_SIZE]],
     call: u64,
     used: &[Event],
 ) -> Result<bool, Trouble> {

@@ -3,7 +3,7 @@ use crate::bench::{Bench, on_held};
 use crate::items::{entries, item};
 use crate::line::{Line, number, small_number};
 use crate::trouble::Trouble;
-use host_types::{Bytes, Item, Selector, Stamp};
+use host_types::{Bytes, Item, MOST_VIEW_BYTES, Selector, Stamp};
 use site_records::{
     Key, LONGEST_KEY, LONGEST_RECORD, LONGEST_RECORD_V1, Record, RecordBody, chunk_count,
     chunk_key, entries_bytes, item_key, questions_bytes, read_entries, read_questions, read_record,
@@ -47,7 +47,7 @@ fn show_chunk_key(
 /// `chunk_count SIZE`
 fn show_chunk_count(line: &mut Line, size: &[u8]) -> Result<(), Trouble> {
     let size = number(size)?;
-    if size > 262_144 {
+    if size > MOST_VIEW_BYTES as u64 {
         return Err(Trouble::Line);
     }
     line.number(chunk_count(size as usize) as u64)

@@ -5,8 +5,8 @@ use host_on_disk::{OpenFault, open_site};
 use host_types::{
     Bytes, Card, CardBody, Change, Item, Selector, SiteFault, SiteKeeper, Stamp, Title,
 };
-use page_store::{Keeper, KeeperFault, PinKeeper};
-use sector_device::{Device, MemDisk};
+use page_store::{Keeper, KeeperFault, LONGEST_KEY, LONGEST_VALUE, PinKeeper};
+use sector_device::{Device, MemDisk, SECTOR_SIZE};
 use site_store::DiskSite;
 use std::alloc::Global;
 use word_index::SearchKeeper;
@@ -22,10 +22,10 @@ fn disk_of(alloc: Global, sectors: usize) -> Result<MemDisk, &'static str> {
 
 /// Whether the one sector has this byte throughout, and so many calls have failed.
 fn shows(disk: &mut MemDisk, byte: u8, failed: u64) -> bool {
-    let mut buffer = [255; 512];
+    let mut buffer = [255; SECTOR_SIZE];
     disk.sectors() == 1
         && disk.read(0, &mut buffer).is_ok()
-        && buffer == [byte; 512]
+        && buffer == [byte; SECTOR_SIZE]
         && disk.failed_writes() == failed
 }
 
@@ -35,7 +35,7 @@ fn does(disk: &mut MemDisk, byte: u8, is_write: bool) -> bool {
         return false;
     }
     match is_write {
-        true => disk.write(0, &[byte; 512]).is_ok(),
+        true => disk.write(0, &[byte; SECTOR_SIZE]).is_ok(),
         false => disk.sync().is_ok(),
     }
 }
@@ -123,12 +123,12 @@ fn put(
 /// Formats a disk, opens it, and puts a byte at the key `k`: that byte, and the keeper with the key gone again.
 pub fn kept(alloc: Global) -> Result<(u8, TreeKeeper<MemDisk>), &'static str> {
     let mut keeper = keeper_on(alloc, formatted(alloc)?)?;
-    keeper = put(alloc, keeper, Some(&[7; 1024]))?;
+    keeper = put(alloc, keeper, Some(&[7; LONGEST_VALUE]))?;
     let Ok(Some(byte)) = found(&mut keeper) else {
         return Err("nothing is put");
     };
     keeper = put(alloc, keeper, None)?;
-    let (mut key, mut value) = ([0; 300], [0; 1024]);
+    let (mut key, mut value) = ([0; LONGEST_KEY], [0; LONGEST_VALUE]);
     match keeper.next(b"J", &mut key, &mut value) {
         Ok(Some(_)) if key[0] == b'W' => Ok((byte, keeper)),
         _ => Err("the words come behind the item"),

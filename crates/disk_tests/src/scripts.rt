@@ -6,6 +6,9 @@ use group_world::Event;
 use host_types::{Bytes, Change, Stamp};
 use std::alloc::Global;
 
+/// The greatest room of a draw.
+const ROOM: usize = 4096;
+
 /// Numbers that look random, by a seed.
 #[derive(Drop)]
 pub(crate) struct Dice {
@@ -81,7 +84,7 @@ pub fn script(
                     room: dice.roll(40),
                 })?;
             }
-            6 => events.push(Event::Draw { id, room: 4096 })?,
+            6 => events.push(Event::Draw { id, room: ROOM })?,
             7 => events.push(Event::Leave { id })?,
             _ => {
                 let change = changes[dice.roll(changes.len())].clone()?;

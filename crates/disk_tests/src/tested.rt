@@ -1,5 +1,5 @@
 // A disk in memory of whose calls some fail, or lie.
-use sector_device::{FuseDisk, LieDisk, MemDisk, OnceDisk};
+use sector_device::{FuseDisk, LieDisk, MemDisk, OnceDisk, SECTOR_SIZE};
 
 /// A disk in memory, which may fail for good, fail once, and lie about a sector.
 pub(crate) type TestedDisk = FuseDisk<OnceDisk<LieDisk<MemDisk>>>;
@@ -8,7 +8,7 @@ pub(crate) type TestedDisk = FuseDisk<OnceDisk<LieDisk<MemDisk>>>;
 const NEVER: u64 = u64::MAX;
 
 fn honest(disk: MemDisk) -> LieDisk<MemDisk> {
-    LieDisk::new(disk, NEVER, 0, [0; 512])
+    LieDisk::new(disk, NEVER, 0, [0; SECTOR_SIZE])
 }
 
 /// The disk, which fails for good after so many calls.
@@ -27,7 +27,7 @@ pub fn failing_once(disk: MemDisk, call: u64) -> TestedDisk {
 }
 
 /// The disk, whose reads of sector n give these bytes after so many calls.
-pub fn lying(disk: MemDisk, calls: u64, n: u64, bytes: [u8; 512]) -> TestedDisk {
+pub fn lying(disk: MemDisk, calls: u64, n: u64, bytes: [u8; SECTOR_SIZE]) -> TestedDisk {
     let lie = LieDisk::new(disk, calls, n, bytes);
     FuseDisk::new(OnceDisk::new(lie, NEVER), NEVER)
 }

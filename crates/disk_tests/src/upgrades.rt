@@ -9,7 +9,7 @@ use group_world::Event;
 use host_on_disk::{OpenFault, upgrade_on};
 use host_types::Bytes;
 use page_store::{Banner, Keeper, KeeperFault};
-use sector_device::{FuseDisk, MemDisk};
+use sector_device::{FuseDisk, MemDisk, SECTOR_SIZE};
 use site_records::read_record;
 use std::alloc::Global;
 
@@ -50,9 +50,9 @@ fn put_lowered(
 /// The site of an image in version 1, on so many pages.
 pub fn in_version_1(
     alloc: Global,
-    image: &[[u8; 512]],
+    image: &[[u8; SECTOR_SIZE]],
     pages: u32,
-) -> Result<Vec<[u8; 512]>, Trouble> {
+) -> Result<Vec<[u8; SECTOR_SIZE]>, Trouble> {
     let mut keeper = kept(alloc, disk_of(alloc, image)?)?;
     let pairs = pairs_of(alloc, &mut keeper)?;
     let mut first = kept(alloc, empty(alloc, pages, keeper.banner())?)?;
@@ -72,7 +72,7 @@ fn upgraded(alloc: Global, fuse: FuseDisk<MemDisk>) -> (bool, MemDisk) {
 /// same site, and can be used.
 pub fn upgrades(
     alloc: Global,
-    image: &[[u8; 512]],
+    image: &[[u8; SECTOR_SIZE]],
     calls: u64,
     used: &[Event],
 ) -> Result<bool, Trouble> {
@@ -92,7 +92,11 @@ pub fn upgrades(
 }
 
 /// How the upgrade of an image of version 1 on so many pages goes: `full`, which leaves the image as it is, or `done`, after which it is of version 2, and nothing is written again.
-pub fn outcome(alloc: Global, image: &[[u8; 512]], pages: u32) -> Result<&'static str, Trouble> {
+pub fn outcome(
+    alloc: Global,
+    image: &[[u8; SECTOR_SIZE]],
+    pages: u32,
+) -> Result<&'static str, Trouble> {
     let first = in_version_1(alloc, image, pages)?;
     let (fault, disk) = match upgrade_on(alloc, disk_of(alloc, &first)?) {
         Ok((_count, disk)) => return again(alloc, disk),

@@ -1,5 +1,6 @@
 -- The site of the image in a file, written as a new image in another file.
 use Rattle.std.specs.Prelude.{◌≡◌, ◌⊎◌, ℕ, ◌*◌, true, false, List, [], ◌∷◌, ◌++◌, length, Option, Result, Ok, Err, codes}
+use Rattle.sector_device.specs.Sizes.{sector_size}
 use Rattle.host_types.specs.Site.{Site}
 use Rattle.common_types.specs.CrashStates.{CrashStates, AddsNone}
 use Rattle.sector_device.specs.declared.device.DeviceFault.{DeviceFault}
@@ -66,7 +67,7 @@ pub record OnNewFile (s : Site) (count : ℕ) (new : List ℕ) (before after : L
   pub written : FileHistory
   pub used : after ≡ before ++ Opened created ∷ Left written ∷ []
   pub part : created.path ≡ part_of new
-  pub calls : IsOpened (SetLength (512 * (8 * count)) ∷ Lock ∷ Create ∷ []) created
+  pub calls : IsOpened (SetLength (sector_size * (8 * count)) ∷ Lock ∷ Create ∷ []) created
   pub unused : IsUnused created
   pub names : NamesOf s count new created written asked now given
 

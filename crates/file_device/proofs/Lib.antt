@@ -1,4 +1,5 @@
 pub mod Found
 pub mod Opened
+pub mod Pages
 pub mod Pieces
 pub mod Shown

@@ -24,10 +24,10 @@ get_last [] b = refl
 get_last (y ∷ ys) b = get_last ys b
 
 -- a disk whose view is an image
-abbrev pub IsGood : Disk → Type 0
-IsGood d = IsImage d d.view
+abbrev pub IsShownImage : Disk → Type 0
+IsShownImage d = IsImage d d.view
 
-good_grown : (b : List ℕ) (d : Disk) → IsGood d → IsGood (grown b d)
+good_grown : (b : List ℕ) (d : Disk) → IsShownImage d → IsShownImage (grown b d)
 good_grown b d g = record {
   size = omega (arith, g.size, length-append d.view (b ∷ []), length-append d.base (b ∷ []));
   each = λ n x h. ⊎_elim
@@ -36,7 +36,7 @@ good_grown b d g = record {
       (get_back d.view n x b h);
 }
 
-good_after : (sound : Bool) (call : FileCall) (d : Disk) → IsGood d → IsGood (after sound call d)
+good_after : (sound : Bool) (call : FileCall) (d : Disk) → IsShownImage d → IsShownImage (after sound call d)
 good_after sound Open d g = g
 good_after sound OpenToRead d g = g
 good_after sound Create d g = g
@@ -52,7 +52,7 @@ good_after sound (Write n b) d g = image_written n b d d.view g
 good_after sound (FailedWrite n b) d g = record { size = g.size; each = (image_listed n b d d.view g).each }
 good_after sound FailedSync d g = g
 
-pub good : (calls : List FileCall) → IsGood (disk_of calls)
+pub good : (calls : List FileCall) → IsShownImage (disk_of calls)
 good [] = record { size = refl; each = λ n x h. inl h }
 good (call ∷ earlier) = good_after (is_sound earlier) call (disk_of earlier) (good earlier)
 
@@ -95,7 +95,7 @@ elapses_none calls later is = subst (λ (l : List FileCall). Elapses (length cal
 pub not_synced : (calls later : List FileCall) → disk_of later ≡ disk_of calls → SyncFailed (disk_of calls) (disk_of later)
 not_synced calls later is = subst (λ (d : Disk). SyncFailed (disk_of calls) d) (sym is) (record { base = refl; writes = refl; view = good calls })
 
-as_long : (sound : Bool) (d : Disk) → IsGood d → length (after sound Sync d).base ≡ length d.base
+as_long : (sound : Bool) (d : Disk) → IsShownImage d → length (after sound Sync d).base ≡ length d.base
 as_long true d g = g.size
 as_long false d g = refl
 

@@ -1,5 +1,6 @@
 -- What a file is asked for before a device over it is used, and what one call of such a device asks.
 use Rattle.std.specs.Prelude.{◌≡◌, ℕ, zero, suc, ◌/◌, true, false, IsErr, Result, List, [], ◌∷◌}
+use Rattle.sector_device.specs.Sizes.{sector_size}
 use Rattle.sector_device.specs.CallsMade.{none_made}
 use Rattle.file_device.specs.FileCalls.{FileHistory, is_sound, no_sectors, disk_of, noted}
 use Rattle.file_device.specs.declared.file_call.FileCall.{FileCall}
@@ -19,13 +20,13 @@ AreRead (suc n) before calls = (bytes : List ℕ) × (earlier : List FileCall) �
 pub record IsOpened (before : List FileCall) (d : FileHistory) : Type 0 where
   pub bytes : ℕ
   pub until_read : List FileCall
-  pub read : AreRead (bytes / 512) (Length bytes ∷ DropCache ∷ Sync ∷ before) until_read
+  pub read : AreRead (bytes / sector_size) (Length bytes ∷ DropCache ∷ Sync ∷ before) until_read
   pub renewed : d.calls ≡ ReadAhead ∷ DropCache ∷ until_read
 
 -- The file was opened for reads alone, its length was asked for, and each whole sector of that length was read. It was not locked.
 pub record IsOpenedToRead (d : FileHistory) : Type 0 where
   pub bytes : ℕ
-  pub read : AreRead (bytes / 512) (Length bytes ∷ OpenToRead ∷ []) d.calls
+  pub read : AreRead (bytes / sector_size) (Length bytes ∷ OpenToRead ∷ []) d.calls
 
 -- A device over a file of which nothing was asked yet: nothing is listed, reads give the base, and nothing has failed.
 pub record IsUnused (d : FileHistory) : Type 0 where

@@ -1,4 +1,6 @@
 // What a file was asked for, and what it answered.
+use sector_device::SECTOR_SIZE;
+
 /// A call of a file, with its answer.
 #[derive(Clone, Copy, Debug)]
 pub enum FileCall {
@@ -21,11 +23,11 @@ pub enum FileCall {
     /// The length was asked for, and is so many bytes.
     Length(u64),
     /// The sector of this number was read, and has these bytes.
-    Read(u64, [u8; 512]),
+    Read(u64, [u8; SECTOR_SIZE]),
     /// These bytes were written to the sector of this number.
-    Write(u64, [u8; 512]),
+    Write(u64, [u8; SECTOR_SIZE]),
     /// A write of these bytes to the sector of this number failed: nobody knows whether it was done.
-    FailedWrite(u64, [u8; 512]),
+    FailedWrite(u64, [u8; SECTOR_SIZE]),
     /// A sync failed: nobody knows what it made sure of.
     FailedSync,
 }

@@ -1,7 +1,9 @@
 // A file as a disk of sectors. What the file holds is read once, at its opening, and kept in memory; each write goes to both.
-ghost use Rattle.std.specs.Prelude.{◌≡◌, ◌⊎◌, ◌*◌, ◌+◌, ◌<◌, ◌^◌, List, false, [], ◌∷◌, IfOk, IfErr, OnOk, OnErr, IsOk, IsTrue, Some, length, slice_get, refl};
+ghost use Rattle.std.specs.Prelude.{◌≡◌, ◌⊎◌, ◌*◌, ◌+◌, ◌<◌, ◌≤◌, ◌^◌, List, false, [], ◌∷◌, IfOk, IfErr, OnOk, OnErr, IsOk, IsTrue, MatchOption, Some, length, slice_get, refl};
+ghost use Rattle.sector_device.specs.Sizes.{sector_size};
 ghost use Rattle.sector_device.specs.Disk.{written, synced, WriteFailed, SyncFailed};
 ghost use Rattle.sector_device.specs.Device.{Elapses};
+ghost use Rattle.sector_device.specs.Sectors.{page_of};
 ghost use Rattle.sector_device.specs.Effects.{ReadOutcome, WriteOutcome, MadeExactly};
 ghost use Rattle.sector_device.specs.declared.device.DeviceFault.TheVariants.{Device as Failing, NoFile, Memory};
 ghost use Rattle.common_types.specs.Counts.{counted};
@@ -12,14 +14,17 @@ ghost use Rattle.file_device.specs.declared.file_call.FileCall.{FileCall as Call
 ghost use Rattle.file_device.specs.declared.file_call.FileCall.TheVariants.{Open, Create, Lock, SetLength, Sync, DropCache, ReadAhead, Length, Write, FailedWrite, FailedSync};
 
 use crate::image_file::ImageFile;
-use sector_device::{CallCounts, CallKind, Device, DeviceFault};
+use sector_device::{CallCounts, CallKind, Device, DeviceFault, PAGE_SIZE, SECTOR_SIZE};
 use std::alloc::Global;
 use std::fs::{File, Files};
 use std::io;
 use std::marker::Model;
 
 /// How many bytes a sector has.
-const SECTOR: u64 = 512;
+const SECTOR: u64 = SECTOR_SIZE as u64;
+
+/// How many sectors a page has.
+const PAGE_SECTORS: usize = 8;
 
 /// How many sectors an opening reads by one call: 1 MB.
 const PIECE: usize = 2048;
@@ -30,7 +35,7 @@ pub struct FileDevice {
     /// By which it was opened.
     path: String,
     file: ImageFile,
-    view: Vec<[u8; 512]>,
+    view: Vec<[u8; SECTOR_SIZE]>,
     /// No write and no sync has failed. Once one has, the file is asked for nothing more, since the system may have dropped what was written.
     is_sound: bool,
     failed_writes: u64,
@@ -83,8 +88,8 @@ fn renew_cache(image: &mut ImageFile) -> io::Result<()>
 /// Reads the next sectors behind those that were read, as many as there is room for in the piece.
 fn read_piece(
     file: &mut ImageFile,
-    piece: &mut [[u8; 512]],
-    view: &mut Vec<[u8; 512]>,
+    piece: &mut [[u8; SECTOR_SIZE]],
+    view: &mut Vec<[u8; SECTOR_SIZE]>,
     first: u64,
 ) -> Result<(), DeviceFault>
     requires fits { first + length piece.old < 2 ^ 64 }
@@ -103,12 +108,21 @@ fn read_piece(
     }
 }
 
+/// The bytes of page n of some sectors, which lie side by side, where it lies within them.
+fn page_in(sectors: &[[u8; SECTOR_SIZE]], n: u32) -> Option<&[u8; PAGE_SIZE]>
+    ensures { MatchOption result (length sectors.now < 8 * n + 8) (λ bytes. (8 * n + 8 ≤ length sectors.now) × (page_of sectors.now n ≡ bytes.now)) }
+{
+    let first = PAGE_SECTORS * n as usize;
+    let page = sectors.get(first..first + PAGE_SECTORS)?;
+    page.as_flattened().as_array()
+}
+
 /// Reads so many sectors from the first.
 fn read_all(
     alloc: Global,
     file: &mut ImageFile,
     sectors: u64,
-) -> Result<Vec<[u8; 512]>, DeviceFault>
+) -> Result<Vec<[u8; SECTOR_SIZE]>, DeviceFault>
     requires { (disk_of file.old.made.calls).view ≡ [] }
     ensures read { OnOk result (AreRead sectors file.old.made.calls file.new.made.calls) }
     ensures shown { IfOk result (λ view. view.items ≡ (disk_of file.new.made.calls).view) }
@@ -117,7 +131,7 @@ fn read_all(
     let Ok(mut view) = Vec::with_capacity(alloc, sectors as usize) else {
         return Err(DeviceFault::Memory);
     };
-    let Ok(mut piece) = vec![in alloc; [0; 512]; PIECE] else {
+    let Ok(mut piece) = vec![in alloc; [0; SECTOR_SIZE]; PIECE] else {
         return Err(DeviceFault::Memory);
     };
     let mut n = 0;
@@ -188,7 +202,7 @@ impl FileDevice {
         path: &str,
         sectors: u64,
     ) -> Result<FileDevice, DeviceFault>
-        ensures opened { IfOk result (λ d. IsOpened (SetLength (512 * sectors) ∷ Lock ∷ Create ∷ []) d) }
+        ensures opened { IfOk result (λ d. IsOpened (SetLength (sector_size * sectors) ∷ Lock ∷ Create ∷ []) d) }
         ensures named { IfOk result (λ d. d.path ≡ path.now) }
         ensures unused { IfOk result (λ d. IsUnused d) }
         ensures size { IfOk result (λ d. length (disk_of d.calls).base ≡ sectors) }
@@ -260,7 +274,7 @@ impl Device for FileDevice {
     }
 
     /// It never fails, and asks the file for nothing.
-    fn read(&mut self, n: u64, buffer: &mut [u8; 512]) -> Result<(), DeviceFault>
+    fn read(&mut self, n: u64, buffer: &mut [u8; SECTOR_SIZE]) -> Result<(), DeviceFault>
         requires { n < (file_state self.old).size }
         ensures read { IsTrue (file_state self.old).honest → OnOk result (slice_get (file_state self.old).disk.view n ≡ Some buffer.new) }
         ensures outcome { ReadOutcome result (file_state self.old) (file_state self.new) }
@@ -274,8 +288,15 @@ impl Device for FileDevice {
         Ok(())
     }
 
+    /// Each page that lies within the device: all that was read of the file is kept in memory.
+    fn page(&self, n: u32) -> Option<&[u8; PAGE_SIZE]>
+        ensures lends { MatchOption result ((file_state self.now).size < 8 * n + 8) (λ bytes. (8 * n + 8 ≤ (file_state self.now).size) × (page_of (file_state self.now).disk.view n ≡ bytes.now)) }
+    {
+        page_in(&self.view, n)
+    }
+
     /// One call of the file, and none once a write or a sync has failed.
-    fn write(&mut self, n: u64, bytes: &[u8; 512]) -> Result<(), DeviceFault>
+    fn write(&mut self, n: u64, bytes: &[u8; SECTOR_SIZE]) -> Result<(), DeviceFault>
         requires { n < (file_state self.old).size }
         ensures written { IsTrue (file_state self.old).honest → OnOk result ((file_state self.new).disk ≡ written n bytes.now (file_state self.old).disk) }
         ensures failed { IsTrue (file_state self.old).honest → OnErr result (WriteFailed n bytes.now (file_state self.old).disk (file_state self.new).disk) }

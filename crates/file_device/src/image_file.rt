@@ -1,11 +1,13 @@
 // The calls of the system on an image's file. Each function here makes one of them and notes it: a read of several sectors as a read of each, and the zeros of
 // a file that grows as its length. That it makes the call which it notes, no clause can say: so each is short, and tests on a real file hold it.
 ghost use Rattle.std.specs.Prelude.{◌≡◌, ◌*◌, ◌+◌, ◌<◌, ◌^◌, [], ◌∷◌, IfOk, OnOk, length};
+ghost use Rattle.sector_device.specs.Sizes.{sector_size};
 ghost use Rattle.file_device.specs.FileCalls.{noted, read_calls};
 ghost use Rattle.file_device.specs.declared.file_call.FileCall.TheVariants.{Open, OpenToRead, Create, Lock, SetLength, Sync, DropCache, ReadAhead, Length, Write, FailedWrite, FailedSync};
 
 use crate::FileCall;
 use crate::record::Record;
+use sector_device::SECTOR_SIZE;
 use std::fs::{File, Files};
 use std::io;
 use std::os::fd::AsRawFd;
@@ -23,13 +25,13 @@ pub(crate) struct ImageFile {
 
 /// Where a sector begins, in bytes.
 fn offset_of(n: u64) -> u64
-    ensures { n < 2 ^ 55 → result ≡ 512 * n }
+    ensures { n < 2 ^ 55 → result ≡ sector_size * n }
 {
-    n.saturating_mul(512)
+    n.saturating_mul(SECTOR_SIZE as u64)
 }
 
 /// Notes a read of each of these sectors, from this one on.
-fn note_reads(made: &mut Record, first: u64, sectors: &[[u8; 512]])
+fn note_reads(made: &mut Record, first: u64, sectors: &[[u8; SECTOR_SIZE]])
     requires { first + length sectors.now < 2 ^ 64 }
     ensures { made.new.calls ≡ read_calls first sectors.now made.old.calls }
 {
@@ -153,7 +155,7 @@ impl ImageFile {
     }
 
     /// Reads sectors into the room by one call, from this one on, as many as it has room for. A read of each is noted.
-    pub(crate) fn read(&mut self, first: u64, room: &mut [[u8; 512]]) -> io::Result<()>
+    pub(crate) fn read(&mut self, first: u64, room: &mut [[u8; SECTOR_SIZE]]) -> io::Result<()>
         requires { first + length room.old < 2 ^ 64 }
         ensures length { length room.new ≡ length room.old }
         ensures noted { OnOk result (self.new.made.calls ≡ read_calls first room.new self.old.made.calls) }
@@ -165,7 +167,7 @@ impl ImageFile {
     }
 
     /// Writes a sector. It takes no memory.
-    pub(crate) fn write(&mut self, n: u64, bytes: &[u8; 512]) -> io::Result<()>
+    pub(crate) fn write(&mut self, n: u64, bytes: &[u8; SECTOR_SIZE]) -> io::Result<()>
         ensures { self.new.made.calls ≡ noted result (Write n bytes.now) (FailedWrite n bytes.now) ∷ self.old.made.calls }
     {
         let answer = self.file.write_all_at(bytes, offset_of(n));

@@ -1,6 +1,7 @@
 // The files that a program opens as devices, and what it did with each.
 ghost use Rattle.std.specs.Prelude.{◌≡◌, ◌⊎◌, ◌*◌, List, [], ◌∷◌, ◌++◌, IfOk, IfErr, length};
 ghost use Rattle.std.specs.Borrow.{ftrue};
+ghost use Rattle.sector_device.specs.Sizes.{sector_size};
 ghost use Rattle.sector_device.specs.declared.device.DeviceFault.TheVariants.{NoFile, Memory};
 ghost use Rattle.file_device.specs.FileCalls.{disk_of};
 ghost use Rattle.file_device.specs.FileUses as spec;
@@ -119,7 +120,7 @@ impl<'a, R: Files<File = File> + AllocGlobal> UsedFiles<'a, R> {
     /// Makes a file of so many sectors, and opens it as a device: `FileDevice::create`.
     pub fn create(&mut self, path: &str, sectors: u64) -> Result<FileDevice, DeviceFault>
         ensures noted { self.new.log.uses ≡ self.old.log.uses ++ spec.asked_for path.now result ∷ [] }
-        ensures opened { IfOk result (λ d. IsOpened (SetLength (512 * sectors) ∷ Lock ∷ Create ∷ []) d) }
+        ensures opened { IfOk result (λ d. IsOpened (SetLength (sector_size * sectors) ∷ Lock ∷ Create ∷ []) d) }
         ensures named { IfOk result (λ d. d.path ≡ path.now) }
         ensures unused { IfOk result (λ d. IsUnused d) }
         ensures size { IfOk result (λ d. length (disk_of d.calls).base ≡ sectors) }

@@ -1,7 +1,7 @@
 // What the lines of a run share, and which call a word names.
 use crate::trouble::Trouble;
 use file_device::{FileDevice, UsedFiles, what_was_synced_is_found, worked_examples};
-use sector_device::{Device, store};
+use sector_device::{Device, SECTOR_SIZE, store};
 use std::fs;
 
 /// The number that decimal digits write.
@@ -14,8 +14,8 @@ fn byte(field: &str) -> Result<u8, Trouble> {
 }
 
 /// A sector of its first byte and of the byte of all others.
-fn sector_of(first: &str, rest: &str) -> Result<[u8; 512], Trouble> {
-    let mut sector = [byte(rest)?; 512];
+fn sector_of(first: &str, rest: &str) -> Result<[u8; SECTOR_SIZE], Trouble> {
+    let mut sector = [byte(rest)?; SECTOR_SIZE];
     sector[0] = byte(first)?;
     Ok(sector)
 }
@@ -82,7 +82,7 @@ fn call_sector<D: Device>(
     }
     match (word, fields) {
         ("read", []) => {
-            let mut buffer = [0; 512];
+            let mut buffer = [0; SECTOR_SIZE];
             device.read(n, &mut buffer)?;
             show_runs(rt, shown, &buffer)
         }

@@ -1,5 +1,6 @@
 -- An image of some pairs in filled pages, the first of its generations.
 use Rattle.std.specs.Prelude.{◌≡◌, ◌⊎◌, ◌≤◌, ◌<◌, ◌+◌, ◌-◌, ◌*◌, ℕ, List, [], length, Option, None, Some}
+use Rattle.page_store.specs.Sizes.{least_pages, most_pages}
 use Rattle.common_types.specs.Counts.{counted}
 use Rattle.sector_device.specs.Device.{State}
 use Rattle.page_store.specs.Flat.{numbers_from}
@@ -51,10 +52,10 @@ IsNotMade count pairs faults.Device = ⊥
 IsNotMade count pairs faults.NoImage = ⊥
 IsNotMade count pairs faults.Version = ⊥
 IsNotMade count pairs (faults.Damaged page) = ⊥
-IsNotMade count pairs faults.Small = (count < 16) ⊎ (65536 < count)
+IsNotMade count pairs faults.Small = (count < least_pages) ⊎ (most_pages < count)
 IsNotMade count pairs faults.Spent = ⊥
 IsNotMade count pairs faults.Deep = ⊥
-IsNotMade count pairs (faults.Full need free) = (16 ≤ count) × (count ≤ 65536) × (need ≡ pages_for pairs) × (count ≡ free + 2) × (free < need)
+IsNotMade count pairs (faults.Full need free) = (least_pages ≤ count) × (count ≤ most_pages) × (need ≡ pages_for pairs) × (count ≡ free + 2) × (free < need)
 IsNotMade count pairs faults.Failed = ⊥
 IsNotMade count pairs faults.Memory = Unit {0}
 

@@ -1,5 +1,6 @@
 // What is to be written for an image of some pairs in filled pages, worked out whole before anything is.
 ghost use Rattle.std.specs.Prelude.{◌≡◌, ◌≤◌, ◌<◌, ◌+◌, ℕ, List, true, IfOk, IfErr, OnOk, length};
+ghost use Rattle.page_store.specs.Sizes.{least_pages, most_pages};
 ghost use Rattle.page_store.specs.Flat.{numbers_from};
 ghost use Rattle.page_store.specs.Pages.{Pair as PairValue};
 ghost use Rattle.page_store.specs.Batch.{is_map};
@@ -10,7 +11,9 @@ ghost use Rattle.cow_tree.specs.Compacting.{most_pairs};
 ghost use Rattle.filled_images.specs.FilledImages.{pages_for, RootFits, IsTreeMade, IsImageOf, IsNotMade};
 
 use crate::FilledImage;
-use page_store::{Banner, KeeperFault, NewPage, Pair, Root, Slot, slot_page};
+use page_store::{
+    Banner, KeeperFault, LEAST_PAGES, MOST_PAGES, NewPage, Pair, Root, Slot, slot_page,
+};
 use std::alloc::{AllocError, Global};
 use tree_loading::filled_tree;
 use tree_nodes::OwnedTree;
@@ -67,10 +70,10 @@ impl FilledImage {
         requires few { length pairs.items ≤ most_pairs }
         requires port { 0 < banner.port }
         ensures made { IfOk result (IsImageOf count banner pairs.items) }
-        ensures fits { OnOk result ((16 ≤ count) × (count ≤ 65536) × (pages_for pairs.items + 2 ≤ count)) }
+        ensures fits { OnOk result ((least_pages ≤ count) × (count ≤ most_pages) × (pages_for pairs.items + 2 ≤ count)) }
         ensures fault { IfErr result (IsNotMade count pairs.items) }
     {
-        if count < 16 || count > 65_536 {
+        if count < LEAST_PAGES || count > MOST_PAGES {
             return Err(KeeperFault::Small);
         }
         let keys = pairs.len() as u64;

@@ -14,7 +14,7 @@ ghost use Rattle.filled_images.specs.FilledImages.{pages_for, IsImageOf, HasFill
 
 use crate::FilledImage;
 use page_store::{KeeperFault, sync_all, write_page, write_pages};
-use sector_device::{Device, DeviceFault};
+use sector_device::{Device, DeviceFault, PAGE_SIZE};
 
 impl FilledImage {
     /// Clears the second slot, writes the pages and that of the first slot, and makes sure of them.
@@ -24,7 +24,7 @@ impl FilledImage {
         ensures outcome { WriteOutcome result (D.state device.old) (D.state device.new) }
         ensures work { MadeIfOk result 0 (16 + 8 * length self.now.pages.items) 1 (D.state device.old) (D.state device.new) }
     {
-        let cleared = [0; 4096];
+        let cleared = [0; PAGE_SIZE];
         write_page(device, 1, &cleared)?;
         write_pages(device, &self.pages)?;
         write_page(device, 0, &self.root)?;

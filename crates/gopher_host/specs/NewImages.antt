@@ -1,6 +1,7 @@
 -- What `format` is asked for, and what it makes.
 use Rattle.std.specs.Prelude.{◌≡◌, ◌⊎◌, ◌==◌, ℕ, ◌*◌, [], ◌∷◌, ◌++◌, Option, Result, Ok, Err, OnOk, IfErr, if◌then◌else◌, List}
 use Rattle.std.specs.Io.KnownBytes.{Appends}
+use Rattle.sector_device.specs.Sizes.{sector_size}
 use Rattle.common_types.specs.Names.{stamp_of}
 use Rattle.common_types.specs.declared.refused.Refused.{Refused as Refusal}
 use Rattle.common_types.specs.declared.refused.Refused.TheVariants.{BadName}
@@ -69,7 +70,7 @@ pub record IsNewImage (image : List ℕ) (site : NewSite) (pages now : ℕ) (bef
   pub left : FileHistory
   pub used : after ≡ before ++ Opened created ∷ Left left ∷ []
   pub named : created.path ≡ image
-  pub file : IsOpened (SetLength (512 * sectors) ∷ Lock ∷ Create ∷ []) created
+  pub file : IsOpened (SetLength (sector_size * sectors) ∷ Lock ∷ Create ∷ []) created
   pub unused : IsUnused created
   pub formatted : IsFormatted (file_state left).disk.view pages (first_site names site.port now)
   pub sure : AllAre (file_crash_states left) (file_state left).disk.view
@@ -82,7 +83,7 @@ pub record IsNotFormatted (image : List ℕ) (pages : ℕ) (before after : List 
   pub left : FileHistory
   pub used : after ≡ before ++ Opened created ∷ Left left ∷ []
   pub named : created.path ≡ image
-  pub file : IsOpened (SetLength (512 * sectors) ∷ Lock ∷ Create ∷ []) created
+  pub file : IsOpened (SetLength (sector_size * sectors) ∷ Lock ∷ Create ∷ []) created
   pub unused : IsUnused created
   pub cause : KeeperFault
   pub is : fault ≡ of_store cause

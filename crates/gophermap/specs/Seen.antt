@@ -5,7 +5,7 @@ use Rattle.std.specs.Option.{option_copied}
 use Rattle.std.specs.Result.{result_map_both}
 use Rattle.std.specs.Borrow.{Bor}
 use Rattle.gophermap.specs.declared.fault.LineFault.{LineFault}
-use Rattle.gophermap.specs.declared.line.Place.{Place as LentPlace}
+use Rattle.gophermap.specs.declared.line.ItemPlace.{ItemPlace as LentPlace}
 use Rattle.gophermap.specs.declared.line.Line.{Line as LentLine}
 use Rattle.gophermap.specs.declared.line.Line.TheVariants as lent
 use Rattle.gophermap.specs.Line.{MapPlace, Line, ReadLine, Info, Title, Link, Entry, Comment, Listing, End, is_tab}

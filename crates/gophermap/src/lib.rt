@@ -13,6 +13,6 @@ pub use fault::LineFault;
 pub use laws::{
     nothing_behind_the_end_is_read, spellings_are_read, what_is_read_has_limits, worked_examples,
 };
-pub use line::{Line, Place};
+pub use line::{ItemPlace, Line};
 pub use lines::{Lines, all_read};
 pub use reading::read_line;

@@ -3,7 +3,7 @@ use host_types::LinkKind;
 
 /// Where an item lies.
 #[derive(Clone, Copy, Debug)]
-pub struct Place<'a> {
+pub struct ItemPlace<'a> {
     /// The host; none for the one that gives the menu.
     pub host: Option<&'a [u8]>,
     /// The port, from 1 on; none for that of the server that gives the menu.
@@ -27,7 +27,7 @@ pub enum Line<'a> {
         kind: LinkKind,
         title: &'a [u8],
         selector: &'a [u8],
-        place: Place<'a>,
+        place: ItemPlace<'a>,
     },
     /// A line that no client sees.
     Comment,

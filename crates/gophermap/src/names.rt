@@ -3,7 +3,7 @@ ghost use Rattle.std.specs.Prelude.{◌≡◌};
 ghost use Rattle.gophermap.specs.Line as spec;
 ghost use Rattle.gophermap.specs.Seen.{host_seen, name_seen, place_result};
 
-use crate::{LineFault, Place};
+use crate::{ItemPlace, LineFault};
 use common_types::{Host, Selector, Title, Url, is_number, number_of};
 
 /// The most digits of a port.
@@ -73,10 +73,10 @@ fn port_of(field: &[u8]) -> Result<Option<u16>, LineFault>
 }
 
 /// Where an item lies, by the fields of host and port.
-pub fn place_of<'a>(host: &'a [u8], port: &[u8]) -> Result<Place<'a>, LineFault>
+pub fn place_of<'a>(host: &'a [u8], port: &[u8]) -> Result<ItemPlace<'a>, LineFault>
     ensures { place_result result ≡ spec.place_of host.now port.now }
 {
-    Ok(Place {
+    Ok(ItemPlace {
         host: host_of(host)?,
         port: port_of(port)?,
     })

@@ -92,7 +92,7 @@ once sized (inl is) = is
 once sized (inr other) = absurd (other.0 sized)
 
 -- a fault of a draw that knows the size of its view
-pub drawn_counted : (honest : Bool) (Sized : Type 0) (fault : SiteFault) (before now : ℕ) → (IsTrue honest → Sized) → views.IsReadCounted honest Sized fault before now → site.IsReadCounted honest fault before now
+pub drawn_counted : (honest : Bool) (Sized : Type 0) (fault : SiteFault) (before now : ℕ) → (IsTrue honest → Sized) → views.IsViewReadCounted honest Sized fault before now → site.IsReadCounted honest fault before now
 drawn_counted honest Sized (faults.Refused r) before now sized is = is
 drawn_counted honest Sized faults.Read before now sized is = λ kept. once (sized kept) (is kept)
 drawn_counted honest Sized (faults.Full need free) before now sized is = is

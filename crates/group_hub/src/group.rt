@@ -26,7 +26,7 @@ use crate::phase::pin_view;
 use crate::session::{Phase, Replying, Session, Waiting};
 use group_world::HubFault;
 use host_types::{Change, Stamp};
-use request_reader::{Answer, Request};
+use request_reader::{Request, StreamVerdict};
 use site_replies::{Answered, Reply, finds_form, later_reply, reply};
 use std::alloc::Global;
 use word_index::SearchKeeper;
@@ -144,7 +144,7 @@ fn next_of<S: SearchKeeper>(
     ensures pins_after_fault { OnErr result ((S.site_state site.new).pins ≡ (S.site_state site.old).pins) }
     ensures prepares { Prepares S.site_state S.lacks S.crash_states site.old site.new result }
 {
-    let Answer::Whole(request) = waiting.reader.answer() else {
+    let StreamVerdict::Whole(request) = waiting.reader.answer() else {
         unreachable!()
     };
     match finds_form(site, &request, waiting.now) {

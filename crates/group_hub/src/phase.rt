@@ -29,7 +29,7 @@ use crate::posting::Posting;
 use crate::session::{Drawing, Hearing, Phase, Replying, Waiting};
 use group_world::{HubFault, InputStatus};
 use host_types::{Change, SiteFault, SitePinFault, Stamp, changes_keep_sites_valid};
-use request_reader::{Answer, Reader};
+use request_reader::{Reader, StreamVerdict};
 use site_replies::{Answered, Reply, ViewReply, bad_reply, reply};
 use std::alloc::Global;
 use std::mem;
@@ -59,7 +59,7 @@ pub fn new_phase<P>(alloc: Global) -> Phase<P>
 fn reply_to<S: SearchKeeper>(
     alloc: Global,
     site: &mut S,
-    answer: Answer<'_>,
+    answer: StreamVerdict<'_>,
     now: Stamp,
 ) -> Result<Option<Answered>, SiteFault>
     ensures reply { IsTrue (S.site_state site.old).honest → IfOk result (λ made. option_map (answer_of (S.site_state site.old).site) made ≡ reply_by (S.site_state site.old).site now (seen answer.entry)) }
@@ -71,15 +71,15 @@ fn reply_to<S: SearchKeeper>(
     ensures reads { CountsReads result (S.site_state site.old) (S.site_state site.new) }
 {
     match answer {
-        Answer::Whole(request) => Ok(Some(reply(alloc, site, request, now)?)),
-        Answer::Bad(cause) => {
+        StreamVerdict::Whole(request) => Ok(Some(reply(alloc, site, request, now)?)),
+        StreamVerdict::Bad(cause) => {
             let bytes = bad_reply(alloc, cause)?;
             Ok(Some(Answered {
                 reply: Reply::Whole(bytes),
                 post: None,
             }))
         }
-        Answer::More | Answer::Early => Ok(None),
+        StreamVerdict::More | StreamVerdict::Early => Ok(None),
     }
 }
 
@@ -194,7 +194,7 @@ fn let_wait<P>(posting: Posting) -> Result<Concluded<P>, HubFault>
 pub fn conclude<S: SearchKeeper>(
     alloc: Global,
     site: &mut S,
-    answer: Answer<'_>,
+    answer: StreamVerdict<'_>,
     now: Stamp,
     posting: Posting,
 ) -> Result<Concluded<S::Pin>, HubFault>

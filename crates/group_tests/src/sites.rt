@@ -12,8 +12,8 @@ use host_on_disk::open_site;
 use host_types::{Bytes, SiteKeeper, Stamp};
 use image_commands::{SiteNames, format_image};
 use mem_site::MemSite;
-use page_store::Keeper;
-use sector_device::{Device, FuseDisk, MemDisk};
+use page_store::{Keeper, LONGEST_KEY, LONGEST_VALUE};
+use sector_device::{Device, FuseDisk, MemDisk, SECTOR_SIZE};
 use site_store::DiskSite;
 use std::alloc::Global;
 use word_index::SearchKeeper;
@@ -152,7 +152,7 @@ pub fn ran_on(
 /// The image of a site, and its generation.
 #[derive(Drop)]
 pub(crate) struct Image {
-    sectors: Vec<[u8; 512]>,
+    sectors: Vec<[u8; SECTOR_SIZE]>,
     pub generation: u64,
 }
 
@@ -181,7 +181,7 @@ impl Image {
 pub fn pairs_on(alloc: Global, disk: MemDisk) -> Result<Vec<Bytes>, Trouble> {
     let mut keeper = site_on(alloc, disk, u64::MAX)?.into_keeper();
     let mut all = Vec::new(alloc);
-    let (mut key, mut value) = ([0; 300], [0; 1024]);
+    let (mut key, mut value) = ([0; LONGEST_KEY], [0; LONGEST_VALUE]);
     let mut after = Vec::new(alloc);
     for _ in 0..100_000 {
         let Some((size, length)) = keeper.next(&after, &mut key, &mut value)? else {

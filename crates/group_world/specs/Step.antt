@@ -4,6 +4,7 @@ use Rattle.host_types.specs.Site.{Site, item_at}
 use Rattle.host_types.specs.Visible.{visible}
 use Rattle.host_types.specs.Change.{apply}
 use Rattle.host_types.specs.declared.change.Change.{Change}
+pub use Rattle.host_types.specs.AllChanges.{Changes}
 use Rattle.common_types.specs.declared.refused.Refused.{Refused}
 use Rattle.request_reader.specs.Request.{Request}
 use Rattle.request_reader.specs.Verdict.{Verdict, Open, Early as EndedEarly, Whole, Bad, verdict}
@@ -16,10 +17,6 @@ use Rattle.group_world.specs.declared.event.Event.TheVariants.{Join, Bytes, End,
 use Rattle.group_world.specs.declared.event.Outcome.{Outcome}
 use Rattle.group_world.specs.declared.event.Outcome.TheVariants.{Joined, More, Ready, Finished, Waiting, Drawn, Gone, Done, Flushed, Fault}
 use Rattle.group_world.specs.World.{World, Phase, Heard, Waits, Reply, Early, phase_of, with_phase, with_site, without_session, with_waiting, count_waiting}
-
--- changes, each with its moment
-abbrev pub Changes : Type 0
-Changes = List (Change × ℕ)
 
 -- ---- one session
 

@@ -29,9 +29,13 @@ bytes_of id text = option_map (λ n. Bytes n (field_bytes text)) (number_of id)
 abbrev pub end_of : List ℕ → Option Command
 end_of id = option_map (λ n. End n) (number_of id)
 
+-- how much room a draw may have, at most
+abbrev pub most_room : ℕ
+most_room = 65536
+
 -- at most 65,536 bytes are drawn at once
 unfoldable pub draw_of : List ℕ → List ℕ → Option Command
-draw_of id room = option_and_then (λ n. option_and_then (λ most. if nat_le most 65536 then Some (Draw n most) else None) (number_of room)) (number_of id)
+draw_of id room = option_and_then (λ n. option_and_then (λ most. if nat_le most most_room then Some (Draw n most) else None) (number_of room)) (number_of id)
 
 abbrev pub leave_of : List ℕ → Option Command
 leave_of id = option_map (λ n. Leave n) (number_of id)

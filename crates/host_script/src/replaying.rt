@@ -19,6 +19,9 @@ use std::alloc::{AllocError, Global};
 use std::io::{Read, Write};
 use word_index::SearchKeeper;
 
+/// How many bytes a read of a script asks for.
+const PIECE: usize = 4096;
+
 /// How many reads a script may take.
 pub const MOST_READS: u64 = 1_000_000;
 
@@ -159,7 +162,7 @@ pub fn replay<R: Read, W: Write, S: SearchKeeper>(
     // Whatever is answered, the hub was run by some events, so a crash at any moment leaves what a run of these may leave.
     ensures ran { RanSo (HubRun S.site_state S.lacks S.crash_states S.represents) hub.old hub.new }
 {
-    let mut buffer = [0; 4096];
+    let mut buffer = [0; PIECE];
     let mut place = Place {
         line: Vec::new(alloc),
         number: 1,

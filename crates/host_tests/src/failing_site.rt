@@ -4,8 +4,8 @@ ghost use Rattle.host_types.specs.CrashStates.{nothing, no_crash_state};
 ghost use Rattle.host_types.specs.Pins.{Copied};
 
 use host_types::{
-    Address, Card, Change, ChangesFault, Refused, Selector, SiteFault, SiteKeeper, SitePinFault,
-    Stamp,
+    Address, Card, CardFront, Change, ChangesFault, Refused, Selector, SiteFault, SiteKeeper,
+    SitePinFault, Stamp,
 };
 use mem_site::{MemPin, MemSite};
 use word_index::{SearchKeeper, SelectorList};
@@ -92,6 +92,16 @@ impl SiteKeeper for FailingSite {
         self.site.card(selector)
     }
 
+    fn card_front(&mut self, selector: &Selector) -> Result<Option<CardFront>, SiteFault> {
+        if !self.usable {
+            return Err(SiteFault::Failed);
+        }
+        if self.read_fails() {
+            return Err(SiteFault::Read);
+        }
+        self.site.card_front(selector)
+    }
+
     fn pin_site(&mut self) -> Result<MemPin, SitePinFault> {
         if !self.usable {
             return Err(SitePinFault::Failed);
@@ -118,6 +128,17 @@ impl SiteKeeper for FailingSite {
             return Err(SiteFault::Read);
         }
         self.site.chunk(pin, selector, view, k, buffer)
+    }
+
+    fn known_chunk(
+        &mut self,
+        pin: &MemPin,
+        selector: &Selector,
+        view: usize,
+        k: usize,
+        buffer: &mut [u8; 1000],
+    ) -> Result<usize, SiteFault> {
+        self.chunk(pin, selector, view, k, buffer)
     }
 
     fn change(&mut self, change: Change, now: Stamp) -> Result<(), SiteFault> {

@@ -6,8 +6,13 @@ use crate::line::Line;
 use crate::sites;
 use crate::trouble::Trouble;
 use host_types::{LineList, Selector};
-use request_reader::{Answer, Cause, Names, Plus, Reader, Request, RequestedView, answer_to};
+use request_reader::{
+    Cause, Names, Plus, Reader, Request, RequestedView, StreamVerdict, answer_to,
+};
 use std::alloc::{AllocError, Global};
+
+/// The pieces in which a stream comes: of so many bytes.
+const PIECES: [usize; 3] = [1, 7, 65_536];
 
 fn show_view(line: &mut Line, requested: RequestedView<'_>) -> Result<(), AllocError> {
     line.word("view")?;
@@ -64,13 +69,13 @@ fn show_request(alloc: Global, line: &mut Line, request: Request<'_>) -> Result<
     }
 }
 
-fn show(alloc: Global, line: &mut Line, answer: Answer<'_>) -> Result<(), AllocError> {
+fn show(alloc: Global, line: &mut Line, answer: StreamVerdict<'_>) -> Result<(), AllocError> {
     match answer {
-        Answer::More => line.word("open"),
-        Answer::Early => line.word("early"),
-        Answer::Whole(request) => show_request(alloc, line, request),
-        Answer::Bad(Cause::TooLong) => line.word("TooLong"),
-        Answer::Bad(Cause::NotUnderstood) => line.word("NotUnderstood"),
+        StreamVerdict::More => line.word("open"),
+        StreamVerdict::Early => line.word("early"),
+        StreamVerdict::Whole(request) => show_request(alloc, line, request),
+        StreamVerdict::Bad(Cause::TooLong) => line.word("TooLong"),
+        StreamVerdict::Bad(Cause::NotUnderstood) => line.word("NotUnderstood"),
     }
 }
 
@@ -93,7 +98,7 @@ fn by_pieces(alloc: Global, stream: &[u8], size: usize, ended: bool) -> Result<L
 /// `request STREAM` and `ended STREAM`: what the stream says, before or at its end, in whatever pieces it comes.
 fn request(alloc: Global, line: &mut Line, stream: &[u8], ended: bool) -> Result<(), Trouble> {
     show(alloc, line, answer_to(stream, ended))?;
-    for size in [1, 7, 65_536] {
+    for size in PIECES {
         if by_pieces(alloc, stream, size, ended)?.as_str() != line.as_str() {
             return Err(Trouble::Differs);
         }
@@ -107,7 +112,7 @@ fn exact(alloc: Global, line: &mut Line, stream: &[u8]) -> Result<(), Trouble> {
         return Err(Trouble::Line);
     };
     match answer_to(front, false) {
-        Answer::More => request(alloc, line, stream, false),
+        StreamVerdict::More => request(alloc, line, stream, false),
         _ => Err(Trouble::Differs),
     }
 }

@@ -17,3 +17,5 @@ pub mod Counting
 pub mod Pins
 pub mod Lines
 pub mod SiteExamples
+pub mod Sizes
+pub mod Fronts

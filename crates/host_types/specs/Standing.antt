@@ -12,6 +12,7 @@ use Rattle.host_types.specs.declared.form.Question.{Question}
 use Rattle.host_types.specs.declared.item.Item.{Item}
 use Rattle.host_types.specs.declared.item.Body.{Body}
 use Rattle.host_types.specs.declared.item.Body.TheVariants.{Views, Menu, Board, Form, Search, Moved}
+use Rattle.host_types.specs.Sizes.{longest_summary}
 
 pub record HasViewLimits (views : List View) : Type 0 where
   pub some : 0 < length views
@@ -57,7 +58,7 @@ pub record HasLimits (selector : List ℕ) (item : Item) : Type 0 where
   pub title_field : IsTrue (is_field item.title)
   pub stamp : item.stamp ≤ 253402300799
   pub until : IsTrue (is_until item.until)
-  pub summary : length item.summary ≤ 400
+  pub summary : length item.summary ≤ longest_summary
   pub body : HasBodyLimits selector item.body
 
 -- All that stands in a site keeps the limits of an item.
@@ -120,7 +121,7 @@ limits_at s selector item site stands =
     let body = and_parts (has_moments item) (is_typed_body item.body) typed.1 in
     let moments = and_parts (nat_le item.stamp 253402300799) (is_until item.until) body.0 in
     let limits = and_parts (not (is_bad_body item.body)) (not (is_long_item selector item)) valid.1 in
-    let sizes = or_parts (nat_lt 400 (length item.summary)) (is_long_body selector item.body) (not-true (is_long_item selector item) limits.1) in
+    let sizes = or_parts (nat_lt longest_summary (length item.summary)) (is_long_body selector item.body) (not-true (is_long_item selector item) limits.1) in
     record {
       name = leb-true (length selector) 255 name.0;
       name_field = name.1;
@@ -129,6 +130,6 @@ limits_at s selector item site stands =
       title_field = title.1;
       stamp = leb-true item.stamp 253402300799 moments.0;
       until = moments.1;
-      summary = ltb-false 400 (length item.summary) sizes.0;
+      summary = ltb-false longest_summary (length item.summary) sizes.0;
       body = body_limits selector item.body body.1 (not-true (is_bad_body item.body) limits.0) sizes.1 may.counted;
     }

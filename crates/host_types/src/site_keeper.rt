@@ -5,6 +5,7 @@ ghost use Rattle.host_types.specs.Change.{apply};
 ghost use Rattle.host_types.specs.AllChanges.{Changes, all_applied};
 ghost use Rattle.host_types.specs.ChangesFaults.{as_one, IsChangesFault};
 ghost use Rattle.host_types.specs.Card.{card_at, chunk_of};
+ghost use Rattle.host_types.specs.Fronts.{front_at};
 ghost use Rattle.common_types.specs.CrashStates.{CrashStates, AddsOnly, AddsNone, may_crash_to};
 ghost use Rattle.host_types.specs.Counting.{CountsReads, CountsWrites};
 ghost use Rattle.host_types.specs.SiteState.{SiteState, HasRead, LacksTheSame, IsUnchangedBehind, HasTried, HasNotChanged, SpentFirst, IsReadFault, IsChangeFault};
@@ -15,7 +16,9 @@ ghost use Rattle.host_types.specs.declared.site_fault.SiteFault.TheVariants.{Fai
 ghost use Rattle.host_types.specs.declared.changes_fault.ChangesFault.TheVariants.{Failed as AllFailed};
 ghost use Rattle.host_types.specs.declared.pin_fault.SitePinFault.TheVariants.{Failed as PinFailed};
 
-use crate::{Admin, Card, Change, ChangesFault, Host, Selector, SiteFault, SitePinFault, Stamp};
+use crate::{
+    Admin, Card, CardFront, Change, ChangesFault, Host, Selector, SiteFault, SitePinFault, Stamp,
+};
 use std::marker::Model;
 
 /// Under which name clients find a site, and who keeps it.
@@ -80,6 +83,16 @@ pub trait SiteKeeper {
         ensures lacking { LacksTheSame (lacks self.old) (lacks self.new) }
         ensures at_crash { IsTrue (site_state self.old).honest → AddsNone (crash_states self.old) (crash_states self.new) };
 
+    /// What the line of a menu says of the item at a selector.
+    fn card_front(&mut self, selector: &Selector) -> Result<Option<CardFront>, SiteFault>
+        ensures front { IsTrue (site_state self.old).honest → IfOk result (λ front. front ≡ front_at (site_state self.old).site selector.now) }
+        ensures kept { HasRead (site_state self.old) (site_state self.new) }
+        ensures fault { IfErr result (IsReadFault true (site_state self.old) (site_state self.new)) }
+        ensures reads { CountsReads result (site_state self.old) (site_state self.new) }
+        ensures closed { (site_state self.old).usable ≡ false → IsErrOf result Failed }
+        ensures lacking { LacksTheSame (lacks self.old) (lacks self.new) }
+        ensures at_crash { IsTrue (site_state self.old).honest → AddsNone (crash_states self.old) (crash_states self.new) };
+
     /// Pins the site as it stands.
     fn pin_site(&mut self) -> Result<Self::Pin, SitePinFault>
         ensures pinned { IfOk result (λ pin. IsPinned (site_state self.old) (site_state self.new) (pinned pin)) }
@@ -108,6 +121,27 @@ pub trait SiteKeeper {
         requires out { IsTrue (is_out (site_state self.old) (pinned pin.now)) }
         ensures within { IfOk result (λ n. n ≤ length buffer.new) }
         ensures chunk { IsTrue (site_state self.old).honest → IfOk result (λ n. take n buffer.new ≡ chunk_of (viewed_among (pinned_items (site_state self.old) (pinned pin.now)) selector.now view) k) }
+        ensures behind { IfOk result (λ n. IsUnchangedBehind n buffer.old buffer.new) }
+        ensures untouched { IfErr result (λ e. buffer.new ≡ buffer.old) }
+        ensures kept { HasRead (site_state self.old) (site_state self.new) }
+        ensures fault { IfErr result (IsReadFault false (site_state self.old) (site_state self.new)) }
+        ensures reads { CountsReads result (site_state self.old) (site_state self.new) }
+        ensures closed { (site_state self.old).usable ≡ false → IsErrOf result Failed }
+        ensures lacking { LacksTheSame (lacks self.old) (lacks self.new) }
+        ensures at_crash { IsTrue (site_state self.old).honest → AddsNone (crash_states self.old) (crash_states self.new) };
+
+    /// The same of a view that is known to have bytes, so that nothing else is looked up. Of one that has none it says nothing.
+    fn known_chunk(
+        &mut self,
+        pin: &Self::Pin,
+        selector: &Selector,
+        view: usize,
+        k: usize,
+        buffer: &mut [u8; 1000],
+    ) -> Result<usize, SiteFault>
+        requires out { IsTrue (is_out (site_state self.old) (pinned pin.now)) }
+        ensures within { IfOk result (λ n. n ≤ length buffer.new) }
+        ensures chunk { let bytes = viewed_among (pinned_items (site_state self.old) (pinned pin.now)) selector.now view in IsTrue (site_state self.old).honest → (bytes ≡ [] → ⊥) → IfOk result (λ n. take n buffer.new ≡ chunk_of bytes k) }
         ensures behind { IfOk result (λ n. IsUnchangedBehind n buffer.old buffer.new) }
         ensures untouched { IfErr result (λ e. buffer.new ≡ buffer.old) }
         ensures kept { HasRead (site_state self.old) (site_state self.new) }

@@ -1,5 +1,6 @@
 -- What `format` is given, and what it makes.
 use Rattle.std.specs.Prelude.{◌≡◌, ℕ, ◌*◌, ◌||◌, List, Result, Ok, Err, nat_lt, if◌then◌else◌}
+use Rattle.page_store.specs.Sizes.{least_pages, most_pages}
 use Rattle.common_types.specs.Names.{name_of, is_field, is_word}
 use Rattle.common_types.specs.declared.refused.Refused.{Refused}
 use Rattle.host_types.specs.Site.{Site, fresh_site}
@@ -22,7 +23,7 @@ names_of host admin title = all_names (name_of is_word 100 host) (name_of is_fie
 
 -- how many sectors an image of so many pages has
 abbrev pub sectors_of : ℕ → Result ℕ KeeperFault
-sectors_of pages = if nat_lt pages 16 || nat_lt 65536 pages then Err Small else Ok (8 * pages)
+sectors_of pages = if nat_lt pages least_pages || nat_lt most_pages pages then Err Small else Ok (8 * pages)
 
 -- the site of these names, port and moment, of which only the top menu is there, without entries
 abbrev pub first_site : SiteNames → ℕ → ℕ → Site

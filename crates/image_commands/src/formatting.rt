@@ -1,6 +1,7 @@
 // Making an image.
 ghost use Rattle.std.specs.Prelude.{◌≡◌, ◌≢◌, ◌≤◌, ◌<◌, ◌*◌, IsTrue, IfOk, OnOk, IfErr};
 ghost use Rattle.std.specs.String.{string_bytes};
+ghost use Rattle.page_store.specs.Sizes.{least_pages, most_pages};
 ghost use Rattle.sector_device.specs.Device.{NothingCounted};
 ghost use Rattle.sector_device.specs.Effects.{IsSameDevice};
 ghost use Rattle.page_store.specs.Steps.{crash_states_of, AllAre};
@@ -13,7 +14,7 @@ ghost use Rattle.image_commands.specs.Lines as lines;
 use crate::SiteNames;
 use cow_tree::format;
 use host_types::Stamp;
-use page_store::{Banner, KeeperFault};
+use page_store::{Banner, KeeperFault, LEAST_PAGES, MOST_PAGES};
 use sector_device::Device;
 use site_pairs::first_pairs;
 use site_store::VERSION;
@@ -23,7 +24,7 @@ use std::alloc::{AllocError, Global};
 pub fn sectors_of(pages: u32) -> Result<u64, KeeperFault>
     ensures { result ≡ spec.sectors_of pages }
 {
-    if pages < 16 || pages > 65_536 {
+    if pages < LEAST_PAGES || pages > MOST_PAGES {
         return Err(KeeperFault::Small);
     }
     Ok(8 * u64::from(pages))
@@ -44,7 +45,7 @@ pub fn format_image<D: Device>(
     requires port { 0 < port }
     ensures made { IsTrue (D.state device.old).honest → OnOk result (IsFormatted (D.state device.new).disk.view pages (first_site names port now)) }
     ensures sure { IsTrue (D.state device.old).honest → OnOk result (AllAre (crash_states_of D.moment D.possible_since device.new) (D.state device.new).disk.view) }
-    ensures fits { OnOk result ((16 ≤ pages) × (pages ≤ 65536) × (8 * pages ≤ (D.state device.old).size)) }
+    ensures fits { OnOk result ((least_pages ≤ pages) × (pages ≤ most_pages) × (8 * pages ≤ (D.state device.old).size)) }
     ensures fault { IfErr result (IsFormatFault pages (D.state device.old) (D.state device.new)) }
     ensures counts { OnOk result (NothingCounted (D.state device.old) (D.state device.new)) }
     ensures unwritten { IfErr result (λ e. e ≢ Failed → device.new ≡ device.old) }

@@ -6,7 +6,7 @@ use Rattle.common_types.specs.Counts.{Rose}
 use Rattle.page_store.specs.Pages.{Pair}
 use Rattle.page_store.specs.Keys.{precedes}
 use Rattle.page_store.specs.Batch.{is_pair, pair_after}
-use Rattle.page_store.specs.StoreState.{StoreState, HasRead, IsReadFault}
+use Rattle.page_store.specs.StoreState.{StoreState, StoreHasRead, IsStoreReadFault}
 use Rattle.page_store.specs.declared.fault.KeeperFault.{KeeperFault}
 use Rattle.page_store.specs.declared.fault.KeeperFault.TheVariants as faults
 use Rattle.image_commands.specs.declared.fault.ImageFault.{ImageFault}
@@ -19,7 +19,7 @@ pub lies : (b : Bool) → IsTrue b → b ≡ false → ⊥
 lies b holds fails = let clash : true ≡ false = sym holds ∙ fails in cc clash
 
 -- where a read doesn't give what it is to give, one has failed, or the device lied
-pub not_read : (old new : StoreState) (fault : KeeperFault) → old.usable ≡ true → IsReadFault old new fault → IsTrue old.honest → Rose old.failed_reads new.failed_reads
+pub not_read : (old new : StoreState) (fault : KeeperFault) → old.usable ≡ true → IsStoreReadFault old new fault → IsTrue old.honest → Rose old.failed_reads new.failed_reads
 not_read old new faults.Device usable is honest = rose_counted old.failed_reads new.failed_reads is
 not_read old new faults.NoImage usable is honest = absurd is
 not_read old new faults.Version usable is honest = absurd is

@@ -1,5 +1,6 @@
 -- Why a site is not copied, and what is said of it.
 use Rattle.std.specs.Prelude.{◌≡◌, ◌⊎◌, ◌<◌, ◌≤◌, ◌+◌, ◌*◌, ℕ, List, [], ◌++◌, codes, Option, Some, IsTrue}
+use Rattle.page_store.specs.Sizes.{least_pages, most_pages}
 use Rattle.common_types.specs.Counts.{counted}
 use Rattle.host_types.specs.Site.{Site}
 use Rattle.sector_device.specs.Device.{State, NothingCounted}
@@ -35,13 +36,13 @@ of_new store.Memory = OfImage (of_store store.Memory)
 
 -- the count of pages that was asked for is none that an image may have
 abbrev pub IsNoCount : Option ℕ → Type 0
-IsNoCount asked = (n : ℕ) × (asked ≡ Some n) × ((n < 16) ⊎ (65536 < n))
+IsNoCount asked = (n : ℕ) × (asked ≡ Some n) × ((n < least_pages) ⊎ (most_pages < n))
 
 -- Why the copy of these pairs, in so many pages, is not made: as of the image of them.
 abbrev pub IsNoCopyMade : ℕ → List Pair → CopyFault → Type 0
 IsNoCopyMade count pairs (OfImage fault) = fault ≡ image.Memory
-IsNoCopyMade count pairs Small = (count < 16) ⊎ (65536 < count)
-IsNoCopyMade count pairs (Full need free) = (16 ≤ count) × (count ≤ 65536) × (need ≡ pages_for pairs) × (count ≡ free + 2) × (free < need)
+IsNoCopyMade count pairs Small = (count < least_pages) ⊎ (most_pages < count)
+IsNoCopyMade count pairs (Full need free) = (least_pages ≤ count) × (count ≤ most_pages) × (need ≡ pages_for pairs) × (count ≡ free + 2) × (free < need)
 IsNoCopyMade count pairs Failed = ⊥
 IsNoCopyMade count pairs NoFile = ⊥
 IsNoCopyMade count pairs There = ⊥

@@ -1,6 +1,7 @@
 // A site is read, and its copy worked out whole before anything is written.
 ghost use Rattle.std.specs.Prelude.{◌≡◌, ◌≤◌, ◌⊎◌, ◌<◌, ◌+◌, ◌*◌, ℕ, true, Option, Some, None, IsTrue, IfOk, IfErr, IsErrAnd, OnOk};
 ghost use Rattle.std.specs.Option.{is_some};
+ghost use Rattle.page_store.specs.Sizes.{least_pages, most_pages};
 ghost use Rattle.common_types.specs.CrashStates.{AddsNone};
 ghost use Rattle.host_types.specs.Site.{Site};
 ghost use Rattle.sector_device.specs.Device.{NothingCounted};
@@ -49,7 +50,7 @@ fn count_for<D: Device>(device: &mut D, asked: Option<u32>) -> Result<u32, Image
     requires large { 128 ≤ (D.state device.old).size }
     requires rooted { IsTrue (D.state device.old).honest → is_some (current (D.state device.old).disk.view) ≡ true }
     ensures count { IsTrue (D.state device.old).honest → IfOk result (HasCount asked (D.state device.new).disk.view) }
-    ensures possible { IfOk result (λ n. (asked ≡ Some n) ⊎ ((16 ≤ n) × (n ≤ 65536))) }
+    ensures possible { IfOk result (λ n. (asked ≡ Some n) ⊎ ((least_pages ≤ n) × (n ≤ most_pages))) }
     ensures reads { IsReadCall D.state (crash_states_of D.moment D.possible_since) device.old device.new }
     ensures counts { OnOk result ((D.state device.new).failed_reads ≡ (D.state device.old).failed_reads) }
     ensures fault { IfErr result (IsNotRead (D.state device.old) (D.state device.new)) }

@@ -4,7 +4,7 @@ ghost use Rattle.std.specs.Option.{is_some};
 ghost use Rattle.common_types.specs.CrashStates.{AddsNone};
 ghost use Rattle.sector_device.specs.Device.{NothingCounted};
 ghost use Rattle.page_store.specs.Roots.{current};
-ghost use Rattle.page_store.specs.StoreState.{HasRead};
+ghost use Rattle.page_store.specs.StoreState.{StoreHasRead};
 ghost use Rattle.page_store.specs.Steps.{crash_states_of};
 ghost use Rattle.page_store.specs.declared.fault.KeeperFault.TheVariants.{Small};
 ghost use Rattle.cow_tree.specs.TreeSeen.{held, device_of, is_open};
@@ -37,7 +37,7 @@ fn read_keeper<D: Device>(
     ensures counted { IfOk result (λ read. length read.pairs.items ≡ (held D.state keeper.old).keys) }
     ensures banner { IfOk result (λ read. read.banner ≡ (held D.state keeper.old).banner) }
     ensures items { IfOk result (λ read. read.items ≡ items) }
-    ensures kept { HasRead (held D.state keeper.old) (held D.state keeper.new) }
+    ensures kept { StoreHasRead (held D.state keeper.old) (held D.state keeper.new) }
     ensures counts { OnOk result ((held D.state keeper.new).failed_reads ≡ (held D.state keeper.old).failed_reads) }
     ensures fault { IfErr result (pairs.IsSiteNotRead (held D.state keeper.old) (held D.state keeper.new)) }
     ensures at_crash { IsTrue (held D.state keeper.old).honest → AddsNone (crash_states_of D.moment D.possible_since (device_of keeper.old)) (crash_states_of D.moment D.possible_since (device_of keeper.new)) }

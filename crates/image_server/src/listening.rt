@@ -1,11 +1,14 @@
 // A listener for rounds of connections, and the log of where one was asked for.
-ghost use Rattle.std.specs.Prelude.{◌≡◌, IfOk, List, [], ◌∷◌, ◌++◌};
+ghost use Rattle.std.specs.Prelude.{◌≡◌, Err, IfOk, IfErr, IsOk, OnOk, List, [], ◌∷◌, ◌++◌};
 ghost use Rattle.std.specs.Borrow.{ftrue};
+ghost use Rattle.std.specs.IoError.{error_kind};
+ghost use Rattle.ready_sockets.specs.NetCauses.{cause_of};
 ghost use Rattle.image_server.specs.Listening.{listen_call};
 ghost use Rattle.image_server.specs.declared.listening.ListenCall.{ListenCall as Call};
 
 use ready_sockets::NetCause;
 use socket_wires::Gate;
+use std::io;
 use std::marker::Model;
 use std::net::{Net, SocketAddr, TcpListener, TcpStream};
 
@@ -51,16 +54,18 @@ impl ListenLog {
     }
 }
 
-/// Asks for a listener at an address, and notes whether it was had, or why not. That it asks for the one that it notes no clause can say, so it is one call long.
-pub(crate) fn listen<R: Net<Listener = TcpListener, Stream = TcpStream>>(
-    net: &R,
+/// Notes what came of a listener that was asked for at an address: it was had, or not, and why.
+fn noted(
+    answer: io::Result<TcpListener>,
     at: SocketAddr,
     asked: &mut ListenLog,
 ) -> Result<Gate, NetCause>
     ensures asked { asked.new.calls ≡ asked.old.calls ++ listen_call at result ∷ [] }
+    ensures had { OnOk answer (IsOk result) }
+    ensures cause { IfErr answer (λ error. result ≡ Err (cause_of (error_kind error))) }
     ensures untaken { IfOk result (λ gate. gate.taken.calls ≡ []) }
 {
-    match TcpListener::bind(net, at) {
+    match answer {
         Ok(listener) => {
             asked.note(ListenCall::Listened(at));
             Ok(Gate::new(listener))
@@ -71,4 +76,16 @@ pub(crate) fn listen<R: Net<Listener = TcpListener, Stream = TcpStream>>(
             Err(cause)
         }
     }
+}
+
+/// Asks for a listener at an address, and notes what came of it. That it asks for the one that it notes no clause can say, so it is one call long.
+pub(crate) fn listen<R: Net<Listener = TcpListener, Stream = TcpStream>>(
+    net: &R,
+    at: SocketAddr,
+    asked: &mut ListenLog,
+) -> Result<Gate, NetCause>
+    ensures asked { asked.new.calls ≡ asked.old.calls ++ listen_call at result ∷ [] }
+    ensures untaken { IfOk result (λ gate. gate.taken.calls ≡ []) }
+{
+    noted(TcpListener::bind(net, at), at, asked)
 }

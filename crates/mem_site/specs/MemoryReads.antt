@@ -14,6 +14,7 @@ use Rattle.mem_site.specs.ShortEntries.{HasShortViews}
 use Rattle.host_types.specs.Site.{Site}
 use Rattle.host_types.specs.declared.site_fault.SiteFault.{SiteFault}
 use Rattle.host_types.specs.declared.site_fault.SiteFault.TheVariants as faults
+use Rattle.host_types.specs.Sizes.{longest_summary}
 use Rattle.change_plan.specs.LookUps.{HasNoLongNames}
 
 -- It shows itself.
@@ -39,7 +40,7 @@ never_refused a b r h = let clash : faults.Refused r ≡ faults.Memory = h.0 in 
 -- an item that keeps the greatest sizes has short views
 pub short_fits : (selector : List ℕ) (item : Item) → is_long_item selector item ≡ false → HasShortViews item
 short_fits selector item short =
-    let parts = or_parts (nat_lt 400 (length item.summary)) (is_long_body selector item.body) short in
+    let parts = or_parts (nat_lt longest_summary (length item.summary)) (is_long_body selector item.body) short in
     by item.body parts.1
   where
     by : (body : Body) → is_long_body selector body ≡ false → has_short_views body ≡ true

@@ -6,8 +6,8 @@ ghost use Rattle.common_types.specs.CrashStates.{nothing, no_crash_state};
 use crate::mem_site::viewed_among;
 use crate::{MemPin, MemSite};
 use host_types::{
-    Address, Card, Change, ChangesFault, Selector, SiteFault, SiteKeeper, SitePinFault, Stamp,
-    chunk_of,
+    Address, Card, CardFront, Change, ChangesFault, Selector, SiteFault, SiteKeeper, SitePinFault,
+    Stamp, chunk_of,
 };
 
 impl SiteKeeper for MemSite {
@@ -39,6 +39,10 @@ impl SiteKeeper for MemSite {
         Ok(self.card_at(selector)?)
     }
 
+    fn card_front(&mut self, selector: &Selector) -> Result<Option<CardFront>, SiteFault> {
+        Ok(self.front_at(selector)?)
+    }
+
     fn pin_site(&mut self) -> Result<MemPin, SitePinFault> {
         Ok(MemPin {
             items: self.copied()?,
@@ -60,6 +64,17 @@ impl SiteKeeper for MemSite {
         let chunk = chunk_of(viewed_among(&pin.items, selector, view), k);
         buffer[..chunk.len()].copy_from_slice(chunk);
         Ok(chunk.len())
+    }
+
+    fn known_chunk(
+        &mut self,
+        pin: &MemPin,
+        selector: &Selector,
+        view: usize,
+        k: usize,
+        buffer: &mut [u8; 1000],
+    ) -> Result<usize, SiteFault> {
+        self.chunk(pin, selector, view, k, buffer)
     }
 
     fn change(&mut self, change: Change, now: Stamp) -> Result<(), SiteFault> {

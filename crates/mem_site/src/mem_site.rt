@@ -2,13 +2,14 @@
 ghost use Rattle.std.specs.Prelude.{◌≡◌, ◌<◌, [], None, IfOk, OnOk, IfErr, OnErr, IfSome, IsTrue, option_copied};
 ghost use Rattle.host_types.specs.Site.{item_at, with_item, without_item, board_at, fresh_site, IsSite};
 ghost use Rattle.host_types.specs.Card.{has_short_views, card_at};
+ghost use Rattle.host_types.specs.Fronts.{front_at};
 ghost use Rattle.host_types.specs.Address.{address};
 ghost use Rattle.host_types.specs.Pins.{viewed_among};
 ghost use Rattle.change_plan.specs.LookUps.{HasNoLongNames};
 ghost use Rattle.change_plan.specs.Plans.{with_host, with_admin};
 ghost use Rattle.mem_site.specs.ShortEntries.{HasShortViews};
 
-use host_types::{Address, Admin, Card, Host, Item, Selector, SiteFault, Stamp, Title};
+use host_types::{Address, Admin, Card, CardFront, Host, Item, Selector, SiteFault, Stamp, Title};
 use std::alloc::{AllocError, Global};
 use std::collections::BTreeMap;
 use std::marker::Model;
@@ -115,6 +116,16 @@ impl MemSite {
     {
         match self.item_at(selector) {
             Some(item) => Ok(Some(item.card(self.alloc)?)),
+            None => Ok(None),
+        }
+    }
+
+    /// What the line of a menu says of what stands at a selector.
+    pub(crate) fn front_at(&self, selector: &Selector) -> Result<Option<CardFront>, AllocError>
+        ensures { IfOk result (λ front. front ≡ front_at self.now selector.now) }
+    {
+        match self.item_at(selector) {
+            Some(item) => Ok(Some(item.front()?)),
             None => Ok(None),
         }
     }

@@ -9,7 +9,7 @@ use crate::store::Store;
 use crate::timed::{delete_many, owned_pairs, put_many, read_many};
 use crate::trouble::Trouble;
 use std::alloc::Global;
-use tree_nodes::{Answer, encode, is_writable, read_node};
+use tree_nodes::{EditAnswer, encode, is_writable, read_node};
 
 /// How many pages the image of a bench has.
 const PAGES: u32 = 64;
@@ -54,8 +54,8 @@ impl Bench {
     fn needed(&self, key: &str, shown: &mut Shown) -> Result<(), Trouble> {
         let key = bytes_of(self.alloc, key)?;
         match self.store.tree.needed(&key) {
-            Some(page) => shown.answer(Answer::Need(page)),
-            None => shown.answer(Answer::Done),
+            Some(page) => shown.answer(EditAnswer::Need(page)),
+            None => shown.answer(EditAnswer::Done),
         }
     }
 

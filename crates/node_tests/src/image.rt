@@ -5,6 +5,7 @@ use crate::shown::Shown;
 use crate::trouble::Trouble;
 use crate::walk::ENTRIES;
 use page_alloc::Ledger;
+use sector_device::PAGE_SIZE;
 use std::alloc::Global;
 use std::mem;
 use tree_nodes::{Branch, ImageBounds, Leaf, Node, encode, is_writable};
@@ -14,7 +15,7 @@ use tree_nodes::{Branch, ImageBounds, Leaf, Node, encode, is_writable};
 pub(crate) struct Image {
     pub alloc: Global,
     count: u32,
-    pages: Vec<[u8; 4096]>,
+    pages: Vec<[u8; PAGE_SIZE]>,
     ledger: Ledger,
     generation: u64,
     ghost same: { ledger.generation ≡ generation },
@@ -27,7 +28,7 @@ impl Image {
     {
         let mut pages = Vec::with_capacity(alloc, count as usize)?;
         for _page in 0..count {
-            pages.push([0; 4096])?;
+            pages.push([0; PAGE_SIZE])?;
         }
         let ledger = Ledger::new(alloc, count, 1)?;
         Ok(Image {
@@ -61,7 +62,7 @@ impl Image {
     }
 
     /// The bytes of a page.
-    pub fn read(&self, page: u32) -> Result<&[u8; 4096], Trouble> {
+    pub fn read(&self, page: u32) -> Result<&[u8; PAGE_SIZE], Trouble> {
         match self.pages.get(page as usize) {
             Some(bytes) => Ok(bytes),
             None => Err(Trouble::Wrong("no such page")),

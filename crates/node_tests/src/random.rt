@@ -7,6 +7,9 @@ use std::alloc::Global;
 use std::collections::BTreeMap;
 
 /// How many keys a run changes.
+/// How many pages the store has.
+const PAGES: u32 = 4096;
+
 const KEYS: usize = 400;
 
 /// How many changes are mostly puts, and then mostly deletes.
@@ -30,7 +33,7 @@ impl Run {
         Ok(Run {
             alloc,
             dice: Dice::new(seed),
-            store: Store::new(alloc, 4096)?,
+            store: Store::new(alloc, PAGES)?,
             map: BTreeMap::new(alloc),
             changes: 0,
             puts: 0,

@@ -1,7 +1,7 @@
 // What is printed of a call.
 use crate::trouble::Trouble;
 use std::alloc::Global;
-use tree_nodes::{Answer, Node};
+use tree_nodes::{EditAnswer, Node};
 
 /// A line that is printed: fields after spaces.
 #[derive(Drop)]
@@ -36,10 +36,10 @@ impl Shown {
         Ok(())
     }
 
-    pub fn answer(&mut self, answer: Answer) -> Result<(), Trouble> {
+    pub fn answer(&mut self, answer: EditAnswer) -> Result<(), Trouble> {
         match answer {
-            Answer::Done => self.word("done"),
-            Answer::Need(page) => {
+            EditAnswer::Done => self.word("done"),
+            EditAnswer::Need(page) => {
                 self.word("need")?;
                 self.number(page as usize)
             }

@@ -6,7 +6,7 @@ use crate::trouble::Trouble;
 use crate::walk::ENTRIES;
 use std::alloc::Global;
 use std::mem;
-use tree_nodes::{Answer, Branch, Leaf, OwnedTree};
+use tree_nodes::{Branch, EditAnswer, Leaf, OwnedTree};
 
 /// How many levels a tree is tried with at most.
 pub const LEVELS: usize = 16;
@@ -48,7 +48,7 @@ impl Store {
     }
 
     /// Puts a value at a key once. Where memory lacks the tree is gone.
-    pub fn try_put(&mut self, key: &[u8], value: &[u8]) -> Result<Answer, Trouble> {
+    pub fn try_put(&mut self, key: &[u8], value: &[u8]) -> Result<EditAnswer, Trouble> {
         let tree = mem::replace(&mut self.tree, OwnedTree::new());
         if tree.height() as usize >= LEVELS {
             return Err(Trouble::Wrong("the tree is too high"));
@@ -62,8 +62,8 @@ impl Store {
     pub fn put(&mut self, key: &[u8], value: &[u8]) -> Result<(), Trouble> {
         for _ in 0..=LEVELS {
             match self.try_put(key, value)? {
-                Answer::Done => return Ok(()),
-                Answer::Need(page) => self.supply(key, page)?,
+                EditAnswer::Done => return Ok(()),
+                EditAnswer::Need(page) => self.supply(key, page)?,
             }
         }
         Err(Trouble::Wrong("a put needs too many pages"))
@@ -73,8 +73,8 @@ impl Store {
     pub fn delete(&mut self, key: &[u8]) -> Result<(), Trouble> {
         for _ in 0..=LEVELS {
             match self.tree.delete(key) {
-                Answer::Done => return Ok(()),
-                Answer::Need(page) => self.supply(key, page)?,
+                EditAnswer::Done => return Ok(()),
+                EditAnswer::Need(page) => self.supply(key, page)?,
             }
         }
         Err(Trouble::Wrong("a delete needs too many pages"))

@@ -2,7 +2,8 @@
 use crate::image::Image;
 use crate::store::Store;
 use crate::trouble::Trouble;
-use tree_nodes::{Answer, Node, read_node};
+use page_store::LONGEST_KEY;
+use tree_nodes::{EditAnswer, Node, read_node};
 
 /// Eight bytes that look random. No two numbers have the same.
 fn mixed(number: u32) -> [u8; 8] {
@@ -12,8 +13,8 @@ fn mixed(number: u32) -> [u8; 8] {
 }
 
 /// The key of a number, of the greatest length. Keys differ in their last eight bytes alone, so that two are compared from end to end.
-fn long_key(number: u32) -> [u8; 300] {
-    let mut key = [b'k'; 300];
+fn long_key(number: u32) -> [u8; LONGEST_KEY] {
+    let mut key = [b'k'; LONGEST_KEY];
     key[292..].copy_from_slice(&mixed(number));
     key
 }
@@ -23,8 +24,8 @@ pub fn put_many(store: &mut Store, first: u32, many: u32) -> Result<usize, Troub
     let mut done = 0usize;
     for number in first..first.saturating_add(many) {
         match store.try_put(&long_key(number), &mixed(number))? {
-            Answer::Done => done = done.saturating_add(1),
-            Answer::Need(_) => {}
+            EditAnswer::Done => done = done.saturating_add(1),
+            EditAnswer::Need(_) => {}
         }
     }
     Ok(done)
@@ -35,8 +36,8 @@ pub fn delete_many(store: &mut Store, first: u32, many: u32) -> usize {
     let mut done = 0usize;
     for number in first..first.saturating_add(many) {
         match store.tree.delete(&long_key(number)) {
-            Answer::Done => done = done.saturating_add(1),
-            Answer::Need(_) => {}
+            EditAnswer::Done => done = done.saturating_add(1),
+            EditAnswer::Need(_) => {}
         }
     }
     done

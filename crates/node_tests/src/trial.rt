@@ -1,6 +1,7 @@
 // A few commits, each made again where it found no memory.
 use crate::store::Store;
 use crate::trouble::Trouble;
+use page_store::LONGEST_VALUE;
 use std::alloc::Global;
 
 /// How many commits there are.
@@ -8,7 +9,7 @@ const COMMITS: u8 = 4;
 
 /// The puts and the deletes of a commit. Its values are as long as may be, so that pages are split.
 fn change(store: &mut Store, commit: u8) -> Result<(), Trouble> {
-    let value = [commit; 1024];
+    let value = [commit; LONGEST_VALUE];
     for number in 0..8u8 {
         let key = [b'k', number.wrapping_mul(53), commit % 2];
         store.put(&key, &value)?;

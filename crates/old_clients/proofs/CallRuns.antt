@@ -1,7 +1,7 @@
 -- Calls of an adapter in turn.
 use Rattle.std.proofs.Common.{◌≡◌, ℕ, List, [], ◌∷◌, ◌++◌, ap, sym, ◌∙◌, append_assoc}
 use Rattle.old_clients.specs.Laws.{GiveTheReply, PassTheInput, TellOfTheInput}
-use Rattle.old_clients.specs.Streams.{Call, Next, Finish, HasGiven, HasPassed, HasRun, Hearing, Informing, fresh_reply, fresh_request, part_of, parts_of, will_give, will_pass, will_rewrite}
+use Rattle.old_clients.specs.Streams.{Call, Next, Finish, HasGiven, HasPassed, HasAdapted, Hearing, Informing, fresh_reply, fresh_request, part_of, parts_of, will_give, will_pass, will_rewrite}
 use Rattle.old_clients.proofs.Joins.{given_reply}
 
 -- a call's part and what is to be given then, and what is said then
@@ -19,14 +19,14 @@ call_gives (Finish part) old new rest left (whole, behind, ends) = ap (λ l. par
 
 run_gives : {S : Type 0} (Called : S → List ℕ → Call → S → List ℕ → Type 0) (gives : S → List ℕ → List ℕ) →
     ((call : Call) (old new : S) (rest left : List ℕ) → Called old rest call new left → part_of call ++ gives new left ≡ gives old rest) →
-    (calls : List Call) (old new : S) (rest left : List ℕ) → HasRun Called old rest calls new left → parts_of calls ++ gives new left ≡ gives old rest
+    (calls : List Call) (old new : S) (rest left : List ℕ) → HasAdapted Called old rest calls new left → parts_of calls ++ gives new left ≡ gives old rest
 run_gives {S} Called gives each [] old new rest left (same, whole) = ap (λ s. gives s left) (sym same) ∙ ap (gives old) (sym whole)
 run_gives {S} Called gives each (call ∷ calls) old new rest left (between, later, called, run) =
     append_assoc (part_of call) (parts_of calls) (gives new left)
     ∙ ap (λ l. part_of call ++ l) (run_gives Called gives each calls between new later left run)
     ∙ each call old between rest later called
 
-run_tells : (calls : List Call) (old new : Hearing) (rest left : List ℕ) → HasRun HasPassed old rest calls new left → will_rewrite new left ≡ will_rewrite old rest
+run_tells : (calls : List Call) (old new : Hearing) (rest left : List ℕ) → HasAdapted HasPassed old rest calls new left → will_rewrite new left ≡ will_rewrite old rest
 run_tells [] old new rest left (same, whole) = ap (λ s. will_rewrite s left) (sym same) ∙ ap (will_rewrite old) (sym whole)
 run_tells (call ∷ calls) old new rest left (between, later, called, run) = run_tells calls between new later left run ∙ call_tells call old between rest later called
 

@@ -3,6 +3,7 @@ use Rattle.std.specs.Prelude.{ℕ, Bool, ◌&&◌, ◌||◌, not, List, ◌++◌
 use Rattle.std.specs.List.{position_or_len, before_first, after_first}
 use Rattle.std.specs.Str.{bytes_eq}
 use Rattle.host_types.specs.Lines.{is_lf, without_cr}
+use Rattle.request_reader.specs.Lines.{longest_line}
 use Rattle.request_reader.specs.RequestLine.{is_tab, is_plus_field, not_empty}
 
 -- ---- the line, without its LF and the CR before it
@@ -42,7 +43,7 @@ adapted_line line = adapted_fields (without_cr line) ++ drop (length (without_cr
 
 -- The LF of the first line has come, behind at most 1,024 bytes.
 abbrev pub has_line : List ℕ → Bool
-has_line input = nat_lt (position_or_len is_lf input) (length input) && nat_le (position_or_len is_lf input) 1024
+has_line input = nat_lt (position_or_len is_lf input) (length input) && nat_le (position_or_len is_lf input) longest_line
 
 -- what is passed on of an input: its first line as above, and all behind it as it came
 unfoldable pub adapted_request : List ℕ → List ℕ

@@ -2,6 +2,7 @@
 use Rattle.std.specs.Prelude.{◌≡◌, ◌≤◌, ℕ, Bool, true, false, List, [], ◌∷◌, ◌++◌, if◌then◌else◌, length, drop, flat_map}
 use Rattle.std.specs.List.{list_any}
 use Rattle.host_types.specs.Lines.{is_lf}
+use Rattle.request_reader.specs.Lines.{longest_line}
 use Rattle.old_clients.specs.AdaptedRequest.{adapted_request, is_rewritten}
 use Rattle.old_clients.specs.Place.{given_from}
 use Rattle.old_clients.specs.declared.place.Place.{Place}
@@ -25,7 +26,7 @@ will_rewrite adapter rest = if adapter.hears then is_rewritten (adapter.held ++ 
 
 -- It holds a line back only while the LF has not come, and no more than 1,024 bytes.
 abbrev pub IsWaiting : Hearing → Type 0
-IsWaiting adapter = adapter.hears ≡ true → (list_any is_lf adapter.held ≡ false) × (length adapter.held ≤ 1024)
+IsWaiting adapter = adapter.hears ≡ true → (list_any is_lf adapter.held ≡ false) × (length adapter.held ≤ longest_line)
 
 -- the adapter before the input's first byte
 abbrev pub fresh_request : Hearing
@@ -82,6 +83,6 @@ HasGiven old rest (Next chunk taken part) new left = (more : List ℕ) × (rest 
 HasGiven old rest (Finish part) new left = (rest ≡ []) × (left ≡ []) × Ends will_give old part new
 
 -- calls in turn
-abbrev pub HasRun : {S : Type 0} → (S → List ℕ → Call → S → List ℕ → Type 0) → S → List ℕ → List Call → S → List ℕ → Type 0
-HasRun {S} Called old rest [] new left = (old ≡ new) × (rest ≡ left)
-HasRun {S} Called old rest (call ∷ calls) new left = (between : S) × (later : List ℕ) × Called old rest call between later × HasRun Called between later calls new left
+abbrev pub HasAdapted : {S : Type 0} → (S → List ℕ → Call → S → List ℕ → Type 0) → S → List ℕ → List Call → S → List ℕ → Type 0
+HasAdapted {S} Called old rest [] new left = (old ≡ new) × (rest ≡ left)
+HasAdapted {S} Called old rest (call ∷ calls) new left = (between : S) × (later : List ℕ) × Called old rest call between later × HasAdapted Called between later calls new left

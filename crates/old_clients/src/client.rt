@@ -1,5 +1,6 @@
 // Both ways of a client.
 ghost use Rattle.std.specs.Prelude.{◌≡◌, ◌≤◌, ◌<◌, ◌+◌, ◌*◌, true, false, [], length, take};
+ghost use Rattle.request_reader.specs.Lines.{longest_line};
 ghost use Rattle.old_clients.specs.Clients.{Adapting, fresh_client, is_through, HasHeard, HasAnswered, HasClosed};
 
 use crate::reply::ReplyAdapter;
@@ -43,7 +44,7 @@ impl ClientAdapter {
     /// Gives to `out` what is passed on of a piece that the client sent, and says how many bytes that are. No bytes are the
     /// end. Nothing of it is held back but a line that has not ended.
     pub fn hear(&mut self, piece: &[u8], out: &mut [u8]) -> usize
-        requires room { 1024 + length piece.now < length out.old }
+        requires room { longest_line + length piece.now < length out.old }
         ensures within { result ≤ length out.new }
         ensures heard { HasHeard self.old piece.now (take result out.new) self.new }
     {

@@ -1,6 +1,7 @@
 // A request of an old client, by chunks of what came and by parts of what is passed on.
 ghost use Rattle.std.specs.Prelude.{◌≡◌, ◌≤◌, ◌<◌, ◌+◌, ◌⊎◌, ◌++◌, ℕ, List, true, false, [], length, take, drop};
 ghost use Rattle.std.specs.List.{list_any};
+ghost use Rattle.request_reader.specs.Lines.{longest_line};
 ghost use Rattle.arrayvec.specs.ArrayVec.{array_vec_len};
 ghost use Rattle.host_types.specs.Lines.{is_lf, without_cr};
 ghost use Rattle.host_types.specs.SiteState.{IsUnchangedBehind};
@@ -34,7 +35,7 @@ impl Model for RequestAdapter {
 
     ghost view = { λ a. record { hears = a.hears; held = drop a.given a.held.items; rewritten = a.rewritten } };
 
-    ghost invariant = { λ a. ((a.given ≤ array_vec_len a.held) × (array_vec_len a.held ≤ 1024))
+    ghost invariant = { λ a. ((a.given ≤ array_vec_len a.held) × (array_vec_len a.held ≤ longest_line))
         × (a.hears ≡ true → (a.given ≡ 0) × (list_any is_lf a.held.items ≡ false) × (a.rewritten ≡ false)) };
 }
 
@@ -101,7 +102,7 @@ impl RequestAdapter {
 
     /// Passes on a piece of what a client sent, and holds back nothing of it but a line that has not ended; no bytes are the end. It says how many bytes it gave, for which there is room.
     pub fn pass(&mut self, piece: &[u8], out: &mut [u8]) -> usize
-        requires room { 1024 + length piece.now < length out.old }
+        requires room { longest_line + length piece.now < length out.old }
         ensures within { result ≤ length out.new }
         ensures heard { IsHeard self.old piece.now (take result out.new) self.new }
     {
@@ -147,7 +148,7 @@ impl RequestAdapter {
     /// Holds more bytes of the first line, for which there is room.
     fn hold(&mut self, bytes: &[u8])
         requires hears { self.old.hears ≡ true }
-        requires room { length self.old.held + length bytes.now ≤ 1024 }
+        requires room { length self.old.held + length bytes.now ≤ longest_line }
         requires line { list_any is_lf bytes.now ≡ false }
         ensures held { self.new.held ≡ self.old.held ++ bytes.now }
         ensures hears { self.new.hears ≡ true }

@@ -8,15 +8,15 @@ use Rattle.page_alloc.specs.declared.runs.Starts.{Starts}
 use Rattle.page_alloc.specs.Lives.{lives_at, ended_at}
 use Rattle.page_alloc.specs.LedgerState.{Mark}
 use Rattle.page_alloc.specs.Calls.{life_from, lives_from}
-use Rattle.page_alloc.specs.Kept.{mark_at, marks_of, is_pinned, swept, HasEnded, GoesOn, Suits, AtMost, Keeps}
+use Rattle.page_alloc.specs.Kept.{mark_at, marks_of, is_pinned, swept, HasEnded, GoesOn, Suits, AtMost, KeepsLedger}
 use Rattle.page_alloc.specs.Runs.{Use, Root, Waiting, Retired, Held, Taken, Free, use_of, after_switch, OneChanges}
 use Rattle.page_alloc.proofs.Marks.{mark_get, marks_count, lives_from_get}
 use Rattle.page_alloc.proofs.Pins.{any_less, any_more}
 use Rattle.page_alloc.proofs.Uses.{ended_before}
 
-module _ (starts after : Starts) (places placed : List ℕ) (n m page : ℕ) (lives : List Life) (generation : ℕ) (pins : List (Option ℕ)) (keeps : Keeps starts places n lives generation pins) (size : m ≡ n) (within : page < n) where
+module _ (starts after : Starts) (places placed : List ℕ) (n m page : ℕ) (lives : List Life) (generation : ℕ) (pins : List (Option ℕ)) (keeps : KeepsLedger starts places n lives generation pins) (size : m ≡ n) (within : page < n) where
   -- one page has another use
-  pub keeps_one : (now : Use) → OneChanges n page now (use_of starts places) (use_of after placed) → Suits generation pins page (get_or lives page Never) now → Keeps after placed m lives generation pins
+  pub keeps_one : (now : Use) → OneChanges n page now (use_of starts places) (use_of after placed) → Suits generation pins page (get_or lives page Never) now → KeepsLedger after placed m lives generation pins
   keeps_one now one suits = record {
     size = keeps.size ∙ sym size;
     pin_count = keeps.pin_count;
@@ -34,7 +34,7 @@ module _ (starts after : Starts) (places placed : List ℕ) (n m page : ℕ) (li
   }
 
   -- one page has another use and another life
-  pub keeps_held : (now : Use) (life : Life) → OneChanges n page now (use_of starts places) (use_of after placed) → Suits generation pins page life now → Keeps after placed m (set lives page life) generation pins
+  pub keeps_held : (now : Use) (life : Life) → OneChanges n page now (use_of starts places) (use_of after placed) → Suits generation pins page life now → KeepsLedger after placed m (set lives page life) generation pins
   keeps_held now life one suits = record {
     size = length-set lives page life ∙ keeps.size ∙ sym size;
     pin_count = keeps.pin_count;
@@ -93,10 +93,10 @@ lives_from_count g (life ∷ lives) [] = refl
 lives_from_count g (life ∷ lives) (mark ∷ marks) = ap suc (lives_from_count g lives marks)
 
 -- once the running commit has switched
-pub keeps_advanced : (starts after : Starts) (places placed : List ℕ) (n m : ℕ) (lives lived : List Life) (old new : ℕ) (pins : List (Option ℕ)) → Keeps starts places n lives old pins → length places ≡ n → m ≡ n → old < new
+pub keeps_advanced : (starts after : Starts) (places placed : List ℕ) (n m : ℕ) (lives lived : List Life) (old new : ℕ) (pins : List (Option ℕ)) → KeepsLedger starts places n lives old pins → length places ≡ n → m ≡ n → old < new
     → lived ≡ lives_from new lives (marks_of starts places)
     → ((p : ℕ) → p < n → use_of after placed p ≡ swept pins (get_or lived p Never) (after_switch (use_of starts places p)))
-    → Keeps after placed m lived new pins
+    → KeepsLedger after placed m lived new pins
 keeps_advanced starts after places placed n m lives lived old new pins keeps count size lt are uses = record {
   size = ap length are ∙ lives_from_count new lives (marks_of starts places) ∙ keeps.size ∙ sym size;
   pin_count = keeps.pin_count;
@@ -133,9 +133,9 @@ past_of g pins number pin most all k =
     ]
 
 -- once a pin is spent
-pub keeps_unpinned : (starts after : Starts) (places placed : List ℕ) (n m : ℕ) (lives : List Life) (generation : ℕ) (pins : List (Option ℕ)) (number : ℕ) → Keeps starts places n lives generation pins → m ≡ n
+pub keeps_unpinned : (starts after : Starts) (places placed : List ℕ) (n m : ℕ) (lives : List Life) (generation : ℕ) (pins : List (Option ℕ)) (number : ℕ) → KeepsLedger starts places n lives generation pins → m ≡ n
     → ((p : ℕ) → p < n → use_of after placed p ≡ swept (set pins number None) (get_or lives p Never) (use_of starts places p))
-    → Keeps after placed m lives generation (set pins number None)
+    → KeepsLedger after placed m lives generation (set pins number None)
 keeps_unpinned starts after places placed n m lives g pins number keeps size uses = record {
   size = keeps.size ∙ sym size;
   pin_count = length-set pins number None ∙ keeps.pin_count;
@@ -154,7 +154,7 @@ pinned_suits g pins number page life Taken none h = (h.0, h.1, any_more (λ gene
 pinned_suits g pins number page life Free none h = (h.0, h.1, any_more (λ generation. lives_at generation life) pins number g (ended_before g life h.1) none ∙ h.2)
 
 -- once the current generation is pinned
-pub keeps_pinned : (starts : Starts) (places : List ℕ) (n : ℕ) (lives : List Life) (generation : ℕ) (pins : List (Option ℕ)) (number : ℕ) → Keeps starts places n lives generation pins → get_or pins number None ≡ None → Keeps starts places n lives generation (set pins number (Some generation))
+pub keeps_pinned : (starts : Starts) (places : List ℕ) (n : ℕ) (lives : List Life) (generation : ℕ) (pins : List (Option ℕ)) (number : ℕ) → KeepsLedger starts places n lives generation pins → get_or pins number None ≡ None → KeepsLedger starts places n lives generation (set pins number (Some generation))
 keeps_pinned starts places n lives g pins number keeps none = record {
   size = keeps.size;
   pin_count = length-set pins number (Some g) ∙ keeps.pin_count;
@@ -168,7 +168,7 @@ same_everywhere (suc n) zero x = refl
 same_everywhere (suc n) (suc p) x = same_everywhere n p x
 
 -- before any call
-pub keeps_fresh : (starts : Starts) (places : List ℕ) (n : ℕ) (generation : ℕ) → ((p : ℕ) → p < n → use_of starts places p ≡ cond (ltb p 2) Root Free) → Keeps starts places n (replicate n Never) generation (replicate 32 None)
+pub keeps_fresh : (starts : Starts) (places : List ℕ) (n : ℕ) (generation : ℕ) → ((p : ℕ) → p < n → use_of starts places p ≡ cond (ltb p 2) Root Free) → KeepsLedger starts places n (replicate n Never) generation (replicate 32 None)
 keeps_fresh starts places n g uses = record {
   size = length-replicate n Never;
   pin_count = refl;

@@ -9,7 +9,7 @@ use Rattle.page_alloc.specs.declared.runs.Starts.{Starts}
 use Rattle.page_alloc.specs.Lives.{lives_at}
 use Rattle.page_alloc.specs.LedgerState.{Mark, is_taken, is_retired, has_page, has_page_next}
 use Rattle.page_alloc.specs.Calls.{life_from, lives_from, advanced}
-use Rattle.page_alloc.specs.Kept.{mark_at, marks_of, state, HasEnded, Suits, AtMost, Keeps}
+use Rattle.page_alloc.specs.Kept.{mark_at, marks_of, state, HasEnded, Suits, AtMost, KeepsLedger}
 use Rattle.page_alloc.specs.Runs.{Use, Root, Waiting, Retired, Held, Taken, Free, use_of}
 use Rattle.page_alloc.proofs.Marks.{mark_get, marks_count, lives_from_get}
 use Rattle.page_alloc.proofs.Sets.{none_of}
@@ -50,7 +50,7 @@ pinned_has old new pins page life Held number kept lt le is h = refl
 pinned_has old new pins page life Taken number kept lt le is h = lt-leb new kept (omega (arith, lt, le)) ∙ sym (none_of (λ g. lives_at g life) pins h.2 number kept is)
 pinned_has old new pins page life Free number kept lt le is h = refl
 
-module _ (starts : Starts) (places : List ℕ) (n : ℕ) (lives : List Life) (old new : ℕ) (pins : List (Option ℕ)) (keeps : Keeps starts places n lives old pins) (size : length places ≡ n) (later : old < new) where
+module _ (starts : Starts) (places : List ℕ) (n : ℕ) (lives : List Life) (old new : ℕ) (pins : List (Option ℕ)) (keeps : KeepsLedger starts places n lives old pins) (size : length places ≡ n) (later : old < new) where
   life_next : (page : ℕ) → page < length lives → get_or (lives_from new lives (marks_of starts places)) page Never ≡ life_from new (get_or lives page Never) (mark_at (use_of starts places page))
   life_next page lt =
       lives_from_get new lives (marks_of starts places) page (omega (arith, marks_count starts places, size, keeps.size)) lt

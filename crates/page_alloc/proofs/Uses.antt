@@ -9,7 +9,7 @@ use Rattle.page_alloc.specs.declared.life.Life.TheVariants.{Never, Since, Betwee
 use Rattle.page_alloc.specs.declared.runs.Starts.{Starts}
 use Rattle.page_alloc.specs.Lives.{lives_at}
 use Rattle.page_alloc.specs.LedgerState.{Mark, Untouched, is_taken, is_retired, is_free, is_alive, free_count, count_below}
-use Rattle.page_alloc.specs.Kept.{mark_at, marks_of, state, is_pinned, HasEnded, GoesOn, Suits, Keeps}
+use Rattle.page_alloc.specs.Kept.{mark_at, marks_of, state, is_pinned, HasEnded, GoesOn, Suits, KeepsLedger}
 use Rattle.page_alloc.specs.Runs.{Use, Root, Waiting, Retired, Held, Taken, Free, use_at, use_of, at, IsInverse, AreRuns}
 use Rattle.page_alloc.proofs.Counting.{count_same, count_from}
 
@@ -113,7 +113,7 @@ only_held Taken e = absurd (cc e)
 only_held Free e = absurd (cc e)
 
 -- a ledger's fields, and what they say of its state
-module _ (starts : Starts) (pages places : List ℕ) (lives : List Life) (generation : ℕ) (pins : List (Option ℕ)) (inverse : IsInverse pages places) (runs : AreRuns starts (length pages)) (keeps : Keeps starts places (length pages) lives generation pins) where
+module _ (starts : Starts) (pages places : List ℕ) (lives : List Life) (generation : ℕ) (pins : List (Option ℕ)) (inverse : IsInverse pages places) (runs : AreRuns starts (length pages)) (keeps : KeepsLedger starts places (length pages) lives generation pins) where
   pub mark_is : (p : ℕ) → p < length pages → get_or (marks_of starts places) p Untouched ≡ mark_at (use_of starts places p)
   mark_is p lt = get_or-map (λ place. mark_at (use_at starts place)) places p 0 Untouched (omega (arith, lt, inverse.same))
 

@@ -52,14 +52,14 @@ abbrev pub AtMost : ℕ → Option ℕ → Type 0
 AtMost generation None = Unit {0}
 AtMost generation (Some other) = other ≤ generation
 
-pub record Keeps (starts : Starts) (places : List ℕ) (pages : ℕ) (lives : List Life) (generation : ℕ) (pins : List (Option ℕ)) : Type 0 where
+pub record KeepsLedger (starts : Starts) (places : List ℕ) (pages : ℕ) (lives : List Life) (generation : ℕ) (pins : List (Option ℕ)) : Type 0 where
   pub size : length lives ≡ pages
   pub pin_count : length pins ≡ 32
   pub suits : (page : ℕ) → page < pages → Suits generation pins page (slice_index_or lives page Never) (use_of starts places page)
   pub past : (number : ℕ) → AtMost generation (slice_index_or pins number None)
 
 abbrev pub IsConsistent : Inside → Type 0
-IsConsistent a = Keeps a.runs.starts a.runs.order.places.items (length a.runs.order.pages.items) a.lives.items a.generation a.pins
+IsConsistent a = KeepsLedger a.runs.starts a.runs.order.places.items (length a.runs.order.pages.items) a.lives.items a.generation a.pins
 
 -- a waiting page is free where no pin keeps it any longer
 abbrev pub swept : List (Option ℕ) → Life → Use → Use

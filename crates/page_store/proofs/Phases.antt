@@ -12,7 +12,7 @@ use Rattle.page_store.specs.Steps.{Makes, AllAre, After}
 use Rattle.page_store.specs.Content.{Found, content_under, content, is_among}
 use Rattle.page_store.specs.Switch.{IsAbove, IsSwitching, IsSwitched}
 use Rattle.page_store.specs.Same.{Agree}
-use Rattle.page_store.specs.Commit.{numbers, patched, IsSameOutside, ArePatched, Commit, IsReady, Shows, IsOldOrNew, IsBetween, IsDone}
+use Rattle.page_store.specs.Commit.{numbers, patched, IsSameOutside, ArePatched, Commit, IsReady, ShowsFound, IsOldOrNew, IsBetween, IsDone}
 use Rattle.page_store.specs.declared.commit.NewPage.{NewPage}
 use Rattle.page_store.proofs.Fields.{bind_some, bind_again}
 use Rattle.page_store.proofs.ReachedPages.{content_under-local}
@@ -142,7 +142,7 @@ module _ (commit : Commit) (pages : List NewPage) (a : Image) (ready : IsReady c
   old_pages c same = λ n m. page_of-same a c n (λ k low high. sym (same_sectors (numbers pages) a c n k same (not_there n (numbers pages) (λ t. absurd (cc (m, (ready.free n t).1)))) low high))
 
   -- while pages are written
-  pub while_written : (c : Image) → IsSameOutside (numbers pages) a c → Shows commit.old commit.old_found (page_of a) c
+  pub while_written : (c : Image) → IsSameOutside (numbers pages) a c → ShowsFound commit.old commit.old_found (page_of a) c
   while_written c same =
       let parts = content-parts a commit.old commit.old_found ready.content in
       let now = same_slots c same ∙ parts.0 in
@@ -159,14 +159,14 @@ module _ (commit : Commit) (pages : List NewPage) (a : Image) (ready : IsReady c
   high_pages : (b c : Image) → IsSwitching commit.new b c → (n : ℕ) → 2 ≤ n → page_of b n ≡ page_of c n
   high_pages b c is n le = page_of-same b c n (λ k low high. sym (is.others k (inr (omega (arith, ready.number)))))
 
-  old_stands : (b c : Image) → ArePatched pages a b → IsSwitching commit.new b c → current c ≡ Some commit.old → Shows commit.old commit.old_found (page_of a) c
+  old_stands : (b c : Image) → ArePatched pages a b → IsSwitching commit.new b c → current c ≡ Some commit.old → ShowsFound commit.old commit.old_found (page_of a) c
   old_stands b c patch is now =
       let shows = while_written b patch.outside in
       let parts = content-parts b commit.old commit.old_found shows.content_is in
       let agree : Agree commit.old_found.pages (page_of b) (page_of c) = λ n m. high_pages b c is n (content_under-inside commit.old (page_of b) commit.old_found parts.1 n m) in
       record { current_is = now; content_is = content-of c commit.old commit.old_found now (content_under-local commit.old (page_of b) (page_of c) commit.old_found parts.1 agree); pages = λ n m. shows.pages n m ∙ agree n m }
 
-  new_stands : (b c : Image) → ArePatched pages a b → IsSwitching commit.new b c → current c ≡ Some commit.new → Shows commit.new commit.new_found (patched pages (page_of a)) c
+  new_stands : (b c : Image) → ArePatched pages a b → IsSwitching commit.new b c → current c ≡ Some commit.new → ShowsFound commit.new commit.new_found (patched pages (page_of a)) c
   new_stands b c patch is now =
       let agree : Agree commit.new_found.pages (patched pages (page_of a)) (page_of c) = λ n m. sym (patch.bytes n) ∙ high_pages b c is n (content_under-inside commit.new (patched pages (page_of a)) commit.new_found ready.under n m) in
       record { current_is = now; content_is = content-of c commit.new commit.new_found now (content_under-local commit.new (patched pages (page_of a)) (page_of c) commit.new_found ready.under agree); pages = agree }

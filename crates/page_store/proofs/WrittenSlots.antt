@@ -12,7 +12,7 @@ use Rattle.page_store.specs.Reading.{number_at}
 use Rattle.page_store.specs.Roots.{FitsDevice, seal_of, is_zero, if_valid, short_text_at, root_at}
 use Rattle.page_store.specs.Steps.{chunk}
 use Rattle.page_store.specs.Switch.{record_in, IsSlotPage}
-use Rattle.page_store.specs.Encoding.{IsTyped, padded, record_fields, record_bytes, root_sector, root_sectors, slot_bytes}
+use Rattle.page_store.specs.Encoding.{IsRootTyped, padded, record_fields, record_bytes, root_sector, root_sectors, slot_bytes}
 use Rattle.page_store.specs.declared.slot.Root.{Root}
 use Rattle.page_store.specs.declared.slot.Slot.{Slot}
 use Rattle.page_store.proofs.Fields.{bind_again}
@@ -154,7 +154,7 @@ pub record_long : (sectors : ℕ) (root : Root) → Says sectors root → length
 unfolding record_bytes
 record_long sectors root s = let small = fields_small sectors root s in padded_long 3904 (record_fields root) (omega (arith, small))
 
-pub slot_valid : (sectors : ℕ) (slot : Slot) (bytes : List ℕ) → slot.number < 2 → slot.seal < 2 ^ 64 → IsTyped slot.root → FitsDevice sectors slot.root → 0 < slot.root.banner.port → bytes ≡ slot_bytes slot → IsSlotPage sectors slot bytes
+pub slot_valid : (sectors : ℕ) (slot : Slot) (bytes : List ℕ) → slot.number < 2 → slot.seal < 2 ^ 64 → IsRootTyped slot.root → FitsDevice sectors slot.root → 0 < slot.root.banner.port → bytes ≡ slot_bytes slot → IsSlotPage sectors slot bytes
 slot_valid sectors slot bytes number seal t fits some_port is =
     let says : Says sectors slot.root = record {
       version = t.version;

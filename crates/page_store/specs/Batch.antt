@@ -4,6 +4,7 @@ use Rattle.std.specs.List.{list_all}
 use Rattle.std.specs.Ordering.{is_lt}
 use Rattle.std.specs.Map.{lookup, remove_entry}
 use Rattle.std.specs.BTreeMap.{insert_entry, is_at}
+use Rattle.page_store.specs.Sizes.{longest_key, longest_value}
 use Rattle.common_types.specs.ByteOrder.{byte_cmp}
 use Rattle.page_store.specs.Keys.{rises}
 use Rattle.page_store.specs.Pages.{Pair, key_of}
@@ -11,11 +12,11 @@ use Rattle.page_store.specs.declared.edit.Edit.{Edit}
 
 -- 1 to 300 bytes
 abbrev pub is_key : List ℕ → Bool
-is_key key = nat_le 1 (length key) && nat_le (length key) 300
+is_key key = nat_le 1 (length key) && nat_le (length key) longest_key
 
 -- at most 1,024 bytes
 unfoldable pub is_value : List ℕ → Bool
-is_value value = nat_le (length value) 1024
+is_value value = nat_le (length value) longest_value
 
 abbrev pub is_pair : Pair → Bool
 is_pair pair = is_key pair.0 && is_value pair.1

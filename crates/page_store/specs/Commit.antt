@@ -60,14 +60,14 @@ abbrev pub MayBeCommitted : Slot → List NewPage → Image → Type 0
 MayBeCommitted slot pages a = (commit : Commit) × (commit.new ≡ slot) × IsReady commit pages a
 
 -- A slot is current, this stands under it, and the pages where it stands have these bytes.
-pub record Shows (slot : Slot) (found : Found) (bytes : ℕ → List ℕ) (c : Image) : Type 0 where
+pub record ShowsFound (slot : Slot) (found : Found) (bytes : ℕ → List ℕ) (c : Image) : Type 0 where
   pub current_is : current c ≡ Some slot
   pub content_is : content c ≡ Some (slot, found)
   pub pages : Agree found.pages bytes (page_of c)
 
 -- The current slot is the one from before, or the new one. In either case its content and the pages under it are fixed, whatever the image.
 abbrev pub IsOldOrNew : Commit → List NewPage → Image → Image → Type 0
-IsOldOrNew commit pages a c = Shows commit.old commit.old_found (page_of a) c ⊎ Shows commit.new commit.new_found (patched pages (page_of a)) c
+IsOldOrNew commit pages a c = ShowsFound commit.old commit.old_found (page_of a) c ⊎ ShowsFound commit.new commit.new_found (patched pages (page_of a)) c
 
 -- every image is this one, which has the new content; pages that weren't written are as before
 pub record IsDone (commit : Commit) (pages : List NewPage) (crash_states : CrashStates Image) (a b : Image) : Type 0 where

@@ -16,14 +16,14 @@ writes_after true faults.Failed count = counted count
 writes_after usable other count = count
 
 -- how a call goes on with the count of failed reads
-abbrev pub CountsReads : {T : Type 0} → Result T KeeperFault → ℕ → ℕ → Type 0
-CountsReads (Ok _) before now = now ≡ before
-CountsReads (Err fault) before now = now ≡ reads_after fault before
+abbrev pub CountsStoreReads : {T : Type 0} → Result T KeeperFault → ℕ → ℕ → Type 0
+CountsStoreReads (Ok _) before now = now ≡ before
+CountsStoreReads (Err fault) before now = now ≡ reads_after fault before
 
 -- how a call of a keeper that was usable or not goes on with the count of failed writes and syncs
-abbrev pub CountsWrites : {T : Type 0} → Bool → Result T KeeperFault → ℕ → ℕ → Type 0
-CountsWrites usable (Ok _) before now = now ≡ before
-CountsWrites usable (Err fault) before now = now ≡ writes_after usable fault before
+abbrev pub CountsStoreWrites : {T : Type 0} → Bool → Result T KeeperFault → ℕ → ℕ → Type 0
+CountsStoreWrites usable (Ok _) before now = now ≡ before
+CountsStoreWrites usable (Err fault) before now = now ≡ writes_after usable fault before
 
 -- What a refused opening counts: its fault `Device` is a read or a sync that failed.
 abbrev pub CountsRefusal : KeeperFault → State → State → Type 0

@@ -1,6 +1,7 @@
 -- The bytes of flat pages and root slots.
 use Rattle.std.specs.Prelude.{IsTrue, ◌<◌, ◌≤◌, ◌^◌, ℕ, zero, suc, ◌-◌, ◌*◌, List, [], ◌∷◌, ◌++◌, length, take, drop, replicate, nat_le, if◌then◌else◌}
 use Rattle.std.specs.Int.{w16, w32, w64, to_be_bytes}
+use Rattle.sector_device.specs.Sizes.{page_size}
 use Rattle.common_types.specs.Names.{is_word, is_field}
 use Rattle.page_store.specs.Roots.{root_word}
 use Rattle.page_store.specs.Pages.{Pair}
@@ -25,7 +26,7 @@ flat_head_bytes seal page count = flat_word ++ to_be_bytes w32 page ++ to_be_byt
 
 -- a flat page of a generation
 unfoldable pub flat_bytes : ℕ → ℕ → List Pair → List ℕ
-flat_bytes seal page pairs = padded 4096 (flat_head_bytes seal page (length pairs) ++ entries_bytes pairs)
+flat_bytes seal page pairs = padded page_size (flat_head_bytes seal page (length pairs) ++ entries_bytes pairs)
 
 -- how many pairs from the first on fit into so many bytes
 abbrev pub fitting : ℕ → List Pair → ℕ
@@ -79,7 +80,7 @@ unfoldable pub slot_bytes : Slot → List ℕ
 slot_bytes slot = root_sectors (8 * slot.number) slot.seal 8 (record_bytes slot.root)
 
 -- what the type of a root sees to
-pub record IsTyped (root : Root) : Type 0 where
+pub record IsRootTyped (root : Root) : Type 0 where
   pub version : root.banner.version < 2 ^ 16
   pub tree : root.tree < 2 ^ 32
   pub height : root.height < 2 ^ 16

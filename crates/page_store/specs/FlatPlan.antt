@@ -12,7 +12,7 @@ use Rattle.page_store.specs.declared.fault.KeeperFault.{KeeperFault}
 use Rattle.page_store.specs.declared.fault.KeeperFault.TheVariants as faults
 
 -- The pairs go page by page to the other half, which has room for them, and the other slot gets the seal.
-pub record IsPlan (slot : Slot) (seal : ℕ) (pairs : List Pair) (banner : Banner) (plan : Plan) : Type 0 where
+pub record IsFlatPlan (slot : Slot) (seal : ℕ) (pairs : List Pair) (banner : Banner) (plan : Plan) : Type 0 where
   pub pairs_are : plan.pairs.items ≡ pairs
   pub room : pages_needed pairs ≤ half_size slot.root.pages
   pub pages_are : plan.pages.items ≡ flat_pages seal (other_half slot.root) (by_pages pairs)
@@ -20,7 +20,7 @@ pub record IsPlan (slot : Slot) (seal : ℕ) (pairs : List Pair) (banner : Banne
   pub page : (sectors : ℕ) → 8 * slot.root.pages ≤ sectors → IsSlotPage sectors plan.slot plan.root
 
 -- When there is no plan for pairs that go to a half of so many pages.
-abbrev pub IsPlanFault : ℕ → List Pair → KeeperFault → Type 0
-IsPlanFault half pairs (faults.Full need free) = (need ≡ pages_needed pairs) × (free ≡ half) × (free < need)
-IsPlanFault half pairs faults.Memory = Unit {0}
-IsPlanFault half pairs other = ⊥
+abbrev pub IsFlatPlanFault : ℕ → List Pair → KeeperFault → Type 0
+IsFlatPlanFault half pairs (faults.Full need free) = (need ≡ pages_needed pairs) × (free ≡ half) × (free < need)
+IsFlatPlanFault half pairs faults.Memory = Unit {0}
+IsFlatPlanFault half pairs other = ⊥

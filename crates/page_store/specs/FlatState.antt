@@ -1,5 +1,6 @@
 -- What a keeper of flat pages is.
 use Rattle.std.specs.Prelude.{None, ◌-◌, ◌==◌, if◌then◌else◌, Bool, ◌≡◌, ◌≤◌, ◌<◌, ◌*◌, ◌+◌, ℕ, List, [], Some, true, IsTrue, length}
+use Rattle.page_store.specs.Sizes.{most_pages}
 use Rattle.sector_device.specs.Disk.{Disk, IsImage}
 use Rattle.page_store.specs.Pages.{Pair}
 use Rattle.page_store.specs.Roots.{current, greatest_seal}
@@ -29,7 +30,7 @@ found_in_half slot pairs = record { pages = numbers_from slot.root.tree (half_si
 pub record IsFitted (sectors : ℕ) (slot : Slot) (pairs : List Pair) : Type 0 where
   pub number : slot.number < 2
   pub least : 16 ≤ slot.root.pages
-  pub most : slot.root.pages ≤ 65536
+  pub most : slot.root.pages ≤ most_pages
   pub fits : 8 * slot.root.pages ≤ sectors
   pub half : is_half slot.root ≡ true
   pub version : slot.root.banner.version ≡ 0
@@ -90,7 +91,7 @@ flat_holding state slot pairs top usable = record {
 -- ---- opening
 
 -- What was opened.
-pub record IsOpened (old new : State) (crash_states : CrashStates Image) (slot : Slot) (top : ℕ) : Type 0 where
+pub record IsFlatOpened (old new : State) (crash_states : CrashStates Image) (slot : Slot) (top : ℕ) : Type 0 where
   pub all : IsTrue old.honest → AllAre crash_states new.disk.view
   pub view : IsTrue old.honest → new.disk.view ≡ old.disk.view
   pub slot_is : IsTrue old.honest → current old.disk.view ≡ Some slot

@@ -1,5 +1,6 @@
 -- What is made, and when it is not.
 use Rattle.std.specs.Prelude.{◌≡◌, ◌⊎◌, ◌<◌, ◌*◌, ℕ, Some}
+use Rattle.page_store.specs.Sizes.{least_pages, most_pages}
 use Rattle.common_types.specs.Counts.{counted}
 use Rattle.sector_device.specs.Device.{State, NothingCounted}
 use Rattle.sector_device.specs.Effects.{MadeExactly}
@@ -19,7 +20,7 @@ pub record IsFirst (pages : ℕ) (image : Image) : Type 0 where
   pub size : slot.root.pages ≡ pages
 
 -- What was made cost so many writes and one sync, and no call failed.
-pub record IsMadeBy (w : ℕ) (old new : State) : Type 0 where
+pub record IsFormattedBy (w : ℕ) (old new : State) : Type 0 where
   pub counts : NothingCounted old new
   pub made : MadeExactly 0 w 1 old new
 
@@ -29,7 +30,7 @@ IsFormatFault pages old new faults.Device = ⊥
 IsFormatFault pages old new faults.NoImage = ⊥
 IsFormatFault pages old new faults.Version = ⊥
 IsFormatFault pages old new (faults.Damaged page) = ⊥
-IsFormatFault pages old new faults.Small = (pages < 16) ⊎ ((65536 < pages) ⊎ (old.size < 8 * pages))
+IsFormatFault pages old new faults.Small = (pages < least_pages) ⊎ ((most_pages < pages) ⊎ (old.size < 8 * pages))
 IsFormatFault pages old new faults.Spent = ⊥
 IsFormatFault pages old new faults.Deep = ⊥
 IsFormatFault pages old new (faults.Full need free) = ⊥

@@ -27,3 +27,4 @@ pub mod FlatSeen
 pub mod CrashStatesRepresent
 pub mod Formatting
 pub mod ImageExamples
+pub mod Sizes

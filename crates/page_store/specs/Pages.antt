@@ -2,6 +2,7 @@
 use Rattle.std.specs.Prelude.{ℕ, zero, suc, Bool, true, false, List, [], ◌∷◌, drop, map, Option, Some, nat_lt, nat_le, ◌==◌, ◌&&◌, bytes_eq}
 use Rattle.std.specs.List.{list_all}
 use Rattle.std.specs.Int.{w16, w32, w64}
+use Rattle.page_store.specs.Sizes.{longest_key, longest_value}
 use Rattle.page_store.specs.Reading.{◌>>=◌, where_true, piece_at, number_at}
 use Rattle.page_store.specs.Keys.{rises, is_between}
 use Rattle.page_store.specs.Roots.{is_zero}
@@ -57,14 +58,14 @@ pair_at bytes = do
   value_length ← number_at w16 key_length.1
   key ← piece_at key_length.0 value_length.1
   value ← piece_at value_length.0 key.1
-  where_true (nat_le 1 key_length.0 && (nat_le key_length.0 300 && nat_le value_length.0 1024)) (Some ((key.0, value.0), value.1))
+  where_true (nat_le 1 key_length.0 && (nat_le key_length.0 longest_key && nat_le value_length.0 longest_value)) (Some ((key.0, value.0), value.1))
 
 unfoldable pub child_at : List ℕ → Option (Child × List ℕ)
 child_at bytes = do
   key_length ← number_at w16 bytes
   page ← number_at w32 key_length.1
   key ← piece_at key_length.0 page.1
-  where_true (nat_le key_length.0 300) (Some (record { key = key.0; page = page.0 }, key.1))
+  where_true (nat_le key_length.0 longest_key) (Some (record { key = key.0; page = page.0 }, key.1))
 
 -- so many entries, and the bytes after them
 abbrev pub entries_at : {E : Type 0} → (List ℕ → Option (E × List ℕ)) → ℕ → List ℕ → Option (List E × List ℕ)

@@ -25,7 +25,7 @@ abbrev pub OthersStay : ℕ → StoreState → StoreState → Type 0
 OthersStay number old new = (n : ℕ) → (n ≡ number → ⊥) → pairs_at new n ≡ pairs_at old n
 
 -- One more pin is out, of a number that wasn't, and keeps the current pairs. Nothing else has changed.
-pub record IsPinned (old new : StoreState) (number : ℕ) : Type 0 where
+pub record IsStorePinned (old new : StoreState) (number : ℕ) : Type 0 where
   pub usable : old.usable ≡ true
   pub room : length old.pins < most_pins
   pub fresh : is_out old number ≡ false
@@ -36,12 +36,12 @@ pub record IsPinned (old new : StoreState) (number : ℕ) : Type 0 where
   pub same : new ≡ record old { pins = new.pins }
 
 -- When no pin is given, and what stands then: all is as before.
-abbrev pub IsPinFault : StoreState → StoreState → PinFault → Type 0
-IsPinFault old new faults.Failed = (old.usable ≡ false) × (new ≡ old)
-IsPinFault old new faults.Crowded = (old.usable ≡ true) × (length old.pins ≡ most_pins) × (new ≡ old)
+abbrev pub IsStorePinFault : StoreState → StoreState → PinFault → Type 0
+IsStorePinFault old new faults.Failed = (old.usable ≡ false) × (new ≡ old)
+IsStorePinFault old new faults.Crowded = (old.usable ≡ true) × (length old.pins ≡ most_pins) × (new ≡ old)
 
 -- One pin is no longer out. More may be free, and nothing else has changed.
-pub record IsUnpinned (old new : StoreState) (number : ℕ) : Type 0 where
+pub record IsStoreUnpinned (old new : StoreState) (number : ℕ) : Type 0 where
   pub out : (n : ℕ) → is_out new n ≡ (not (n == number) && is_out old n)
   pub count : length new.pins + 1 ≡ length old.pins
   pub others : IsTrue old.honest → OthersStay number old new

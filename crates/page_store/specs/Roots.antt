@@ -3,6 +3,7 @@ use Rattle.std.specs.Prelude.{◌≤◌, ◌<◌, ℕ, zero, suc, ◌*◌, Bool,
 use Rattle.std.specs.Prelude.{bytes_eq}
 use Rattle.std.specs.List.{list_all}
 use Rattle.std.specs.Int.{w16, w32, w64, from_be_bytes}
+use Rattle.page_store.specs.Sizes.{least_pages, most_pages}
 use Rattle.common_types.specs.Names.{name_of, is_word, is_field}
 use Rattle.common_types.specs.declared.refused.Refused.{Refused}
 use Rattle.page_store.specs.Reading.{◌>>=◌, where_true, piece_at, byte_at, number_at}
@@ -59,12 +60,12 @@ root_at sectors bytes = do
   host ← if_valid (name_of is_word 100 host_text.0)
   admin ← if_valid (name_of is_field 100 admin_text.0)
   where_true
-      (nat_le 16 pages.0 && (nat_le pages.0 65536 && (nat_le (8 * pages.0) sectors && (nat_le 1 port.0 && list_all is_zero admin_text.1))))
+      (nat_le least_pages pages.0 && (nat_le pages.0 most_pages && (nat_le (8 * pages.0) sectors && (nat_le 1 port.0 && list_all is_zero admin_text.1))))
       (Some (record { pages = pages.0; tree = tree.0; height = height.0; keys = keys.0; banner = record { version = version.0; host = host; port = port.0; admin = admin } }))
 
 -- the root's image is on a device of so many sectors
 abbrev pub FitsDevice : ℕ → Root → Type 0
-FitsDevice sectors root = (16 ≤ root.pages) × (root.pages ≤ 65536) × (8 * root.pages ≤ sectors)
+FitsDevice sectors root = (least_pages ≤ root.pages) × (root.pages ≤ most_pages) × (8 * root.pages ≤ sectors)
 
 -- What a slot is that is found on a device of so many sectors, whatever the device says.
 abbrev pub IsFoundSlot : ℕ → Slot → Type 0

@@ -68,7 +68,7 @@ pub record HasStayed (old new : StoreState) : Type 0 where
   pub calls : WritesNothing old.made new.made
 
 -- What a call that only reads leaves: reads may have failed.
-pub record HasRead (old new : StoreState) : Type 0 where
+pub record StoreHasRead (old new : StoreState) : Type 0 where
   pub same : HasStayed old new
   pub honest : new.honest ≡ old.honest
   pub reads : old.failed_reads ≤ new.failed_reads
@@ -96,20 +96,20 @@ IsFilled size (Ok None) old new = new ≡ old
 IsFilled size (Err fault) old new = new ≡ old
 
 -- When a fault may come of a call that only reads.
-abbrev pub IsReadFault : StoreState → StoreState → KeeperFault → Type 0
-IsReadFault old new faults.Device = new.failed_reads ≡ counted old.failed_reads
-IsReadFault old new faults.NoImage = ⊥
-IsReadFault old new faults.Version = ⊥
-IsReadFault old new (faults.Damaged page) = old.honest ≡ false
-IsReadFault old new faults.Small = ⊥
-IsReadFault old new faults.Spent = ⊥
-IsReadFault old new faults.Deep = ⊥
-IsReadFault old new (faults.Full need free) = ⊥
-IsReadFault old new faults.Failed = old.usable ≡ false
-IsReadFault old new faults.Memory = ⊥
+abbrev pub IsStoreReadFault : StoreState → StoreState → KeeperFault → Type 0
+IsStoreReadFault old new faults.Device = new.failed_reads ≡ counted old.failed_reads
+IsStoreReadFault old new faults.NoImage = ⊥
+IsStoreReadFault old new faults.Version = ⊥
+IsStoreReadFault old new (faults.Damaged page) = old.honest ≡ false
+IsStoreReadFault old new faults.Small = ⊥
+IsStoreReadFault old new faults.Spent = ⊥
+IsStoreReadFault old new faults.Deep = ⊥
+IsStoreReadFault old new (faults.Full need free) = ⊥
+IsStoreReadFault old new faults.Failed = old.usable ≡ false
+IsStoreReadFault old new faults.Memory = ⊥
 
 -- A write or a sync failed, in this call or before.
-pub record HasFailed (old new : StoreState) : Type 0 where
+pub record StoreHasFailed (old new : StoreState) : Type 0 where
   pub pairs : IsTrue old.honest → new.pairs ≡ old.pairs
   pub banner : new.banner ≡ old.banner
   pub shut : new.usable ≡ false
@@ -132,11 +132,11 @@ IsCommitFault old new edits may_need faults.Small = ⊥
 IsCommitFault old new edits may_need faults.Spent = HasStayed old new × (old.top ≡ last_generation)
 IsCommitFault old new edits may_need faults.Deep = HasStayed old new × (IsTrue old.honest → MayBeDeep old edits × may_need TooManyLevels)
 IsCommitFault old new edits may_need (faults.Full need free) = HasStayed old new × (free ≡ old.free) × (free < need) × (IsTrue old.honest → may_need (SoManyPages need))
-IsCommitFault old new edits may_need faults.Failed = HasFailed old new
+IsCommitFault old new edits may_need faults.Failed = StoreHasFailed old new
 IsCommitFault old new edits may_need faults.Memory = HasStayed old new
 
 -- What every commit leaves, whatever it answers.
-pub record HasTried (old new : StoreState) : Type 0 where
+pub record StoreHasTried (old new : StoreState) : Type 0 where
   pub honest : new.honest ≡ old.honest
   pub reads : old.failed_reads ≤ new.failed_reads
   pub writes : old.failed_writes ≤ new.failed_writes

@@ -3,6 +3,7 @@ ghost use Rattle.std.specs.Prelude.{◌≡◌, ◌≤◌, ◌<◌, ◌+◌, ◌+
 ghost use Rattle.std.specs.Map.{lookup, remove_entry};
 ghost use Rattle.std.specs.BTreeMap.{insert_entry, is_at};
 ghost use Rattle.std.specs.List.{list_all};
+ghost use Rattle.page_store.specs.Sizes.{longest_key, longest_value};
 ghost use Rattle.common_types.specs.ByteOrder.{byte_cmp};
 ghost use Rattle.page_store.specs.Batch.{value_at, pair_after, edited, updated, is_pair};
 
@@ -15,7 +16,7 @@ use std::cmp::Ordering;
 pub(crate) fn value_of<'a>(pairs: &'a [Pair], key: &[u8]) -> Option<&'a [u8]>
     requires { IsTrue (list_all is_pair pairs.now) }
     ensures value { option_map (λ v. v.now) result ≡ value_at pairs.now key.now }
-    ensures size { IfSome result (λ v. length v.now ≤ 1024) }
+    ensures size { IfSome result (λ v. length v.now ≤ longest_value) }
 {
     for pair in pairs {
         if key.cmp(pair.key()) == Ordering::Equal {
@@ -29,8 +30,8 @@ pub(crate) fn value_of<'a>(pairs: &'a [Pair], key: &[u8]) -> Option<&'a [u8]>
 pub(crate) fn next_pair<'a>(pairs: &'a [Pair], after: &[u8]) -> Option<&'a Pair>
     requires { IsTrue (list_all is_pair pairs.now) }
     ensures pair { option_copied result ≡ pair_after pairs.now after.now }
-    ensures key { IfSome result (λ pair. length pair.now.0 ≤ 300) }
-    ensures value { IfSome result (λ pair. length pair.now.1 ≤ 1024) }
+    ensures key { IfSome result (λ pair. length pair.now.0 ≤ longest_key) }
+    ensures value { IfSome result (λ pair. length pair.now.1 ≤ longest_value) }
 {
     for pair in pairs {
         if after.cmp(pair.key()) == Ordering::Less {

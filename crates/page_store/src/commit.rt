@@ -9,13 +9,13 @@ ghost use Rattle.page_store.specs.Commit.{numbers, IsSameOutside, ArePatched, Co
 
 use crate::Slot;
 use crate::pages::{switch_root, sync_all, write_page};
-use sector_device::{Device, DeviceFault};
+use sector_device::{Device, DeviceFault, PAGE_SIZE};
 
 /// A page that is to be written.
 #[derive(Clone, Copy)]
 pub struct NewPage {
     pub number: u32,
-    pub bytes: [u8; 4096],
+    pub bytes: [u8; PAGE_SIZE],
 }
 
 /// Writes pages, one after another.
@@ -35,7 +35,7 @@ pub fn commit_pages<D: Device>(
     device: &mut D,
     pages: &[NewPage],
     slot: &Slot,
-    root: &[u8; 4096],
+    root: &[u8; PAGE_SIZE],
 ) -> Result<(), DeviceFault>
     requires fits { All (λ page. 8 * page.number + 8 ≤ (D.state device.old).size) pages.now }
     requires slot { 8 * slot.now.number + 8 ≤ (D.state device.old).size }

@@ -2,8 +2,8 @@
 ghost use Rattle.std.specs.Prelude.{◌≡◌, ◌≤◌, ◌*◌, ℕ, true, false, OnOk, IfErr, IsErrOf, IsTrue, length};
 ghost use Rattle.common_types.specs.CrashStates.{AddsOnly, AddsNone};
 ghost use Rattle.page_store.specs.Compaction.{IsCompacted, IsCompactFault, CompactsTheSame};
-ghost use Rattle.page_store.specs.Counting.{CountsReads, CountsWrites};
-ghost use Rattle.page_store.specs.StoreState.{HasTried, NeedsTheSame, last_generation};
+ghost use Rattle.page_store.specs.Counting.{CountsStoreReads, CountsStoreWrites};
+ghost use Rattle.page_store.specs.StoreState.{StoreHasTried, NeedsTheSame, last_generation};
 ghost use Rattle.page_store.specs.Work.{WritesAtMost};
 ghost use Rattle.page_store.specs.declared.fault.KeeperFault.TheVariants.{Failed, Spent};
 
@@ -29,9 +29,9 @@ pub trait CompactKeeper: Keeper {
         ensures closed { (Self.store_state self.old).usable ≡ false → IsErrOf result Failed }
         ensures spent { (Self.store_state self.old).usable ≡ true → (Self.store_state self.old).top ≡ last_generation → IsErrOf result Spent }
         ensures unchanged { (Self.store_state self.old).usable ≡ false → Self.store_state self.new ≡ Self.store_state self.old }
-        ensures tried { HasTried (Self.store_state self.old) (Self.store_state self.new) }
-        ensures reads { CountsReads result (Self.store_state self.old).failed_reads (Self.store_state self.new).failed_reads }
-        ensures writes { CountsWrites (Self.store_state self.old).usable result (Self.store_state self.old).failed_writes (Self.store_state self.new).failed_writes }
+        ensures tried { StoreHasTried (Self.store_state self.old) (Self.store_state self.new) }
+        ensures reads { CountsStoreReads result (Self.store_state self.old).failed_reads (Self.store_state self.new).failed_reads }
+        ensures writes { CountsStoreWrites (Self.store_state self.old).usable result (Self.store_state self.old).failed_writes (Self.store_state self.new).failed_writes }
         ensures work { WritesAtMost (Self.store_state self.old).free (Self.store_state self.old).made (Self.store_state self.new).made }
 
         // A crash within the call leaves the same pairs and the same banner.

@@ -2,14 +2,16 @@
 ghost use Rattle.std.specs.Prelude.{◌≡◌, ◌+◌, ◌-◌, ◌*◌, ◌<◌, ◌≤◌, ◌++◌, ◌∷◌, ◌^◌, ℕ, [], IsTrue, IfOk, OnOk, length, take, drop, map};
 ghost use Rattle.std.specs.Int.{w16, w32, w64, to_be_bytes};
 ghost use Rattle.std.specs.List.{list_all};
+ghost use Rattle.sector_device.specs.Sizes.{page_size};
 ghost use Rattle.page_store.specs.Batch.{is_pair};
 ghost use Rattle.page_store.specs.Roots.{FitsDevice};
 ghost use Rattle.page_store.specs.Switch.{IsSlotPage};
 ghost use Rattle.page_store.specs.Flat.{flat_word, entry_size};
-ghost use Rattle.page_store.specs.Encoding.{padded, entry_bytes, entries_bytes, flat_head_bytes, flat_bytes, fitting, page_room, paged, by_pages, pages_needed, flat_pages, IsTyped, record_fields, record_bytes, root_sector, root_sectors, slot_bytes};
+ghost use Rattle.page_store.specs.Encoding.{padded, entry_bytes, entries_bytes, flat_head_bytes, flat_bytes, fitting, page_room, paged, by_pages, pages_needed, flat_pages, IsRootTyped, record_fields, record_bytes, root_sector, root_sectors, slot_bytes};
 
 use crate::reading::{FLAT_WORD, ROOT_WORD};
 use crate::{NewPage, Pair, Root, Slot};
+use sector_device::PAGE_SIZE;
 use std::alloc::{AllocError, Global};
 
 /// How many bytes of a flat page are for its entries.
@@ -53,19 +55,24 @@ fn padded(bytes: Vec<u8>, most: usize) -> Result<Vec<u8>, AllocError>
 }
 
 /// A page of these bytes, and zeros after them.
-pub fn padded_page(bytes: Vec<u8>) -> Result<[u8; 4096], AllocError>
-    requires { length bytes.items ≤ 4096 }
-    ensures { IfOk result (λ page. page ≡ padded 4096 bytes.items) }
+pub fn padded_page(bytes: Vec<u8>) -> Result<[u8; PAGE_SIZE], AllocError>
+    requires { length bytes.items ≤ page_size }
+    ensures { IfOk result (λ page. page ≡ padded page_size bytes.items) }
 {
-    let bytes = padded(bytes, 4096)?;
-    let mut page = [0; 4096];
+    let bytes = padded(bytes, PAGE_SIZE)?;
+    let mut page = [0; PAGE_SIZE];
     page.copy_from_slice(&bytes);
     Ok(page)
 }
 
 /// The bytes of a flat page of a generation.
 #[tactic(auto, unfolding(crate::specs::Encoding::flat_bytes, crate::specs::Encoding::page_room))]
-fn flat_page(alloc: Global, seal: u64, page: u32, pairs: &[Pair]) -> Result<[u8; 4096], AllocError>
+fn flat_page(
+    alloc: Global,
+    seal: u64,
+    page: u32,
+    pairs: &[Pair],
+) -> Result<[u8; PAGE_SIZE], AllocError>
     requires pairs { IsTrue (list_all is_pair pairs.now) }
     requires count { length pairs.now < 2 ^ 16 }
     requires room { length (entries_bytes pairs.now) ≤ page_room }
@@ -146,7 +153,7 @@ pub(crate) fn flat_pages(
 fn record_fields(alloc: Global, root: &Root) -> Result<Vec<u8>, AllocError>
     ensures bytes { IfOk result (λ bytes. bytes.items ≡ record_fields root.now) }
     ensures length { IfOk result (λ bytes. length bytes.items ≤ 224) }
-    ensures typed { IfOk result (λ bytes. IsTyped root.now) }
+    ensures typed { IfOk result (λ bytes. IsRootTyped root.now) }
 {
     let host = root.banner.host.as_bytes();
     let admin = root.banner.admin.as_bytes();
@@ -169,7 +176,7 @@ fn record_fields(alloc: Global, root: &Root) -> Result<Vec<u8>, AllocError>
 fn record_of(alloc: Global, root: &Root) -> Result<Vec<u8>, AllocError>
     ensures bytes { IfOk result (λ bytes. bytes.items ≡ record_bytes root.now) }
     ensures length { IfOk result (λ bytes. length bytes.items ≡ 3904) }
-    ensures typed { IfOk result (λ bytes. IsTyped root.now) }
+    ensures typed { IfOk result (λ bytes. IsRootTyped root.now) }
 {
     padded(record_fields(alloc, root)?, 3904)
 }
@@ -187,7 +194,7 @@ fn put_sector(out: &mut Vec<u8>, number: u64, seal: u64, part: &[u8]) -> Result<
 
 /// The bytes of a slot's page.
 #[tactic(auto, unfolding(crate::specs::Encoding::slot_bytes))]
-pub fn slot_page(alloc: Global, slot: &Slot) -> Result<[u8; 4096], AllocError>
+pub fn slot_page(alloc: Global, slot: &Slot) -> Result<[u8; PAGE_SIZE], AllocError>
     requires { slot.now.number < 2 }
     ensures bytes { IfOk result (λ bytes. bytes ≡ slot_bytes slot.now) }
     ensures valid { IfOk result (λ bytes. (sectors : ℕ) → slot.now.seal < 2 ^ 64 → FitsDevice sectors slot.now.root → 0 < slot.now.root.banner.port → IsSlotPage sectors slot.now bytes) }
@@ -203,7 +210,7 @@ pub fn slot_page(alloc: Global, slot: &Slot) -> Result<[u8; 4096], AllocError>
             &record[488 * k..488 * k + 488],
         )?;
     }
-    let mut page = [0; 4096];
+    let mut page = [0; PAGE_SIZE];
     page.copy_from_slice(&out);
     Ok(page)
 }

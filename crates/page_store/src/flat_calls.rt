@@ -6,9 +6,9 @@ ghost use Rattle.page_store.specs.Batch.{is_batch, is_map, updated};
 ghost use Rattle.page_store.specs.Encoding.{pages_needed};
 ghost use Rattle.common_types.specs.Counts.{Counts};
 ghost use Rattle.page_store.specs.Commit.{IsBetween};
-ghost use Rattle.page_store.specs.FlatPlan.{IsPlan};
-ghost use Rattle.page_store.specs.Counting.{CountsReads, CountsWrites};
-ghost use Rattle.page_store.specs.StoreState.{SoManyPages, HasTried, NeedsTheSame, IsCommitFault, numbers_out, last_generation, most_levels};
+ghost use Rattle.page_store.specs.FlatPlan.{IsFlatPlan};
+ghost use Rattle.page_store.specs.Counting.{CountsStoreReads, CountsStoreWrites};
+ghost use Rattle.page_store.specs.StoreState.{SoManyPages, StoreHasTried, NeedsTheSame, IsCommitFault, numbers_out, last_generation, most_levels};
 ghost use Rattle.page_store.specs.Work.{CommitsWithin};
 ghost use Rattle.page_store.specs.FlatSeen.{held, device_of, slot_of, pairs_of, top_of, is_open};
 ghost use Rattle.page_store.specs.declared.fault.KeeperFault.TheVariants.{Failed, Spent};
@@ -21,7 +21,7 @@ ghost use Rattle.page_store.specs.CrashStatesRepresent.{crash_states_represent_c
 use crate::batch::{next_pair, value_of};
 use crate::commit::commit_pages;
 use crate::flat_plan::{Plan, planned};
-use crate::{Banner, Edit, Figures, FlatKeeper, Keeper, KeeperFault};
+use crate::{Banner, Edit, Figures, FlatKeeper, Keeper, KeeperFault, LONGEST_KEY, LONGEST_VALUE};
 use sector_device::{Device, DeviceFault};
 
 impl<D: Device> FlatKeeper<D> {
@@ -29,7 +29,7 @@ impl<D: Device> FlatKeeper<D> {
     fn write_plan(&mut self, plan: Plan) -> Result<(), DeviceFault>
         requires open { is_open self.old ≡ true }
         requires left { top_of self.old < last_generation }
-        requires plan { IsPlan (slot_of self.old) (top_of self.old + 1) plan.pairs.items plan.slot.root.banner plan }
+        requires plan { IsFlatPlan (slot_of self.old) (top_of self.old + 1) plan.pairs.items plan.slot.root.banner plan }
         requires map { is_map plan.pairs.items ≡ true }
         requires version { IsTrue (is_opened plan.slot.root.banner.version) }
         ensures at_crash { IsTrue (D.state (device_of self.old)).honest → AddsOnly (crash_states_of D.moment D.possible_since (device_of self.old)) (crash_states_of D.moment D.possible_since (device_of self.new))
@@ -103,7 +103,11 @@ impl<D: Device> Keeper for FlatKeeper<D> {
         }
     }
 
-    fn get(&mut self, key: &[u8], buffer: &mut [u8; 1024]) -> Result<Option<usize>, KeeperFault> {
+    fn get(
+        &mut self,
+        key: &[u8],
+        buffer: &mut [u8; LONGEST_VALUE],
+    ) -> Result<Option<usize>, KeeperFault> {
         if !self.usable {
             return Err(KeeperFault::Failed);
         }
@@ -117,8 +121,8 @@ impl<D: Device> Keeper for FlatKeeper<D> {
     fn next(
         &mut self,
         after: &[u8],
-        key: &mut [u8; 300],
-        value: &mut [u8; 1024],
+        key: &mut [u8; LONGEST_KEY],
+        value: &mut [u8; LONGEST_VALUE],
     ) -> Result<Option<(usize, usize)>, KeeperFault> {
         if !self.usable {
             return Err(KeeperFault::Failed);
@@ -148,9 +152,9 @@ impl<D: Device> Keeper for FlatKeeper<D> {
         ensures closed { (held D.state self.old).usable ≡ false → IsErrOf result Failed }
         ensures spent { (held D.state self.old).usable ≡ true → (held D.state self.old).top ≡ last_generation → IsErrOf result Spent }
         ensures unchanged { (held D.state self.old).usable ≡ false → held D.state self.new ≡ held D.state self.old }
-        ensures tried { HasTried (held D.state self.old) (held D.state self.new) }
-        ensures reads { CountsReads result (held D.state self.old).failed_reads (held D.state self.new).failed_reads }
-        ensures writes { CountsWrites (held D.state self.old).usable result (held D.state self.old).failed_writes (held D.state self.new).failed_writes }
+        ensures tried { StoreHasTried (held D.state self.old) (held D.state self.new) }
+        ensures reads { CountsStoreReads result (held D.state self.old).failed_reads (held D.state self.new).failed_reads }
+        ensures writes { CountsStoreWrites (held D.state self.old).usable result (held D.state self.old).failed_writes (held D.state self.new).failed_writes }
         ensures work { CommitsWithin (most_levels * length batch.now) (held D.state self.old).free (held D.state self.old).made (held D.state self.new).made }
         ensures at_crash { IsTrue (held D.state self.old).honest → (held D.state self.old).usable ≡ true →
             AddsOnly (crash_states_of D.moment D.possible_since (device_of self.old)) (crash_states_of D.moment D.possible_since (device_of self.new))

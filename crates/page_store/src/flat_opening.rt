@@ -1,9 +1,10 @@
 // Opening an image of flat pages.
 ghost use Rattle.std.specs.Prelude.{◌≡◌, ◌⊎◌, ◌≤◌, ◌<◌, ◌*◌, ◌+◌, ◌==◌, ◌^◌, ℕ, List, Bool, true, false, Some, IfOk, OnOk, IfErr, IsTrue, length};
 ghost use Rattle.std.specs.List.{list_all};
+ghost use Rattle.page_store.specs.Sizes.{most_pages};
 ghost use Rattle.sector_device.specs.Device.{State, NothingCounted};
 ghost use Rattle.sector_device.specs.Effects.{MadeExactly, MadeAtMost, MadeIfOk};
-ghost use Rattle.page_store.specs.Counting.{CountsReads, CountsRefusal};
+ghost use Rattle.page_store.specs.Counting.{CountsStoreReads, CountsRefusal};
 ghost use Rattle.page_store.specs.declared.fault.KeeperFault.TheVariants.{Small};
 ghost use Rattle.page_store.specs.Batch.{is_map, is_pair, is_key, is_value};
 ghost use Rattle.page_store.specs.Flat.{half_size, is_half};
@@ -11,7 +12,7 @@ ghost use Rattle.page_store.specs.Content.{HasContent};
 ghost use Rattle.page_store.specs.Steps.{crash_states_of};
 ghost use Rattle.page_store.specs.DeviceEffects.{IsReadCall};
 ghost use Rattle.page_store.specs.Opening.{ReadsToOpen, MadeToOpen};
-ghost use Rattle.page_store.specs.FlatState.{IsFitted, CrashStatesDoRepresent, IsOpened, IsSlotFault, IsOpenFault, HasOpened, found_in_half};
+ghost use Rattle.page_store.specs.FlatState.{IsFitted, CrashStatesDoRepresent, IsFlatOpened, IsSlotFault, IsOpenFault, HasOpened, found_in_half};
 ghost use Rattle.page_store.specs.FlatSeen.{slot_of, pairs_of, banner_of, device_of, top_of, is_open};
 ghost use Rattle.page_store.specs.Roots.{IsFoundSlot, current, greatest_seal};
 ghost use Rattle.common_types.specs.CrashStates.{AddsNone};
@@ -20,14 +21,14 @@ use crate::flat_reading::read_half;
 use crate::pages::sync_all;
 use crate::pair::keys_rise;
 use crate::roots::{Roots, open_roots};
-use crate::{FlatKeeper, KeeperFault, Pair, Root, Slot};
+use crate::{FlatKeeper, KeeperFault, LONGEST_KEY, LONGEST_VALUE, Pair, Root, Slot};
 use sector_device::Device;
 use std::alloc::Global;
 
 /// Whether the record names the first page of a half.
 fn is_half(root: &Root) -> bool
     requires some { 2 ≤ root.now.pages }
-    requires small { root.now.pages ≤ 65536 }
+    requires small { root.now.pages ≤ most_pages }
     ensures { result ≡ is_half root.now }
 {
     root.height == 0 && (root.tree == 2 || root.tree == 2 + root.half_size())
@@ -42,7 +43,7 @@ fn flat_slot<D: Device>(device: &mut D) -> Result<(Slot, u64), KeeperFault>
     ensures version { IfOk result (λ found. found.0.root.banner.version ≡ 0) }
     ensures fault { IfErr result (IsSlotFault (D.state device.old)) }
     ensures device { IsReadCall D.state (crash_states_of D.moment D.possible_since) device.old device.new }
-    ensures reads { CountsReads result (D.state device.old).failed_reads (D.state device.new).failed_reads }
+    ensures reads { CountsStoreReads result (D.state device.old).failed_reads (D.state device.new).failed_reads }
     ensures work { MadeIfOk result 16 0 0 (D.state device.old) (D.state device.new) }
 {
     let Ok(roots) = open_roots(device) else {
@@ -60,7 +61,7 @@ fn flat_slot<D: Device>(device: &mut D) -> Result<(Slot, u64), KeeperFault>
 
 /// Makes sure of what is there, and finds the current slot of a flat image and the greatest seal.
 fn open_slot<D: Device>(device: &mut D) -> Result<(Slot, u64), KeeperFault>
-    ensures opened { IfOk result (λ found. IsOpened (D.state device.old) (D.state device.new) (crash_states_of D.moment D.possible_since device.new) found.0 found.1) }
+    ensures opened { IfOk result (λ found. IsFlatOpened (D.state device.old) (D.state device.new) (crash_states_of D.moment D.possible_since device.new) found.0 found.1) }
     ensures fits { IfOk result (λ found. IsFoundSlot (D.state device.old).size found.0) }
     ensures version { IfOk result (λ found. found.0.root.banner.version ≡ 0) }
     ensures large { IfOk result (λ found. 128 ≤ (D.state device.old).size) }
@@ -84,7 +85,7 @@ fn is_pair(pair: &Pair) -> bool
     ensures { result ≡ is_pair pair.now }
 {
     let key = pair.key().len();
-    key >= 1 && key <= 300 && pair.value().len() <= 1024
+    key >= 1 && key <= LONGEST_KEY && pair.value().len() <= LONGEST_VALUE
 }
 
 fn are_pairs(pairs: &[Pair]) -> bool

@@ -1,13 +1,15 @@
 // What a commit to flat pages is to write, before anything is written.
 ghost use Rattle.std.specs.Prelude.{◌≡◌, ◌≤◌, ◌<◌, ◌*◌, ◌^◌, IsTrue, IfOk, IfErr};
+ghost use Rattle.page_store.specs.Sizes.{most_pages};
 ghost use Rattle.page_store.specs.Batch.{is_batch, updated};
 ghost use Rattle.page_store.specs.Flat.{half_size};
 ghost use Rattle.page_store.specs.FlatState.{IsFitted, other_half};
-ghost use Rattle.page_store.specs.FlatPlan.{IsPlan, IsPlanFault};
+ghost use Rattle.page_store.specs.FlatPlan.{IsFlatPlan, IsFlatPlanFault};
 
 use crate::batch::updated_pairs;
 use crate::encoding::{flat_pages, pages_needed, slot_page};
 use crate::{Banner, Edit, KeeperFault, NewPage, Pair, Root, Slot};
+use sector_device::PAGE_SIZE;
 use std::alloc::Global;
 
 /// What a commit is to write, with the pairs that stand then.
@@ -16,13 +18,13 @@ pub(crate) struct Plan {
     pub(crate) pairs: Vec<Pair>,
     pub(crate) pages: Vec<NewPage>,
     pub(crate) slot: Slot,
-    pub(crate) root: [u8; 4096],
+    pub(crate) root: [u8; PAGE_SIZE],
 }
 
 /// The first page of the other half.
 fn other_half(root: &Root) -> u32
     requires some { 2 ≤ root.now.pages }
-    requires small { root.now.pages ≤ 65536 }
+    requires small { root.now.pages ≤ most_pages }
     ensures { result ≡ other_half root.now }
 {
     if root.tree == 2 {
@@ -44,8 +46,8 @@ pub(crate) fn planned(
     requires fitted { IsFitted (8 * slot.now.root.pages) slot.now pairs.now }
     requires batch { IsTrue (is_batch batch.now) }
     requires port { 0 < banner.port }
-    ensures plan { IfOk result (IsPlan slot.now seal (updated pairs.now batch.now) banner) }
-    ensures fault { IfErr result (IsPlanFault (half_size slot.now.root.pages) (updated pairs.now batch.now)) }
+    ensures plan { IfOk result (IsFlatPlan slot.now seal (updated pairs.now batch.now) banner) }
+    ensures fault { IfErr result (IsFlatPlanFault (half_size slot.now.root.pages) (updated pairs.now batch.now)) }
 {
     let pairs = updated_pairs(alloc, pairs, batch)?;
     let need = pages_needed(&pairs);

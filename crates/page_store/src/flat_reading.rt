@@ -6,13 +6,13 @@ ghost use Rattle.page_store.specs.Flat.{flat_page, flat_next, flat_walk, is_over
 ghost use Rattle.page_store.specs.Sectors.{page_of};
 ghost use Rattle.page_store.specs.Steps.{crash_states_of};
 ghost use Rattle.page_store.specs.DeviceEffects.{IsReadCall};
-ghost use Rattle.page_store.specs.Counting.{CountsReads};
+ghost use Rattle.page_store.specs.Counting.{CountsStoreReads};
 ghost use Rattle.page_store.specs.ReadFaults.{IsHalfFault};
 
 use crate::pages::read_page;
 use crate::reading::{FLAT_WORD, are_zero, head_at, pair_at};
 use crate::{KeeperFault, Pair, Slot};
-use sector_device::Device;
+use sector_device::{Device, PAGE_SIZE};
 use std::alloc::{AllocError, Global};
 
 /// Adds so many entries to the pairs, and answers the bytes after them; none where they have not the form.
@@ -114,11 +114,11 @@ pub(crate) fn read_half<D: Device>(
     ensures pairs { IsTrue (D.state device.old).honest → IfOk result (λ pairs. flat_walk (page_of (D.state device.old).disk.view) slot.now.seal (half_size slot.now.root.pages) slot.now.root.tree 0 slot.now.root.keys ≡ Some pairs.items) }
     ensures fault { IfErr result (IsHalfFault slot.now (D.state device.old).honest (D.state device.old).failed_reads (D.state device.new).failed_reads (flat_walk (page_of (D.state device.old).disk.view) slot.now.seal (half_size slot.now.root.pages) slot.now.root.tree 0 slot.now.root.keys)) }
     ensures device { IsReadCall D.state (crash_states_of D.moment D.possible_since) device.old device.new }
-    ensures reads { CountsReads result (D.state device.old).failed_reads (D.state device.new).failed_reads }
+    ensures reads { CountsStoreReads result (D.state device.old).failed_reads (D.state device.new).failed_reads }
     ensures work { MadeAtMost (8 * half_size slot.now.root.pages) 0 0 (D.state device.old) (D.state device.new) }
 {
     let mut pairs = Vec::new(alloc);
-    let mut bytes = [0; 4096];
+    let mut bytes = [0; PAGE_SIZE];
     let mut room = 0;
     let mut keys = slot.root.keys;
     let first = slot.root.tree;

@@ -1,18 +1,19 @@
 // Making an image.
 ghost use Rattle.std.specs.Prelude.{◌+◌, ◌≡◌, ◌≢◌, ◌⊎◌, ◌≤◌, ◌<◌, ◌*◌, IsTrue, OnOk, IfErr, true, length};
+ghost use Rattle.page_store.specs.Sizes.{least_pages, most_pages};
 ghost use Rattle.sector_device.specs.Effects.{IsSameDevice};
 ghost use Rattle.page_store.specs.Batch.{is_map};
 ghost use Rattle.page_store.specs.Encoding.{pages_needed};
 ghost use Rattle.page_store.specs.Steps.{crash_states_of, AllAre};
 ghost use Rattle.page_store.specs.Content.{HasContent};
 ghost use Rattle.page_store.specs.declared.fault.KeeperFault.TheVariants.{Failed};
-ghost use Rattle.page_store.specs.Formatting.{IsFirst, IsFormatFault, IsMadeBy};
+ghost use Rattle.page_store.specs.Formatting.{IsFirst, IsFormatFault, IsFormattedBy};
 
 use crate::commit::write_pages;
 use crate::encoding::{flat_pages, slot_page};
 use crate::pages::{sync_all, write_page};
-use crate::{Banner, KeeperFault, Pair, Root, Slot};
-use sector_device::Device;
+use crate::{Banner, KeeperFault, LEAST_PAGES, MOST_PAGES, Pair, Root, Slot};
+use sector_device::{Device, PAGE_SIZE};
 use std::alloc::Global;
 
 /// Makes an image of flat pages, with pairs that fit one page: it clears the second slot and writes generation 1 to the first. What was there is gone.
@@ -32,13 +33,13 @@ pub fn format_flat<D: Device>(
     ensures content { IsTrue (D.state device.old).honest → OnOk result (HasContent (D.state device.new).disk.view pairs.now banner) }
     ensures first { IsTrue (D.state device.old).honest → OnOk result (IsFirst pages (D.state device.new).disk.view) }
     ensures sure { IsTrue (D.state device.old).honest → OnOk result (AllAre (crash_states_of D.moment D.possible_since device.new) (D.state device.new).disk.view) }
-    ensures fits { OnOk result ((16 ≤ pages) × (pages ≤ 65536) × (8 * pages ≤ (D.state device.old).size)) }
+    ensures fits { OnOk result ((least_pages ≤ pages) × (pages ≤ most_pages) × (8 * pages ≤ (D.state device.old).size)) }
     ensures fault { IfErr result (IsFormatFault pages (D.state device.old) (D.state device.new)) }
-    ensures work { OnOk result (IsMadeBy (16 + 8 * pages_needed pairs.now) (D.state device.old) (D.state device.new)) }
+    ensures work { OnOk result (IsFormattedBy (16 + 8 * pages_needed pairs.now) (D.state device.old) (D.state device.new)) }
     ensures unwritten { IfErr result (λ e. e ≢ Failed → device.new ≡ device.old) }
     ensures same { IsSameDevice (D.state device.old) (D.state device.new) }
 {
-    if pages < 16 || pages > 65_536 || 8 * u64::from(pages) > device.sectors() {
+    if pages < LEAST_PAGES || pages > MOST_PAGES || 8 * u64::from(pages) > device.sectors() {
         return Err(KeeperFault::Small);
     }
     let tree = flat_pages(alloc, 1, 2, pairs)?;
@@ -54,7 +55,7 @@ pub fn format_flat<D: Device>(
         },
     };
     let root = slot_page(alloc, &slot)?;
-    let cleared = [0; 4096];
+    let cleared = [0; PAGE_SIZE];
     if write_page(device, 1, &cleared).is_err() {
         return Err(KeeperFault::Failed);
     }

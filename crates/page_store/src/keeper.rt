@@ -3,14 +3,14 @@ ghost use Rattle.std.specs.Prelude.{◌≡◌, ◌⊎◌, ◌≤◌, ◌<◌, �
 ghost use Rattle.common_types.specs.CrashStates.{CrashStates, AddsOnly, AddsNone, may_crash_to};
 ghost use Rattle.page_store.specs.Pages.{Pair};
 ghost use Rattle.page_store.specs.Batch.{value_at, pair_after, updated, is_batch, is_map};
-ghost use Rattle.page_store.specs.Counting.{CountsReads, CountsWrites};
-ghost use Rattle.page_store.specs.StoreState.{StoreState, CommitNeed, SoManyPages, IsFigures, HasRead, HasTried, NeedsTheSame, IsFilled, IsReadFault, IsCommitFault, numbers_out, last_generation, most_levels};
+ghost use Rattle.page_store.specs.Counting.{CountsStoreReads, CountsStoreWrites};
+ghost use Rattle.page_store.specs.StoreState.{StoreState, CommitNeed, SoManyPages, IsFigures, StoreHasRead, StoreHasTried, NeedsTheSame, IsFilled, IsStoreReadFault, IsCommitFault, numbers_out, last_generation, most_levels};
 ghost use Rattle.page_store.specs.Work.{ReadsPages, CommitsWithin, pages_tried};
 ghost use Rattle.page_store.specs.declared.banner.Banner.{Banner as BannerValue};
 ghost use Rattle.page_store.specs.declared.edit.Edit.{Edit as EditValue};
 ghost use Rattle.page_store.specs.declared.fault.KeeperFault.TheVariants.{Failed, Spent};
 
-use crate::{Banner, Edit, Figures, KeeperFault};
+use crate::{Banner, Edit, Figures, KeeperFault, LONGEST_KEY, LONGEST_VALUE};
 
 /// A map of byte keys with a banner, which changes by whole batches: a crash within a commit leaves the map and the banner from before, or the new ones.
 ///
@@ -47,14 +47,18 @@ pub trait Keeper {
         ensures { IsFigures (store_state self.now) result };
 
     /// Puts the value at a key into the front of the buffer, and answers its length, or none where nothing stands there. What stands behind the value stays. It takes no memory.
-    fn get(&mut self, key: &[u8], buffer: &mut [u8; 1024]) -> Result<Option<usize>, KeeperFault>
+    fn get(
+        &mut self,
+        key: &[u8],
+        buffer: &mut [u8; LONGEST_VALUE],
+    ) -> Result<Option<usize>, KeeperFault>
         ensures within { IfOk result (λ found. IfSome found (λ n. n ≤ length buffer.new)) }
         ensures value { IsTrue (store_state self.old).honest → IfOk result (λ found. option_map (λ n. take n buffer.new) found ≡ value_at (store_state self.old).pairs key.now) }
         ensures buffer { IsFilled (λ n. n) result buffer.old buffer.new }
-        ensures kept { HasRead (store_state self.old) (store_state self.new) }
+        ensures kept { StoreHasRead (store_state self.old) (store_state self.new) }
         ensures need { NeedsTheSame (may_need self.old) (may_need self.new) }
-        ensures reads { CountsReads result (store_state self.old).failed_reads (store_state self.new).failed_reads }
-        ensures fault { IfErr result (IsReadFault (store_state self.old) (store_state self.new)) }
+        ensures reads { CountsStoreReads result (store_state self.old).failed_reads (store_state self.new).failed_reads }
+        ensures fault { IfErr result (IsStoreReadFault (store_state self.old) (store_state self.new)) }
         ensures closed { (store_state self.old).usable ≡ false → IsErrOf result Failed }
         ensures unchanged { (store_state self.old).usable ≡ false → store_state self.new ≡ store_state self.old }
         ensures work { ReadsPages (store_state self.old).height (store_state self.old).made (store_state self.new).made }
@@ -64,17 +68,17 @@ pub trait Keeper {
     fn next(
         &mut self,
         after: &[u8],
-        key: &mut [u8; 300],
-        value: &mut [u8; 1024],
+        key: &mut [u8; LONGEST_KEY],
+        value: &mut [u8; LONGEST_VALUE],
     ) -> Result<Option<(usize, usize)>, KeeperFault>
         ensures within { IfOk result (λ found. IfSome found (λ n. (n.0 ≤ length key.new) × (n.1 ≤ length value.new))) }
         ensures pair { IsTrue (store_state self.old).honest → IfOk result (λ found. option_map (λ n. (take n.0 key.new, take n.1 value.new)) found ≡ pair_after (store_state self.old).pairs after.now) }
         ensures key { IsFilled (λ n. n.0) result key.old key.new }
         ensures value { IsFilled (λ n. n.1) result value.old value.new }
-        ensures kept { HasRead (store_state self.old) (store_state self.new) }
+        ensures kept { StoreHasRead (store_state self.old) (store_state self.new) }
         ensures need { NeedsTheSame (may_need self.old) (may_need self.new) }
-        ensures reads { CountsReads result (store_state self.old).failed_reads (store_state self.new).failed_reads }
-        ensures fault { IfErr result (IsReadFault (store_state self.old) (store_state self.new)) }
+        ensures reads { CountsStoreReads result (store_state self.old).failed_reads (store_state self.new).failed_reads }
+        ensures fault { IfErr result (IsStoreReadFault (store_state self.old) (store_state self.new)) }
         ensures closed { (store_state self.old).usable ≡ false → IsErrOf result Failed }
         ensures unchanged { (store_state self.old).usable ≡ false → store_state self.new ≡ store_state self.old }
         ensures work { ReadsPages (pages_tried (store_state self.old).height) (store_state self.old).made (store_state self.new).made }
@@ -100,9 +104,9 @@ pub trait Keeper {
         ensures closed { (store_state self.old).usable ≡ false → IsErrOf result Failed }
         ensures spent { (store_state self.old).usable ≡ true → (store_state self.old).top ≡ last_generation → IsErrOf result Spent }
         ensures unchanged { (store_state self.old).usable ≡ false → store_state self.new ≡ store_state self.old }
-        ensures tried { HasTried (store_state self.old) (store_state self.new) }
-        ensures reads { CountsReads result (store_state self.old).failed_reads (store_state self.new).failed_reads }
-        ensures writes { CountsWrites (store_state self.old).usable result (store_state self.old).failed_writes (store_state self.new).failed_writes }
+        ensures tried { StoreHasTried (store_state self.old) (store_state self.new) }
+        ensures reads { CountsStoreReads result (store_state self.old).failed_reads (store_state self.new).failed_reads }
+        ensures writes { CountsStoreWrites (store_state self.old).usable result (store_state self.old).failed_writes (store_state self.new).failed_writes }
         ensures work { CommitsWithin (most_levels * length batch.now) (store_state self.old).free (store_state self.old).made (store_state self.new).made }
 
         // A crash within the call leaves the pairs and the banner from before it, or the new ones.

@@ -23,6 +23,7 @@ mod pin_fault;
 mod pin_keeper;
 mod reading;
 mod roots;
+mod sizes;
 mod slot;
 
 pub use banner::Banner;
@@ -48,4 +49,5 @@ pub use pin_fault::PinFault;
 pub use pin_keeper::PinKeeper;
 pub use reading::{PageHead, are_zero, child_at, head_at, pair_at};
 pub use roots::{Roots, open_roots};
+pub use sizes::{LEAST_PAGES, LONGEST_KEY, LONGEST_VALUE, MOST_PAGES};
 pub use slot::{Root, Slot};

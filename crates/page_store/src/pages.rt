@@ -8,15 +8,15 @@ ghost use Rattle.page_store.specs.Steps.{crash_states_of, AllAre, IsWritten, May
 ghost use Rattle.page_store.specs.DeviceEffects.{ReadsDevice, WritesDevice};
 
 use crate::Slot;
-use sector_device::{Device, DeviceFault};
+use sector_device::{Device, DeviceFault, PAGE_SIZE, SECTOR_SIZE};
 
 /// Bytes 512 * k and on.
-fn chunk_of(bytes: &[u8; 4096], k: usize) -> [u8; 512]
+fn chunk_of(bytes: &[u8; PAGE_SIZE], k: usize) -> [u8; SECTOR_SIZE]
     requires { k < 8 }
     ensures { result ≡ chunk bytes.now k }
 {
-    let mut sector = [0; 512];
-    sector.copy_from_slice(&bytes[512 * k..512 * k + 512]);
+    let mut sector = [0; SECTOR_SIZE];
+    sector.copy_from_slice(&bytes[SECTOR_SIZE * k..SECTOR_SIZE * k + SECTOR_SIZE]);
     sector
 }
 
@@ -24,7 +24,7 @@ fn chunk_of(bytes: &[u8; 4096], k: usize) -> [u8; 512]
 pub fn read_sector<D: Device>(
     device: &mut D,
     n: u64,
-    buffer: &mut [u8; 512],
+    buffer: &mut [u8; SECTOR_SIZE],
 ) -> Result<(), DeviceFault>
     requires { n < (D.state device.old).size }
     ensures sector { ReadsDevice D.state (crash_states_of D.moment D.possible_since) device.old device.new result (λ view _. sector view n ≡ buffer.new) }
@@ -38,17 +38,17 @@ pub fn read_sector<D: Device>(
 pub fn fill_page<D: Device>(
     device: &mut D,
     page: u32,
-    bytes: &mut [u8; 4096],
+    bytes: &mut [u8; PAGE_SIZE],
 ) -> Result<(), DeviceFault>
     requires { 8 * page + 8 ≤ (D.state device.old).size }
     ensures page { ReadsDevice D.state (crash_states_of D.moment D.possible_since) device.old device.new result (λ view _. page_of view page ≡ bytes.new) }
     ensures work { MadeIfOk result 8 0 0 (D.state device.old) (D.state device.new) }
 {
     let first = 8 * page as u64;
-    let mut sector = [0; 512];
+    let mut sector = [0; SECTOR_SIZE];
     for part in 0..8 {
         read_sector(device, first + part as u64, &mut sector)?;
-        bytes[512 * part..512 * part + 512].copy_from_slice(&sector);
+        bytes[SECTOR_SIZE * part..SECTOR_SIZE * part + SECTOR_SIZE].copy_from_slice(&sector);
     }
     Ok(())
 }
@@ -57,21 +57,25 @@ pub fn fill_page<D: Device>(
 pub fn read_page<D: Device>(
     device: &mut D,
     page: u32,
-    bytes: &mut [u8; 4096],
+    bytes: &mut [u8; PAGE_SIZE],
 ) -> Result<(), DeviceFault>
     requires { 8 * page + 8 ≤ (D.state device.old).size }
     ensures page { ReadsDevice D.state (crash_states_of D.moment D.possible_since) device.old device.new result (λ view _. page_of view page ≡ bytes.new) }
     ensures untouched { IfErr result (λ e. bytes.new ≡ bytes.old) }
     ensures work { MadeIfOk result 8 0 0 (D.state device.old) (D.state device.new) }
 {
-    let mut read = [0; 4096];
+    let mut read = [0; PAGE_SIZE];
     fill_page(device, page, &mut read)?;
     *bytes = read;
     Ok(())
 }
 
 /// Writes one sector.
-pub fn write_sector<D: Device>(device: &mut D, n: u64, bytes: &[u8; 512]) -> Result<(), DeviceFault>
+pub fn write_sector<D: Device>(
+    device: &mut D,
+    n: u64,
+    bytes: &[u8; SECTOR_SIZE],
+) -> Result<(), DeviceFault>
     requires { n < (D.state device.old).size }
     ensures sector { WritesDevice D.state (crash_states_of D.moment D.possible_since) device.old device.new result (IsWritten n bytes.now) (MayBeWritten n bytes.now) }
     ensures work { MadeExactly 0 1 0 (D.state device.old) (D.state device.new) }
@@ -94,7 +98,7 @@ pub fn sync_all<D: Device>(device: &mut D) -> Result<(), DeviceFault>
 pub fn write_page<D: Device>(
     device: &mut D,
     page: u32,
-    bytes: &[u8; 4096],
+    bytes: &[u8; PAGE_SIZE],
 ) -> Result<(), DeviceFault>
     requires { 8 * page + 8 ≤ (D.state device.old).size }
     ensures sectors { WritesDevice D.state (crash_states_of D.moment D.possible_since) device.old device.new result (AreWritten (8 * page) 8 bytes.now) (MayBeAllWritten (8 * page) 8 bytes.now) }
@@ -113,7 +117,7 @@ pub fn write_page<D: Device>(
 pub fn switch_root<D: Device>(
     device: &mut D,
     slot: &Slot,
-    bytes: &[u8; 4096],
+    bytes: &[u8; PAGE_SIZE],
 ) -> Result<(), DeviceFault>
     requires fits { 8 * slot.now.number + 8 ≤ (D.state device.old).size }
     requires page { IsTrue (D.state device.old).honest → IsSlotPage (D.state device.old).size slot.now bytes.now }

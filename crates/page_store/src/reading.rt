@@ -7,8 +7,9 @@ ghost use Rattle.page_store.specs.Roots.{FitsDevice, seal_of, root_at, short_tex
 ghost use Rattle.page_store.specs.Heads.{seen_head, seen_child};
 ghost use Rattle.page_store.specs.Pages.{Head, head_at, pair_at, child_at};
 
-use crate::{Banner, Root};
+use crate::{Banner, LEAST_PAGES, LONGEST_KEY, LONGEST_VALUE, MOST_PAGES, Root};
 use common_types::{Admin, Host};
+use sector_device::SECTOR_SIZE;
 
 /// The first word of a root sector.
 pub(crate) const ROOT_WORD: [u8; 8] = *b"GOPHROOT";
@@ -104,8 +105,8 @@ pub(crate) fn root_at(sectors: u64, bytes: &[u8]) -> Option<Root>
     let Ok(admin) = Admin::new(admin_text) else {
         return None;
     };
-    if pages < 16
-        || pages > 65_536
+    if pages < LEAST_PAGES
+        || pages > MOST_PAGES
         || 8 * u64::from(pages) > sectors
         || port < 1
         || !are_zero(rest)
@@ -128,7 +129,7 @@ pub(crate) fn root_at(sectors: u64, bytes: &[u8]) -> Option<Root>
 
 /// The seal of a root sector, where it bears magic word and number. It takes no memory.
 #[tactic(auto, unfolding(crate::specs::Roots::seal_of))]
-pub(crate) fn seal_at(number: u64, sector: &[u8; 512]) -> Option<u64>
+pub(crate) fn seal_at(number: u64, sector: &[u8; SECTOR_SIZE]) -> Option<u64>
     ensures { result ≡ seal_of number sector.now }
 {
     let (word, rest) = sector.split_at(8);
@@ -193,7 +194,10 @@ pub fn pair_at(bytes: &[u8]) -> Option<((&[u8], &[u8]), &[u8])>
     let (value_length, rest) = u16_at(rest)?;
     let (key, rest) = piece_at(key_length as usize, rest)?;
     let (value, rest) = piece_at(value_length as usize, rest)?;
-    if key_length < 1 || key_length > 300 || value_length > 1024 {
+    if key_length < 1
+        || usize::from(key_length) > LONGEST_KEY
+        || usize::from(value_length) > LONGEST_VALUE
+    {
         return None;
     }
     Some(((key, value), rest))
@@ -207,7 +211,7 @@ pub fn child_at(bytes: &[u8]) -> Option<((&[u8], u32), &[u8])>
     let (key_length, rest) = u16_at(bytes)?;
     let (page, rest) = u32_at(rest)?;
     let (key, rest) = piece_at(key_length as usize, rest)?;
-    if key_length > 300 {
+    if usize::from(key_length) > LONGEST_KEY {
         return None;
     }
     Some(((key, page), rest))

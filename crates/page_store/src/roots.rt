@@ -10,7 +10,7 @@ use crate::pages::read_sector;
 use crate::reading::{root_at, seal_at};
 use crate::{Root, Slot};
 use arrayvec::ArrayVec;
-use sector_device::{Device, DeviceFault};
+use sector_device::{Device, DeviceFault, SECTOR_SIZE};
 
 /// The root slots of an image as they were found.
 #[derive(Debug, Drop)]
@@ -22,7 +22,7 @@ pub struct Roots {
 }
 
 /// The seal that the sectors of a slot share.
-fn shared_seal(sectors: &[[u8; 512]; 16], slot: usize) -> Option<u64>
+fn shared_seal(sectors: &[[u8; SECTOR_SIZE]; 16], slot: usize) -> Option<u64>
     requires { slot < 2 }
     ensures { result ≡ shared_seal sectors.now (8 * slot) 8 }
 {
@@ -37,7 +37,7 @@ fn shared_seal(sectors: &[[u8; 512]; 16], slot: usize) -> Option<u64>
 }
 
 /// Adds what a sector has of the record.
-fn push_part(out: &mut ArrayVec<u8, 3904>, sector: &[u8; 512])
+fn push_part(out: &mut ArrayVec<u8, 3904>, sector: &[u8; SECTOR_SIZE])
     requires { length out.old.items + 488 ≤ 3904 }
     ensures items { out.new.items ≡ out.old.items ++ drop 24 sector.now }
     ensures length { length out.new.items ≡ length out.old.items + 488 }
@@ -49,7 +49,7 @@ fn push_part(out: &mut ArrayVec<u8, 3904>, sector: &[u8; 512])
 }
 
 /// The record of a slot.
-fn record_of(sectors: &[[u8; 512]; 16], slot: usize) -> ArrayVec<u8, 3904>
+fn record_of(sectors: &[[u8; SECTOR_SIZE]; 16], slot: usize) -> ArrayVec<u8, 3904>
     requires { slot < 2 }
     ensures { result.items ≡ record_from sectors.now (8 * slot) 8 }
 {
@@ -62,7 +62,7 @@ fn record_of(sectors: &[[u8; 512]; 16], slot: usize) -> ArrayVec<u8, 3904>
 
 /// A slot on a device of so many sectors, where it is valid.
 #[tactic(auto, unfolding(crate::specs::Roots::slot_in))]
-fn slot_in(total: u64, sectors: &[[u8; 512]; 16], slot: usize) -> Option<Slot>
+fn slot_in(total: u64, sectors: &[[u8; SECTOR_SIZE]; 16], slot: usize) -> Option<Slot>
     requires { slot < 2 }
     ensures slot { result ≡ slot_in total sectors.now slot }
     ensures fits { IfSome result (λ found. (found.number ≡ slot) × IsFoundSlot total found) }
@@ -89,7 +89,7 @@ fn newer(a: Option<Slot>, b: Option<Slot>) -> Option<Slot>
 }
 
 /// The current slot on a device of so many sectors.
-fn current_of(total: u64, sectors: &[[u8; 512]; 16]) -> Option<Slot>
+fn current_of(total: u64, sectors: &[[u8; SECTOR_SIZE]; 16]) -> Option<Slot>
     ensures current { result ≡ newer (slot_in total sectors.now 0) (slot_in total sectors.now 1) }
     ensures fits { IfSome result (IsFoundSlot total) }
 {
@@ -98,7 +98,7 @@ fn current_of(total: u64, sectors: &[[u8; 512]; 16]) -> Option<Slot>
 
 /// The greatest seal in the sectors of both slots, or 0.
 #[tactic(auto, unfolding(crate::specs::Roots::greatest_seal))]
-fn greatest_seal(sectors: &[[u8; 512]; 16]) -> u64
+fn greatest_seal(sectors: &[[u8; SECTOR_SIZE]; 16]) -> u64
     ensures { result ≡ greatest_seal sectors.now 16 }
 {
     let mut greatest = 0;
@@ -112,12 +112,15 @@ fn greatest_seal(sectors: &[[u8; 512]; 16]) -> u64
 }
 
 /// Reads the sectors of both slots.
-fn read_slots<D: Device>(device: &mut D, sectors: &mut [[u8; 512]; 16]) -> Result<(), DeviceFault>
+fn read_slots<D: Device>(
+    device: &mut D,
+    sectors: &mut [[u8; SECTOR_SIZE]; 16],
+) -> Result<(), DeviceFault>
     requires { 16 ≤ (D.state device.old).size }
     ensures sectors { ReadsDevice D.state (crash_states_of D.moment D.possible_since) device.old device.new result (λ view _. (n : ℕ) → n < 16 → sector view n ≡ sector sectors.new n) }
     ensures work { MadeIfOk result 16 0 0 (D.state device.old) (D.state device.new) }
 {
-    let mut sector = [0; 512];
+    let mut sector = [0; SECTOR_SIZE];
     for n in 0..16 {
         read_sector(device, n as u64, &mut sector)?;
         sectors[n] = sector;
@@ -132,7 +135,7 @@ pub fn open_roots<D: Device>(device: &mut D) -> Result<Roots, DeviceFault>
     ensures fits { IfOk result (λ roots. IfSome roots.current (IsFoundSlot (D.state device.old).size)) }
     ensures work { MadeIfOk result 16 0 0 (D.state device.old) (D.state device.new) }
 {
-    let mut sectors = [[0; 512]; 16];
+    let mut sectors = [[0; SECTOR_SIZE]; 16];
     read_slots(device, &mut sectors)?;
     let total = device.sectors();
     Ok(Roots {

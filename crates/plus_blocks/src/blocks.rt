@@ -95,12 +95,15 @@ pub fn admin(alloc: Global, admin: &Admin, stamp: Stamp) -> Result<Bytes, AllocE
     Ok(Bytes::from(out))
 }
 
+/// How many bytes a kilobyte has, as views count them.
+const KILOBYTE: u64 = 1024;
+
 /// How many times 1,024 bytes, rounded up.
 #[tactic(auto, unfolding(crate::specs::Blocks::kilobytes))]
 fn kilobytes(bytes: u32) -> u64
     ensures { result ≡ spec.kilobytes bytes }
 {
-    (u64::from(bytes) + 1023) / 1024
+    (u64::from(bytes) + (KILOBYTE - 1)) / KILOBYTE
 }
 
 /// Adds the line of a view: its name, its language where it has one, and its size.

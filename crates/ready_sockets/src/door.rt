@@ -1,7 +1,9 @@
 // The calls of the system at the door: a listener, waits, and connections that are taken. `listen`, `wait` and `take` note each of their calls. That they make the call
 // which they note, no clause can say: so each is short, and tests on real connections hold it.
-ghost use Rattle.std.specs.Prelude.{◌≡◌, ◌++◌, [], ◌∷◌, ◌≤◌, IfOk};
+ghost use Rattle.std.specs.Prelude.{◌≡◌, ◌++◌, [], ◌∷◌, ◌≤◌, Err, IfOk, IfErr, IsOk, OnOk};
+ghost use Rattle.std.specs.IoError.{error_kind};
 ghost use Rattle.ready_sockets.specs.DoorCalls.{for_reading, listen_call};
+ghost use Rattle.ready_sockets.specs.NetCauses.{cause_of};
 
 use crate::Desk;
 use crate::door_log::{DoorKind, DoorLog, Missed};
@@ -37,16 +39,19 @@ fn listener_at<R: Net>(rt: &R, address: SocketAddr) -> io::Result<(Poll, TcpList
     Ok((poll, listener, readable))
 }
 
-/// Asks for a listener at an address, and notes whether it was had, or why it was not.
-fn listen<R: Net>(
-    rt: &R,
+/// Notes what came of a listener that was asked for at an address: it was had, or not, and why.
+fn noted(
+    answer: io::Result<(Poll, TcpListener, Interest)>,
     address: SocketAddr,
     events: &Events,
     asked: &mut DoorLog,
 ) -> Result<(Poll, TcpListener), NetCause>
-    ensures { asked.new.calls ≡ asked.old.calls ++ listen_call address result ∷ [] }
+    requires watched { IfOk answer (λ had. had.2 ≡ for_reading) }
+    ensures asked { asked.new.calls ≡ asked.old.calls ++ listen_call address result ∷ [] }
+    ensures had { OnOk answer (IsOk result) }
+    ensures cause { IfErr answer (λ error. result ≡ Err (cause_of (error_kind error))) }
 {
-    match listener_at(rt, address) {
+    match answer {
         Ok((poll, listener, interest)) => {
             asked.note(DoorKind::Listened(address, interest), events);
             Ok((poll, listener))
@@ -57,6 +62,18 @@ fn listen<R: Net>(
             Err(cause)
         }
     }
+}
+
+/// Asks for a listener at an address, and notes what came of it.
+fn listen<R: Net>(
+    rt: &R,
+    address: SocketAddr,
+    events: &Events,
+    asked: &mut DoorLog,
+) -> Result<(Poll, TcpListener), NetCause>
+    ensures { asked.new.calls ≡ asked.old.calls ++ listen_call address result ∷ [] }
+{
+    noted(listener_at(rt, address), address, events, asked)
 }
 
 /// The listener, the wait for whoever is ready, and the calls that were made of both.

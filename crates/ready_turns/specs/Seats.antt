@@ -10,7 +10,7 @@ use Rattle.group_world.specs.declared.event.Outcome.TheVariants as outcomes
 use Rattle.group_world.specs.declared.fault.HubFault.{HubFault}
 use Rattle.group_world.specs.declared.fault.HubFault.TheVariants as faults
 use Rattle.turns.specs.WireCalls.{WireCall, Read, ReadFailed, ReadWaited, Wrote, WriteFailed, WriteWaited, Closed}
-use Rattle.turns.specs.Turns.{Trace, trace, nothing, then, IsTold, drawn_bytes}
+use Rattle.turns.specs.Turns.{Trace, trace, nothing, then, IsTold, drawn_bytes, piece_size}
 use Rattle.ready_turns.specs.DrawSizes.{draw_size}
 use Rattle.ready_turns.specs.declared.seat.Ending.{Ending}
 use Rattle.ready_turns.specs.declared.seat.Ending.TheVariants.{Served, Full, Failed, Cut, Late, Often}
@@ -113,13 +113,13 @@ pub record HearsPiece (old new : Adapting) (id : ℕ) (piece : List ℕ) (es : L
 -- One read into room for 512 bytes, which are heard.
 pub record HearsRead (old new : Adapting) (id : ℕ) (t : Trace) (after : SeatState) : Type 0 where
   pub piece : List ℕ
-  pub room : length piece ≤ 512
-  pub calls_are : t.calls ≡ Read 512 piece ∷ []
+  pub room : length piece ≤ piece_size
+  pub calls_are : t.calls ≡ Read piece_size piece ∷ []
   pub hears : HearsPiece old new id piece t.events t.outcomes after
 
 -- A read that failed: the hub gets nothing.
 abbrev pub FailsToRead : Trace → SeatState → Type 0
-FailsToRead t after = (t ≡ trace (ReadFailed 512 ∷ []) [] []) × (after ≡ leaving Cut [])
+FailsToRead t after = (t ≡ trace (ReadFailed piece_size ∷ []) [] []) × (after ≡ leaving Cut [])
 
 -- A read or a write that would have had to wait: the session rests.
 abbrev pub Waits : WireCall → SeatState → Trace → SeatState → Type 0
@@ -197,7 +197,7 @@ KeepsClient old new P = (new ≡ old) × P
 
 -- A session that hears makes one read.
 abbrev pub Listens : Adapting → Adapting → ℕ → List ℕ → Trace → SeatState → Type 0
-Listens old new id unsent t after = HearsRead old new id t after ⊎ KeepsClient old new (FailsToRead t after) ⊎ KeepsClient old new (Waits (ReadWaited 512) (at (stages.Listening id) unsent false) t after)
+Listens old new id unsent t after = HearsRead old new id t after ⊎ KeepsClient old new (FailsToRead t after) ⊎ KeepsClient old new (Waits (ReadWaited piece_size) (at (stages.Listening id) unsent false) t after)
 
 -- One that is replied to makes one draw, or one write of what is to be sent.
 abbrev pub DrawsOrWrites : Adapting → Adapting → ℕ → List ℕ → Trace → SeatState → Type 0

@@ -5,7 +5,7 @@ ghost use Rattle.group_hub.specs.Calls.{HubCall, HubRun};
 ghost use Rattle.group_world.specs.Outcomes.{join_outcome, bytes_outcome};
 ghost use Rattle.turns.specs.Runs.{HasRun};
 ghost use Rattle.turns.specs.WireCalls.{HasMade, Closed};
-ghost use Rattle.turns.specs.Turns.{trace};
+ghost use Rattle.turns.specs.Turns.{trace, piece_size};
 ghost use Rattle.ready_turns.specs.declared.seat.SeatStage.TheVariants as SeatStage;
 ghost use Rattle.ready_turns.specs.Seats.{at, state_of, has_left, joined_state, refused_state, heard_state, HearsPiece, Listens, AsksWhatCame, Draws, DrawsOrWrites, LeavesIfOver, Finishes, LearnsWhatCame, Dismissed, TurnedDown, IsSeated, HasTurn, HasKept};
 
@@ -87,7 +87,7 @@ fn hear_piece<S: SearchKeeper, W, C: Clock>(
     id: u64,
     piece: &[u8],
 )
-    requires { length piece.now ≤ 512 }
+    requires { length piece.now ≤ piece_size }
     ensures run { HasRun (HubRun S.site_state S.lacks S.crash_states S.represents) hub.old hub.new (C.given clock.old) (C.given clock.new) (λ es os. HearsPiece seat.old.client seat.new.client id piece.now es os (state_of seat.new)) }
     ensures wire { seat.new.wire ≡ seat.old.wire }
 {

@@ -13,7 +13,7 @@ use Rattle.request_reader.specs.RequestLine.{ParsedRequest, parsed_line}
 use Rattle.request_reader.specs.DataHead.{extent_of, most_data}
 use Rattle.request_reader.specs.DataLines.{is_period, unstuffed, room, is_too_much}
 use Rattle.request_reader.specs.Verdict.{Verdict, Whole, verdict, line_verdict, parsed_verdict, head_verdict, extent_verdict, data_verdict, is_open, with_data}
-use Rattle.request_reader.specs.Laws.{CrashStatesDoRepresent, IsDecided}
+use Rattle.request_reader.specs.Laws.{VerdictsStay, IsDecided}
 use Rattle.request_reader.specs.declared.data_head.Extent.{Extent}
 use Rattle.request_reader.specs.declared.data_head.Extent.TheVariants.{ToPeriod, ToEnd, Count}
 use Rattle.request_reader.specs.declared.cause.Cause.{Cause}
@@ -198,7 +198,7 @@ line_stays NotYet new b ended g closed = absurd (cc closed)
 line_stays TooLate new b ended g closed = ap (λ c. line_verdict c ended) g
 line_stays (Line line rest) new b ended g closed = ap (λ c. line_verdict c ended) g ∙ parsed_stays (parsed_line line) rest b ended closed
 
-pub closed_verdict_stays_lem : CrashStatesDoRepresent
+pub closed_verdict_stays_lem : VerdictsStay
 unfolding verdict
 closed_verdict_stays_lem front rest ended closed = line_stays (first_line front) (first_line (front ++ rest)) rest ended (first_line_grows front rest) closed
 

@@ -10,8 +10,8 @@ use Rattle.request_reader.specs.Verdict.{Whole, verdict, is_open}
 use Rattle.request_reader.specs.ReceivedInput.{ReceivedInput, verdict_by, silence, fed, finished}
 
 -- What is said before the end is said whatever follows, and whether or not the input ends there.
-abbrev pub CrashStatesDoRepresent : Type 0
-CrashStatesDoRepresent = (front rest : List ℕ) (ended : Bool) → is_open (verdict front false) ≡ false → verdict (front ++ rest) ended ≡ verdict front false
+abbrev pub VerdictsStay : Type 0
+VerdictsStay = (front rest : List ℕ) (ended : Bool) → is_open (verdict front false) ≡ false → verdict (front ++ rest) ended ≡ verdict front false
 
 -- At the end of input nothing is open.
 abbrev pub IsDecided : Type 0

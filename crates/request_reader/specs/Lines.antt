@@ -9,6 +9,10 @@ pub data Cut : Type 0 where
   TooLate : Cut
   Line : List ℕ → List ℕ → Cut
 
+-- how many bytes the first line has, at most
+abbrev pub longest_line : ℕ
+longest_line = 1024
+
 -- the bytes among which the LF has to be
 unfoldable pub front : List ℕ → List ℕ
 front stream = take 1025 stream
@@ -17,7 +21,7 @@ unfoldable pub first_line : List ℕ → Cut
 first_line stream =
     if nat_lt (position_or_len is_lf (front stream)) (length (front stream))
     then Line (without_cr (before_first is_lf (front stream))) (drop (position_or_len is_lf (front stream) + 1) stream)
-    else if nat_le (length stream) 1024 then NotYet
+    else if nat_le (length stream) longest_line then NotYet
     else TooLate
 
 -- a byte in front of the first part, where there is one

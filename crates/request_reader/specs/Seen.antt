@@ -17,8 +17,8 @@ use Rattle.request_reader.specs.declared.request.RequestedView.{RequestedView as
 use Rattle.request_reader.specs.declared.request.Plus.{Plus as LentPlus}
 use Rattle.request_reader.specs.declared.request.Plus.TheVariants as plus
 use Rattle.request_reader.specs.declared.request.Request.{Request as Lent}
-use Rattle.request_reader.specs.declared.request.Answer.{Answer}
-use Rattle.request_reader.specs.declared.request.Answer.TheVariants as answer
+use Rattle.request_reader.specs.declared.request.StreamVerdict.{StreamVerdict}
+use Rattle.request_reader.specs.declared.request.StreamVerdict.TheVariants as answer
 
 abbrev pub requested_of : LentRequestedView → RequestedView
 requested_of w = record { name = w.name.now; language = option_copied w.language }
@@ -59,7 +59,7 @@ lines_in d = if d.stuffed then map unstuffed (lines d.bytes.now) else lines d.by
 abbrev pub request_of : Lent → Request
 request_of r = record { selector = r.selector.now; search = option_copied r.search; plus = option_map plus_of r.plus; lines = option_map lines_in r.data }
 
-abbrev pub seen : Answer → Verdict
+abbrev pub seen : StreamVerdict → Verdict
 seen answer.More = Open
 seen answer.Early = Early
 seen (answer.Whole r) = Whole (request_of r)

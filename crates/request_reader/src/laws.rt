@@ -1,10 +1,10 @@
 // What those who feed a reader rest on, as laws of the definitions.
 ghost use Rattle.request_reader.specs.Examples.{RequestLines, PlusParts, DataOfRequests, MuchData};
-ghost use Rattle.request_reader.specs.Laws.{CrashStatesDoRepresent, IsDecided, IsValid, HasLines, HasNames, SaysTheWhole, SaysTheEnd};
+ghost use Rattle.request_reader.specs.Laws.{VerdictsStay, IsDecided, IsValid, HasLines, HasNames, SaysTheWhole, SaysTheEnd};
 
 /// What a stream says is said whatever follows.
 pub fn closed_verdict_stays()
-    ensures { CrashStatesDoRepresent }
+    ensures { VerdictsStay }
 {}
 
 /// At the end of input nothing is open.

@@ -20,5 +20,5 @@ pub use data::Data;
 pub use laws::{any_cuts, closed_verdict_stays, decided, valid, worked_examples};
 pub use names::Names;
 pub use reader::Reader;
-pub use request::{Answer, Plus, Request, RequestedView};
+pub use request::{Plus, Request, RequestedView, StreamVerdict};
 pub use stream::answer_to;

@@ -6,7 +6,7 @@ ghost use Rattle.request_reader.specs.Scanned.{IsScanned};
 ghost use Rattle.request_reader.specs.ReceivedInput.{ReceivedInput, verdict_by, silence, fed, finished, undone, unmarked};
 ghost use Rattle.request_reader.specs.Seen.{seen};
 
-use crate::Answer;
+use crate::StreamVerdict;
 use crate::stream::{answer_from, scan_data};
 use std::alloc::{AllocError, Global};
 use std::marker::Model;
@@ -57,7 +57,7 @@ impl Reader {
     }
 
     /// What the stream so far says.
-    pub fn answer(&self) -> Answer<'_>
+    pub fn answer(&self) -> StreamVerdict<'_>
         ensures { seen result ≡ verdict_by self.now.input }
     {
         answer_from(&self.received, self.ended, self.scanned)
@@ -68,14 +68,14 @@ impl Reader {
         ensures { result ≡ is_open (verdict_by self.now.input) }
     {
         match self.answer() {
-            Answer::More => true,
+            StreamVerdict::More => true,
             _ => false,
         }
     }
 
     /// Takes the next piece, while the stream says nothing yet, and says what the stream says then.
     /// Without memory nothing is taken. A piece that is ignored takes no memory.
-    pub fn feed(&mut self, piece: &[u8]) -> Result<Answer<'_>, AllocError>
+    pub fn feed(&mut self, piece: &[u8]) -> Result<StreamVerdict<'_>, AllocError>
         ensures* after { sem 𝓛 (RestsFed self.entry piece.now result) }
         ensures said { IfOk result (λ a. seen a ≡ verdict_by (fed self.old piece.now).input) }
         ensures ignored { is_open (verdict_by self.old.input) ≡ false → IsOk result }
@@ -86,7 +86,7 @@ impl Reader {
 
     /// Takes the end of the input, while the stream says nothing yet, and says what the stream says then.
     /// Takes no memory.
-    pub fn finish(&mut self) -> Answer<'_>
+    pub fn finish(&mut self) -> StreamVerdict<'_>
         ensures* after { sem 𝓛 (RestsFinished self.entry) }
         ensures said { seen result ≡ verdict_by (finished self.old).input }
     {

@@ -40,7 +40,7 @@ pub struct Request<'a> {
 
 /// What a stream says so far.
 #[derive(Clone, Copy, Debug)]
-pub enum Answer<'a> {
+pub enum StreamVerdict<'a> {
     /// More bytes are needed.
     More,
     /// The input ended before the request was whole.

@@ -14,13 +14,17 @@ use crate::fields::parsed_line;
 use crate::line::{Cut, first_line};
 use crate::parsed::ParsedRequest;
 use crate::period::scan;
-use crate::{Answer, Cause, Data};
+use crate::{Cause, Data, StreamVerdict};
 
 /// What is not whole yet.
-fn pending<'a>(ended: bool) -> Answer<'a>
+fn pending<'a>(ended: bool) -> StreamVerdict<'a>
     ensures { seen result ≡ pending ended }
 {
-    if ended { Answer::Early } else { Answer::More }
+    if ended {
+        StreamVerdict::Early
+    } else {
+        StreamVerdict::More
+    }
 }
 
 /// All that may follow the head line of data.
@@ -48,17 +52,17 @@ fn period_answer<'a>(
     stream: &'a [u8],
     ended: bool,
     scanned: usize,
-) -> Answer<'a>
+) -> StreamVerdict<'a>
     requires { IsScannedTo (spec.room stream.now) scanned }
     ensures { seen result ≡ data_verdict (parsed_of parsed.entry) ToPeriod stream.now ended }
 {
     let bytes = room(stream);
     let period = scan(bytes, scanned);
     if period.is_found {
-        return Answer::Whole(parsed.with_data(Data::stuffed(&bytes[..period.at])));
+        return StreamVerdict::Whole(parsed.with_data(Data::stuffed(&bytes[..period.at])));
     }
     if is_too_much(stream) {
-        Answer::Bad(Cause::TooLong)
+        StreamVerdict::Bad(Cause::TooLong)
     } else {
         pending(ended)
     }
@@ -71,7 +75,7 @@ fn data_answer<'a>(
     stream: &'a [u8],
     ended: bool,
     scanned: usize,
-) -> Answer<'a>
+) -> StreamVerdict<'a>
     requires { IsScannedIn (of_extent (Ok extent) stream.now) scanned }
     ensures { seen result ≡ data_verdict (parsed_of parsed.entry) extent stream.now ended }
 {
@@ -79,16 +83,16 @@ fn data_answer<'a>(
         Extent::ToPeriod => period_answer(parsed, stream, ended, scanned),
         Extent::ToEnd => {
             if is_too_much(stream) {
-                Answer::Bad(Cause::TooLong)
+                StreamVerdict::Bad(Cause::TooLong)
             } else if ended {
-                Answer::Whole(parsed.with_data(Data::plain(stream)))
+                StreamVerdict::Whole(parsed.with_data(Data::plain(stream)))
             } else {
-                Answer::More
+                StreamVerdict::More
             }
         }
         Extent::Count(count) => {
             if count <= stream.len() {
-                Answer::Whole(parsed.with_data(Data::plain(&stream[..count])))
+                StreamVerdict::Whole(parsed.with_data(Data::plain(&stream[..count])))
             } else {
                 pending(ended)
             }
@@ -102,16 +106,16 @@ fn head_answer<'a>(
     stream: &'a [u8],
     ended: bool,
     scanned: usize,
-) -> Answer<'a>
+) -> StreamVerdict<'a>
     requires { IsScannedIn (of_head (first_line stream.now)) scanned }
     ensures { seen result ≡ head_verdict (parsed_of parsed.entry) (first_line stream.now) ended }
 {
     match first_line(stream) {
         Cut::NotYet => pending(ended),
-        Cut::TooLate => Answer::Bad(Cause::TooLong),
+        Cut::TooLate => StreamVerdict::Bad(Cause::TooLong),
         Cut::Line(line, rest) => match extent_of(line) {
             Ok(extent) => data_answer(parsed, extent, rest, ended, scanned),
-            Err(cause) => Answer::Bad(cause),
+            Err(cause) => StreamVerdict::Bad(cause),
         },
     }
 }
@@ -119,24 +123,24 @@ fn head_answer<'a>(
 /// What a stream says, with a mark whether the input ended there, where so many bytes of its data
 /// were scanned already.
 #[tactic(auto, using(crate::proofs::CleanLines::clean_line), unfolding(crate::specs::Verdict::verdict, crate::specs::Scanned::data_to_period))]
-pub fn answer_from(stream: &[u8], ended: bool, scanned: usize) -> Answer<'_>
+pub fn answer_from(stream: &[u8], ended: bool, scanned: usize) -> StreamVerdict<'_>
     requires { IsScanned stream.now scanned }
     ensures { seen result ≡ verdict stream.now ended }
 {
     match first_line(stream) {
         Cut::NotYet => pending(ended),
-        Cut::TooLate => Answer::Bad(Cause::TooLong),
+        Cut::TooLate => StreamVerdict::Bad(Cause::TooLong),
         Cut::Line(line, rest) => match parsed_line(line) {
             Ok(parsed) if parsed.has_data => head_answer(parsed, rest, ended, scanned),
-            Ok(parsed) => Answer::Whole(parsed.without_data()),
-            Err(cause) => Answer::Bad(cause),
+            Ok(parsed) => StreamVerdict::Whole(parsed.without_data()),
+            Err(cause) => StreamVerdict::Bad(cause),
         },
     }
 }
 
 /// What a stream says, with a mark whether the input ended there.
 #[tactic(auto, using(crate::proofs::Periods::not_scanned))]
-pub fn answer_to(stream: &[u8], ended: bool) -> Answer<'_>
+pub fn answer_to(stream: &[u8], ended: bool) -> StreamVerdict<'_>
     ensures { seen result ≡ verdict stream.now ended }
 {
     answer_from(stream, ended, 0)

@@ -6,7 +6,7 @@ ghost use Rattle.page_store.specs.Batch.{is_batch, is_edit, edit_key};
 
 use crate::trouble::Trouble;
 use cow_tree::TreeKeeper;
-use page_store::{Edit, Keeper};
+use page_store::{Edit, Keeper, LONGEST_KEY, LONGEST_VALUE};
 use sector_device::Device;
 use std::cmp::Ordering;
 
@@ -32,11 +32,11 @@ fn have_sizes(batch: &[Edit]) -> bool
         return true;
     };
     let length = first.key.as_slice().len();
-    if length < 1 || length > 300 {
+    if length < 1 || length > LONGEST_KEY {
         return false;
     }
     if let Some(value) = &first.value {
-        if value.as_slice().len() > 1024 {
+        if value.as_slice().len() > LONGEST_VALUE {
             return false;
         }
     }

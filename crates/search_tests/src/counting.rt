@@ -1,5 +1,5 @@
 // A disk that counts its reads.
-use sector_device::{Device, DeviceFault};
+use sector_device::{Device, DeviceFault, SECTOR_SIZE};
 use std::cell::Cell;
 use std::rc::Rc;
 
@@ -38,12 +38,12 @@ impl<D: Device> Device for CountingDisk<D> {
         self.inner.sectors()
     }
 
-    fn read(&mut self, n: u64, buffer: &mut [u8; 512]) -> Result<(), DeviceFault> {
+    fn read(&mut self, n: u64, buffer: &mut [u8; SECTOR_SIZE]) -> Result<(), DeviceFault> {
         self.reads.set(self.reads.get().saturating_add(1));
         self.inner.read(n, buffer)
     }
 
-    fn write(&mut self, n: u64, bytes: &[u8; 512]) -> Result<(), DeviceFault> {
+    fn write(&mut self, n: u64, bytes: &[u8; SECTOR_SIZE]) -> Result<(), DeviceFault> {
         self.inner.write(n, bytes)
     }
 

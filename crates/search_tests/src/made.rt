@@ -6,7 +6,7 @@ use cow_tree::{TreeKeeper, format};
 use host_types::{Admin, Bytes, Host, Stamp, Title};
 use mem_site::MemSite;
 use page_store::{Banner, Edit, PinKeeper};
-use sector_device::MemDisk;
+use sector_device::{MemDisk, SECTOR_SIZE};
 use site_store::{DiskSite, first_pairs};
 use std::alloc::Global;
 
@@ -99,10 +99,10 @@ pub fn on_disk(alloc: Global, reads: Reads) -> Result<TreeSite, Trouble> {
 }
 
 /// The sectors of an image.
-fn sectors_of(alloc: Global, image: &[u8]) -> Result<Vec<[u8; 512]>, Trouble> {
-    let mut sectors = Vec::with_capacity(alloc, image.len() / 512)?;
-    for bytes in image.chunks_exact(512) {
-        let mut sector = [0; 512];
+fn sectors_of(alloc: Global, image: &[u8]) -> Result<Vec<[u8; SECTOR_SIZE]>, Trouble> {
+    let mut sectors = Vec::with_capacity(alloc, image.len() / SECTOR_SIZE)?;
+    for bytes in image.chunks_exact(SECTOR_SIZE) {
+        let mut sector = [0; SECTOR_SIZE];
         sector.copy_from_slice(bytes);
         sectors.push(sector)?;
     }

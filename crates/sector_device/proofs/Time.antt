@@ -4,7 +4,7 @@ use Rattle.std.proofs.lemmas.List.{take-append-le}
 use Rattle.std.proofs.lemmas.Bool.{cases_lt}
 use Rattle.sector_device.specs.Disk.{IsImage, SyncFailed}
 use Rattle.sector_device.specs.Device.{Elapses}
-use Rattle.sector_device.specs.Calls.{fresh, after, replay, PossibleSince}
+use Rattle.sector_device.specs.Calls.{fresh, after, replay, MayLeaveSince}
 use Rattle.sector_device.specs.Images.{replay-push, good}
 use Rattle.sector_device.specs.declared.call.Call.{Call}
 
@@ -14,7 +14,7 @@ shorter first calls call k c le i = subst (λ (l : List Call). IsImage (replay (
 longer : (first : List (List ℕ)) (calls : List Call) (call : Call) (k : ℕ) (c : List (List ℕ)) → k ≤ length calls → IsImage (replay (fresh first) (take k calls)) c → IsImage (replay (fresh first) (take k (calls ++ call ∷ []))) c
 longer first calls call k c le i = subst (λ (l : List Call). IsImage (replay (fresh first) l) c) (sym (take-append-le k calls (call ∷ []) le)) i
 
-elapses_push : (first : List (List ℕ)) (calls : List Call) (call : Call) → Elapses (length calls) (length (calls ++ call ∷ [])) (PossibleSince first calls) (PossibleSince first (calls ++ call ∷ []))
+elapses_push : (first : List (List ℕ)) (calls : List Call) (call : Call) → Elapses (length calls) (length (calls ++ call ∷ [])) (MayLeaveSince first calls) (MayLeaveSince first (calls ++ call ∷ []))
 elapses_push first calls call = record {
   later = omega (arith, length-append calls (call ∷ []));
   nothing_else = λ t c le left. elim (cases_lt (length calls) left.0) [
@@ -25,8 +25,8 @@ elapses_push first calls call = record {
   now = λ c left. left;
 }
 
-pub elapses_to : (first : List (List ℕ)) (calls later : List Call) (call : Call) → later ≡ calls ++ call ∷ [] → Elapses (length calls) (length later) (PossibleSince first calls) (PossibleSince first later)
-elapses_to first calls later call is = subst (λ (l : List Call). Elapses (length calls) (length l) (PossibleSince first calls) (PossibleSince first l)) (sym is) (elapses_push first calls call)
+pub elapses_to : (first : List (List ℕ)) (calls later : List Call) (call : Call) → later ≡ calls ++ call ∷ [] → Elapses (length calls) (length later) (MayLeaveSince first calls) (MayLeaveSince first later)
+elapses_to first calls later call is = subst (λ (l : List Call). Elapses (length calls) (length l) (MayLeaveSince first calls) (MayLeaveSince first l)) (sym is) (elapses_push first calls call)
 
 pub replayed : (first : List (List ℕ)) (calls later : List Call) (call : Call) → later ≡ calls ++ call ∷ [] → replay (fresh first) later ≡ after call (replay (fresh first) calls)
 replayed first calls later call is = ap (λ (l : List Call). replay (fresh first) l) is ∙ replay-push (fresh first) calls call

@@ -1,5 +1,6 @@
 -- A disk in memory, by the calls that were made of it.
 use Rattle.std.specs.Prelude.{◌≤◌, ℕ, true, List, [], ◌∷◌, ◌++◌, length, take, replicate}
+use Rattle.sector_device.specs.Sizes.{sector_size}
 use Rattle.common_types.specs.Counts.{counted}
 use Rattle.sector_device.specs.CallsMade.{CallsMade, none_made, with_call}
 use Rattle.sector_device.specs.Device.{State}
@@ -40,7 +41,7 @@ refused call h = record { first = h.first; writes_and_syncs = h.writes_and_syncs
 
 -- so many sectors of zeros
 unfoldable pub zeros : ℕ → List (List ℕ)
-zeros sectors = replicate sectors (replicate 512 0)
+zeros sectors = replicate sectors (replicate sector_size 0)
 
 -- a disk of which nothing was asked yet
 abbrev pub fresh : List (List ℕ) → Disk
@@ -69,5 +70,5 @@ writes_of (Write n bytes ∷ calls) = (n, bytes) ∷ writes_of calls
 writes_of (Sync ∷ calls) = writes_of calls
 
 -- a crash after some number of calls, at least t, leaves an image of the disk as it was then
-abbrev pub PossibleSince : List (List ℕ) → List Call → ℕ → List (List ℕ) → Type 0
-PossibleSince first calls t image = (k : ℕ) × (t ≤ k) × (k ≤ length calls) × IsImage (replay (fresh first) (take k calls)) image
+abbrev pub MayLeaveSince : List (List ℕ) → List Call → ℕ → List (List ℕ) → Type 0
+MayLeaveSince first calls t image = (k : ℕ) × (t ≤ k) × (k ≤ length calls) × IsImage (replay (fresh first) (take k calls)) image

@@ -3,7 +3,7 @@ use Rattle.std.specs.Prelude.{◌≡◌, ◌⊎◌, ℕ, zero, suc, List, [], �
 use Rattle.std.proofs.Common.{inl, inr, ⊎_elim, sym, ◌∙◌, ap, subst, arith}
 use Rattle.std.proofs.lemmas.List.{take_all}
 use Rattle.sector_device.specs.Disk.{Disk, IsImage, WasWritten, written, synced}
-use Rattle.sector_device.specs.Calls.{fresh, after, replay, PossibleSince}
+use Rattle.sector_device.specs.Calls.{fresh, after, replay, MayLeaveSince}
 use Rattle.sector_device.specs.declared.call.Call.{Call}
 use Rattle.sector_device.specs.declared.call.Call.TheVariants.{Write, Sync}
 
@@ -63,8 +63,8 @@ good_replay (Sync ∷ calls) size d g = good_replay calls size (synced d) (good_
 pub good : (first : List (List ℕ)) (calls : List Call) → IsGood (length first) (replay (fresh first) calls)
 good first calls = good_replay calls (length first) (fresh first) (record { size_is = refl; view = record { size = refl; each = λ k x h. inl h } })
 
-pub only_images : (first : List (List ℕ)) (calls : List Call) (c : List (List ℕ)) → PossibleSince first calls (length calls) c → IsImage (replay (fresh first) calls) c
+pub only_images : (first : List (List ℕ)) (calls : List Call) (c : List (List ℕ)) → MayLeaveSince first calls (length calls) c → IsImage (replay (fresh first) calls) c
 only_images first calls c left = subst (λ (l : List Call). IsImage (replay (fresh first) l) c) (take_all left.0 calls left.1) left.3
 
-pub all_images : (first : List (List ℕ)) (calls : List Call) (c : List (List ℕ)) → IsImage (replay (fresh first) calls) c → PossibleSince first calls (length calls) c
+pub all_images : (first : List (List ℕ)) (calls : List Call) (c : List (List ℕ)) → IsImage (replay (fresh first) calls) c → MayLeaveSince first calls (length calls) c
 all_images first calls c i = (length calls, omega arith, omega arith, subst (λ (l : List Call). IsImage (replay (fresh first) l) c) (sym (take_all (length calls) calls (omega arith))) i)

@@ -13,3 +13,5 @@ pub mod Lying
 pub mod MemDisk
 pub mod Once
 pub mod OnceState
+pub mod Sectors
+pub mod Sizes

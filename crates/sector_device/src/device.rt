@@ -1,12 +1,14 @@
 // A disk of sectors, as the layers above see it.
-ghost use Rattle.std.specs.Prelude.{◌≡◌, ◌<◌, List, ℕ, IfOk, OnOk, OnErr, IfErr, IsTrue, length, slice_get, Some};
+ghost use Rattle.std.specs.Prelude.{◌≡◌, ◌<◌, List, ℕ, IfOk, OnOk, OnErr, IfErr, IfSome, IsTrue, length, slice_get, Some};
 ghost use Rattle.sector_device.specs.declared.device.DeviceFault.{DeviceFault as Fault};
 ghost use Rattle.sector_device.specs.declared.device.DeviceFault.TheVariants.{Device as Failing};
 ghost use Rattle.sector_device.specs.Disk.{Sectors, Disk, IsImage, written, synced, WriteFailed, SyncFailed};
 ghost use Rattle.common_types.specs.Counts.{counted, Counts};
 ghost use Rattle.sector_device.specs.Device.{State, Elapses};
+ghost use Rattle.sector_device.specs.Sectors.{page_of};
 ghost use Rattle.sector_device.specs.Effects.{ReadOutcome, WriteOutcome, MadeExactly};
 
+use crate::{PAGE_SIZE, SECTOR_SIZE};
 use thiserror::Error;
 
 /// Why a call of a device fails.
@@ -59,7 +61,7 @@ pub trait Device {
         ensures { result ≡ (state self.now).size };
 
     /// Reads sector n. A read that fails changes nothing but its count, and leaves the buffer. It takes no memory.
-    fn read(&mut self, n: u64, buffer: &mut [u8; 512]) -> Result<(), DeviceFault>
+    fn read(&mut self, n: u64, buffer: &mut [u8; SECTOR_SIZE]) -> Result<(), DeviceFault>
         requires { n < (state self.old).size }
         ensures read { IsTrue (state self.old).honest → OnOk result (slice_get (state self.old).disk.view n ≡ Some buffer.new) }
         ensures untouched { IfErr result (λ e. buffer.new ≡ buffer.old) }
@@ -67,8 +69,15 @@ pub trait Device {
         ensures time { IsTrue (state self.old).honest → Elapses (moment self.old) (moment self.new) (possible_since self.old) (possible_since self.new) }
         ensures work { MadeExactly 1 0 0 (state self.old) (state self.new) };
 
+    /// Lends the bytes of page n, the eight sectors from sector 8 n on, where the device keeps them in memory side by side; none else. No call is made for it. It takes no memory.
+    fn page(&self, _n: u32) -> Option<&[u8; PAGE_SIZE]>
+        ensures { IsTrue (state self.now).honest → IfSome result (λ bytes. page_of (state self.now).disk.view _n ≡ bytes.now) }
+    {
+        None
+    }
+
     /// Writes sector n. Reads show it at once; a crash may leave it or not until a sync succeeds.
-    fn write(&mut self, n: u64, bytes: &[u8; 512]) -> Result<(), DeviceFault>
+    fn write(&mut self, n: u64, bytes: &[u8; SECTOR_SIZE]) -> Result<(), DeviceFault>
         requires { n < (state self.old).size }
         ensures written { IsTrue (state self.old).honest → OnOk result ((state self.new).disk ≡ written n bytes.now (state self.old).disk) }
         ensures failed { IsTrue (state self.old).honest → OnErr result (WriteFailed n bytes.now (state self.old).disk (state self.new).disk) }

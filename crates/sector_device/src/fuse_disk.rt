@@ -6,7 +6,7 @@ ghost use Rattle.sector_device.specs.Device.{State, Elapses};
 ghost use Rattle.sector_device.specs.Effects.{ReadOutcome, WriteOutcome, MadeExactly};
 
 use crate::device::counted;
-use crate::{CallCounts, CallKind, Device, DeviceFault};
+use crate::{CallCounts, CallKind, Device, DeviceFault, SECTOR_SIZE};
 
 /// A device around another: it passes so many reads, writes and syncs on, and then each fails. Its own failures count beside those inside.
 #[derive(Drop)]
@@ -99,7 +99,7 @@ impl<D: Device> Device for FuseDisk<D> {
         self.inner.sectors()
     }
 
-    fn read(&mut self, n: u64, buffer: &mut [u8; 512]) -> Result<(), DeviceFault>
+    fn read(&mut self, n: u64, buffer: &mut [u8; SECTOR_SIZE]) -> Result<(), DeviceFault>
         requires { n < (fuse_state D.state self.old).size }
         ensures read { IsTrue (fuse_state D.state self.old).honest → OnOk result (slice_get (fuse_state D.state self.old).disk.view n ≡ Some buffer.new) }
         ensures untouched { IfErr result (λ e. buffer.new ≡ buffer.old) }
@@ -120,7 +120,7 @@ impl<D: Device> Device for FuseDisk<D> {
         self.inner.read(n, buffer)
     }
 
-    fn write(&mut self, n: u64, bytes: &[u8; 512]) -> Result<(), DeviceFault>
+    fn write(&mut self, n: u64, bytes: &[u8; SECTOR_SIZE]) -> Result<(), DeviceFault>
         requires { n < (fuse_state D.state self.old).size }
         ensures written { IsTrue (fuse_state D.state self.old).honest → OnOk result ((fuse_state D.state self.new).disk ≡ written n bytes.now (fuse_state D.state self.old).disk) }
         ensures failed { IsTrue (fuse_state D.state self.old).honest → OnErr result (WriteFailed n bytes.now (fuse_state D.state self.old).disk (fuse_state D.state self.new).disk) }

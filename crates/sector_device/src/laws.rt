@@ -8,7 +8,7 @@ ghost use Rattle.sector_device.specs.AfterStop.{after_stop};
 ghost use Rattle.sector_device.specs.CrashExamples.{CrashExamples};
 ghost use Rattle.sector_device.specs.Once.{OnlyFails};
 
-use crate::{Device, DeviceFault};
+use crate::{Device, DeviceFault, SECTOR_SIZE};
 
 /// Worked examples of what a crash leaves.
 pub fn worked_examples()
@@ -31,7 +31,11 @@ pub fn only_that_call_fails()
 {}
 
 /// Writes a sector, makes sure of it, and reads it again, up to the first call that fails.
-pub fn store<D: Device>(device: &mut D, n: u64, bytes: &[u8; 512]) -> Result<[u8; 512], DeviceFault>
+pub fn store<D: Device>(
+    device: &mut D,
+    n: u64,
+    bytes: &[u8; SECTOR_SIZE],
+) -> Result<[u8; SECTOR_SIZE], DeviceFault>
     requires { n < (D.state device.old).size }
     ensures same { IsSameDevice (D.state device.old) (D.state device.new) }
     ensures read { IsTrue (D.state device.old).honest → IfOk result (λ read. read ≡ bytes.now) }
@@ -41,7 +45,7 @@ pub fn store<D: Device>(device: &mut D, n: u64, bytes: &[u8; 512]) -> Result<[u8
 {
     device.write(n, bytes)?;
     device.sync()?;
-    let mut buffer = [0; 512];
+    let mut buffer = [0; SECTOR_SIZE];
     device.read(n, &mut buffer)?;
     Ok(buffer)
 }

@@ -9,6 +9,7 @@ mod laws;
 mod lie_disk;
 mod mem_disk;
 mod once_disk;
+mod sizes;
 
 pub use call::Call;
 pub use call_counts::{CallCounts, CallKind};
@@ -20,3 +21,4 @@ pub use laws::{
 pub use lie_disk::LieDisk;
 pub use mem_disk::MemDisk;
 pub use once_disk::OnceDisk;
+pub use sizes::{PAGE_SIZE, SECTOR_SIZE};

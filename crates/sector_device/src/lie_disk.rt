@@ -6,7 +6,7 @@ ghost use Rattle.sector_device.specs.Effects.{ReadOutcome, WriteOutcome, MadeExa
 ghost use Rattle.sector_device.specs.Lying.{lies};
 
 use crate::fuse_disk::burns;
-use crate::{CallCounts, CallKind, Device, DeviceFault};
+use crate::{CallCounts, CallKind, Device, DeviceFault, SECTOR_SIZE};
 
 /// A device around another: once so many reads, writes and syncs were made, reads of one sector give the same bytes, whatever stands there. All else is as the device inside does it. From the first call on
 /// it is not honest, since no call may change whether a device is.
@@ -16,7 +16,7 @@ pub struct LieDisk<D: Device> {
     /// How many more calls come before the lie.
     calls_left: u64,
     sector: u64,
-    told: [u8; 512],
+    told: [u8; SECTOR_SIZE],
     made: CallCounts,
 }
 
@@ -24,7 +24,7 @@ impl<D: Device> LieDisk<D> {
     ghost use Rattle.sector_device.specs.LieState.{inside, calls_left, sector, told};
 
     /// A device that gives these bytes for sector n, once so many calls were made.
-    pub fn new(inner: D, calls: u64, n: u64, bytes: [u8; 512]) -> Self
+    pub fn new(inner: D, calls: u64, n: u64, bytes: [u8; SECTOR_SIZE]) -> Self
         ensures inside { inside result ≡ inner }
         ensures calls { calls_left result ≡ calls }
         ensures sector { sector result ≡ n }
@@ -75,7 +75,7 @@ impl<D: Device> Device for LieDisk<D> {
         self.inner.sectors()
     }
 
-    fn read(&mut self, n: u64, buffer: &mut [u8; 512]) -> Result<(), DeviceFault>
+    fn read(&mut self, n: u64, buffer: &mut [u8; SECTOR_SIZE]) -> Result<(), DeviceFault>
         requires { n < (lie_state D.state self.old).size }
         ensures untouched { IfErr result (λ e. buffer.new ≡ buffer.old) }
         ensures outcome { ReadOutcome result (D.state (inside self.old)) (D.state (inside self.new)) }
@@ -95,7 +95,7 @@ impl<D: Device> Device for LieDisk<D> {
         Ok(())
     }
 
-    fn write(&mut self, n: u64, bytes: &[u8; 512]) -> Result<(), DeviceFault>
+    fn write(&mut self, n: u64, bytes: &[u8; SECTOR_SIZE]) -> Result<(), DeviceFault>
         requires { n < (lie_state D.state self.old).size }
         ensures written { IsTrue (D.state (inside self.old)).honest → OnOk result ((D.state (inside self.new)).disk ≡ written n bytes.now (D.state (inside self.old)).disk) }
         ensures failed { IsTrue (D.state (inside self.old)).honest → OnErr result (WriteFailed n bytes.now (D.state (inside self.old)).disk (D.state (inside self.new)).disk) }

@@ -6,7 +6,7 @@ ghost use Rattle.sector_device.specs.Effects.{ReadOutcome, WriteOutcome, MadeExa
 ghost use Rattle.sector_device.specs.Once.{Fails, after_call};
 
 use crate::device::counted;
-use crate::{CallCounts, CallKind, Device, DeviceFault};
+use crate::{CallCounts, CallKind, Device, DeviceFault, SECTOR_SIZE};
 
 /// A device around another, of whose reads, writes and syncs one fails, without reaching the device inside. All others pass. Its own failure counts beside those inside.
 #[derive(Drop)]
@@ -106,7 +106,7 @@ impl<D: Device> Device for OnceDisk<D> {
         self.inner.sectors()
     }
 
-    fn read(&mut self, n: u64, buffer: &mut [u8; 512]) -> Result<(), DeviceFault>
+    fn read(&mut self, n: u64, buffer: &mut [u8; SECTOR_SIZE]) -> Result<(), DeviceFault>
         requires { n < (once_state D.state self.old).size }
         ensures read { IsTrue (once_state D.state self.old).honest → OnOk result (slice_get (once_state D.state self.old).disk.view n ≡ Some buffer.new) }
         ensures untouched { IfErr result (λ e. buffer.new ≡ buffer.old) }
@@ -124,7 +124,7 @@ impl<D: Device> Device for OnceDisk<D> {
         self.inner.read(n, buffer)
     }
 
-    fn write(&mut self, n: u64, bytes: &[u8; 512]) -> Result<(), DeviceFault>
+    fn write(&mut self, n: u64, bytes: &[u8; SECTOR_SIZE]) -> Result<(), DeviceFault>
         requires { n < (once_state D.state self.old).size }
         ensures written { IsTrue (once_state D.state self.old).honest → OnOk result ((once_state D.state self.new).disk ≡ written n bytes.now (once_state D.state self.old).disk) }
         ensures failed { IsTrue (once_state D.state self.old).honest → OnErr result (WriteFailed n bytes.now (once_state D.state self.old).disk (once_state D.state self.new).disk) }

@@ -14,22 +14,22 @@ use Rattle.site_records.specs.Limits.{is_short_body}
 use Rattle.site_pairs.specs.Edits.{Edits, with_edit, with_all, without_all}
 use Rattle.host_types.specs.Card.{chunk_of}
 use Rattle.site_records.specs.Keys.{chunk_key}
-use Rattle.site_records.specs.Layout.{Pair, Pairs, chunk_pairs}
+use Rattle.site_records.specs.Layout.{LayoutPair, Pairs, chunk_pairs}
 
-pub next_chunk : (front all : Pairs) (selector : List ℕ) (v : ℕ) (part : List ℕ) (n k : ℕ) (p : Pair) → k < n → p ≡ (chunk_key selector v k, chunk_of part k) → front ++ chunk_pairs selector v part (n - k) k ≡ all → (front ++ p ∷ []) ++ chunk_pairs selector v part (n - (k + 1)) (k + 1) ≡ all
+pub next_chunk : (front all : Pairs) (selector : List ℕ) (v : ℕ) (part : List ℕ) (n k : ℕ) (p : LayoutPair) → k < n → p ≡ (chunk_key selector v k, chunk_of part k) → front ++ chunk_pairs selector v part (n - k) k ≡ all → (front ++ p ∷ []) ++ chunk_pairs selector v part (n - (k + 1)) (k + 1) ≡ all
 next_chunk front all selector v part n k p lt is whole =
     let rest = chunk_pairs selector v part (n - (k + 1)) (k + 1) in
     let more : n - k ≡ suc (n - (k + 1)) = omega (arith, lt) in
-    append_assoc front (p ∷ []) rest ∙ ap (λ (q : Pair). front ++ q ∷ rest) is ∙ ap (λ (m : ℕ). front ++ chunk_pairs selector v part m k) (sym more) ∙ whole
+    append_assoc front (p ∷ []) rest ∙ ap (λ (q : LayoutPair). front ++ q ∷ rest) is ∙ ap (λ (m : ℕ). front ++ chunk_pairs selector v part m k) (sym more) ∙ whole
 
-pub put_last : (edits all : Edits) (ps qs : Pairs) (p : Pair) → ps ≡ qs ++ p ∷ [] → with_all edits ps ≡ all → with_all (with_edit edits p.0 (Some p.1)) qs ≡ all
+pub put_last : (edits all : Edits) (ps qs : Pairs) (p : LayoutPair) → ps ≡ qs ++ p ∷ [] → with_all edits ps ≡ all → with_all (with_edit edits p.0 (Some p.1)) qs ≡ all
 put_last edits all ps qs p is whole = sym (last qs) ∙ ap (with_all edits) (sym is) ∙ whole
   where
     last : (xs : Pairs) → with_all edits (xs ++ p ∷ []) ≡ with_all (with_edit edits p.0 (Some p.1)) xs
     last [] = refl
     last (x ∷ xs) = ap (λ (e : Edits). with_edit e x.0 (Some x.1)) (last xs)
 
-pub drop_last : (edits all : Edits) (ps qs : Pairs) (p : Pair) → ps ≡ qs ++ p ∷ [] → without_all edits ps ≡ all → without_all (with_edit edits p.0 None) qs ≡ all
+pub drop_last : (edits all : Edits) (ps qs : Pairs) (p : LayoutPair) → ps ≡ qs ++ p ∷ [] → without_all edits ps ≡ all → without_all (with_edit edits p.0 None) qs ≡ all
 drop_last edits all ps qs p is whole = sym (last qs) ∙ ap (without_all edits) (sym is) ∙ whole
   where
     last : (xs : Pairs) → without_all edits (xs ++ p ∷ []) ≡ without_all (with_edit edits p.0 None) xs

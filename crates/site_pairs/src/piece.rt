@@ -1,5 +1,6 @@
 // A value that a key-value store takes.
 ghost use Rattle.std.specs.Prelude.{◌≡◌, ◌≤◌, length};
+ghost use Rattle.page_store.specs.Sizes.{longest_value};
 
 use host_types::Bytes;
 use std::marker::Model;
@@ -12,18 +13,19 @@ pub struct Piece {
 
 impl Model for Piece {
     ghost use Rattle.std.specs.Prelude.{List, ℕ, length, ◌≤◌};
+    ghost use Rattle.page_store.specs.Sizes.{longest_value};
 
     ghost Value = { List ℕ };
 
     ghost view = { λ p. p.bytes };
 
-    ghost invariant = { λ p. length p.bytes ≤ 1024 };
+    ghost invariant = { λ p. length p.bytes ≤ longest_value };
 }
 
 impl Piece {
     /// The value of these bytes.
     pub(crate) fn new(bytes: Bytes) -> Self
-        requires { length bytes ≤ 1024 }
+        requires { length bytes ≤ longest_value }
         ensures { result ≡ bytes }
     {
         Piece { bytes }
@@ -32,7 +34,7 @@ impl Piece {
     /// Its bytes.
     pub fn as_slice(&self) -> &[u8]
         ensures value { result.now ≡ self.now }
-        ensures length { length result.now ≤ 1024 }
+        ensures length { length result.now ≤ longest_value }
     {
         let bytes = &self.bytes;
         bytes.as_slice()

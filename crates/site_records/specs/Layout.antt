@@ -10,11 +10,11 @@ use Rattle.site_records.specs.Records.{item_bytes, parts_of}
 use Rattle.host_types.specs.declared.item.Item.{Item}
 
 -- a key and its value
-abbrev pub Pair : Type 0
-Pair = List ℕ × List ℕ
+abbrev pub LayoutPair : Type 0
+LayoutPair = List ℕ × List ℕ
 
 abbrev pub Pairs : Type 0
-Pairs = List Pair
+Pairs = List LayoutPair
 
 -- how many chunks of 1,000 bytes so many bytes have; none have none
 unfoldable pub chunk_count : ℕ → ℕ
@@ -92,7 +92,7 @@ lowered bytes = take 9 bytes ++ drop 17 bytes
 abbrev pub lowered_at : List ℕ → List ℕ → List ℕ
 lowered_at key value = if is_record_key key then lowered value else value
 
-abbrev pub lowered_pair : Pair → Pair
+abbrev pub lowered_pair : LayoutPair → LayoutPair
 lowered_pair p = (p.0, lowered_at p.0 p.1)
 
 -- The layout in version 1: the same, but for the records, which know no expiry.

@@ -8,3 +8,4 @@ pub mod Layout
 pub mod LayoutLaws
 pub mod Laws
 pub mod RecordExamples
+pub mod Fronts

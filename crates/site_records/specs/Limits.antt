@@ -9,6 +9,7 @@ use Rattle.host_types.specs.declared.form.Question.{Question}
 use Rattle.host_types.specs.declared.form.Question.TheVariants as questions
 use Rattle.host_types.specs.declared.item.Item.{Item}
 use Rattle.host_types.specs.declared.item.Body.{Body}
+use Rattle.host_types.specs.Sizes.{longest_summary}
 use Rattle.site_records.specs.declared.record.Record.{Record}
 use Rattle.site_records.specs.declared.record.RecordBody.{RecordBody}
 use Rattle.site_records.specs.declared.record.RecordBody.TheVariants as kept
@@ -51,7 +52,7 @@ abbrev pub is_stamp : ℕ → Bool
 is_stamp n = nat_le n 253402300799
 
 abbrev pub is_summary : List ℕ → Bool
-is_summary bytes = nat_le (length bytes) 400
+is_summary bytes = nat_le (length bytes) longest_summary
 
 abbrev pub is_view_name : List ℕ → Bool
 is_view_name name = nat_le (length name) 40 && is_word name

@@ -247,14 +247,14 @@ Reads view (Ok x) read = read ≡ Some (view x)
 Reads view (Err e) read = (e ≡ faults.BadRecord) × (read ≡ None)
 
 -- Memory is lacking only for what is read: bad bytes are told as such.
-abbrev pub Fails : {Y : Type 0} → RecordFault → Option Y → Type 0
-Fails faults.Memory read = IsSome read
-Fails faults.BadRecord read = read ≡ None
+abbrev pub ReadingFails : {Y : Type 0} → RecordFault → Option Y → Type 0
+ReadingFails faults.Memory read = IsSome read
+ReadingFails faults.BadRecord read = read ≡ None
 
 -- What a function returned, seen by view, is what reading gives, unless memory ran out.
 abbrev pub Gives : {X Y : Type 0} → (X → Y) → Result X RecordFault → Option Y → Type 0
 Gives view (Ok x) read = read ≡ Some (view x)
-Gives view (Err e) read = Fails e read
+Gives view (Err e) read = ReadingFails e read
 
 -- Memory is lacking only where the bytes are what is written of a value that passes a test.
 abbrev pub MemoryOnlyFor : {X : Type 0} → (X → Bool) → (X → List ℕ) → List ℕ → RecordFault → Type 0

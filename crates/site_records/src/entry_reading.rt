@@ -5,7 +5,7 @@ ghost use Rattle.host_types.specs.declared.menu.Entry.{Entry};
 ghost use Rattle.site_records.specs.Records.{entries_bytes};
 ghost use Rattle.site_records.specs.Limits.{are_entries};
 ghost use Rattle.site_records.specs.Field.{until_end};
-ghost use Rattle.site_records.specs.Reading.{Reads, Gives, Fails, MemoryOnlyFor, entry_behind, entry_at, entries_at, remote_entry};
+ghost use Rattle.site_records.specs.Reading.{Reads, Gives, ReadingFails, MemoryOnlyFor, entry_behind, entry_at, entries_at, remote_entry};
 
 use crate::RecordFault;
 use crate::fields::{byte_of, host_of, link_of, port_of, selector_of, title_of};
@@ -84,7 +84,7 @@ fn add_entry<'a>(entries: &mut EntryList, bytes: &'a [u8]) -> Result<(bool, &'a 
 
 /// The fault where memory is lacking and so many entries may come yet: one that can't be read goes before.
 fn lacking(most: usize, bytes: &[u8]) -> RecordFault
-    ensures { Fails result (until_end entry_at most bytes.now) }
+    ensures { ReadingFails result (until_end entry_at most bytes.now) }
 {
     let mut rest = bytes;
     for _ in 0..most {

@@ -8,7 +8,7 @@ ghost use Rattle.site_records.specs.Field.{number, byte, counted};
 ghost use Rattle.site_records.specs.Reading.{Reads, stamp_at, until_at, title_at, summary_at, selector_at, host_at, link_at, port_at};
 
 use crate::RecordFault;
-use host_types::{GREATEST_STAMP, Host, Selector, Stamp, Title, Url};
+use host_types::{GREATEST_STAMP, Host, LONGEST_SUMMARY, Selector, Stamp, Title, Url};
 
 #[tactic(auto, unfolding(crate::specs::Field::byte))]
 pub fn byte_of(bytes: &[u8]) -> Result<(u8, &[u8]), RecordFault>
@@ -173,7 +173,7 @@ pub fn summary_of(bytes: &[u8]) -> Result<(&[u8], &[u8]), RecordFault>
     ensures { Reads (λ x. (x.0.now, x.1.now)) result (summary_at bytes.now) }
 {
     let (text, rest) = long_of(bytes)?;
-    if text.len() > 400 {
+    if text.len() > LONGEST_SUMMARY {
         return Err(RecordFault::BadRecord);
     }
     Ok((text, rest))

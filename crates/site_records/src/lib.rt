@@ -3,6 +3,7 @@
 
 mod entry_reading;
 mod fields;
+mod front_reading;
 mod keys;
 mod laws;
 mod lent_question;
@@ -17,6 +18,7 @@ mod record_writing;
 mod view_reading;
 
 pub use entry_reading::read_entries;
+pub use front_reading::read_front;
 pub use keys::{Key, LONGEST_KEY, LONGEST_WORD, chunk_key, item_key, word_key};
 pub use laws::{
     first_layouts_hold, items_have_records, items_share_no_key, keys_are_one_to_one,

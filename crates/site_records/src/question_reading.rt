@@ -7,7 +7,7 @@ ghost use Rattle.site_records.specs.Lent.{lent_question};
 ghost use Rattle.site_records.specs.Records.{questions_bytes};
 ghost use Rattle.site_records.specs.Limits.{are_questions, is_choice_count};
 ghost use Rattle.site_records.specs.Field.{byte, passing, times, until_end};
-ghost use Rattle.site_records.specs.Reading.{Reads, Gives, Fails, MemoryOnlyFor, prompt_at, answer_at, choices_at, question_behind, question_at, questions_at};
+ghost use Rattle.site_records.specs.Reading.{Reads, Gives, ReadingFails, MemoryOnlyFor, prompt_at, answer_at, choices_at, question_behind, question_at, questions_at};
 
 use crate::RecordFault;
 use crate::fields::{byte_of, is_field, short_of};
@@ -118,7 +118,7 @@ fn question_of(bytes: &[u8]) -> Result<(LentQuestion<'_>, &[u8]), RecordFault>
 
 /// The fault where memory is lacking and so many questions may come yet: one that can't be read goes before.
 fn lacking(most: usize, bytes: &[u8]) -> RecordFault
-    ensures { Fails result (until_end question_at most bytes.now) }
+    ensures { ReadingFails result (until_end question_at most bytes.now) }
 {
     let mut rest = bytes;
     for _ in 0..most {

@@ -148,7 +148,7 @@ fn record_behind(
 }
 
 #[tactic(auto, unfolding(crate::specs::Reading::record_by, crate::specs::Reading::moments_at, crate::specs::Field::both))]
-fn lent_record(bytes: &[u8]) -> Result<LentRecord<'_>, RecordFault>
+pub(crate) fn lent_record(bytes: &[u8]) -> Result<LentRecord<'_>, RecordFault>
     ensures { Reads (λ r. r) result (record_at bytes.now) }
 {
     let (tag, rest) = byte_of(bytes)?;

@@ -5,3 +5,4 @@ pub mod Replies
 pub mod Lengths
 pub mod PostReply
 pub mod LaterReply
+pub mod Fronts

@@ -1,13 +1,15 @@
 // What clients find at a selector.
 ghost use Rattle.std.specs.Prelude.{◌≡◌};
 ghost use Rattle.host_types.specs.Card.{card_at};
-ghost use Rattle.host_types.specs.Visible.{visible, card_unless_expired};
+ghost use Rattle.host_types.specs.Fronts.{front_at};
+ghost use Rattle.host_types.specs.Visible.{visible, card_unless_expired, is_over};
 ghost use Rattle.host_types.specs.Site.{item_at};
 ghost use Rattle.request_reader.specs.Seen.{request_of};
 ghost use Rattle.site_replies.specs.Forms.{is_form_in, is_form_by};
+ghost use Rattle.site_replies.specs.Fronts.{front_unless_expired};
 ghost use Rattle.site_replies.specs.Reads.{ReadsSite};
 
-use host_types::{Card, CardBody, Selector, SiteFault, Stamp};
+use host_types::{Card, CardBody, CardFront, Selector, SiteFault, Stamp, is_over};
 use request_reader::Request;
 use word_index::SearchKeeper;
 
@@ -32,6 +34,36 @@ pub fn card_at<S: SearchKeeper>(
 {
     let card = site.card(selector)?;
     Ok(unless_expired(card, now))
+}
+
+/// Whether the item of a front has expired.
+fn is_past(front: &CardFront, now: Stamp) -> bool
+    ensures { result ≡ is_over front.now.until now }
+{
+    is_over(front.until, now)
+}
+
+/// A front, unless its item has expired.
+fn front_unless_expired(front: Option<CardFront>, now: Stamp) -> Option<CardFront>
+    ensures { result ≡ front_unless_expired front now }
+{
+    match front {
+        Some(front) if !is_past(&front, now) => Some(front),
+        _ => None,
+    }
+}
+
+/// What the line of a menu says of what stands at a selector, unless it has expired.
+#[tactic(auto, using(crate::proofs::VisibleCards::visible_front))]
+pub fn front_at<S: SearchKeeper>(
+    site: &mut S,
+    selector: &Selector,
+    now: Stamp,
+) -> Result<Option<CardFront>, SiteFault>
+    ensures front { ReadsSite S.site_state S.lacks S.crash_states site.old site.new result (λ s front. front ≡ front_at (visible s now) selector.now) }
+{
+    let front = site.card_front(selector)?;
+    Ok(front_unless_expired(front, now))
 }
 
 fn is_form(card: &Option<Card>) -> bool

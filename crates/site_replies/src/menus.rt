@@ -13,7 +13,7 @@ ghost use Rattle.site_replies.specs.Reply as spec;
 
 use crate::documents::as_text;
 use crate::entries::post_names;
-use crate::looking::card_at;
+use crate::looking::front_at;
 use host_types::{Bytes, Entry, Selector, SiteFault, Stamp};
 use std::alloc::Global;
 use text_writer::{add_link_line, add_menu_line, ended_menu};
@@ -29,10 +29,10 @@ fn add_line_at<S: SearchKeeper>(
 ) -> Result<(), SiteFault>
     ensures line { ReadsSite S.site_state S.lacks S.crash_states site.old site.new result (λ s _. lines.new.items ≡ lines.old.items ++ line_bytes (found_line (address s) selector.now (card_at (visible s now) selector.now))) }
 {
-    let Some(card) = card_at(site, selector, now)? else {
+    let Some(front) = front_at(site, selector, now)? else {
         return Ok(());
     };
-    Ok(add_menu_line(lines, &site.front(), selector, &card)?)
+    Ok(add_menu_line(lines, &site.front(), selector, &front)?)
 }
 
 /// Adds the line of an entry of a menu, where it has one.

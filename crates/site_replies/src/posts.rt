@@ -19,16 +19,13 @@ use crate::documents::as_text;
 use crate::looking::card_at;
 use ask_forms::{AskFault, Post, post_of, read_answers};
 use host_types::{
-    Address, Bytes, Card, CardBody, Change, Item, LineList, QuestionList, Selector, SiteFault,
-    Stamp, Title,
+    Address, Bytes, Card, CardBody, Change, Item, LineList, MOST_POST_BYTES, QuestionList,
+    Selector, SiteFault, Stamp, Title,
 };
 use request_reader::Request;
 use std::alloc::{AllocError, Global};
 use text_writer::{ErrorText, error_reply, item_line, menu};
 use word_index::SearchKeeper;
-
-/// The most bytes of a post's text.
-const MOST_POST_BYTES: usize = 65_536;
 
 /// A reply that tells an error and names no new place.
 pub fn error_reply_of(alloc: Global, is_plus: bool, error: ErrorText) -> Result<Bytes, AllocError>

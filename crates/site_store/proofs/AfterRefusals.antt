@@ -1,7 +1,7 @@
 -- What a site over a key-value store lacks behind a change that was refused.
 use Rattle.std.proofs.Common.{◌≡◌, ℕ, true, false, List, sym, ◌∙◌}
 use Rattle.host_types.specs.SiteState.{LacksTheSame}
-use Rattle.page_store.specs.StoreState.{StoreState, CommitNeed, HasRead, HasStayed, HasTried, NeedsTheSame, IsCommitFault}
+use Rattle.page_store.specs.StoreState.{StoreState, CommitNeed, StoreHasRead, HasStayed, StoreHasTried, NeedsTheSame, IsCommitFault}
 use Rattle.page_store.specs.declared.edit.Edit.{Edit}
 use Rattle.page_store.specs.declared.fault.KeeperFault.{KeeperFault}
 use Rattle.page_store.specs.declared.fault.KeeperFault.TheVariants as kinds
@@ -30,9 +30,9 @@ stays a b edits may_need (kinds.Full need free) up same h = h.0
 stays a b edits may_need kinds.Failed up same h = absurd (no_flag a b up h.shut same)
 stays a b edits may_need kinds.Memory up same h = h
 
-module _ {K : Type 0} (store_state : K → StoreState) (may_need : K → List Edit → CommitNeed → Type 0) (k0 k1 k2 : K) (ka : HasSite (store_state k0)) (kc : HasSite (store_state k2)) (read : HasRead (store_state k0) (store_state k1)) where
+module _ {K : Type 0} (store_state : K → StoreState) (may_need : K → List Edit → CommitNeed → Type 0) (k0 k1 k2 : K) (ka : HasSite (store_state k0)) (kc : HasSite (store_state k2)) (read : StoreHasRead (store_state k0) (store_state k1)) where
   -- behind a read, and a commit that was refused
-  pub lacks_behind : (edits : ℕ) (may : CommitNeed → Type 0) (fault : KeeperFault) → NeedsTheSame (may_need k0) (may_need k1) → HasTried (store_state k1) (store_state k2) → (store_state k1).usable ≡ true → IsCommitFault (store_state k1) (store_state k2) edits may fault
+  pub lacks_behind : (edits : ℕ) (may : CommitNeed → Type 0) (fault : KeeperFault) → NeedsTheSame (may_need k0) (may_need k1) → StoreHasTried (store_state k1) (store_state k2) → (store_state k1).usable ≡ true → IsCommitFault (store_state k1) (store_state k2) edits may fault
       → ((store_state k2).usable ≡ (store_state k1).usable → NeedsTheSame (may_need k1) (may_need k2)) → (store_state k2).usable ≡ (store_state k0).usable
       → LacksTheSame (IsLacking store_state may_need k0 (site_of (store_state k0) ka)) (IsLacking store_state may_need k2 (site_of (store_state k2) kc))
   lacks_behind edits may fault need tried up h still same =

@@ -3,7 +3,7 @@ use Rattle.std.proofs.Common.{◌≡◌, ◌≤◌, ◌+◌, ◌*◌, ◌/◌, �
 use Rattle.std.specs.Prelude.{IsTrue, nat_eq, nat_le, ◌&&◌, ◌||◌}
 use Rattle.std.proofs.lemmas.Bool.{eqb-true, leb-true}
 use Rattle.site_records.proofs.Formats.{and_second}
-use Rattle.page_store.specs.StoreState.{StoreState, HasRead}
+use Rattle.page_store.specs.StoreState.{StoreState, StoreHasRead}
 use Rattle.page_store.specs.Work.{ReadsPages, no_pages, pages_then}
 use Rattle.site_records.specs.Layout.{chunk_count}
 use Rattle.host_types.specs.Items.{is_selector, is_title, is_until}
@@ -48,6 +48,6 @@ pub record_alone : (a b : StoreState) → ReadsPages a.height a.made b.made → 
 record_alone a b one = pages_then one (no_pages refl 0) (omega arith)
 
 -- the record, and what stands behind it
-pub card_looked_up : (body : RecordBody) (a b c : StoreState) → IsTrue (is_body body) → HasRead a b → ReadsPages a.height a.made b.made → MakesLookUps (chunks_behind body) b c → MakesLookUps (1 + most_menu_chunks) a c
+pub card_looked_up : (body : RecordBody) (a b c : StoreState) → IsTrue (is_body body) → StoreHasRead a b → ReadsPages a.height a.made b.made → MakesLookUps (chunks_behind body) b c → MakesLookUps (1 + most_menu_chunks) a c
 card_looked_up body a b c valid read one rest =
     look_ups_then 1 most_menu_chunks a b c read (pages_then one (no_pages refl 0) (omega arith)) (more_look_ups (chunks_behind body) most_menu_chunks b c (few_chunks body valid) rest)

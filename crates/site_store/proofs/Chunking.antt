@@ -20,13 +20,13 @@ use Rattle.host_types.specs.declared.item.Body.TheVariants as bodies
 use Rattle.page_store.specs.Batch.{value_at}
 use Rattle.page_store.specs.StoreState.{StoreState}
 use Rattle.site_records.specs.Keys.{item_key, chunk_key}
-use Rattle.site_records.specs.Layout.{chunk_in}
+use Rattle.site_records.specs.Layout.{chunk_in, kept_chunk}
 use Rattle.site_records.specs.Records.{recorded, recorded_body, record_bytes, tag_of, item_bytes, parts_of}
 use Rattle.site_records.specs.declared.record.Record.{Record}
 use Rattle.site_store.specs.Represented.{RepresentedBy}
 use Rattle.site_store.specs.StoreReads.{is_views, is_document}
 use Rattle.site_store.proofs.FoundItems.{kept_record}
-use Rattle.site_store.proofs.DecodedViews.{kept_parts}
+use Rattle.site_store.proofs.DecodedViews.{kept_at, kept_parts}
 
 pub whole_card : (s : Site) (selector : List ℕ) (r : Record) (body : CardBody) (item : Item) → item_at s selector ≡ Some item → r ≡ recorded item → body ≡ card_body item.body → Some (record { title = r.title; stamp = r.stamp; until = r.until; summary = r.summary; body = body }) ≡ card_at s selector
 whole_card s selector r body item stands is body_is =
@@ -76,21 +76,30 @@ past : (bytes : List ℕ) (k : ℕ) → length bytes ≤ 1000 * k → chunk_of b
 unfolding chunk_of
 past bytes k over = ap (take 1000) (drop_all (1000 * k) bytes over)
 
--- what is no document has no chunks
-pub no_chunk : (s : Site) (selector : List ℕ) (view k : ℕ) → is_document (item_at s selector) ≡ false → chunk_of (viewed_at s selector view) k ≡ []
-no_chunk s selector view k h = ap (λ (b : List ℕ). chunk_of b k) (nothing (item_at s selector) h) ∙ none_of k
+-- what is no document has no views
+no_views : (o : Option Item) (view : ℕ) → is_document o ≡ false → viewed_in o view ≡ []
+no_views None view h = refl
+no_views (Some item) view h = by_body item.body h
   where
-    nothing : (o : Option Item) → is_document o ≡ false → viewed_in o view ≡ []
-    nothing None h = refl
-    nothing (Some item) h = by_body item.body h
-      where
-        by_body : (body : Body) → is_views body ≡ false → viewed body view ≡ []
-        by_body (bodies.Views kind views) h = absurd (cc h)
-        by_body (bodies.Menu es) h = refl
-        by_body (bodies.Board cap next) h = refl
-        by_body (bodies.Form board qs) h = refl
-        by_body (bodies.Search scope) h = refl
-        by_body (bodies.Moved target) h = refl
+    by_body : (body : Body) → is_views body ≡ false → viewed body view ≡ []
+    by_body (bodies.Views kind views) h = absurd (cc h)
+    by_body (bodies.Menu es) h = refl
+    by_body (bodies.Board cap next) h = refl
+    by_body (bodies.Form board qs) h = refl
+    by_body (bodies.Search scope) h = refl
+    by_body (bodies.Moved target) h = refl
+
+-- and so no chunks
+pub no_chunk : (s : Site) (selector : List ℕ) (view k : ℕ) → is_document (item_at s selector) ≡ false → chunk_of (viewed_at s selector view) k ≡ []
+no_chunk s selector view k h = ap (λ (b : List ℕ). chunk_of b k) (no_views (item_at s selector) view h) ∙ none_of k
+
+-- what has bytes to view is a document
+pub has_bytes : (s : Site) (selector : List ℕ) (view : ℕ) → (viewed_at s selector view ≡ [] → ⊥) → is_document (item_at s selector) ≡ true
+has_bytes s selector view some = by (is_document (item_at s selector)) refl
+  where
+    by : (b : Bool) → is_document (item_at s selector) ≡ b → is_document (item_at s selector) ≡ true
+    by true e = e
+    by false e = absurd (some (no_views (item_at s selector) view e))
 
 slice_map : (views : List View) (i : ℕ) → slice_get (map (λ (v : View). v.bytes) views) i ≡ option_map (λ (v : View). v.bytes) (slice_get views i)
 slice_map [] i = refl
@@ -174,3 +183,20 @@ long_found bytes found n k fits is long =
     let b = length_of_chunk bytes k in
     let e = ap length is in
     omega (arith, a, b, e, long)
+
+-- whatever stands at a chunk's key is no longer either
+pub long_value : (h : StoreState) (s : Site) (selector key found : List ℕ) (view k n : ℕ) → RepresentedBy h s → key ≡ chunk_key selector view k → k < 2 ^ 16 → n ≤ length found → Some (take n found) ≡ value_at h.pairs key → 1000 < n → ⊥
+long_value h s selector key found view k n kept is fits within value long =
+    by_item (item_at s selector) (value ∙ ap (value_at h.pairs) is ∙ kept_at h s selector kept view k fits)
+  where
+    by_bytes : (part : List ℕ) (b : Bool) → Some (take n found) ≡ cond b (Some (chunk_of part k)) None → ⊥
+    by_bytes part true e = long_found part found n k within (cc e) long
+    by_bytes part false e = absurd (cc e)
+
+    by_part : (o : Option (List ℕ)) → Some (take n found) ≡ chunk_in o k → ⊥
+    by_part None e = absurd (cc e)
+    by_part (Some part) e = by_bytes part (nat_lt (1000 * k) (length part)) e
+
+    by_item : (o : Option Item) → Some (take n found) ≡ kept_chunk o view k → ⊥
+    by_item None e = absurd (cc e)
+    by_item (Some item) e = by_part (slice_get (parts_of item.body) view) e

@@ -1,5 +1,5 @@
 -- Views and bodies by what their records say.
-use Rattle.std.proofs.Common.{◌≡◌, ℕ, zero, suc, ◌+◌, ◌<◌, ◌≤◌, true, false, List, [], ◌∷◌, ◌++◌, length, map, take, get_or, Option, Some, None, refl, sym, ap, subst, ◌∙◌, arith}
+use Rattle.std.proofs.Common.{◌≡◌, ◌^◌, ℕ, zero, suc, ◌+◌, ◌<◌, ◌≤◌, true, false, List, [], ◌∷◌, ◌++◌, length, map, take, get_or, Option, Some, None, refl, sym, ap, subst, ◌∙◌, arith}
 use Rattle.std.specs.Prelude.{IsTrue, All, slice_get, slice_index_or, nat_lt, nat_le, not, ◌&&◌}
 use Rattle.std.specs.List.{list_any, list_all}
 use Rattle.std.proofs.lemmas.Bool.{and_parts, not-true, leb-true, ltb-false, le-ltb}
@@ -21,7 +21,7 @@ use Rattle.host_types.specs.declared.item.Body.{Body}
 use Rattle.host_types.specs.declared.item.Body.TheVariants as bodies
 use Rattle.page_store.specs.Pages.{Pair}
 use Rattle.page_store.specs.Batch.{value_at}
-use Rattle.page_store.specs.StoreState.{StoreState, HasRead}
+use Rattle.page_store.specs.StoreState.{StoreState, StoreHasRead}
 use Rattle.site_records.specs.Keys.{chunk_key}
 use Rattle.site_records.specs.Layout.{chunk_in, kept_chunk}
 use Rattle.site_records.specs.Limits.{is_body, are_views, is_view, all_lengths, go_together, is_view_count, is_short_body, are_questions}
@@ -83,10 +83,14 @@ next_cards cards views now place card view less is same pushed before =
 -- ---- bodies
 
 -- the parts of what stands at a selector
+-- what stands at a chunk's key
+pub kept_at : (h : StoreState) (s : Site) (selector : List ℕ) → RepresentedBy h s → (part k : ℕ) → k < 2 ^ 16 → value_at h.pairs (chunk_key selector part k) ≡ kept_chunk (item_at s selector) part k
+kept_at h s selector kept part k less =
+    let set : IsProp (value_at h.pairs (chunk_key selector part k) ≡ kept_chunk (item_at s selector) part k) = hlevel props in
+    ∥∥₁_elim kept.valid set (λ site. ap (λ (ps : List Pair). value_at ps (chunk_key selector part k)) kept.all ∙ chunks_law s selector part k site.sorted (found_small s site selector) less)
+
 pub kept_parts : (h : StoreState) (s : Site) (selector : List ℕ) (item : Item) → RepresentedBy h s → item_at s selector ≡ Some item → HasParts h.pairs selector (parts_of item.body)
-kept_parts h s selector item kept stands part k less =
-    let set : IsProp (value_at h.pairs (chunk_key selector part k) ≡ chunk_in (slice_get (parts_of item.body) part) k) = hlevel props in
-    ∥∥₁_elim kept.valid set (λ site. ap (λ (ps : List Pair). value_at ps (chunk_key selector part k)) kept.all ∙ chunks_law s selector part k site.sorted (found_small s site selector) less ∙ ap (λ (o : Option Item). kept_chunk o part k) stands)
+kept_parts h s selector item kept stands part k less = kept_at h s selector kept part k less ∙ ap (λ (o : Option Item). kept_chunk o part k) stands
 
 body_parts : (h : StoreState) (selector : List ℕ) (kept : RecordBody) (body : Body) → HasBody h selector kept body → HasParts h.pairs selector (parts_of body)
 body_parts h selector kept body keeps = subst (λ (b : Body). HasParts h.pairs selector (parts_of b)) keeps.body_is (kept_parts h keeps.site selector keeps.item keeps.is_kept keeps.stands)
@@ -210,7 +214,7 @@ item_is s selector r None e = absurd (cc e)
 item_is s selector r (Some item) e = (item, refl, cc e)
 
 -- the body of the item whose record was read
-pub keeps_body : (a b : StoreState) (s : Site) (selector : List ℕ) (r : Record) (item : Item) → HasRead a b → IsTrue a.honest → RepresentedBy a s → item_at s selector ≡ Some item → r ≡ recorded item → HasBody b selector r.body item.body
+pub keeps_body : (a b : StoreState) (s : Site) (selector : List ℕ) (r : Record) (item : Item) → StoreHasRead a b → IsTrue a.honest → RepresentedBy a s → item_at s selector ≡ Some item → r ≡ recorded item → HasBody b selector r.body item.body
 keeps_body a b s selector r item read honest kept stands is = record { site = s; is_kept = kept_after a b s read honest kept; item = item; stands = stands; body_is = refl; recorded = ap (λ (x : Record). x.body) is }
 
 -- an item put together of its record and its body

@@ -6,6 +6,8 @@ use Rattle.std.specs.Option.{option_map}
 use Rattle.std.specs.FinMap.{is_sorted}
 use Rattle.std.proofs.Props.{props}
 use mathlib.Core.Logic.{∥∥₁_elim}
+use Rattle.host_types.specs.Card.{card_of}
+use Rattle.host_types.specs.Fronts.{front_of, front_at}
 use Rattle.host_types.specs.Items.{is_valid_item}
 use Rattle.host_types.specs.Site.{Site, IsSite, byte_cmp, item_at}
 use Rattle.host_types.specs.declared.item.Item.{Item}
@@ -37,6 +39,14 @@ nothing (Some item) e = absurd cc
 
 pub no_record : (h : StoreState) (s : Site) (selector key : List ℕ) → RepresentedBy h s → key ≡ item_key selector → None ≡ value_at h.pairs key → None ≡ option_map recorded (item_at s selector)
 no_record h s selector key kept is none = nothing (item_at s selector) (none ∙ ap (value_at h.pairs) is ∙ kept_record h s selector kept)
+
+-- nor has its line anything to say
+pub no_front : (s : Site) (selector : List ℕ) → None ≡ option_map recorded (item_at s selector) → None ≡ front_at s selector
+no_front s selector none = by (item_at s selector) none
+  where
+    by : (o : Option Item) → None ≡ option_map recorded o → None ≡ option_map front_of (option_map card_of o)
+    by None e = refl
+    by (Some item) e = absurd (cc e)
 
 -- The item whose record some bytes are.
 pub record IsRecordOf (s : Site) (selector bytes : List ℕ) (item : Item) : Type 0 where

@@ -18,7 +18,7 @@ use Rattle.host_types.specs.declared.item.Item.{Item}
 use Rattle.page_store.specs.StoreState.{StoreState}
 use Rattle.site_records.specs.Keys.{item_key}
 use Rattle.site_records.specs.Records.{item_bytes}
-use Rattle.site_records.specs.Layout.{Pair, Pairs, layout}
+use Rattle.site_records.specs.Layout.{LayoutPair, Pairs, layout}
 use Rattle.site_records.specs.LayoutLaws.{record_in-layout, is_sorted-layout}
 use Rattle.site_store.specs.Represented.{RepresentedBy}
 use Rattle.site_store.specs.StoreReads.{NoneFailed, IsSiteReadFault, IsQuickFault}
@@ -68,7 +68,7 @@ record_value s r item sorted stands = record_in-layout s r sorted ∙ ap (option
 none_after : (s : Site) (q : List ℕ) → IsTrue (is_sorted byte_cmp s.items) → next_of (layout s) (item_key q) ≡ None → item_after s q ≡ None
 none_after s q sorted none = nothing_next s.items q sorted (λ r item stands. none_next (layout s) (item_key q) (item_key r) (item_bytes item) none (record_value s r item sorted stands))
 
-other_after : (s : Site) (q : List ℕ) (p : Pair) → IsTrue (is_sorted byte_cmp s.items) → next_of (layout s) (item_key q) ≡ Some p → recorded_by p.0 ≡ None → item_after s q ≡ None
+other_after : (s : Site) (q : List ℕ) (p : LayoutPair) → IsTrue (is_sorted byte_cmp s.items) → next_of (layout s) (item_key q) ≡ Some p → recorded_by p.0 ≡ None → item_after s q ≡ None
 other_after s q p sorted some other =
     let next = is_next (layout s) (item_key q) p (is_sorted-layout s) some in
     nothing_next s.items q sorted (λ r item stands.
@@ -83,7 +83,7 @@ pub record IsAfter (s : Site) (q r : List ℕ) : Type 0 where
   pub stands : item_at s r ≡ Some item
   pub is_next : item_after s q ≡ Some (r, item)
 
-this_after : (s : Site) (q r : List ℕ) (p : Pair) → IsTrue (is_sorted byte_cmp s.items) → next_of (layout s) (item_key q) ≡ Some p → recorded_by p.0 ≡ Some r → IsAfter s q r
+this_after : (s : Site) (q r : List ℕ) (p : LayoutPair) → IsTrue (is_sorted byte_cmp s.items) → next_of (layout s) (item_key q) ≡ Some p → recorded_by p.0 ≡ Some r → IsAfter s q r
 this_after s q r p sorted some record_is =
     let next = is_next (layout s) (item_key q) p (is_sorted-layout s) some in
     let key : p.0 ≡ item_key r = recorded_key p.0 r record_is in
@@ -98,13 +98,13 @@ this_after s q r p sorted some record_is =
 
 -- ---- the same of pairs that are kept
 
-next_kept : (h : StoreState) (s : Site) (q key : List ℕ) (o : Option Pair) → RepresentedBy h s → key ≡ item_key q → o ≡ next_of h.pairs key → next_of (layout s) (item_key q) ≡ o
+next_kept : (h : StoreState) (s : Site) (q key : List ℕ) (o : Option LayoutPair) → RepresentedBy h s → key ≡ item_key q → o ≡ next_of h.pairs key → next_of (layout s) (item_key q) ≡ o
 next_kept h s q key o kept is e = ap (λ (ps : Pairs). next_of ps (item_key q)) (sym kept.all) ∙ ap (next_of h.pairs) (sym is) ∙ sym e
 
 pub walked_off : (h : StoreState) (s : Site) (q key : List ℕ) → RepresentedBy h s → key ≡ item_key q → None ≡ next_of h.pairs key → None ≡ selector_after s q
 walked_off h s q key kept is none = ap (option_map (λ e. e.0)) (sym (none_after s q (kept_sorted s kept.valid) (next_kept h s q key None kept is none)))
 
-pub walked_on : (h : StoreState) (s : Site) (q key : List ℕ) (p : Pair) → RepresentedBy h s → key ≡ item_key q → Some p ≡ next_of h.pairs key → recorded_by p.0 ≡ selector_after s q
+pub walked_on : (h : StoreState) (s : Site) (q key : List ℕ) (p : LayoutPair) → RepresentedBy h s → key ≡ item_key q → Some p ≡ next_of h.pairs key → recorded_by p.0 ≡ selector_after s q
 walked_on h s q key p kept is some =
     let sorted = kept_sorted s kept.valid in
     let next : next_of (layout s) (item_key q) ≡ Some p = next_kept h s q key (Some p) kept is some in
@@ -114,7 +114,7 @@ walked_on h s q key p kept is some =
     ] refl
 
 -- the name of a record's key is a selector's
-pub walked_well : (h : StoreState) (s : Site) (q key : List ℕ) (p : Pair) → RepresentedBy h s → key ≡ item_key q → Some p ≡ next_of h.pairs key → IsInvalid (recorded_by p.0) → ⊥
+pub walked_well : (h : StoreState) (s : Site) (q key : List ℕ) (p : LayoutPair) → RepresentedBy h s → key ≡ item_key q → Some p ≡ next_of h.pairs key → IsInvalid (recorded_by p.0) → ⊥
 walked_well h s q key p kept is some bad =
     elim (recorded_by p.0) as (λ o. recorded_by p.0 ≡ o → IsInvalid o → ⊥) [
       | None ↦ λ e none. none

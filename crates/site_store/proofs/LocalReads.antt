@@ -5,7 +5,7 @@ use Rattle.std.proofs.lemmas.Bool.{cases_lt}
 use Rattle.host_types.specs.SiteState.{Rose}
 use Rattle.common_types.specs.Counts.{counted}
 use Rattle.common_types.specs.Counts.{counted_below}
-use Rattle.page_store.specs.StoreState.{StoreState, HasRead, IsReadFault}
+use Rattle.page_store.specs.StoreState.{StoreState, StoreHasRead, IsStoreReadFault}
 use Rattle.page_store.specs.Counting.{reads_after}
 use Rattle.page_store.specs.declared.fault.KeeperFault.{KeeperFault}
 use Rattle.page_store.specs.declared.fault.KeeperFault.TheVariants as kinds
@@ -27,10 +27,10 @@ rose_later a b c first second (inr most) = elim (cases_lt a b) [
   | inr same ↦ inr (omega (arith, same, most))
 ]
 
-counted_later : (a b c : StoreState) (fault : KeeperFault) → HasRead a b → NoneFailed a b → IsCountedFault b c fault → IsCountedFault a c fault
+pub counted_later : (a b c : StoreState) (fault : KeeperFault) → StoreHasRead a b → NoneFailed a b → IsCountedFault b c fault → IsCountedFault a c fault
 counted_later a b c fault x none h = (by fault h.0, h.1 ∙ ap (reads_after fault) none)
   where
-    by : (fault : KeeperFault) → IsReadFault b c fault → IsReadFault a c fault
+    by : (fault : KeeperFault) → IsStoreReadFault b c fault → IsStoreReadFault a c fault
     by kinds.Device h = h ∙ ap counted none
     by kinds.NoImage h = h
     by kinds.Version h = h
@@ -43,7 +43,7 @@ counted_later a b c fault x none h = (by fault h.0, h.1 ∙ ap (reads_after faul
     by kinds.Memory h = h
 
 -- a fault after a call that read
-pub fault_later : {P Q : Type 0} → (a b c : StoreState) (fault : SiteOpenFault) → HasRead a b → NoneFailed a b → (IsTrue a.honest → P → Q) → IsFaultUnless Q b c fault → IsFaultUnless P a c fault
+pub fault_later : {P Q : Type 0} → (a b c : StoreState) (fault : SiteOpenFault) → StoreHasRead a b → NoneFailed a b → (IsTrue a.honest → P → Q) → IsFaultUnless Q b c fault → IsFaultUnless P a c fault
 fault_later a b c BadRecord x none known h = (h.0 ∙ none, λ honest p. h.1 (x.honest ∙ honest) (known honest p))
 fault_later a b c (Keeper fault) x none known h = counted_later a b c fault x none h
 fault_later a b c Memory x none known h = h ∙ none

@@ -8,7 +8,7 @@ use Rattle.host_types.specs.Site.{Items}
 use Rattle.host_types.specs.Pins as sites
 use Rattle.page_store.specs.Content as stores
 use Rattle.page_store.specs.Pages.{Pair}
-use Rattle.page_store.specs.StoreState.{StoreState, CommitNeed, HasRead, HasStayed, IsCommitFault, numbers_out}
+use Rattle.page_store.specs.StoreState.{StoreState, CommitNeed, StoreHasRead, HasStayed, IsCommitFault, numbers_out}
 use Rattle.page_store.specs.declared.fault.KeeperFault.{KeeperFault}
 use Rattle.page_store.specs.declared.fault.KeeperFault.TheVariants as kinds
 use Rattle.site_store.specs.Represented.{HasSite, site_state_of}
@@ -100,7 +100,7 @@ pub record PinsStay (old new : StoreState) : Type 0 where
   pub out : numbers_out new ≡ numbers_out old
   pub pins : IsTrue old.honest → new.pins ≡ old.pins
 
-pub pins_stay_read : (old new : StoreState) → HasRead old new → PinsStay old new
+pub pins_stay_read : (old new : StoreState) → StoreHasRead old new → PinsStay old new
 pins_stay_read old new read = record { out = read.same.out; pins = read.same.pins }
 
 pins_stayed : (old new : StoreState) → HasStayed old new → PinsStay old new

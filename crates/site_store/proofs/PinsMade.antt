@@ -1,10 +1,10 @@
 -- A pin more, and a pin less.
-use Rattle.std.proofs.Common.{◌≡◌, ◌<◌, ℕ, Bool, true, false, List, Some, None, cond, refl, inl, inr, sym, ap, subst, ◌∙◌, IsTrue, arith, eq-eqb, ne_eqb}
+use Rattle.std.proofs.Common.{◌≡◌, ◌<◌, ℕ, Bool, true, false, List, [], Some, None, cond, refl, inl, inr, sym, ap, subst, ◌∙◌, IsTrue, arith, eq-eqb, ne_eqb}
 use Rattle.std.specs.Prelude.{◌==◌, ◌||◌, ◌&&◌, not, IfSome, Result, Ok, Err, IfOk, IfErr}
 use Rattle.std.proofs.lemmas.Bool.{cases_eq}
 use Rattle.std.proofs.Props.{props}
 use mathlib.Core.Logic.{∥∥₁_elim, ∥∥₁_prop}
-use Rattle.host_types.specs.Site.{Site, Items}
+use Rattle.host_types.specs.Site.{Site, Items, item_at}
 use Rattle.host_types.specs.Card.{chunk_of, viewed_at}
 use Rattle.host_types.specs.Counting.{IsReadCounted}
 use Rattle.host_types.specs.SiteState.{SiteState}
@@ -13,7 +13,7 @@ use Rattle.host_types.specs.Pins.{Numbered, HasNumbered, HasGivenBack, items_or_
 use Rattle.host_types.specs.Pins as site_pins
 use Rattle.host_types.specs.declared.pin_fault.SitePinFault.{SitePinFault}
 use Rattle.host_types.specs.declared.site_fault.SiteFault.{SiteFault}
-use Rattle.page_store.specs.Pins.{is_out, pairs_at, IsPinned, IsPinFault, IsUnpinned}
+use Rattle.page_store.specs.Pins.{is_out, pairs_at, IsStorePinned, IsStorePinFault, IsStoreUnpinned}
 use Rattle.page_store.specs.StoreState.{StoreState, CommitNeed, NeedsTheSame}
 use Rattle.page_store.specs.declared.edit.Edit.{Edit}
 use Rattle.page_store.specs.declared.pin_fault.PinFault.{PinFault}
@@ -22,9 +22,11 @@ use Rattle.site_store.specs.Lacking.{IsLacking}
 use Rattle.site_store.specs.Pinned.{StoodAt, IsPinnedFault}
 use Rattle.site_store.specs.PinnedItems.{IsLaidOut, HasItems, AllHave, items_at, same_items}
 use Rattle.site_store.specs.Represented.{RepresentedBy, HasSite, HasSite-prop, site_of, site_state_of, site_kept, site_is}
+use Rattle.site_store.specs.StoreReads.{is_document}
 use Rattle.site_store.specs.StoreFault.{site_fault_of, site_pin_fault_of}
 use Rattle.site_store.specs.declared.fault.SiteOpenFault.{SiteOpenFault}
 use Rattle.site_store.specs.declared.fault.SiteOpenFault.TheVariants.{BadRecord, Keeper, Memory}
+use Rattle.site_store.proofs.Chunking.{has_bytes}
 use Rattle.site_store.proofs.PinsKept.{length_of, out_of, found_of, none_kept_under, some_kept_under, are_laid_out, same_items_at}
 use Rattle.site_store.proofs.SiteCounts.{store_read_counted}
 use Rattle.site_store.proofs.StoreAsSite.{site_still, lacks_still, read_fault_of}
@@ -56,7 +58,7 @@ same_state old new ko kn same = subst (λ (h : StoreState). (k : HasSite h) → 
 
 -- ---- a pin more
 
-pinned_repins : (old new : StoreState) (number : ℕ) → IsPinned old new number → Repinned old new
+pinned_repins : (old new : StoreState) (number : ℕ) → IsStorePinned old new number → Repinned old new
 pinned_repins old new number pinned = pinned.same ∙ (λ i. record old { pins = new.pins; free = (sym (ap (λ (h : StoreState). h.free) pinned.same)) i })
 
 unchanged_repins : (old new : StoreState) → new ≡ old → Repinned old new
@@ -65,13 +67,13 @@ unchanged_repins old new same = same ∙ (λ i. record old { pins = (sym same i)
 own_items : (h : StoreState) (s : Site) → RepresentedBy h s → IsLaidOut h.pairs s.items
 own_items h s shown = ∥∥₁_elim shown.valid ∥∥₁_prop (λ site. ∣ (s, site, shown.all, refl) ∣₁)
 
-have_more : (old new : StoreState) (number : ℕ) → IsPinned old new number → IsTrue old.honest → HasItems old.pairs → AllHave old.pins → AllHave new.pins
+have_more : (old new : StoreState) (number : ℕ) → IsStorePinned old new number → IsTrue old.honest → HasItems old.pairs → AllHave old.pins → AllHave new.pins
 have_more old new number pinned honest own have n = elim (cases_eq n number) [
   | inl e ↦ subst (λ o. IfSome o HasItems) (sym (ap (pairs_at new) e ∙ pinned.keeps honest)) own
   | inr ne ↦ subst (λ o. IfSome o HasItems) (sym (pinned.others honest n ne)) (have n)
 ]
 
-pub keeps_pinned : (old new : StoreState) (number : ℕ) → IsPinned old new number → HasSite old → HasSite new
+pub keeps_pinned : (old new : StoreState) (number : ℕ) → IsStorePinned old new number → HasSite old → HasSite new
 keeps_pinned old new number pinned keeps = λ t.
     let same = pinned_repins old new number pinned in
     let honest : IsTrue old.honest = sym (honest_still old new same) ∙ t in
@@ -79,12 +81,12 @@ keeps_pinned old new number pinned keeps = λ t.
     (kept.0, subst (λ h. RepresentedBy h kept.0) (sym same) kept.1, have_more old new number pinned honest (kept.0.items, own_items old kept.0 kept.1) kept.2)
 
 -- what stands whether a pin is given or not
-pub pin_repins : {P : Type 0} (r : Result P PinFault) (number : P → ℕ) (old new : StoreState) → IfOk r (λ pin. IsPinned old new (number pin)) → IfErr r (IsPinFault old new) → Repinned old new
+pub pin_repins : {P : Type 0} (r : Result P PinFault) (number : P → ℕ) (old new : StoreState) → IfOk r (λ pin. IsStorePinned old new (number pin)) → IfErr r (IsStorePinFault old new) → Repinned old new
 pin_repins (Ok pin) number old new pinned fault = pinned_repins old new (number pin) pinned
 pin_repins (Err pin_faults.Failed) number old new pinned fault = unchanged_repins old new fault.1
 pin_repins (Err pin_faults.Crowded) number old new pinned fault = unchanged_repins old new fault.2
 
-pub pin_keeps : {P : Type 0} (r : Result P PinFault) (number : P → ℕ) (old new : StoreState) → IfOk r (λ pin. IsPinned old new (number pin)) → IfErr r (IsPinFault old new) → HasSite old → HasSite new
+pub pin_keeps : {P : Type 0} (r : Result P PinFault) (number : P → ℕ) (old new : StoreState) → IfOk r (λ pin. IsStorePinned old new (number pin)) → IfErr r (IsStorePinFault old new) → HasSite old → HasSite new
 pin_keeps (Ok pin) number old new pinned fault keeps = keeps_pinned old new (number pin) pinned keeps
 pin_keeps (Err pin_faults.Failed) number old new pinned fault keeps = subst HasSite (sym fault.1) keeps
 pin_keeps (Err pin_faults.Crowded) number old new pinned fault keeps = subst HasSite (sym fault.2) keeps
@@ -92,10 +94,10 @@ pin_keeps (Err pin_faults.Crowded) number old new pinned fault keeps = subst Has
 pub pin_port : (old new : StoreState) → Repinned old new → 0 < old.banner.port → 0 < new.banner.port
 pin_port old new same port = subst (λ (h : StoreState). 0 < h.banner.port) (sym same) port
 
-pub pin_fault_comes : (old new : StoreState) (ko : HasSite old) (kn : HasSite new) (fault : PinFault) (comes : SitePinFault) → comes ≡ site_pin_fault_of fault → IsPinFault old new fault → site_pins.IsPinFault (site_state_of old ko) (site_state_of new kn) comes
+pub pin_fault_comes : (old new : StoreState) (ko : HasSite old) (kn : HasSite new) (fault : PinFault) (comes : SitePinFault) → comes ≡ site_pin_fault_of fault → IsStorePinFault old new fault → site_pins.IsPinFault (site_state_of old ko) (site_state_of new kn) comes
 pin_fault_comes old new ko kn fault comes is h = subst (site_pins.IsPinFault (site_state_of old ko) (site_state_of new kn)) (sym is) (by fault h)
   where
-    by : (fault : PinFault) → IsPinFault old new fault → site_pins.IsPinFault (site_state_of old ko) (site_state_of new kn) (site_pin_fault_of fault)
+    by : (fault : PinFault) → IsStorePinFault old new fault → site_pins.IsPinFault (site_state_of old ko) (site_state_of new kn) (site_pin_fault_of fault)
     by pin_faults.Failed h = (h.0, same_state old new ko kn h.1)
     by pin_faults.Crowded h = (h.0, length_of old.honest old.pins (λ t. (ko t).2) ∙ h.1, same_state old new ko kn h.2)
 
@@ -120,7 +122,7 @@ module _ (old new : StoreState) (ko : HasSite old) (kn : HasSite new) where
       let items = same_items_at old.honest new.honest old.pins new.pins (λ t. (ko t).2) (λ t. (kn t).2) n honest pairs in
       found_after n ∙ (λ i. cond (out i) (Some (items i)) None) ∙ sym (found_before n)
 
-  pub has_numbered : (number : ℕ) → IsPinned old new number → HasNumbered (site_state_of old ko) (site_state_of new kn) number
+  pub has_numbered : (number : ℕ) → IsStorePinned old new number → HasNumbered (site_state_of old ko) (site_state_of new kn) number
   has_numbered number pinned =
       let same = pinned_repins old new number pinned in
       let before = length_of old.honest old.pins (λ t. (ko t).2) in
@@ -141,7 +143,7 @@ module _ (old new : StoreState) (ko : HasSite old) (kn : HasSite new) where
 
   -- ---- a pin less
 
-  pub has_given_back : (number : ℕ) → IsUnpinned old new number → HasGivenBack (site_state_of old ko) (site_state_of new kn) number
+  pub has_given_back : (number : ℕ) → IsStoreUnpinned old new number → HasGivenBack (site_state_of old ko) (site_state_of new kn) number
   has_given_back number unpinned =
       let before = length_of old.honest old.pins (λ t. (ko t).2) in
       let after = length_of new.honest new.pins (λ t. (kn t).2) in
@@ -153,7 +155,7 @@ module _ (old new : StoreState) (ko : HasSite old) (kn : HasSite new) where
         same = state_still old new ko kn unpinned.same;
       }
 
-have_less : (old new : StoreState) (number : ℕ) → IsUnpinned old new number → IsTrue old.honest → AllHave old.pins → AllHave new.pins
+have_less : (old new : StoreState) (number : ℕ) → IsStoreUnpinned old new number → IsTrue old.honest → AllHave old.pins → AllHave new.pins
 have_less old new number unpinned honest have n = elim (cases_eq n number) [
   | inl e ↦
       let gone : is_out new n ≡ false = unpinned.out n ∙ ap (λ (b : Bool). not b && is_out old n) (eq-eqb n number e) in
@@ -161,7 +163,7 @@ have_less old new number unpinned honest have n = elim (cases_eq n number) [
   | inr ne ↦ subst (λ o. IfSome o HasItems) (sym (unpinned.others honest n ne)) (have n)
 ]
 
-pub keeps_unpinned : (old new : StoreState) (number : ℕ) → IsUnpinned old new number → HasSite old → HasSite new
+pub keeps_unpinned : (old new : StoreState) (number : ℕ) → IsStoreUnpinned old new number → HasSite old → HasSite new
 keeps_unpinned old new number unpinned keeps = λ t.
     let honest : IsTrue old.honest = sym (honest_still old new unpinned.same) ∙ t in
     let kept = keeps honest in
@@ -187,6 +189,15 @@ pub pinned_chunk : (h : StoreState) (keeps : HasSite h) (number : ℕ) (chunk se
 pinned_chunk h keeps number chunk selector view k honest out gives =
     let prop : IsProp (chunk ≡ chunk_of (viewed_among (pinned_items (site_state_of h keeps) (Numbered number)) selector view) k) = hlevel props in
     ∥∥₁_elim (stood h keeps number honest out) prop (λ s. gives s.0 s.1 ∙ ap (λ (items : Items). chunk_of (viewed_among items selector view) k) s.2)
+
+-- the same of a chunk that is right where a document stood, for a view that has bytes
+pub known_chunk : (h : StoreState) (keeps : HasSite h) (number : ℕ) (chunk selector : List ℕ) (view k : ℕ) → IsTrue h.honest → IsTrue (is_out h number) → ((s : Site) → StoodAt number h s → is_document (item_at s selector) ≡ true → chunk ≡ chunk_of (viewed_at s selector view) k)
+    → (viewed_among (pinned_items (site_state_of h keeps) (Numbered number)) selector view ≡ [] → ⊥) → chunk ≡ chunk_of (viewed_among (pinned_items (site_state_of h keeps) (Numbered number)) selector view) k
+known_chunk h keeps number chunk selector view k honest out gives some =
+    let prop : IsProp (chunk ≡ chunk_of (viewed_among (pinned_items (site_state_of h keeps) (Numbered number)) selector view) k) = hlevel props in
+    ∥∥₁_elim (stood h keeps number honest out) prop (λ s.
+    let same : viewed_at s.0 selector view ≡ viewed_among (pinned_items (site_state_of h keeps) (Numbered number)) selector view = ap (λ (items : Items). viewed_among items selector view) s.2 in
+    gives s.0 s.1 (has_bytes s.0 selector view (λ none. some (sym same ∙ none))) ∙ ap (λ (bytes : List ℕ). chunk_of bytes k) same)
 
 pub pinned_fault_comes : (a b : StoreState) (ka : HasSite a) (kb : HasSite b) (number : ℕ) (fault : SiteOpenFault) (to_site_fault : SiteFault) → IsTrue (is_out a number) → to_site_fault ≡ site_fault_of fault → IsPinnedFault number a b fault → sites.IsReadFault false (site_state_of a ka) (site_state_of b kb) to_site_fault
 pinned_fault_comes a b ka kb number fault to_site_fault out is h = subst (sites.IsReadFault false (site_state_of a ka) (site_state_of b kb)) (sym is) (by fault h)

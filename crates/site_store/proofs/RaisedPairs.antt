@@ -20,7 +20,7 @@ use Rattle.page_store.specs.Batch.{updated}
 use Rattle.site_records.specs.Keys.{item_key}
 use Rattle.site_records.specs.Records.{parts_of, recorded, recorded_body, record_bytes, record_bytes_v1, item_bytes}
 use Rattle.site_records.specs.Limits.{is_small, is_record, is_record_v1}
-use Rattle.site_records.specs.Layout.{Pair, Pairs, chunk_count, chunk_pairs, part_pairs, word_pairs, item_pairs, in_order, all_pairs, layout, layout_v1, value_at, is_record_key, lowered, lowered_at, lowered_pair}
+use Rattle.site_records.specs.Layout.{LayoutPair, Pairs, chunk_count, chunk_pairs, part_pairs, word_pairs, item_pairs, in_order, all_pairs, layout, layout_v1, value_at, is_record_key, lowered, lowered_at, lowered_pair}
 use Rattle.site_records.specs.LayoutLaws.{is_at-Decides, record_in-layout, is_sorted-layout}
 use Rattle.site_records.specs.declared.record.Record.{Record}
 use Rattle.site_records.proofs.RecordLaws.{same_record, record_again_v1}

@@ -7,7 +7,7 @@ use Rattle.host_types.specs.Counting as sites
 use Rattle.common_types.specs.declared.refused.Refused.{Refused}
 use Rattle.host_types.specs.declared.site_fault.SiteFault.{SiteFault}
 use Rattle.host_types.specs.declared.site_fault.SiteFault.TheVariants as faults
-use Rattle.page_store.specs.StoreState.{StoreState, CommitNeed, HasRead, IsReadFault, IsCommitFault}
+use Rattle.page_store.specs.StoreState.{StoreState, CommitNeed, StoreHasRead, IsStoreReadFault, IsCommitFault}
 use Rattle.page_store.specs.Counting.{reads_after, writes_after}
 use Rattle.page_store.specs.declared.edit.Edit.{Edit}
 use Rattle.page_store.specs.declared.fault.KeeperFault.{KeeperFault}
@@ -27,7 +27,7 @@ no_truth b t f = let clash : true ≡ false = sym t ∙ f in cc clash
 
 -- ---- calls that read
 
-pub store_read_counted : (a b : StoreState) (fault : KeeperFault) → IsReadFault a b fault → b.failed_reads ≡ reads_after fault a.failed_reads → sites.IsReadCounted a.honest (store_site_fault_of fault) a.failed_reads b.failed_reads
+pub store_read_counted : (a b : StoreState) (fault : KeeperFault) → IsStoreReadFault a b fault → b.failed_reads ≡ reads_after fault a.failed_reads → sites.IsReadCounted a.honest (store_site_fault_of fault) a.failed_reads b.failed_reads
 store_read_counted a b kinds.Device h is = λ honest. is
 store_read_counted a b kinds.NoImage h is = absurd h
 store_read_counted a b kinds.Version h is = absurd h
@@ -81,7 +81,7 @@ module _ {D K L : Type 0} (keeper : D → K) (store_state : K → StoreState) (m
   plan_writes d0 d1 applied faults.Memory up h same = rw up same
 
 -- a commit counts as the store's does, whose look-ups before failed in nothing
-pub commit_reads : (a b c : StoreState) (edits : ℕ) (may : CommitNeed → Type 0) (fault : KeeperFault) → HasRead a b → NoneFailed a b → IsCommitFault b c edits may fault → c.failed_reads ≡ reads_after fault b.failed_reads
+pub commit_reads : (a b c : StoreState) (edits : ℕ) (may : CommitNeed → Type 0) (fault : KeeperFault) → StoreHasRead a b → NoneFailed a b → IsCommitFault b c edits may fault → c.failed_reads ≡ reads_after fault b.failed_reads
     → sites.IsReadCounted a.honest (store_site_fault_of fault) a.failed_reads c.failed_reads
 commit_reads a b c edits may kinds.Device read none h is = λ honest. is ∙ ap counted none
 commit_reads a b c edits may kinds.NoImage read none h is = absurd h
@@ -106,7 +106,7 @@ writes_as_store (kinds.Full need free) before now is = is
 writes_as_store kinds.Failed before now is = is
 writes_as_store kinds.Memory before now is = is
 
-pub commit_writes : (a b c : StoreState) (fault : KeeperFault) → HasRead a b → a.usable ≡ true → c.failed_writes ≡ writes_after b.usable fault b.failed_writes → c.failed_writes ≡ sites.writes_after a.usable (store_site_fault_of fault) a.failed_writes
+pub commit_writes : (a b c : StoreState) (fault : KeeperFault) → StoreHasRead a b → a.usable ≡ true → c.failed_writes ≡ writes_after b.usable fault b.failed_writes → c.failed_writes ≡ sites.writes_after a.usable (store_site_fault_of fault) a.failed_writes
 commit_writes a b c fault read up is =
     let of_store : c.failed_writes ≡ writes_after true fault a.failed_writes = is ∙ ap (λ (u : Bool). writes_after u fault b.failed_writes) (read.same.usable ∙ up) ∙ ap (writes_after true fault) read.writes in
     rw up (writes_as_store fault a.failed_writes c.failed_writes of_store)

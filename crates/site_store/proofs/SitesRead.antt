@@ -5,7 +5,7 @@ use Rattle.common_types.specs.Counts.{counted, counted_below}
 use Rattle.host_types.specs.Site.{Site}
 use Rattle.page_store.specs.Keys.{rises}
 use Rattle.page_store.specs.Pages.{Pair, key_of}
-use Rattle.page_store.specs.StoreState.{StoreState, HasRead}
+use Rattle.page_store.specs.StoreState.{StoreState, StoreHasRead}
 use Rattle.site_store.specs.ReadLaws.{kept_after}
 use Rattle.site_store.specs.Represented.{RepresentedBy, PairsShowSite, HasSite, site_of, site_kept}
 use Rattle.page_store.specs.declared.banner.Banner.{Banner}
@@ -65,12 +65,12 @@ pairs_fault pairs more banner other (Keeper fault) h = no_read_fault pairs more 
 pairs_fault pairs more banner other Memory h = tt
 
 -- they stay
-pub pairs_stay : (a b : List Pair × Banner) → HasRead (pairs_state a.0 a.1) (pairs_state b.0 b.1) → b ≡ a
+pub pairs_stay : (a b : List Pair × Banner) → StoreHasRead (pairs_state a.0 a.1) (pairs_state b.0 b.1) → b ≡ a
 pairs_stay a b read = let pairs = read.same.pairs refl in let banner = read.same.banner in λ i. (pairs i, banner i)
 
 -- ---- the pairs that were read
 
-shown_by : (h k : StoreState) (pairs : List Pair) (banner : Banner) → HasRead h k → banner ≡ k.banner → pairs ≡ h.pairs → (s : Site) → PairsShowSite pairs banner s → RepresentedBy h s
+shown_by : (h k : StoreState) (pairs : List Pair) (banner : Banner) → StoreHasRead h k → banner ≡ k.banner → pairs ≡ h.pairs → (s : Site) → PairsShowSite pairs banner s → RepresentedBy h s
 shown_by h k pairs banner read same all s shown =
     let under : h.banner ≡ banner = sym read.same.banner ∙ sym same in
     record {
@@ -82,7 +82,7 @@ shown_by h k pairs banner read same all s shown =
       version = ap (λ b. b.version) under ∙ shown.version;
     }
 
-shown_to : (h k : StoreState) (pairs : List Pair) (banner : Banner) → HasRead h k → banner ≡ k.banner → pairs ≡ h.pairs → (s : Site) → RepresentedBy h s → PairsShowSite pairs banner s
+shown_to : (h k : StoreState) (pairs : List Pair) (banner : Banner) → StoreHasRead h k → banner ≡ k.banner → pairs ≡ h.pairs → (s : Site) → RepresentedBy h s → PairsShowSite pairs banner s
 shown_to h k pairs banner read same all s kept =
     let under : banner ≡ h.banner = same ∙ read.same.banner in
     record {
@@ -95,18 +95,18 @@ shown_to h k pairs banner read same all s kept =
     }
 
 -- What they say of a site the keeper says.
-pub site_answered : {X : Type 0} → (r : Result X SiteOpenFault) (h k : StoreState) (pairs : List Pair) (banner : Banner) → HasRead h k → banner ≡ k.banner → pairs ≡ h.pairs → OnOk r ((s : Site) × PairsShowSite pairs banner s) → IfOk r (λ _. (s : Site) × RepresentedBy h s)
+pub site_answered : {X : Type 0} → (r : Result X SiteOpenFault) (h k : StoreState) (pairs : List Pair) (banner : Banner) → StoreHasRead h k → banner ≡ k.banner → pairs ≡ h.pairs → OnOk r ((s : Site) × PairsShowSite pairs banner s) → IfOk r (λ _. (s : Site) × RepresentedBy h s)
 site_answered (Ok x) h k pairs banner read same all site = (site.0, shown_by h k pairs banner read same all site.0 site.1)
 site_answered (Err e) h k pairs banner read same all site = tt
 
-pub site_refused : {X : Type 0} → (r : Result X SiteOpenFault) (h k : StoreState) (pairs : List Pair) (banner : Banner) → HasRead h k → NoneFailed h k → banner ≡ k.banner → (IsTrue h.honest → pairs ≡ h.pairs) → IfErr r (IsSitePairsFault pairs banner) → IfErr r (IsSiteReadFault h k)
+pub site_refused : {X : Type 0} → (r : Result X SiteOpenFault) (h k : StoreState) (pairs : List Pair) (banner : Banner) → StoreHasRead h k → NoneFailed h k → banner ≡ k.banner → (IsTrue h.honest → pairs ≡ h.pairs) → IfErr r (IsSitePairsFault pairs banner) → IfErr r (IsSiteReadFault h k)
 site_refused (Ok x) h k pairs banner read none same all fault = tt
 site_refused (Err BadRecord) h k pairs banner read none same all fault = (none, λ honest known. fault known.0 (shown_to h k pairs banner read same (all honest) known.0 known.1))
 site_refused (Err (Keeper e)) h k pairs banner read none same all fault = absurd fault
 site_refused (Err Memory) h k pairs banner read none same all fault = none
 
 -- what is kept once it was read was kept before
-pub kept_before : (a b : StoreState) (s : Site) → HasRead a b → IsTrue a.honest → RepresentedBy b s → RepresentedBy a s
+pub kept_before : (a b : StoreState) (s : Site) → StoreHasRead a b → IsTrue a.honest → RepresentedBy b s → RepresentedBy a s
 kept_before a b s read honest kept = record {
   valid = kept.valid;
   all = sym (read.same.pairs honest) ∙ kept.all;
@@ -116,11 +116,11 @@ kept_before a b s read honest kept = record {
   version = ap (λ x. x.version) (sym read.same.banner) ∙ kept.version;
 }
 
-pub site_before : (a b : StoreState) (keeps : HasSite b) → HasRead a b → IsTrue a.honest → RepresentedBy a (site_of b keeps)
+pub site_before : (a b : StoreState) (keeps : HasSite b) → StoreHasRead a b → IsTrue a.honest → RepresentedBy a (site_of b keeps)
 site_before a b keeps read honest = kept_before a b (site_of b keeps) read honest (site_kept b keeps (read.honest ∙ honest))
 
 -- the site that was read is kept, and no pin is out
-pub opened : (a b : StoreState) → HasRead a b → a.pins ≡ [] → (IsTrue a.honest → (s : Site) × RepresentedBy a s) → HasSite b
+pub opened : (a b : StoreState) → StoreHasRead a b → a.pins ≡ [] → (IsTrue a.honest → (s : Site) × RepresentedBy a s) → HasSite b
 opened a b read none kept honest1 =
     let honest0 : IsTrue a.honest = sym read.honest ∙ honest1 in
     let site = kept honest0 in

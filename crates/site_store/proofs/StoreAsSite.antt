@@ -16,7 +16,7 @@ use Rattle.host_types.specs.declared.site_fault.SiteFault.{SiteFault}
 use Rattle.host_types.specs.declared.site_fault.SiteFault.TheVariants as faults
 use Rattle.page_store.specs.Pages.{Pair}
 use Rattle.page_store.specs.Batch.{updated, edit_key}
-use Rattle.page_store.specs.StoreState.{StoreState, CommitNeed, SoManyPages, TooManyLevels, HasRead, NeedsTheSame, HasStayed, HasFailed, HasTried, MayBeDeep, IsReadFault, IsCommitFault, edits_to_be_deep}
+use Rattle.page_store.specs.StoreState.{StoreState, CommitNeed, SoManyPages, TooManyLevels, StoreHasRead, NeedsTheSame, HasStayed, StoreHasFailed, StoreHasTried, MayBeDeep, IsStoreReadFault, IsCommitFault, edits_to_be_deep}
 use Rattle.page_store.specs.declared.banner.Banner.{Banner}
 use Rattle.page_store.specs.declared.edit.Edit.{Edit}
 use Rattle.page_store.specs.declared.fault.KeeperFault.{KeeperFault}
@@ -48,7 +48,7 @@ use Rattle.site_store.proofs.PinsKept.{PinsStay, pins_stay_read, have_still, sam
 
 -- ---- calls that read
 
-pub keeps_read : (a b : StoreState) → HasRead a b → HasSite a → HasSite b
+pub keeps_read : (a b : StoreState) → StoreHasRead a b → HasSite a → HasSite b
 keeps_read a b read keeps honest1 =
     let honest0 : IsTrue a.honest = sym read.honest ∙ honest1 in
     ((keeps honest0).0, kept_after a b (keeps honest0).0 read honest0 (keeps honest0).1, have_still a b (pins_stay_read a b read) honest0 (keeps honest0).2)
@@ -56,7 +56,7 @@ keeps_read a b read keeps honest1 =
 pub pins_still : (a b : StoreState) (ka : HasSite a) (kb : HasSite b) → b.honest ≡ a.honest → PinsStay a b → (site_state_of b kb).pins ≡ (site_state_of a ka).pins
 pins_still a b ka kb honest stay = same_pins a.honest b.honest a.pins b.pins (λ t. (ka t).2) (λ t. (kb t).2) honest stay.out stay.pins
 
-pub has_read : (a b : StoreState) (ka : HasSite a) (kb : HasSite b) → HasRead a b → sites.HasRead (site_state_of a ka) (site_state_of b kb)
+pub has_read : (a b : StoreState) (ka : HasSite a) (kb : HasSite b) → StoreHasRead a b → sites.HasRead (site_state_of a ka) (site_state_of b kb)
 has_read a b ka kb read = record {
   site = λ honest. site_is b kb (read.honest ∙ honest) (site_of a ka) (kept_after a b (site_of a ka) read honest (site_kept a ka honest));
   honest = read.honest;
@@ -70,7 +70,7 @@ has_read a b ka kb read = record {
 no_truth : (b : Bool) → IsTrue b → b ≡ false → ⊥
 no_truth b t f = let clash : true ≡ false = sym t ∙ f in cc clash
 
-pub read_fault_of : (may_lack_memory : Bool) (a b : StoreState) (ka : HasSite a) (kb : HasSite b) (fault : KeeperFault) → IsReadFault a b fault → sites.IsReadFault may_lack_memory (site_state_of a ka) (site_state_of b kb) (store_site_fault_of fault)
+pub read_fault_of : (may_lack_memory : Bool) (a b : StoreState) (ka : HasSite a) (kb : HasSite b) (fault : KeeperFault) → IsStoreReadFault a b fault → sites.IsReadFault may_lack_memory (site_state_of a ka) (site_state_of b kb) (store_site_fault_of fault)
 read_fault_of may_lack_memory a b ka kb kinds.Device h = λ honest. rose_counted a.failed_reads b.failed_reads h
 read_fault_of may_lack_memory a b ka kb kinds.NoImage h = absurd h
 read_fault_of may_lack_memory a b ka kb kinds.Version h = absurd h
@@ -168,7 +168,7 @@ stayed a b s same honest kept = record {
   version = ap (λ x. x.version) same.banner ∙ kept.version;
 }
 
-failed : (a b : StoreState) (s : Site) → HasFailed a b → IsTrue a.honest → RepresentedBy a s → RepresentedBy b s
+failed : (a b : StoreState) (s : Site) → StoreHasFailed a b → IsTrue a.honest → RepresentedBy a s → RepresentedBy b s
 failed a b s same honest kept = record {
   valid = kept.valid;
   all = same.pairs honest ∙ kept.all;
@@ -178,10 +178,10 @@ failed a b s same honest kept = record {
   version = ap (λ x. x.version) same.banner ∙ kept.version;
 }
 
-pub not_changed : (a b : StoreState) (ka : HasSite a) (kb : HasSite b) → HasRead a b → sites.HasNotChanged (site_state_of a ka) (site_state_of b kb)
+pub not_changed : (a b : StoreState) (ka : HasSite a) (kb : HasSite b) → StoreHasRead a b → sites.HasNotChanged (site_state_of a ka) (site_state_of b kb)
 not_changed a b ka kb read = let h = has_read a b ka kb read in record { site = h.site; usable = h.usable; free = h.free }
 
-pub same_after : (a b c : StoreState) (ka : HasSite a) (kc : HasSite c) → HasRead a b → HasStayed b c → c.honest ≡ b.honest → sites.HasNotChanged (site_state_of a ka) (site_state_of c kc)
+pub same_after : (a b c : StoreState) (ka : HasSite a) (kc : HasSite c) → StoreHasRead a b → HasStayed b c → c.honest ≡ b.honest → sites.HasNotChanged (site_state_of a ka) (site_state_of c kc)
 same_after a b c ka kc read same honest_is = record {
   site = λ honest. site_is c kc (honest_is ∙ read.honest ∙ honest) (site_of a ka) (stayed b c (site_of a ka) same (read.honest ∙ honest) (kept_after a b (site_of a ka) read honest (site_kept a ka honest)));
   usable = same.usable ∙ read.same.usable;
@@ -202,7 +202,7 @@ module _ {D K L : Type 0} (keeper : D → K) (store_state : K → StoreState) (m
   plan_reads_only d0 d1 applied faults.Failed h found = h.reads_only
   plan_reads_only d0 d1 applied faults.Memory h found = h.reads_only
 
-  pub plan_fault_comes : (lacks : SiteFault → Type 0) (d0 d1 : D) (ka : HasSite (store_state (keeper d0))) (kb : HasSite (store_state (keeper d1))) (changes : Changes) (fault : SiteFault) → HasRead (store_state (keeper d0)) (store_state (keeper d1)) → (store_state (keeper d0)).usable ≡ true
+  pub plan_fault_comes : (lacks : SiteFault → Type 0) (d0 d1 : D) (ka : HasSite (store_state (keeper d0))) (kb : HasSite (store_state (keeper d1))) (changes : Changes) (fault : SiteFault) → StoreHasRead (store_state (keeper d0)) (store_state (keeper d1)) → (store_state (keeper d0)).usable ≡ true
       → PlanFault d0 d1 (λ s. one_refusal (all_applied s changes)) fault → sites.IsChangeFault lacks (site_state_of (store_state (keeper d0)) ka) (site_state_of (store_state (keeper d1)) kb) (one_refusal (all_applied (site_of (store_state (keeper d0)) ka) changes)) fault
   plan_fault_comes lacks d0 d1 ka kb changes (faults.Refused r) read up h =
       let a = store_state (keeper d0) in
@@ -235,7 +235,7 @@ after_version b None (Some admin) = refl
 after_version b (Some name) (Some admin) = refl
 
 -- by a plan that was found
-pub plan_makes : (a b : StoreState) (ka : HasSite a) (changes : Changes) (p : Plan) (replacements : List Replacement) (banner : Banner) → replacements ≡ p.replacements.items → banner ≡ banner_after b.banner p.host p.admin → HasRead a b
+pub plan_makes : (a b : StoreState) (ka : HasSite a) (changes : Changes) (p : Plan) (replacements : List Replacement) (banner : Banner) → replacements ≡ p.replacements.items → banner ≡ banner_after b.banner p.host p.admin → StoreHasRead a b
     → ((s : Site) → (IsTrue a.honest × RepresentedBy a s) × ∥ IsSite s ∥₁ → IsPlanOfAll s changes p) → IsTrue a.honest → Makes a b ka changes replacements banner
 plan_makes a b ka changes p replacements banner all name read plan honest =
     let s = site_of a ka in
@@ -284,7 +284,7 @@ is_ok (Err x) t e = absurd (cc e)
 
 -- a change that was not written
 pub commit_fault_comes : {K : Type 0} → (store_state : K → StoreState) (may_need : K → List Edit → CommitNeed → Type 0) (k0 k1 k2 : K) (ka : HasSite (store_state k0)) (kc : HasSite (store_state k2)) (changes : Changes) (replacements : List Replacement) (banner : Banner) (fault : KeeperFault)
-    → HasRead (store_state k0) (store_state k1) → NeedsTheSame (may_need k0) (may_need k1) → HasTried (store_state k1) (store_state k2) → (store_state k1).usable ≡ true → (IsTrue (store_state k0).honest → Makes (store_state k0) (store_state k1) ka changes replacements banner)
+    → StoreHasRead (store_state k0) (store_state k1) → NeedsTheSame (may_need k0) (may_need k1) → StoreHasTried (store_state k1) (store_state k2) → (store_state k1).usable ≡ true → (IsTrue (store_state k0).honest → Makes (store_state k0) (store_state k1) ka changes replacements banner)
     → IsCommitFault (store_state k1) (store_state k2) (length (batch_of (edits_of replacements))) (MayNeedForEdits may_need k1 (batch_of (edits_of replacements))) fault
     → sites.IsChangeFault (IsLacking store_state may_need k0 (site_of (store_state k0) ka) changes) (site_state_of (store_state k0) ka) (site_state_of (store_state k2) kc) (one_refusal (all_applied (site_of (store_state k0) ka) changes)) (store_site_fault_of fault)
 commit_fault_comes store_state may_need k0 k1 k2 ka kc changes replacements banner kinds.Device read need tried up m h =
@@ -404,10 +404,10 @@ err_banner b c edits may_need (kinds.Full need free) h = h.0.banner
 err_banner b c edits may_need kinds.Failed h = h.banner
 err_banner b c edits may_need kinds.Memory h = h.banner
 
-have_twice : (a b c : StoreState) → HasSite a → HasRead a b → PinsStay b c → IsTrue b.honest → AllHave c.pins
+have_twice : (a b c : StoreState) → HasSite a → StoreHasRead a b → PinsStay b c → IsTrue b.honest → AllHave c.pins
 have_twice a b c ka read stay honest = let keeps = keeps_read a b read ka in have_still b c stay honest (keeps honest).2
 
-pub keeps_written : {U : Type 0} → (r : Result U KeeperFault) (a b c : StoreState) (ka : HasSite a) (changes : Changes) (replacements : List Replacement) (banner : Banner) (edits : ℕ) (may_need : CommitNeed → Type 0) → HasRead a b → c.honest ≡ b.honest → PinsStay b c
+pub keeps_written : {U : Type 0} → (r : Result U KeeperFault) (a b c : StoreState) (ka : HasSite a) (changes : Changes) (replacements : List Replacement) (banner : Banner) (edits : ℕ) (may_need : CommitNeed → Type 0) → StoreHasRead a b → c.honest ≡ b.honest → PinsStay b c
     → (IsTrue a.honest → Makes a b ka changes replacements banner) → (IsTrue b.honest → OnOk r (c.pairs ≡ updated b.pairs (batch_of (edits_of replacements)))) → OnOk r (c.banner ≡ banner) → IfErr r (IsCommitFault b c edits may_need) → HasSite c
 keeps_written (Ok u) a b c ka changes replacements banner edits may_need read same stay m pairs named fault honest2 =
     let honest1 : IsTrue b.honest = sym same ∙ honest2 in
@@ -419,7 +419,7 @@ keeps_written (Err e) a b c ka changes replacements banner edits may_need read s
     (site_of a ka, err_kept b c edits may_need e (site_of a ka) fault honest1 made.before, have_twice a b c ka read stay honest1)
 
 -- what a change leaves that was tried
-pub has_tried : (a b c : StoreState) (ka : HasSite a) (kc : HasSite c) → HasRead a b → HasTried b c → PinsStay b c → sites.HasTried (site_state_of a ka) (site_state_of c kc)
+pub has_tried : (a b c : StoreState) (ka : HasSite a) (kc : HasSite c) → StoreHasRead a b → StoreHasTried b c → PinsStay b c → sites.HasTried (site_state_of a ka) (site_state_of c kc)
 has_tried a b c ka kc read tried stay =
     let kb = keeps_read a b read ka in
     record {
@@ -429,10 +429,10 @@ has_tried a b c ka kc read tried stay =
       pins = pins_still b c kb kc tried.honest stay ∙ pins_still a b ka kb read.honest (pins_stay_read a b read);
     }
 
-pub has_tried_reading : (a b : StoreState) (ka : HasSite a) (kb : HasSite b) → HasRead a b → sites.HasTried (site_state_of a ka) (site_state_of b kb)
+pub has_tried_reading : (a b : StoreState) (ka : HasSite a) (kb : HasSite b) → StoreHasRead a b → sites.HasTried (site_state_of a ka) (site_state_of b kb)
 has_tried_reading a b ka kb read = record { honest = read.honest; reads = read.reads; writes = omega (arith, read.writes); pins = pins_still a b ka kb read.honest (pins_stay_read a b read) }
 
-pub port_written : {U : Type 0} → (r : Result U KeeperFault) (a b c : StoreState) (banner : Banner) (edits : ℕ) (may_need : CommitNeed → Type 0) → HasRead a b → 0 < a.banner.port → 0 < banner.port → OnOk r (c.banner ≡ banner) → IfErr r (IsCommitFault b c edits may_need) → 0 < c.banner.port
+pub port_written : {U : Type 0} → (r : Result U KeeperFault) (a b c : StoreState) (banner : Banner) (edits : ℕ) (may_need : CommitNeed → Type 0) → StoreHasRead a b → 0 < a.banner.port → 0 < banner.port → OnOk r (c.banner ≡ banner) → IfErr r (IsCommitFault b c edits may_need) → 0 < c.banner.port
 port_written (Ok u) a b c banner edits may_need read old new named fault = subst (λ (x : Banner). 0 < x.port) (sym named) new
 port_written (Err e) a b c banner edits may_need read old new named fault = subst (λ (x : Banner). 0 < x.port) (sym (err_banner b c edits may_need e fault ∙ read.same.banner)) old
 
@@ -478,7 +478,7 @@ alone_at_crash has_content s change now changes states new is h =
 pub look_up_failed : (a b : StoreState) (fault : SiteOpenFault) (to_site_fault : SiteFault) → to_site_fault ≡ site_fault_of fault → IsSiteReadFault a b fault → IsLookUpFault a b to_site_fault
 look_up_failed a b fault to_site_fault is h = subst (IsLookUpFault a b) (sym is) (by fault h)
   where
-    by_keeper : (fault : KeeperFault) → IsReadFault a b fault → IsLookUpFault a b (store_site_fault_of fault)
+    by_keeper : (fault : KeeperFault) → IsStoreReadFault a b fault → IsLookUpFault a b (store_site_fault_of fault)
     by_keeper kinds.Device h = λ honest s kept. h
     by_keeper kinds.NoImage h = absurd h
     by_keeper kinds.Version h = absurd h

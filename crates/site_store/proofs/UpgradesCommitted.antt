@@ -9,7 +9,7 @@ use Rattle.page_store.specs.Work.{WritesAtMost, nothing_then, nothing_at_most, w
 use Rattle.page_store.specs.Batch.{updated}
 use Rattle.page_store.specs.Counting.{reads_after, writes_after}
 use Rattle.page_store.specs.Pages.{Pair}
-use Rattle.page_store.specs.StoreState.{numbers_out, StoreState, CommitNeed, SoManyPages, TooManyLevels, HasRead, HasStayed, HasFailed, HasTried, NeedsTheSame, IsCommitFault, MayBeDeep, edits_to_be_deep}
+use Rattle.page_store.specs.StoreState.{numbers_out, StoreState, CommitNeed, SoManyPages, TooManyLevels, StoreHasRead, HasStayed, StoreHasFailed, StoreHasTried, NeedsTheSame, IsCommitFault, MayBeDeep, edits_to_be_deep}
 use Rattle.page_store.specs.declared.banner.Banner.{Banner}
 use Rattle.page_store.specs.declared.edit.Edit.{Edit}
 use Rattle.page_store.specs.declared.fault.KeeperFault.{KeeperFault}
@@ -64,7 +64,7 @@ uncounted true (kinds.Full need free) old new up other same = same
 uncounted true kinds.Failed old new up other same = absurd (other refl)
 uncounted true kinds.Memory old new up other same = same
 
-module _ (a b : StoreState) (may_need : List Edit → CommitNeed → Type 0) (up : a.usable ≡ true) (read : HasRead a b) where
+module _ (a b : StoreState) (may_need : List Edit → CommitNeed → Type 0) (up : a.usable ≡ true) (read : StoreHasRead a b) where
   keeper_refused : (fault : KeeperFault) → IsCountedFault a b fault → IsNotUpgraded a b may_need (Keeper fault)
   keeper_refused kinds.Device h = record { cause = read.same; honest = read.honest; reads = h.1; writes = uncounted a.usable kinds.Device a.failed_writes b.failed_writes up (λ is. absurd (cc is)) read.writes; out = read.same.out; calls = nothing_at_most read.same.calls a.free }
   keeper_refused kinds.NoImage h = absurd h.0
@@ -84,7 +84,7 @@ module _ (a b : StoreState) (may_need : List Edit → CommitNeed → Type 0) (up
 
 -- ---- the commit
 
-stay_on : (a b c : StoreState) → HasRead a b → HasStayed b c → HasStayed a c
+stay_on : (a b c : StoreState) → StoreHasRead a b → HasStayed b c → HasStayed a c
 stay_on a b c x y = record {
   pairs = λ honest. y.pairs (x.honest ∙ honest) ∙ x.same.pairs honest;
   banner = y.banner ∙ x.same.banner;
@@ -99,7 +99,7 @@ stay_on a b c x y = record {
   calls = nothing_then x.same.calls y.calls;
 }
 
-fail_on : (a b c : StoreState) → HasRead a b → HasFailed b c → HasFailed a c
+fail_on : (a b c : StoreState) → StoreHasRead a b → StoreHasFailed b c → StoreHasFailed a c
 fail_on a b c x y = record {
   pairs = λ honest. y.pairs (x.honest ∙ honest) ∙ x.same.pairs honest;
   banner = y.banner ∙ x.same.banner;
@@ -114,7 +114,7 @@ fail_on a b c x y = record {
   top = ⊎_elim (λ t. inl (t ∙ x.same.top)) (λ t. inr (t ∙ ap (λ (n : ℕ). n + 1) x.same.top)) y.top;
 }
 
-module _ (a b c : StoreState) (need_a need_b : List Edit → CommitNeed → Type 0) (batch : List Edit) (read : HasRead a b) (none : NoneFailed a b) (needs : NeedsTheSame need_a need_b) (upgrade : IsTrue a.honest → IsUpgradeOf a.pairs a.banner batch) where
+module _ (a b c : StoreState) (need_a need_b : List Edit → CommitNeed → Type 0) (batch : List Edit) (read : StoreHasRead a b) (none : NoneFailed a b) (needs : NeedsTheSame need_a need_b) (upgrade : IsTrue a.honest → IsUpgradeOf a.pairs a.banner batch) where
   deep : IsTrue a.honest → MayBeDeep b (length batch) × need_b batch TooManyLevels → (s : Site) × FirstBy a s × MayBeDeep a (length s.items) × need_a (upgrade_batch s) TooManyLevels
   deep honest h =
       let u = upgrade honest in
@@ -170,7 +170,7 @@ module _ (a b c : StoreState) (need_a need_b : List Edit → CommitNeed → Type
   writes_as true kinds.Memory n = refl
   writes_as false kinds.Memory n = refl
 
-  pub not_committed : (fault : KeeperFault) → IsCommitFault b c (length batch) (need_b batch) fault → HasTried b c → c.failed_reads ≡ reads_after fault b.failed_reads → c.failed_writes ≡ writes_after b.usable fault b.failed_writes → WritesAtMost b.free b.made c.made → IsNotUpgraded a c need_a (commit_fault fault)
+  pub not_committed : (fault : KeeperFault) → IsCommitFault b c (length batch) (need_b batch) fault → StoreHasTried b c → c.failed_reads ≡ reads_after fault b.failed_reads → c.failed_writes ≡ writes_after b.usable fault b.failed_writes → WritesAtMost b.free b.made c.made → IsNotUpgraded a c need_a (commit_fault fault)
   not_committed fault h tried reads writes work = record {
     cause = commit_cause fault h;
     honest = tried.honest ∙ read.honest;
@@ -193,7 +193,7 @@ module _ (a b c : StoreState) (need_a need_b : List Edit → CommitNeed → Type
         version = ap (λ (x : Banner). x.version) under;
       }
 
-  pub is_upgraded : (banner : Banner) (count : ℕ) → banner ≡ raised_banner b.banner → (IsTrue b.honest → c.pairs ≡ updated b.pairs batch) → c.banner ≡ banner → c.usable ≡ true → c.top ≡ b.top + 1 → c.generation ≡ b.top + 1 → HasTried b c → c.failed_reads ≡ b.failed_reads → c.failed_writes ≡ b.failed_writes → numbers_out c ≡ numbers_out b → WritesAtMost b.free b.made c.made → count ≡ length batch → IsFirstWhole a count → IsUpgraded a c count
+  pub is_upgraded : (banner : Banner) (count : ℕ) → banner ≡ raised_banner b.banner → (IsTrue b.honest → c.pairs ≡ updated b.pairs batch) → c.banner ≡ banner → c.usable ≡ true → c.top ≡ b.top + 1 → c.generation ≡ b.top + 1 → StoreHasTried b c → c.failed_reads ≡ b.failed_reads → c.failed_writes ≡ b.failed_writes → numbers_out c ≡ numbers_out b → WritesAtMost b.free b.made c.made → count ≡ length batch → IsFirstWhole a count → IsUpgraded a c count
   is_upgraded banner count is pairs named usable top generation tried reads writes out work counted_is whole = record {
     site = λ honest.
         let u = upgrade honest in

@@ -13,7 +13,7 @@ use Rattle.host_types.specs.Words.{words_of, is_among}
 use Rattle.host_types.specs.declared.item.Item.{Item}
 use Rattle.site_records.specs.Keys.{word_key}
 use Rattle.page_store.specs.StoreState.{StoreState}
-use Rattle.site_records.specs.Layout.{Pair, Pairs, layout, has_word, value_at}
+use Rattle.site_records.specs.Layout.{LayoutPair, Pairs, layout, has_word, value_at}
 use Rattle.site_records.specs.LayoutLaws.{is_sorted-layout}
 use Rattle.site_records.proofs.ChunkLaws.{words_law}
 use Rattle.site_store.specs.Represented.{RepresentedBy}
@@ -90,7 +90,7 @@ none_after : (s : Site) (scope word q : List ℕ) → IsTrue (is_sorted byte_cmp
 none_after s scope word q sorted none =
     nothing_next (items_with s scope word) q (sorted_kept (is_with scope word) s.items sorted) (λ r item stands. sym (same_order word q r) ∙ none_next (layout s) (word_key word q) (word_key word r) [] none (key_value s scope word r item sorted stands))
 
-other_after : (s : Site) (scope word q : List ℕ) (p : Pair) → IsTrue (is_sorted byte_cmp s.items) → starts_with nat_eq q scope ≡ true → next_of (layout s) (word_key word q) ≡ Some p → named_by scope word p.0 ≡ None → next_of (items_with s scope word) q ≡ None
+other_after : (s : Site) (scope word q : List ℕ) (p : LayoutPair) → IsTrue (is_sorted byte_cmp s.items) → starts_with nat_eq q scope ≡ true → next_of (layout s) (word_key word q) ≡ Some p → named_by scope word p.0 ≡ None → next_of (items_with s scope word) q ≡ None
 other_after s scope word q p sorted within some other =
     let next = is_next (layout s) (word_key word q) p (is_sorted-layout s) some in
     nothing_next (items_with s scope word) q (sorted_kept (is_with scope word) s.items sorted) (λ r item stands.
@@ -108,7 +108,7 @@ pub record IsNextWith (s : Site) (scope word q r : List ℕ) : Type 0 where
   pub stands : item_at s r ≡ Some item
   pub is_next : next_of (items_with s scope word) q ≡ Some (r, item)
 
-this_after : (s : Site) (scope word q r : List ℕ) (p : Pair) → IsTrue (is_sorted byte_cmp s.items) → next_of (layout s) (word_key word q) ≡ Some p → named_by scope word p.0 ≡ Some r → IsNextWith s scope word q r
+this_after : (s : Site) (scope word q r : List ℕ) (p : LayoutPair) → IsTrue (is_sorted byte_cmp s.items) → next_of (layout s) (word_key word q) ≡ Some p → named_by scope word p.0 ≡ Some r → IsNextWith s scope word q r
 this_after s scope word q r p sorted some is =
     let next = is_next (layout s) (word_key word q) p (is_sorted-layout s) some in
     let name = named scope word p.0 r is in
@@ -134,13 +134,13 @@ word_there f there h s word selector key kept is value =
     same (Some x) true e = refl
     same (Some x) false e = absurd (cc e)
 
-next_kept : (h : StoreState) (s : Site) (word q key : List ℕ) (o : Option Pair) → RepresentedBy h s → key ≡ word_key word q → o ≡ next_of h.pairs key → next_of (layout s) (word_key word q) ≡ o
+next_kept : (h : StoreState) (s : Site) (word q key : List ℕ) (o : Option LayoutPair) → RepresentedBy h s → key ≡ word_key word q → o ≡ next_of h.pairs key → next_of (layout s) (word_key word q) ≡ o
 next_kept h s word q key o kept is e = ap (λ (ps : Pairs). next_of ps (word_key word q)) (sym kept.all) ∙ ap (next_of h.pairs) (sym is) ∙ sym e
 
 pub walked_off : (h : StoreState) (s : Site) (scope word q key : List ℕ) → RepresentedBy h s → key ≡ word_key word q → None ≡ next_of h.pairs key → None ≡ next_with s scope word q
 walked_off h s scope word q key kept is none = ap (option_map (λ e. e.0)) (sym (none_after s scope word q (kept_sorted s kept.valid) (next_kept h s word q key None kept is none)))
 
-pub walked_on : (h : StoreState) (s : Site) (scope word q key : List ℕ) (p : Pair) → RepresentedBy h s → starts_with nat_eq q scope ≡ true → key ≡ word_key word q → Some p ≡ next_of h.pairs key → named_by scope word p.0 ≡ next_with s scope word q
+pub walked_on : (h : StoreState) (s : Site) (scope word q key : List ℕ) (p : LayoutPair) → RepresentedBy h s → starts_with nat_eq q scope ≡ true → key ≡ word_key word q → Some p ≡ next_of h.pairs key → named_by scope word p.0 ≡ next_with s scope word q
 walked_on h s scope word q key p kept within is some =
     let sorted = kept_sorted s kept.valid in
     let next : next_of (layout s) (word_key word q) ≡ Some p = next_kept h s word q key (Some p) kept is some in
@@ -150,7 +150,7 @@ walked_on h s scope word q key p kept within is some =
     ] refl
 
 -- the name in a key is a selector's
-pub walked_well : (h : StoreState) (s : Site) (scope word q key : List ℕ) (p : Pair) → RepresentedBy h s → key ≡ word_key word q → Some p ≡ next_of h.pairs key → IsInvalid (named_by scope word p.0) → ⊥
+pub walked_well : (h : StoreState) (s : Site) (scope word q key : List ℕ) (p : LayoutPair) → RepresentedBy h s → key ≡ word_key word q → Some p ≡ next_of h.pairs key → IsInvalid (named_by scope word p.0) → ⊥
 walked_well h s scope word q key p kept is some bad =
     elim (named_by scope word p.0) as (λ o. named_by scope word p.0 ≡ o → IsInvalid o → ⊥) [
       | None ↦ λ e none. none

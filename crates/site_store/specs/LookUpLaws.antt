@@ -15,6 +15,7 @@ use Rattle.common_types.specs.declared.refused.Refused.{Refused}
 use Rattle.host_types.specs.declared.site_fault.SiteFault.{SiteFault}
 use Rattle.host_types.specs.declared.site_fault.SiteFault.TheVariants as faults
 use Rattle.host_types.proofs.Boards.{body_is}
+use Rattle.host_types.specs.Sizes.{longest_summary}
 use Rattle.change_plan.specs.LookUps.{HasNoLongNames}
 use Rattle.page_store.specs.StoreState.{StoreState, CommitNeed}
 use Rattle.page_store.specs.declared.edit.Edit.{Edit}
@@ -59,7 +60,7 @@ fits_or_not item = hlevel props
 -- an item that is not too long for its selector is not too long
 pub short_fits : (selector : List ℕ) (item : Item) → is_long_item selector item ≡ false → IsShortItem item
 short_fits selector item short =
-    let parts = or_parts (nat_lt 400 (length item.summary)) (is_long_body selector item.body) short in
+    let parts = or_parts (nat_lt longest_summary (length item.summary)) (is_long_body selector item.body) short in
     rw (parts.0, by item.body parts.1) refl
   where
     by : (body : Body) → is_long_body selector body ≡ false → is_long_body [] body ≡ false

@@ -1,6 +1,7 @@
 -- Reading a whole site from its pairs.
 use Rattle.std.specs.Prelude.{◌≡◌, ◌+◌, ◌*◌, ◌<◌, ◌≤◌, ℕ, All, ◌==◌, slice_index_or, true, false, length, flat_map, List, [], ◌∷◌, Option, Some, None, IsTrue, if◌then◌else◌}
 use Rattle.std.specs.List.{AllByRecursion}
+use Rattle.page_store.specs.Sizes.{longest_key, longest_value}
 use Rattle.common_types.specs.Counts.{counted}
 use Rattle.host_types.specs.Site.{Site, IsSite, item_at, with_item}
 use Rattle.host_types.specs.declared.item.Item.{Item}
@@ -73,11 +74,11 @@ IsSitePairsFault pairs banner Memory = Unit {0}
 
 -- each value fits a buffer
 abbrev pub ValuesFit : List Pair → Type 0
-ValuesFit pairs = All (λ p. length p.1 ≤ 1024) pairs
+ValuesFit pairs = All (λ p. length p.1 ≤ longest_value) pairs
 
 -- each key fits a buffer
 abbrev pub KeysFit : List Pair → Type 0
-KeysFit pairs = All (λ p. length p.0 ≤ 300) pairs
+KeysFit pairs = All (λ p. length p.0 ≤ longest_key) pairs
 
 -- Pairs in memory under a banner, as a store that holds them: no read of it fails, and it is never written.
 abbrev pub pairs_state : List Pair → Banner → StoreState

@@ -7,12 +7,12 @@ use Rattle.host_types.specs.Site.{Site, IsSite, item_at}
 use Rattle.host_types.specs.Standing.{limits_at}
 use Rattle.host_types.specs.CrashStates.{CrashStates, no_new_crash_state, adds_none_again}
 use Rattle.page_store.specs.Work.{nothing_yet, nothing_then}
-use Rattle.page_store.specs.StoreState.{StoreState, CommitNeed, HasRead, NeedsTheSame}
+use Rattle.page_store.specs.StoreState.{StoreState, CommitNeed, StoreHasRead, NeedsTheSame}
 use Rattle.page_store.specs.declared.edit.Edit.{Edit}
 use Rattle.site_store.specs.Represented.{RepresentedBy}
 use Rattle.site_store.specs.StoreReads.{StoreReadsOnly, NoneFailed}
 
-pub read_later : (a b c : StoreState) → HasRead a b → HasRead b c → HasRead a c
+pub read_later : (a b c : StoreState) → StoreHasRead a b → StoreHasRead b c → StoreHasRead a c
 read_later a b c x y =
     let now = λ (honest : IsTrue a.honest). let h : IsTrue b.honest = x.honest ∙ honest in h in
     record {
@@ -50,7 +50,7 @@ reads_later store_state may_need crash_states a b c x y = record {
   no_new_crash_state = λ honest. adds_none_again (crash_states a) (crash_states b) (crash_states c) (x.no_new_crash_state honest) (y.no_new_crash_state (x.read.honest ∙ honest));
 }
 
-pub not_read_yet : (h : StoreState) → HasRead h h
+pub not_read_yet : (h : StoreState) → StoreHasRead h h
 not_read_yet h = record {
   same = record { pairs = λ honest. refl; banner = refl; usable = refl; generation = refl; height = refl; keys = refl; out = refl; pins = λ honest. refl; top = refl; free = refl; calls = nothing_yet h.made };
   honest = refl;
@@ -66,7 +66,7 @@ not_yet store_state may_need crash_states a = record {
 }
 
 -- what is kept is kept after a call that reads
-pub kept_after : (a b : StoreState) (s : Site) → HasRead a b → IsTrue a.honest → RepresentedBy a s → RepresentedBy b s
+pub kept_after : (a b : StoreState) (s : Site) → StoreHasRead a b → IsTrue a.honest → RepresentedBy a s → RepresentedBy b s
 kept_after a b s read honest kept = record {
   valid = kept.valid;
   all = read.same.pairs honest ∙ kept.all;

@@ -12,7 +12,7 @@ use Rattle.host_types.specs.declared.item.Body.{Body}
 use Rattle.host_types.specs.declared.item.Body.TheVariants.{Views, Menu, Board, Form, Search, Moved}
 use Rattle.page_store.specs.Pages.{Pair}
 use Rattle.page_store.specs.Batch.{value_at}
-use Rattle.page_store.specs.StoreState.{StoreState, CommitNeed, HasRead, NeedsTheSame, IsReadFault}
+use Rattle.page_store.specs.StoreState.{StoreState, CommitNeed, StoreHasRead, NeedsTheSame, IsStoreReadFault}
 use Rattle.page_store.specs.Counting.{reads_after}
 use Rattle.page_store.specs.declared.edit.Edit.{Edit}
 use Rattle.page_store.specs.declared.fault.KeeperFault.{KeeperFault}
@@ -27,7 +27,7 @@ use Rattle.site_store.specs.declared.fault.SiteOpenFault.TheVariants.{BadRecord,
 
 -- What a call that reads leaves: what is held stays, a batch may need as much as before, and nothing was written.
 pub record StoreReadsOnly {K L : Type 0} (store_state : K → StoreState) (may_need : K → List Edit → CommitNeed → Type 0) (crash_states : K → CrashStates L) (old new : K) : Type 0 where
-  pub read : HasRead (store_state old) (store_state new)
+  pub read : StoreHasRead (store_state old) (store_state new)
   pub need : NeedsTheSame (may_need old) (may_need new)
   pub no_new_crash_state : IsTrue (store_state old).honest → AddsNone (crash_states old) (crash_states new)
 
@@ -37,7 +37,7 @@ NoneFailed old new = new.failed_reads ≡ old.failed_reads
 
 -- When the key-value store may give a fault, and what it counts.
 abbrev pub IsCountedFault : StoreState → StoreState → KeeperFault → Type 0
-IsCountedFault old new fault = IsReadFault old new fault × (new.failed_reads ≡ reads_after fault old.failed_reads)
+IsCountedFault old new fault = IsStoreReadFault old new fault × (new.failed_reads ≡ reads_after fault old.failed_reads)
 
 -- When a fault may come of a call that reads what is there where something is known.
 abbrev pub IsFaultUnless : Type 0 → StoreState → StoreState → SiteOpenFault → Type 0

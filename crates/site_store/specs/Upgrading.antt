@@ -6,7 +6,7 @@ use Rattle.host_types.specs.declared.item.Item.{Item}
 use Rattle.page_store.specs.Counting.{reads_after, writes_after}
 use Rattle.page_store.specs.Pages.{Pair}
 use Rattle.page_store.specs.Work.{WritesAtMost}
-use Rattle.page_store.specs.StoreState.{StoreState, numbers_out, CommitNeed, SoManyPages, TooManyLevels, HasStayed, HasFailed, MayBeDeep, last_generation}
+use Rattle.page_store.specs.StoreState.{StoreState, numbers_out, CommitNeed, SoManyPages, TooManyLevels, HasStayed, StoreHasFailed, MayBeDeep, last_generation}
 use Rattle.page_store.specs.declared.banner.Banner.{Banner}
 use Rattle.page_store.specs.declared.edit.Edit.{Edit}
 use Rattle.page_store.specs.declared.fault.KeeperFault.{KeeperFault}
@@ -132,7 +132,7 @@ IsUpgradeFault old new may_need (Keeper kinds.Spent) = HasStayed old new × (old
 IsUpgradeFault old new may_need (Keeper kinds.Deep) = HasStayed old new × (IsTrue old.honest → (s : Site) × FirstBy old s × MayBeDeep old (length s.items) × may_need (upgrade_batch s) TooManyLevels)
 IsUpgradeFault old new may_need (Keeper (kinds.Full need free)) =
     HasStayed old new × ((free ≡ old.free) × (free < need)) × (IsTrue old.honest → (s : Site) × FirstBy old s × may_need (upgrade_batch s) (SoManyPages need))
-IsUpgradeFault old new may_need (Keeper kinds.Failed) = HasFailed old new × (IsTrue old.honest → IsTrue old.usable → (s : Site) × FirstBy old s)
+IsUpgradeFault old new may_need (Keeper kinds.Failed) = StoreHasFailed old new × (IsTrue old.honest → IsTrue old.usable → (s : Site) × FirstBy old s)
 IsUpgradeFault old new may_need (Keeper kinds.NoImage) = ⊥
 IsUpgradeFault old new may_need (Keeper kinds.Version) = ⊥
 IsUpgradeFault old new may_need (Keeper kinds.Small) = ⊥

@@ -3,7 +3,7 @@ ghost use Rattle.std.specs.Prelude.{◌≡◌, ◌≤◌, ℕ, true, false, OnOk
 ghost use Rattle.host_types.specs.CrashStates.{AddsOnly, AddsNone};
 ghost use Rattle.host_types.specs.declared.site_fault.SiteFault.TheVariants.{Failed, Spent};
 ghost use Rattle.page_store.specs.Compaction.{IsCompacted, CompactsTheSame};
-ghost use Rattle.page_store.specs.StoreState.{HasTried, last_generation};
+ghost use Rattle.page_store.specs.StoreState.{StoreHasTried, last_generation};
 ghost use Rattle.page_store.specs.Work.{WritesAtMost};
 ghost use Rattle.site_store.specs.Compacting.{IsSiteCompactFault, NoCallFailed};
 ghost use Rattle.site_store.specs.Represented.{site_of, site_state_of, Represents};
@@ -30,7 +30,7 @@ impl<K: CompactKeeper> DiskSite<K> {
         ensures closed { (K.store_state self.old.keeper).usable ≡ false → IsErrOf result Failed }
         ensures spent { (K.store_state self.old.keeper).usable ≡ true → (K.store_state self.old.keeper).top ≡ last_generation → IsErrOf result Spent }
         ensures work { WritesAtMost (K.store_state self.old.keeper).free (K.store_state self.old.keeper).made (K.store_state self.new.keeper).made }
-        ensures tried { HasTried (K.store_state self.old.keeper) (K.store_state self.new.keeper) }
+        ensures tried { StoreHasTried (K.store_state self.old.keeper) (K.store_state self.new.keeper) }
 
         // A crash within the call leaves what represents the site.
         ensures at_crash { IsTrue (K.store_state self.old.keeper).honest → (K.store_state self.old.keeper).usable ≡ true →

@@ -17,6 +17,7 @@ use crate::looking::ValueLookup;
 use crate::parts::{read_part, read_view};
 use crate::records::record_at;
 use host_types::{Body, CardView, EntryList, Item, QuestionList, Selector, ViewList};
+use page_store::LONGEST_VALUE;
 use site_records::{Record, RecordBody, RecordFault, item_key, read_entries, read_questions};
 use std::alloc::Global;
 
@@ -130,7 +131,7 @@ fn read_body<V: ValueLookup>(
 pub fn has_item<V: ValueLookup>(from: &mut V, selector: &Selector) -> Result<bool, SiteOpenFault>
     ensures there { AlwaysReadsKnown V.store_state V.may_need V.crash_states from.old from.new result RepresentedBy (λ s there. there ≡ is_some (item_at s selector.now)) }
 {
-    let mut buffer = [0; 1024];
+    let mut buffer = [0; LONGEST_VALUE];
     match from.look_up(&item_key(selector), &mut buffer) {
         Ok(Some(_)) => Ok(true),
         Ok(None) => Ok(false),

@@ -9,7 +9,7 @@ ghost use Rattle.site_store.specs.StoreReads.{IsCountedFault, IsKeeperFault};
 ghost use Rattle.site_store.specs.Reads.{AlwaysReads};
 
 use crate::SiteOpenFault;
-use page_store::Keeper;
+use page_store::{Keeper, LONGEST_VALUE};
 use site_records::Key;
 
 /// Where the values at the keys of a site's layout are looked up: a key-value store, or its pairs once they are in memory.
@@ -30,7 +30,7 @@ pub trait ValueLookup {
     fn look_up(
         &mut self,
         key: &Key,
-        buffer: &mut [u8; 1024],
+        buffer: &mut [u8; LONGEST_VALUE],
     ) -> Result<Option<usize>, SiteOpenFault>
         ensures within { IfOk result (λ found. IfSome found (λ n. n ≤ length buffer.new)) }
         ensures value { AlwaysReads store_state may_need crash_states self.old self.new result (λ a b. IsKeeperFault (IsCountedFault a b)) (λ h found. option_map (λ n. take n buffer.new) found ≡ value_at h.pairs key.now) }
@@ -49,7 +49,7 @@ impl<K: Keeper> ValueLookup for K {
     fn look_up(
         &mut self,
         key: &Key,
-        buffer: &mut [u8; 1024],
+        buffer: &mut [u8; LONGEST_VALUE],
     ) -> Result<Option<usize>, SiteOpenFault> {
         match self.get(key.as_bytes(), buffer) {
             Ok(found) => Ok(found),

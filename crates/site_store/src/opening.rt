@@ -1,5 +1,6 @@
 // Opening a site: all of it is read, and what is kept must be its layout.
 ghost use Rattle.std.specs.Prelude.{◌↔◌, ◌≡◌, ◌<◌, ◌≤◌, true, false, [], length, IfOk, IfErr, IfSome, OnOk, IsErrAnd, IsTrue};
+ghost use Rattle.page_store.specs.Sizes.{longest_key, longest_value};
 ghost use Rattle.host_types.specs.Site.{Site};
 ghost use Rattle.page_store.specs.Batch.{pair_after};
 ghost use Rattle.page_store.specs.Work.{ReadsPages, pages_tried};
@@ -18,7 +19,7 @@ use crate::whole_layout::has_layout;
 use crate::{DiskSite, SiteOpenFault};
 use host_types::Selector;
 use mem_site::MemSite;
-use page_store::{Banner, Keeper, KeeperFault, Pair};
+use page_store::{Banner, Keeper, KeeperFault, LONGEST_KEY, LONGEST_VALUE, Pair};
 use std::alloc::Global;
 
 /// The version of images that sites are opened from.
@@ -51,11 +52,11 @@ fn pair_behind<K: Keeper>(
     pairs: &[Pair],
 ) -> Result<Option<Pair>, SiteOpenFault>
     ensures pair { AlwaysReads K.store_state K.may_need K.crash_states keeper.old keeper.new result IsReadOrMemory (λ h found. found ≡ pair_after h.pairs (last_key pairs.now)) }
-    ensures fit { IfOk result (λ found. IfSome found (λ p. length p.1 ≤ 1024)) }
-    ensures keys { IfOk result (λ found. IfSome found (λ p. length p.0 ≤ 300)) }
+    ensures fit { IfOk result (λ found. IfSome found (λ p. length p.1 ≤ longest_value)) }
+    ensures keys { IfOk result (λ found. IfSome found (λ p. length p.0 ≤ longest_key)) }
     ensures work { ReadsPages (pages_tried (K.store_state keeper.old).height) (K.store_state keeper.old).made (K.store_state keeper.new).made }
 {
-    let (mut key, mut value) = ([0; 300], [0; 1024]);
+    let (mut key, mut value) = ([0; LONGEST_KEY], [0; LONGEST_VALUE]);
     match keeper.next(last_key(pairs), &mut key, &mut value) {
         Ok(Some((size, length))) => {
             let pair = Pair::from_slices(alloc, &key[..size], &value[..length])?;

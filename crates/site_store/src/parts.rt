@@ -10,6 +10,7 @@ ghost use Rattle.site_store.specs.Work.{MakesLookUps};
 use crate::SiteOpenFault;
 use crate::looking::ValueLookup;
 use host_types::{Bytes, CHUNK, CardView, Selector, View};
+use page_store::LONGEST_VALUE;
 use site_records::chunk_key;
 use std::alloc::Global;
 
@@ -36,7 +37,7 @@ fn add_chunk<V: ValueLookup>(
     ensures size { list.length bytes.old.items ≡ 1000 * k → OnOk result (HasSize (list.length bytes.new.items) (1000 * k + 1000) size) }
     ensures work { MakesLookUps 1 (V.store_state from.old) (V.store_state from.new) }
 {
-    let mut buffer = [0; 1024];
+    let mut buffer = [0; LONGEST_VALUE];
     let expected = chunk_size(size, k);
     let found = from.look_up(&chunk_key(selector, part, k), &mut buffer)?;
     match found {

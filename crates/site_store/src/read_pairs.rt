@@ -9,7 +9,7 @@ ghost use Rattle.site_store.specs.Opening.{pairs_state, ValuesFit};
 use crate::SiteOpenFault;
 use crate::likely::LikelyPlaces;
 use crate::looking::ValueLookup;
-use page_store::{Banner, Pair, keys_rise};
+use page_store::{Banner, LONGEST_VALUE, Pair, keys_rise};
 use site_pairs::Piece;
 use site_records::Key;
 use std::alloc::{AllocError, Global};
@@ -99,7 +99,7 @@ impl ValueLookup for ReadPairs<'_> {
     fn look_up(
         &mut self,
         key: &Key,
-        buffer: &mut [u8; 1024],
+        buffer: &mut [u8; LONGEST_VALUE],
     ) -> Result<Option<usize>, SiteOpenFault> {
         let Some(place) = self.likely.place_of(self.pairs, key.as_bytes()) else {
             return Ok(None);

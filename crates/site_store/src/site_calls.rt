@@ -4,6 +4,7 @@ ghost use Rattle.common_types.specs.CrashStates.{AddsOnly, AddsNone};
 ghost use Rattle.host_types.specs.AllChanges.{all_applied};
 ghost use Rattle.host_types.specs.Card.{card_at, chunk_of};
 ghost use Rattle.host_types.specs.Change.{apply};
+ghost use Rattle.host_types.specs.Fronts.{front_at};
 ghost use Rattle.host_types.specs.ChangesFaults.{as_one, IsChangesFault};
 ghost use Rattle.host_types.specs.Counting.{CountsReads, CountsWrites};
 ghost use Rattle.host_types.specs.Pins.{Numbered, is_out, pinned_items, viewed_among, IsPinned, IsPinFault};
@@ -22,12 +23,14 @@ ghost use Rattle.site_store.specs.Work.{MakesLookUps, most_menu_chunks};
 
 use crate::DiskSite;
 use crate::cards::card_in;
-use crate::pinned_chunks::chunk_in_at;
+use crate::pinned_chunks::{chunk_in_at, document_chunk_at};
+use crate::records::front_at;
 use crate::to_site_fault::{changes_fault_comes, pin_fault_comes, to_site_fault};
 use crate::writing::{banner_after, write_replacements};
 use change_plan::plan_all;
 use host_types::{
-    Address, Card, Change, ChangesFault, Selector, SiteFault, SiteKeeper, SitePinFault, Stamp,
+    Address, Card, CardFront, Change, ChangesFault, Selector, SiteFault, SiteKeeper, SitePinFault,
+    Stamp,
 };
 use page_store::PinKeeper;
 use std::alloc::{AllocError, Global};
@@ -89,6 +92,24 @@ impl<K: PinKeeper> SiteKeeper for DiskSite<K> {
         }
     }
 
+    fn card_front(&mut self, selector: &Selector) -> Result<Option<CardFront>, SiteFault>
+        ensures front { IsTrue (seen self.old).honest → IfOk result (λ front. front ≡ front_at (seen self.old).site selector.now) }
+        ensures kept { HasRead (seen self.old) (seen self.new) }
+        ensures fault { IfErr result (IsReadFault true (seen self.old) (seen self.new)) }
+        ensures reads { CountsReads result (seen self.old) (seen self.new) }
+        ensures closed { (seen self.old).usable ≡ false → IsErrOf result Failed }
+        ensures lacking { LacksTheSame (lacks_of self.old) (lacks_of self.new) }
+        ensures at_crash { IsTrue (seen self.old).honest → AddsNone (K.crash_states self.old.keeper) (K.crash_states self.new.keeper) }
+
+        // Its record is looked up.
+        ensures work { ReadsPages (K.store_state self.old.keeper).height (K.store_state self.old.keeper).made (K.store_state self.new.keeper).made }
+    {
+        match front_at(&mut self.keeper, selector) {
+            Ok(front) => Ok(front),
+            Err(fault) => Err(to_site_fault(fault)),
+        }
+    }
+
     fn pin_site(&mut self) -> Result<K::Pin, SitePinFault>
         ensures pinned { IfOk result (λ pin. IsPinned (seen self.old) (seen self.new) (Numbered (K.number pin))) }
         ensures fault { IfErr result (IsPinFault (seen self.old) (seen self.new)) }
@@ -133,6 +154,35 @@ impl<K: PinKeeper> SiteKeeper for DiskSite<K> {
         ensures work { ReadsPages (2 * most_levels) (K.store_state self.old.keeper).made (K.store_state self.new.keeper).made }
     {
         match chunk_in_at(&mut self.keeper, pin, selector, view, k, buffer) {
+            Ok(length) => Ok(length),
+            Err(fault) => Err(to_site_fault(fault)),
+        }
+    }
+
+    fn known_chunk(
+        &mut self,
+        pin: &K::Pin,
+        selector: &Selector,
+        view: usize,
+        k: usize,
+        buffer: &mut [u8; 1000],
+    ) -> Result<usize, SiteFault>
+        requires out { IsTrue (is_out (seen self.old) (Numbered (K.number pin.now))) }
+        ensures within { IfOk result (λ n. n ≤ length buffer.new) }
+        ensures chunk { let bytes = viewed_among (pinned_items (seen self.old) (Numbered (K.number pin.now))) selector.now view in IsTrue (seen self.old).honest → (bytes ≡ [] → ⊥) → IfOk result (λ n. take n buffer.new ≡ chunk_of bytes k) }
+        ensures behind { IfOk result (λ n. IsUnchangedBehind n buffer.old buffer.new) }
+        ensures untouched { IfErr result (λ e. buffer.new ≡ buffer.old) }
+        ensures kept { HasRead (seen self.old) (seen self.new) }
+        ensures fault { IfErr result (IsReadFault false (seen self.old) (seen self.new)) }
+        ensures reads { CountsReads result (seen self.old) (seen self.new) }
+        ensures closed { (seen self.old).usable ≡ false → IsErrOf result Failed }
+        ensures lacking { LacksTheSame (lacks_of self.old) (lacks_of self.new) }
+        ensures at_crash { IsTrue (seen self.old).honest → AddsNone (K.crash_states self.old.keeper) (K.crash_states self.new.keeper) }
+
+        // One value is looked up in the tree that was pinned.
+        ensures work { ReadsPages most_levels (K.store_state self.old.keeper).made (K.store_state self.new.keeper).made }
+    {
+        match document_chunk_at(&mut self.keeper, pin, selector, view, k, buffer) {
             Ok(length) => Ok(length),
             Err(fault) => Err(to_site_fault(fault)),
         }

@@ -1,6 +1,7 @@
 // A site of version 1 is written as one of version 2.
 ghost use Rattle.std.specs.Prelude.{◌≡◌, ◌<◌, ◌≤◌, ◌++◌, ◌∷◌, [], true, false, length, Ok, Err, IfOk, IfErr, IfSome, OnOk, IsTrue, option_to_list};
 ghost use Rattle.std.specs.List.{list_all};
+ghost use Rattle.page_store.specs.Sizes.{longest_key, longest_value};
 ghost use Rattle.host_types.specs.CrashStates.{AddsOnly, AddsNone};
 ghost use Rattle.host_types.specs.Site.{Site};
 ghost use Rattle.page_store.specs.StoreState.{numbers_out};
@@ -27,7 +28,7 @@ const FIRST_VERSION: u16 = 1;
 /// A record of version 1 in the bytes of version 2.
 fn raised_record(alloc: Global, bytes: &[u8]) -> Result<Bytes, SiteOpenFault>
     ensures raised { IfOk result (IsRaised bytes.now) }
-    ensures fits { IfOk result (λ value. length value ≤ 1024) }
+    ensures fits { IfOk result (λ value. length value ≤ longest_value) }
     ensures fault { IfErr result (IsNotRaised (IsRaised bytes.now)) }
 {
     match read_record_v1(alloc, bytes) {
@@ -46,11 +47,11 @@ fn is_record_key(key: &[u8]) -> bool
 
 /// A pair in version 2: a record is raised, any other value stays.
 fn raised_pair(alloc: Global, pair: &Pair) -> Result<Pair, SiteOpenFault>
-    requires key { length pair.now.0 ≤ 300 }
-    requires value { length pair.now.1 ≤ 1024 }
+    requires key { length pair.now.0 ≤ longest_key }
+    requires value { length pair.now.1 ≤ longest_value }
     ensures raised { IfOk result (IsRaisedPair pair.now) }
-    ensures key { IfOk result (λ p. length p.0 ≤ 300) }
-    ensures value { IfOk result (λ p. length p.1 ≤ 1024) }
+    ensures key { IfOk result (λ p. length p.0 ≤ longest_key) }
+    ensures value { IfOk result (λ p. length p.1 ≤ longest_value) }
     ensures fault { IfErr result (IsNotRaised (IsRaisedPair pair.now)) }
 {
     if !is_record_key(pair.key()) {
@@ -92,8 +93,8 @@ fn all_raised(alloc: Global, pairs: Vec<Pair>) -> Result<Vec<Pair>, SiteOpenFaul
 /// The edit that brings a pair, where it is a record's.
 #[tactic(auto, using(crate::proofs::Upgrades::record_key_long), unfolding(page_store::specs::Batch::is_value))]
 fn record_edit(alloc: Global, pair: &Pair) -> Result<Option<Edit>, AllocError>
-    requires key { length pair.now.0 ≤ 300 }
-    requires value { length pair.now.1 ≤ 1024 }
+    requires key { length pair.now.0 ≤ longest_key }
+    requires value { length pair.now.1 ≤ longest_value }
     ensures edit { IfOk result (λ edit. option_to_list edit ≡ batch_of (spec.record_edits (pair.now ∷ []))) }
     ensures sizes { IfOk result (λ edit. IfSome edit (λ e. IsTrue (is_edit e))) }
 {

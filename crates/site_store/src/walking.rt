@@ -12,7 +12,7 @@ ghost use Rattle.site_store.specs.declared.fault.SiteOpenFault.TheVariants.{BadR
 use crate::SiteOpenFault;
 use crate::cards::card_in;
 use host_types::{Card, Selector};
-use page_store::Keeper;
+use page_store::{Keeper, LONGEST_KEY, LONGEST_VALUE};
 use site_records::item_key;
 use std::alloc::Global;
 
@@ -39,8 +39,8 @@ pub fn selector_after<K: Keeper>(
     ensures next { AlwaysReads K.store_state K.may_need K.crash_states keeper.old keeper.new result IsQuickFault (λ h next. (s : Site) → RepresentedBy h s → next ≡ spec.selector_after s after.now) }
     ensures work { ReadsPages (pages_tried (K.store_state keeper.old).height) (K.store_state keeper.old).made (K.store_state keeper.new).made }
 {
-    let mut key = [0; 300];
-    let mut value = [0; 1024];
+    let mut key = [0; LONGEST_KEY];
+    let mut value = [0; LONGEST_VALUE];
     match keeper.next(item_key(after).as_bytes(), &mut key, &mut value) {
         Ok(Some((length, _))) => selector_in(&key[..length]),
         Ok(None) => Ok(None),

@@ -15,7 +15,7 @@ ghost use Rattle.site_store.specs.declared.fault.SiteOpenFault.TheVariants.{BadR
 use crate::SiteOpenFault;
 use crate::looking::ValueLookup;
 use host_types::{Bytes, Selector};
-use page_store::Keeper;
+use page_store::{Keeper, LONGEST_KEY, LONGEST_VALUE};
 use site_records::{LONGEST_WORD, word_key};
 
 /// Whether a word is among those of the item at a selector: there is a key of both.
@@ -27,7 +27,7 @@ pub fn has_word<K: Keeper>(
     requires { list.length word.now ≤ LONGEST_WORD }
     ensures there { AlwaysReadsKnown K.store_state K.may_need K.crash_states keeper.old keeper.new result RepresentedBy (λ s there. there ≡ kept.has_word (item_at s selector.now) word.now) }
 {
-    let mut buffer = [0; 1024];
+    let mut buffer = [0; LONGEST_VALUE];
     match keeper.look_up(&word_key(word.as_slice(), selector), &mut buffer) {
         Ok(Some(_)) => Ok(true),
         Ok(None) => Ok(false),
@@ -101,8 +101,8 @@ pub fn next_with<K: Keeper>(
     requires { list.length word.now ≤ LONGEST_WORD }
     ensures next { AlwaysReads K.store_state K.may_need K.crash_states keeper.old keeper.new result IsQuickFault (λ h next. (s : Site) → RepresentedBy h s → starts_with nat_eq after.now scope.now ≡ true → next ≡ spec.next_with s scope.now word.now after.now) }
 {
-    let mut key = [0; 300];
-    let mut value = [0; 1024];
+    let mut key = [0; LONGEST_KEY];
+    let mut value = [0; LONGEST_VALUE];
     match keeper.next(
         word_key(word.as_slice(), after).as_bytes(),
         &mut key,

@@ -2,8 +2,8 @@
 ghost use Rattle.std.specs.Prelude.{length, ◌≡◌, ◌⊎◌, ◌<◌, ◌*◌, true, IfOk, IfErr, OnOk, IsTrue};
 ghost use Rattle.host_types.specs.CrashStates.{AddsOnly, AddsNone};
 ghost use Rattle.page_store.specs.Batch.{updated};
-ghost use Rattle.page_store.specs.Counting.{CountsReads, CountsWrites};
-ghost use Rattle.page_store.specs.StoreState.{HasTried, NeedsTheSame, IsCommitFault, numbers_out, last_generation, most_levels};
+ghost use Rattle.page_store.specs.Counting.{CountsStoreReads, CountsStoreWrites};
+ghost use Rattle.page_store.specs.StoreState.{StoreHasTried, NeedsTheSame, IsCommitFault, numbers_out, last_generation, most_levels};
 ghost use Rattle.page_store.specs.Work.{CommitsWithin};
 ghost use Rattle.site_pairs.specs.Edits.{batch_of, edits_of};
 ghost use Rattle.site_store.specs.Lacking.{MayNeedForEdits, IsToldSpent};
@@ -61,9 +61,9 @@ pub fn write_replacements<K: Keeper>(
     ensures fault { IfErr result (IsCommitFault (K.store_state keeper.old) (K.store_state keeper.new) (length (batch_of (edits_of replacements.now))) (MayNeedForEdits K.may_need keeper.old (batch_of (edits_of replacements.now)))) }
     ensures need { IfErr result (λ e. (K.store_state keeper.new).usable ≡ (K.store_state keeper.old).usable → NeedsTheSame (K.may_need keeper.old) (K.may_need keeper.new)) }
     ensures spent { (K.store_state keeper.old).top ≡ last_generation → IsToldSpent result }
-    ensures tried { HasTried (K.store_state keeper.old) (K.store_state keeper.new) }
-    ensures reads { CountsReads result (K.store_state keeper.old).failed_reads (K.store_state keeper.new).failed_reads }
-    ensures writes { CountsWrites (K.store_state keeper.old).usable result (K.store_state keeper.old).failed_writes (K.store_state keeper.new).failed_writes }
+    ensures tried { StoreHasTried (K.store_state keeper.old) (K.store_state keeper.new) }
+    ensures reads { CountsStoreReads result (K.store_state keeper.old).failed_reads (K.store_state keeper.new).failed_reads }
+    ensures writes { CountsStoreWrites (K.store_state keeper.old).usable result (K.store_state keeper.old).failed_writes (K.store_state keeper.new).failed_writes }
     ensures work { CommitsWithin (most_levels * length (batch_of (edits_of replacements.now))) (K.store_state keeper.old).free (K.store_state keeper.old).made (K.store_state keeper.new).made }
     ensures at_crash { IsTrue (K.store_state keeper.old).honest →
         AddsOnly (K.crash_states keeper.old) (K.crash_states keeper.new) (λ c. K.has_content c (K.store_state keeper.old).pairs (K.store_state keeper.old).banner ⊎ K.has_content c (updated (K.store_state keeper.old).pairs (batch_of (edits_of replacements.now))) banner) }

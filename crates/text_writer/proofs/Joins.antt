@@ -5,14 +5,14 @@ use Rattle.std.proofs.lemmas.Bool.{cases_Bool, eqb-true}
 use Rattle.host_types.specs.Lines.{lines, onto_first_line}
 use Rattle.text_writer.specs.Text.{text, sent_line, line_end, text_end}
 use Rattle.text_writer.specs.Place.{given_from}
-use Rattle.text_writer.specs.declared.place.Place.{Place}
+use Rattle.text_writer.specs.declared.place.LinePlace.{LinePlace}
 
 -- the lines where the first has begun already
 abbrev pub goes_on : List (List ℕ) → List ℕ
 goes_on [] = line_end
 goes_on (line ∷ others) = line ++ line_end ++ flat_map sent_line others
 
-abbrev at : Bool → Bool → Place
+abbrev at : Bool → Bool → LinePlace
 at s h = record { at_start = s; held = h }
 
 onto-goes : (b : ℕ) (ls : List (List ℕ)) → goes_on (onto_first_line b ls) ≡ b ∷ goes_on ls

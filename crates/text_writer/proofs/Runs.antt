@@ -9,7 +9,7 @@ use Rattle.memchr.specs.Find.{IsFirstByte}
 use Rattle.text_writer.specs.Place.{given_from}
 use Rattle.text_writer.specs.Text.{text}
 use Rattle.text_writer.specs.Place.{emitted, after, may_end_line, run_length, behind_run}
-use Rattle.text_writer.specs.declared.place.Place.{Place}
+use Rattle.text_writer.specs.declared.place.LinePlace.{LinePlace}
 
 -- the first byte that passes is the place
 pub place_of_first : (test : ℕ → Bool) (xs : List ℕ) (k : ℕ) → IsFirstByte test xs (Some k) → position_or_len test xs ≡ k
@@ -26,7 +26,7 @@ place_of_none test xs h =
     (λ j before. false_from_ne_true _ (h j (omega arith) before))
     (λ less. absurd (omega arith))
 
-abbrev inside : Place
+abbrev inside : LinePlace
 inside = record { at_start = false; held = false }
 
 one_more : (n : ℕ) → 1 + n ≡ suc n
@@ -39,7 +39,7 @@ inside_run (b ∷ bs) more = elim (cases_Bool (b == 10)) [
   | inr n ↦ elim (cases_Bool (b == 13)) [ inl e ↦ rw (n, e) (rw (n, e) refl) | inr m ↦ rw (n, m) (ap (λ l. b ∷ l) (inside_run bs more) ∙ sym (ap (λ k. take k (b ∷ bs) ++ given_from inside (drop k (b ∷ bs) ++ more)) (one_more (position_or_len may_end_line bs)))) ]
 ]
 
-abbrev at : Bool → Bool → Place
+abbrev at : Bool → Bool → LinePlace
 at s h = record { at_start = s; held = h }
 
 -- inside a line a run ends inside it
@@ -72,14 +72,14 @@ run_at false true bs more = refl
 run_at false false bs more = inside_run bs more ∙ ap (λ p. take (position_or_len may_end_line bs) bs ++ given_from p (drop (position_or_len may_end_line bs) bs ++ more)) (sym (inside_stays (position_or_len may_end_line bs)))
 
 -- a run is given as it is, and what follows it from the place behind it
-pub run_given : (p : Place) (bs more : List ℕ) → given_from p (bs ++ more) ≡ take (run_length p bs) bs ++ given_from (behind_run p (run_length p bs)) (drop (run_length p bs) bs ++ more)
+pub run_given : (p : LinePlace) (bs more : List ℕ) → given_from p (bs ++ more) ≡ take (run_length p bs) bs ++ given_from (behind_run p (run_length p bs)) (drop (run_length p bs) bs ++ more)
 run_given p bs more = run_at p.at_start p.held bs more
 
-run_whole : (p : Place) (bs : List ℕ) → given_from p bs ≡ take (run_length p bs) bs ++ given_from (behind_run p (run_length p bs)) (drop (run_length p bs) bs)
+run_whole : (p : LinePlace) (bs : List ℕ) → given_from p bs ≡ take (run_length p bs) bs ++ given_from (behind_run p (run_length p bs)) (drop (run_length p bs) bs)
 run_whole p bs = ap (given_from p) (sym (append-nil bs)) ∙ run_given p bs [] ∙ ap (λ l. take (run_length p bs) bs ++ given_from (behind_run p (run_length p bs)) l) (append-nil (drop (run_length p bs) bs))
 
 -- a byte, the run behind it, and what is left
-pub goes_on_by : (sent : List ℕ) (p q : Place) (b : ℕ) (later : List ℕ) (run : ℕ) (whole : List ℕ) → q ≡ after p b → run ≡ run_length q later → sent ++ given_from p (b ∷ later) ≡ whole → (sent ++ emitted p b ++ take run later) ++ given_from (behind_run q run) (drop run later) ≡ whole
+pub goes_on_by : (sent : List ℕ) (p q : LinePlace) (b : ℕ) (later : List ℕ) (run : ℕ) (whole : List ℕ) → q ≡ after p b → run ≡ run_length q later → sent ++ given_from p (b ∷ later) ≡ whole → (sent ++ emitted p b ++ take run later) ++ given_from (behind_run q run) (drop run later) ≡ whole
 goes_on_by sent p q b later run whole to so_many is =
     ap (λ n. (sent ++ emitted p b ++ take n later) ++ given_from (behind_run q n) (drop n later)) so_many
     ∙ append_assoc (sent ++ emitted p b) (take (run_length q later) later) (given_from (behind_run q (run_length q later)) (drop (run_length q later) later))
@@ -89,7 +89,7 @@ goes_on_by sent p q b later run whole to so_many is =
     ∙ is
 
 -- one step of the pass over a body
-pub further : (body sent mid new : List ℕ) (p q r : Place) (at run b : ℕ) (later : List ℕ) → at < length body → b ≡ get_or body at 0 → later ≡ take (length body - (at + 1)) (drop (at + 1) body) → q ≡ after p b → run ≡ run_length q later → r ≡ behind_run q run → run ≤ length later →
+pub further : (body sent mid new : List ℕ) (p q r : LinePlace) (at run b : ℕ) (later : List ℕ) → at < length body → b ≡ get_or body at 0 → later ≡ take (length body - (at + 1)) (drop (at + 1) body) → q ≡ after p b → run ≡ run_length q later → r ≡ behind_run q run → run ≤ length later →
     mid ≡ sent ++ emitted p b → new ≡ mid ++ take run later → sent ++ given_from p (drop at body) ≡ text body → (at + (1 + run) ≤ length body) × (new ++ given_from r (drop (at + (1 + run)) body) ≡ text body)
 further body sent mid new p q r at run b later below byte is to so_many behind_is within one more so_far =
     let all : later ≡ drop (at + 1) body = is ∙ take_all (length body - (at + 1)) (drop (at + 1) body) (omega (arith, length-drop (at + 1) body)) in

@@ -11,6 +11,8 @@ use Rattle.host_types.specs.declared.menu.Entry.TheVariants as entries
 use Rattle.host_types.specs.declared.card.Card.{Card}
 use Rattle.host_types.specs.declared.card.CardBody.{CardBody}
 use Rattle.host_types.specs.declared.card.CardBody.TheVariants as cards
+use Rattle.host_types.specs.declared.front.CardSort.{CardSort}
+use Rattle.host_types.specs.declared.front.CardSort.TheVariants as sorts
 use Rattle.text_writer.specs.Text.{line_end, text_end}
 
 -- fields with a TAB between each two
@@ -45,6 +47,23 @@ is_moved (cards.Moved target) = true
 -- the sign of the fifth field: `?` where a client has to ask its user first
 abbrev pub plus_sign : CardBody → List ℕ
 plus_sign body = if is_form body then codes "?" else codes "+"
+
+-- ---- the same by what an item is, without what it has
+
+abbrev pub sort_letter : CardSort → ℕ
+sort_letter (sorts.Document kind) = kind_letter kind
+sort_letter sorts.Menu = 49
+sort_letter sorts.Board = 49
+sort_letter sorts.Form = 49
+sort_letter sorts.Search = 55
+sort_letter sorts.Moved = 51
+
+abbrev pub sort_sign : CardSort → List ℕ
+sort_sign sorts.Form = codes "?"
+sort_sign other = codes "+"
+
+abbrev pub front_line : Address → List ℕ → List ℕ → CardSort → List ℕ
+front_line a selector title sort = fields_line ((sort_letter sort ∷ title) ∷ selector ∷ a.host ∷ decimal a.port ∷ sort_sign sort ∷ [])
 
 -- the line of an item of the site with this address
 abbrev pub item_line : Address → List ℕ → Card → List ℕ

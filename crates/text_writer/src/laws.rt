@@ -10,7 +10,7 @@ ghost use Rattle.host_types.specs.declared.menu.Entry.{Entry};
 ghost use Rattle.text_writer.specs.Examples.{Examples, MenuExamples};
 ghost use Rattle.host_types.specs.Lines.{lines};
 ghost use Rattle.text_writer.specs.Text.{EndsOnce, client, text};
-ghost use Rattle.text_writer.specs.Pipe.{Piped, PipeCall, HasRun, fresh, parts_of, will_give};
+ghost use Rattle.text_writer.specs.Pipe.{Piped, PipeCall, HasPiped, fresh, parts_of, will_give};
 ghost use Rattle.text_writer.specs.Menu.{IsMenuLine, entry_line, item_line, menu};
 
 /// What a client reads of a text is the lines of its body.
@@ -33,6 +33,6 @@ pub fn menus_end_once()
 
 /// However a body is cut into chunks and whatever room the calls have, what they gave and what the pipe will give are the body's text.
 pub fn pipes_give_the_text()
-    ensures front { (body left : List ℕ) (calls : List PipeCall) (pipe : Piped) → HasRun fresh body calls pipe left → parts_of calls ++ will_give pipe left ≡ text body }
-    ensures whole { (body left : List ℕ) (calls : List PipeCall) (pipe : Piped) → HasRun fresh body calls pipe left → will_give pipe [] ≡ [] → parts_of calls ≡ text body }
+    ensures front { (body left : List ℕ) (calls : List PipeCall) (pipe : Piped) → HasPiped fresh body calls pipe left → parts_of calls ++ will_give pipe left ≡ text body }
+    ensures whole { (body left : List ℕ) (calls : List PipeCall) (pipe : Piped) → HasPiped fresh body calls pipe left → will_give pipe [] ≡ [] → parts_of calls ≡ text body }
 {}

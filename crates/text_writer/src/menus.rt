@@ -1,10 +1,14 @@
 // Menus.
 ghost use Rattle.std.specs.Prelude.{◌≡◌, ◌∷◌, ◌++◌, Some, IfOk, OnOk, decimal};
+ghost use Rattle.host_types.specs.Fronts.{front_of};
+ghost use Rattle.host_types.specs.declared.card.Card.{Card as CardValue};
 ghost use Rattle.text_writer.specs.Text.{text_end};
 ghost use Rattle.text_writer.specs.Menu as spec;
 ghost use Rattle.text_writer.specs.Menu.{line_bytes};
 
-use host_types::{Address, Bytes, Card, CardBody, Entry, LineList, Selector};
+use host_types::{
+    Address, Bytes, Card, CardBody, CardFront, CardSort, Entry, LineList, Selector, Title,
+};
 use itoa::Buffer;
 use std::alloc::{AllocError, Global};
 
@@ -15,24 +19,22 @@ const BESIDE: usize = 13;
 const END: &[u8] = b".\r\n";
 
 /// The letter that a menu line begins with (RFC 1436, section 3.8).
-fn type_letter(body: &CardBody) -> u8
-    ensures { result ≡ spec.type_letter body.now }
+fn type_letter(sort: CardSort) -> u8
+    ensures { result ≡ spec.sort_letter sort }
 {
-    match body {
-        CardBody::Views(kind, _) => kind.letter(),
-        CardBody::Menu(_) => b'1',
-        CardBody::Board { .. } => b'1',
-        CardBody::Form { .. } => b'1',
-        CardBody::Search { .. } => b'7',
-        CardBody::Moved { .. } => b'3',
+    match sort {
+        CardSort::Document(kind) => kind.letter(),
+        CardSort::Menu | CardSort::Board | CardSort::Form => b'1',
+        CardSort::Search => b'7',
+        CardSort::Moved => b'3',
     }
 }
 
-fn plus_sign(body: &CardBody) -> &'static [u8]
-    ensures { result.now ≡ spec.plus_sign body.now }
+fn plus_sign(sort: CardSort) -> &'static [u8]
+    ensures { result.now ≡ spec.sort_sign sort }
 {
-    match body {
-        CardBody::Form { .. } => b"?",
+    match sort {
+        CardSort::Form => b"?",
         _ => b"+",
     }
 }
@@ -69,21 +71,21 @@ fn add_item_line(
     line: &mut Vec<u8>,
     address: &Address<'_>,
     selector: &Selector,
-    card: &Card,
+    title: &Title,
+    sort: CardSort,
 ) -> Result<(), AllocError>
-    ensures { OnOk result (line.new.items ≡ line.old.items ++ spec.item_line address.now selector.now card.now) }
+    ensures { OnOk result (line.new.items ≡ line.old.items ++ spec.front_line address.now selector.now title.now sort) }
 {
-    let letter = type_letter(&card.body);
     add_four_fields(
         line,
-        letter,
-        card.title.as_bytes(),
+        type_letter(sort),
+        title.as_bytes(),
         selector.as_bytes(),
         address.host.as_bytes(),
         address.port,
     )?;
     line.push(b'\t')?;
-    line.extend_from_slice(plus_sign(&card.body))?;
+    line.extend_from_slice(plus_sign(sort))?;
     line.extend_from_slice(b"\r\n")?;
     Ok(())
 }
@@ -98,7 +100,7 @@ pub fn item_line(
     ensures line { IfOk result (λ line. line ≡ spec.item_line address.now selector.now card.now) }
 {
     let mut line = Vec::new(alloc);
-    add_item_line(&mut line, address, selector, card)?;
+    add_item_line(&mut line, address, selector, &card.title, card.body.sort())?;
     Ok(Bytes::from(line))
 }
 
@@ -129,14 +131,14 @@ pub fn add_menu_line(
     lines: &mut Vec<u8>,
     address: &Address<'_>,
     selector: &Selector,
-    card: &Card,
+    front: &CardFront,
 ) -> Result<(), AllocError>
-    ensures line { OnOk result (lines.new.items ≡ lines.old.items ++ line_bytes (spec.found_line address.now selector.now (Some card.now))) }
+    ensures line { (card : CardValue) → front.now ≡ front_of card → OnOk result (lines.new.items ≡ lines.old.items ++ line_bytes (spec.found_line address.now selector.now (Some card))) }
 {
-    if is_moved(&card.body) {
+    if front.sort == CardSort::Moved {
         return Ok(());
     }
-    add_item_line(lines, address, selector, card)
+    add_item_line(lines, address, selector, &front.title, front.sort)
 }
 
 /// Adds to the lines of a menu the one of an entry that names no item of this site; none for one that does.

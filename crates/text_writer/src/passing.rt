@@ -4,14 +4,14 @@ ghost use Rattle.host_types.specs.SiteState.{IsUnchangedBehind};
 ghost use Rattle.text_writer.specs.Place as spec;
 ghost use Rattle.text_writer.specs.Place.{given_from};
 
-use crate::place::{MOST, Place, after, behind_run, give_byte, run_length};
+use crate::place::{LinePlace, MOST, after, behind_run, give_byte, run_length};
 
 /// How many bytes of a body were taken, where the text ends in the buffer, and the place in the body.
 #[derive(Clone, Copy)]
 pub struct Passed {
     pub taken: usize,
     pub end: usize,
-    pub place: Place,
+    pub place: LinePlace,
 }
 
 /// Copies the bytes to the places from `at` on.
@@ -25,7 +25,7 @@ pub fn copy_to(bytes: &[u8], out: &mut [u8], at: usize)
 }
 
 /// Gives the next bytes that are sent as they are, from the place `at` on, as far as there is room, and says how many.
-fn give_run(place: Place, rest: &[u8], out: &mut [u8], at: usize) -> usize
+fn give_run(place: LinePlace, rest: &[u8], out: &mut [u8], at: usize) -> usize
     requires { at ≤ length out.old }
     ensures taken { result ≤ length rest.now }
     ensures within { at + result ≤ length out.new }
@@ -39,7 +39,7 @@ fn give_run(place: Place, rest: &[u8], out: &mut [u8], at: usize) -> usize
 }
 
 /// Gives what the first byte gives, and the run behind it.
-fn give_line(place: Place, rest: &[u8], out: &mut [u8], at: usize) -> Passed
+fn give_line(place: LinePlace, rest: &[u8], out: &mut [u8], at: usize) -> Passed
     requires some { 0 < length rest.now }
     requires room { at + 2 ≤ length out.old }
     ensures some { 0 < result.taken }
@@ -61,7 +61,7 @@ fn give_line(place: Place, rest: &[u8], out: &mut [u8], at: usize) -> Passed
 }
 
 /// Gives what the bytes give, from the place `at` on, as long as there is room for what each of them may give.
-pub fn give_lines(start: Place, rest: &[u8], out: &mut [u8], at: usize) -> Passed
+pub fn give_lines(start: LinePlace, rest: &[u8], out: &mut [u8], at: usize) -> Passed
     requires { at ≤ length out.old }
     ensures taken { result.taken ≤ length rest.now }
     ensures onward { at ≤ result.end }

@@ -2,11 +2,11 @@
 ghost use Rattle.std.specs.Prelude.{◌≡◌, ◌≤◌, ◌+◌, ◌++◌, ◌∷◌, ◌⊎◌, ◌↔◌, ℕ, List, [], None, IsTrue, IfSome, length, take, drop};
 ghost use Rattle.arrayvec.specs.ArrayVec.{array_vec_len};
 ghost use Rattle.host_types.specs.SiteState.{IsUnchangedBehind};
-ghost use Rattle.text_writer.specs.Pipe.{Piped, will_give, fresh, Passes, Ends};
+ghost use Rattle.text_writer.specs.Pipe.{Piped, will_give, fresh, PassesText, EndsText};
 ghost use Rattle.text_writer.specs.Text.{text};
 
 use crate::passing::{copy_to, give_lines};
-use crate::place::{BODY_START, Place, Ready, after, closing, emitted};
+use crate::place::{BODY_START, LinePlace, ReadyText, after, closing, emitted};
 use std::marker::Model;
 
 /// How many bytes of the chunk were taken, and how many bytes of the text were given.
@@ -19,9 +19,9 @@ pub struct Moved {
 /// A body as text, by chunks of the body and by parts of the text. It takes no memory.
 #[derive(Drop)]
 pub struct TextPipe {
-    ready: Ready,
+    ready: ReadyText,
     /// None once the body has ended.
-    place: Option<Place>,
+    place: Option<LinePlace>,
 }
 
 impl Model for TextPipe {
@@ -41,7 +41,7 @@ impl TextPipe {
         ensures text { (body : List ℕ) → will_give result body ≡ text body }
     {
         TextPipe {
-            ready: Ready::new(),
+            ready: ReadyText::new(),
             place: Some(BODY_START),
         }
     }
@@ -51,7 +51,7 @@ impl TextPipe {
     pub fn next(&mut self, chunk: &[u8], out: &mut [u8]) -> Moved
         ensures taken { result.taken ≤ length chunk.now }
         ensures within { result.given ≤ length out.new }
-        ensures given { Passes self.old chunk.now result.taken (take result.given out.new) self.new }
+        ensures given { PassesText self.old chunk.now result.taken (take result.given out.new) self.new }
         ensures behind { IsUnchangedBehind result.given out.old out.new }
         ensures progress { ((result.taken ≡ length chunk.now) × (self.new.ready ≡ [])) ⊎ (result.given ≡ length out.new) }
     {
@@ -70,7 +70,7 @@ impl TextPipe {
     /// Gives to `out` what is left, once the body has ended, and says how many bytes it gave. Nothing is left, or `out` is full.
     pub fn finish(&mut self, out: &mut [u8]) -> usize
         ensures within { result ≤ length out.new }
-        ensures given { Ends self.old (take result out.new) self.new }
+        ensures given { EndsText self.old (take result out.new) self.new }
         ensures behind { IsUnchangedBehind result out.old out.new }
         ensures progress { (will_give self.new [] ≡ []) ⊎ (result ≡ length out.new) }
     {
@@ -90,7 +90,7 @@ impl TextPipe {
     pub fn copied(&self) -> Self
         ensures { result ≡ self.now }
     {
-        let mut ready = Ready::new();
+        let mut ready = ReadyText::new();
         if ready.try_extend_from_slice(self.ready.as_slice()).is_err() {
             unreachable!();
         }

@@ -10,13 +10,13 @@ use memchr::memchr2;
 
 /// Whether no byte of the line has been given, and whether a CR is held back.
 #[derive(Clone, Copy, Debug, PartialEq, Eq)]
-pub struct Place {
+pub struct LinePlace {
     pub at_start: bool,
     pub held: bool,
 }
 
 /// The place before a body's first byte.
-pub const BODY_START: Place = Place {
+pub const BODY_START: LinePlace = LinePlace {
     at_start: true,
     held: false,
 };
@@ -25,7 +25,7 @@ pub const BODY_START: Place = Place {
 pub const MOST: usize = 2;
 
 /// Bytes of the text that are ready: at most two for a byte of the body, and six for its end.
-pub type Ready = ArrayVec<u8, 8>;
+pub type ReadyText = ArrayVec<u8, 8>;
 
 /// Puts a byte at a place of the buffer, and says which place is next.
 fn put(byte: u8, out: &mut [u8], at: usize) -> usize
@@ -39,7 +39,7 @@ fn put(byte: u8, out: &mut [u8], at: usize) -> usize
 }
 
 /// Gives what one byte gives, from the place `at` on, and says how far: a held CR, a doubled period, a whole line end.
-pub fn give_byte(place: Place, byte: u8, out: &mut [u8], at: usize) -> usize
+pub fn give_byte(place: LinePlace, byte: u8, out: &mut [u8], at: usize) -> usize
     requires { at + 2 ≤ length out.old }
     ensures onward { at ≤ result }
     ensures few { result ≤ at + 2 }
@@ -66,13 +66,13 @@ pub fn give_byte(place: Place, byte: u8, out: &mut [u8], at: usize) -> usize
 }
 
 /// What one byte gives.
-pub fn emitted(place: Place, byte: u8) -> Ready
+pub fn emitted(place: LinePlace, byte: u8) -> ReadyText
     ensures bytes { result.items ≡ spec.emitted place byte }
     ensures few { array_vec_len result ≤ 2 }
 {
     let mut bytes = [0; MOST];
     let count = give_byte(place, byte, &mut bytes, 0);
-    let mut ready = Ready::new();
+    let mut ready = ReadyText::new();
     if ready.try_extend_from_slice(&bytes[..count]).is_err() {
         unreachable!();
     }
@@ -80,19 +80,19 @@ pub fn emitted(place: Place, byte: u8) -> Ready
 }
 
 /// Where the line is after a byte.
-pub fn after(place: Place, byte: u8) -> Place
+pub fn after(place: LinePlace, byte: u8) -> LinePlace
     ensures { result ≡ spec.after place byte }
 {
     match byte {
-        b'\n' => Place {
+        b'\n' => LinePlace {
             at_start: true,
             held: false,
         },
-        b'\r' => Place {
+        b'\r' => LinePlace {
             at_start: !place.held && place.at_start,
             held: true,
         },
-        _ => Place {
+        _ => LinePlace {
             at_start: false,
             held: false,
         },
@@ -112,7 +112,7 @@ fn plain_length(bytes: &[u8]) -> usize
 }
 
 /// How many of the next bytes are sent as they are.
-pub fn run_length(place: Place, bytes: &[u8]) -> usize
+pub fn run_length(place: LinePlace, bytes: &[u8]) -> usize
     ensures run { result ≡ spec.run_length place bytes.now }
     ensures within { result ≤ length bytes.now }
 {
@@ -124,13 +124,13 @@ pub fn run_length(place: Place, bytes: &[u8]) -> usize
 }
 
 /// Where the line is behind so many bytes that are sent as they are.
-pub fn behind_run(place: Place, run: usize) -> Place
+pub fn behind_run(place: LinePlace, run: usize) -> LinePlace
     ensures { result ≡ spec.behind_run place run }
 {
     if run == 0 {
         place
     } else {
-        Place {
+        LinePlace {
             at_start: false,
             held: false,
         }
@@ -138,7 +138,7 @@ pub fn behind_run(place: Place, run: usize) -> Place
 }
 
 /// What the end of the body gives.
-pub fn closing(place: Place) -> Ready
+pub fn closing(place: LinePlace) -> ReadyText
     ensures bytes { result.items ≡ spec.closing place }
     ensures few { array_vec_len result ≤ 6 }
 {

@@ -1,5 +1,6 @@
 // Laws of trees in filled pages.
 ghost use Rattle.std.specs.Prelude.{◌≡◌, ◌≤◌, ◌+◌, ◌*◌, ℕ, suc, [], ◌∷◌, List, Option, Some, None, IsTrue, true, length};
+ghost use Rattle.page_store.specs.Sizes.{most_pairs};
 ghost use Rattle.page_store.specs.Pages.{Pair};
 ghost use Rattle.page_store.specs.Batch.{is_map};
 ghost use Rattle.page_store.specs.Content.{Bounds};
@@ -27,7 +28,7 @@ pub fn a_filled_tree_is_owned()
 
 /// It has at most 14 levels, fewer than the 16 that an image may have; without pairs it has none.
 pub fn a_filled_tree_has_few_levels()
-    ensures levels { (pairs : List Pair) → is_map pairs ≡ true → length pairs ≤ 1024 * 65536 → (filled pairs).height ≤ 14 }
+    ensures levels { (pairs : List Pair) → is_map pairs ≡ true → length pairs ≤ most_pairs → (filled pairs).height ≤ 14 }
     ensures none { (filled []).height ≡ 0 }
     // A level has at most a quarter, rounded up, of the nodes of the level below.
     ensures quarter { (old : OldPages) (level : ℕ) (row : Others) (low : List ℕ) (high : Option (List ℕ)) → IsValidRow old level row low high → 4 * other_count (branches_of row) ≤ other_count row + 3 }

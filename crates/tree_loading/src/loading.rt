@@ -1,6 +1,7 @@
 // The tree of pairs in filled pages, level by level.
 ghost use Rattle.std.specs.Prelude.{◌≡◌, ◌≤◌, ◌*◌, ℕ, length, IsTrue, IfOk};
 ghost use Rattle.std.specs.List.{list_all};
+ghost use Rattle.page_store.specs.Sizes.{most_pairs};
 ghost use Rattle.page_store.specs.Batch.{is_map, is_pair};
 ghost use Rattle.tree_nodes.specs.NodeView.{others_view};
 ghost use Rattle.tree_nodes.specs.OwnedTrees.{state_of};
@@ -53,7 +54,7 @@ fn tree_over(level: Vec<(Bytes, Node)>, height: u16) -> OwnedTree
 /// The laws of this crate say what it has. It fails only where memory lacks.
 pub fn filled_tree(alloc: Global, pairs: Vec<Pair>) -> Result<OwnedTree, AllocError>
     requires map { IsTrue (is_map pairs.items) }
-    requires count { length pairs.items ≤ 1024 * 65536 }
+    requires count { length pairs.items ≤ most_pairs }
     ensures { IfOk result (λ tree. state_of tree ≡ filled pairs.items) }
 {
     let mut level = leaves_of(alloc, pairs)?;

@@ -3,8 +3,8 @@ use Rattle.std.specs.Prelude.{ℕ, Option, Some, None}
 use Rattle.tree_nodes.specs.Tree.{Tree, page}
 use Rattle.tree_nodes.specs.Steps.{RootState}
 use Rattle.tree_nodes.specs.NodeView.{left_of}
-use Rattle.tree_nodes.specs.declared.owned_tree.Answer.{Answer}
-use Rattle.tree_nodes.specs.declared.owned_tree.Answer.TheVariants.{Done, Need}
+use Rattle.tree_nodes.specs.declared.owned_tree.EditAnswer.{EditAnswer}
+use Rattle.tree_nodes.specs.declared.owned_tree.EditAnswer.TheVariants.{Done, Need}
 use Rattle.tree_nodes.specs.declared.owned_tree.OwnedTree.{OwnedTree}
 
 abbrev pub state_of : OwnedTree → RootState
@@ -19,6 +19,6 @@ abbrev pub over_root : Tree → ℕ → RootState
 over_root tree height = record { root = Some tree; height = height }
 
 -- the page that is needed
-abbrev pub need_of : Answer → Option ℕ
+abbrev pub need_of : EditAnswer → Option ℕ
 need_of Done = None
 need_of (Need n) = Some n

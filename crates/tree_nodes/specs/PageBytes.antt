@@ -2,6 +2,7 @@
 use Rattle.std.specs.Prelude.{ℕ, ◌+◌, ◌≤◌, ◌≡◌, true, List, [], ◌∷◌, ◌++◌, length}
 use Rattle.std.specs.List.{list_all}
 use Rattle.std.specs.Int.{w16, w32, w64, to_be_bytes}
+use Rattle.sector_device.specs.Sizes.{page_size}
 use Rattle.page_store.specs.Pages.{Pair, Child, page_word}
 use Rattle.page_store.specs.Encoding.{padded, entries_bytes}
 use Rattle.page_store.specs.Batch.{is_pair}
@@ -19,11 +20,11 @@ children_bytes (child ∷ children) = child_bytes child ++ children_bytes childr
 
 -- a leaf of these pairs, of a number and a generation
 unfoldable pub leaf_page : ℕ → ℕ → List Pair → List ℕ
-leaf_page n generation pairs = padded 4096 (head_bytes n generation 0 (length pairs) ++ entries_bytes pairs)
+leaf_page n generation pairs = padded page_size (head_bytes n generation 0 (length pairs) ++ entries_bytes pairs)
 
 -- a branch of these children, of a number, a generation and a level
 unfoldable pub branch_page : ℕ → ℕ → ℕ → List Child → List ℕ
-branch_page n generation level children = padded 4096 (head_bytes n generation level (length children) ++ children_bytes children)
+branch_page n generation level children = padded page_size (head_bytes n generation level (length children) ++ children_bytes children)
 
 -- the number of a child's page: 0 for one that is owned
 abbrev pub number_of : Tree → ℕ

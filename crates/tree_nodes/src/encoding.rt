@@ -11,7 +11,8 @@ use crate::Node;
 use crate::page_views::PAGE_WORD;
 use crate::splitting::{branch_fits, leaf_fits};
 use common_types::Bytes;
-use page_store::{Pair, padded_page, put_entries};
+use page_store::{LONGEST_KEY, LONGEST_VALUE, Pair, padded_page, put_entries};
+use sector_device::PAGE_SIZE;
 use std::alloc::{AllocError, Global};
 
 /// What stands before the entries of a page.
@@ -72,7 +73,7 @@ pub fn encode_leaf(
     page: u32,
     generation: u64,
     pairs: &[Pair],
-) -> Result<[u8; 4096], AllocError>
+) -> Result<[u8; PAGE_SIZE], AllocError>
     requires pairs { IsTrue (list_all is_pair pairs.now) }
     requires room { leaf_bytes pairs.now ≤ entry_room }
     ensures { IfOk result (λ bytes. bytes ≡ leaf_page page generation pairs.now) }
@@ -91,7 +92,7 @@ fn branch_page(
     level: u16,
     first: &Node,
     others: &[(Bytes, Node)],
-) -> Result<[u8; 4096], AllocError>
+) -> Result<[u8; PAGE_SIZE], AllocError>
     requires { 6 + other_bytes (others_view others.now) ≤ entry_room }
     ensures { IfOk result (λ bytes. bytes ≡ branch_page page generation level (branch_entries (tree_of first.now) (others_view others.now))) }
 {
@@ -108,7 +109,7 @@ fn are_pairs(pairs: &[Pair]) -> bool
 {
     pairs.iter().all(|pair| {
         let (key, value) = (pair.key().len(), pair.value().len());
-        key >= 1 && key <= 300 && value <= 1024
+        key >= 1 && key <= LONGEST_KEY && value <= LONGEST_VALUE
     })
 }
 
@@ -130,12 +131,12 @@ pub fn encode(
     page: u32,
     generation: u64,
     level: u16,
-) -> Result<[u8; 4096], AllocError>
+) -> Result<[u8; PAGE_SIZE], AllocError>
     requires { IsWritable (tree_of node.now) }
     ensures { IfOk result (λ bytes. bytes ≡ page_of_tree page generation level (tree_of node.now)) }
 {
     match node {
-        Node::Page(_) => Ok([0; 4096]),
+        Node::Page(_) => Ok([0; PAGE_SIZE]),
         Node::Leaf(pairs) => encode_leaf(alloc, page, generation, pairs),
         Node::Branch(first, others) => {
             branch_page(alloc, page, generation, level, first, others)

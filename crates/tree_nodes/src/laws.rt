@@ -3,6 +3,7 @@ ghost use Rattle.std.specs.List.{list_all};
 ghost use Rattle.std.specs.Prelude.{◌≡◌, ◌≤◌, ◌<◌, ◌^◌, ◌+◌, ℕ, suc, length, List, Option, Some, None, true};
 ghost use Rattle.std.specs.Map.{remove_entry};
 ghost use Rattle.std.specs.BTreeMap.{insert_entry, is_at};
+ghost use Rattle.sector_device.specs.Sizes.{page_size};
 ghost use Rattle.common_types.specs.ByteOrder.{byte_cmp};
 ghost use Rattle.page_store.specs.Keys.{is_between};
 ghost use Rattle.page_store.specs.Pages.{Pair, Child, leaf_of, branch_of, is_inside};
@@ -80,7 +81,7 @@ pub fn a_delete_makes_no_node()
 
 /// The pages of an image are as a tree may name them, with the pairs that a walk finds.
 pub fn pages_of_an_image()
-    ensures old { (bytes : ℕ → List ℕ) (bounds : Bounds) → ((n : ℕ) → length (bytes n) ≤ 4096) → IsOld (old_of bytes bounds) }
+    ensures old { (bytes : ℕ → List ℕ) (bounds : Bounds) → ((n : ℕ) → length (bytes n) ≤ page_size) → IsOld (old_of bytes bounds) }
     ensures pairs { (bytes : ℕ → List ℕ) (bounds : Bounds) (level page : ℕ) (low : List ℕ) (high : Option (List ℕ)) (found : Found) → walk bytes bounds level page low high ≡ Some found → (old_of bytes bounds).pairs page ≡ found.pairs }
 {}
 
@@ -100,9 +101,9 @@ pub fn a_page_is_read_again()
 
 /// Bytes with the form of a page begin with its head, so that a test of the head alone refuses none of them.
 pub fn a_page_begins_with_its_head()
-    ensures leaf { (bounds : Bounds) (n : ℕ) (low : List ℕ) (high : Option (List ℕ)) (bytes : List ℕ) (pairs : List Pair) → length bytes ≤ 4096 →
+    ensures leaf { (bounds : Bounds) (n : ℕ) (low : List ℕ) (high : Option (List ℕ)) (bytes : List ℕ) (pairs : List Pair) → length bytes ≤ page_size →
         leaf_of (place_in bounds 0 n) low high bytes ≡ Some pairs → has_head (place_in bounds 0 n) bytes ≡ true }
-    ensures branch { (bounds : Bounds) (level n : ℕ) (low : List ℕ) (high : Option (List ℕ)) (bytes : List ℕ) (children : List Child) → length bytes ≤ 4096 →
+    ensures branch { (bounds : Bounds) (level n : ℕ) (low : List ℕ) (high : Option (List ℕ)) (bytes : List ℕ) (children : List Child) → length bytes ≤ page_size →
         branch_of (place_in bounds (suc level) n) low high bytes ≡ Some children → has_head (place_in bounds (suc level) n) bytes ≡ true }
 {}
 

@@ -23,7 +23,7 @@ pub use laws::{
     a_supply_keeps_the_pairs, any_list_of_steps, pages_of_an_image,
 };
 pub use node::{Node, NodeGrown, needed};
-pub use owned_tree::{Answer, OwnedTree};
+pub use owned_tree::{EditAnswer, OwnedTree};
 pub use page_views::{Branch, ImageBounds, Leaf};
 pub use putting::put;
 pub use step_laws::{

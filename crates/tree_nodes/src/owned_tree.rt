@@ -16,11 +16,12 @@ use crate::node::{holds_key, owned_count};
 use crate::supplying::level_under;
 use crate::{ImageBounds, Node, NodeFault, NodeGrown, delete, needed, put, read_node, supply};
 use page_store::Pair;
+use sector_device::PAGE_SIZE;
 use std::alloc::{AllocError, Global};
 
 /// What a put or a delete answers.
 #[derive(Clone, Copy, Debug, PartialEq, Eq)]
-pub enum Answer {
+pub enum EditAnswer {
     /// It is made.
     Done,
     /// Nothing has changed: the page of this number, the one that the key's path ends at, is to be supplied first.
@@ -140,14 +141,14 @@ impl OwnedTree {
         alloc: Global,
         key: &[u8],
         value: &[u8],
-    ) -> Result<(OwnedTree, Answer), AllocError>
+    ) -> Result<(OwnedTree, EditAnswer), AllocError>
         requires { (state_of self).height + 1 < 2 ^ 16 }
         ensures tree { IfOk result (λ x. (old : OldPages) → state_of x.0 ≡ stepped old (state_of self) (put_step key.now value.now)) }
         ensures answer { IfOk result (λ x. need_of x.1 ≡ needed_under key.now (state_of self).root) }
     {
         match self.needed(key) {
-            Some(page) => Ok((self, Answer::Need(page))),
-            None => Ok((self.with_pair(alloc, key, value)?, Answer::Done)),
+            Some(page) => Ok((self, EditAnswer::Need(page))),
+            None => Ok((self.with_pair(alloc, key, value)?, EditAnswer::Done)),
         }
     }
 
@@ -177,15 +178,15 @@ impl OwnedTree {
     }
 
     /// Takes a key away. It takes no memory.
-    pub fn delete(&mut self, key: &[u8]) -> Answer
+    pub fn delete(&mut self, key: &[u8]) -> EditAnswer
         ensures tree { (old : OldPages) → state_of self.new ≡ stepped old (state_of self.old) (delete_step key.now) }
         ensures answer { need_of result ≡ needed_under key.now (state_of self.old).root }
     {
         if let Some(page) = self.needed(key) {
-            return Answer::Need(page);
+            return EditAnswer::Need(page);
         }
         self.remove(key);
-        Answer::Done
+        EditAnswer::Done
     }
 
     /// Takes a key away to which no page is needed.
@@ -208,7 +209,7 @@ impl OwnedTree {
         alloc: Global,
         bounds: ImageBounds,
         key: &[u8],
-        bytes: &[u8; 4096],
+        bytes: &[u8; PAGE_SIZE],
     ) -> Result<(), NodeFault>
         // of any image with these bytes at that page
         ensures tree { OnOk result ((image : ℕ → List ℕ) → ShowsNeeded image key.now (state_of self.old) bytes.now → state_of self.new ≡ stepped (old_of image (bounds_of bounds)) (state_of self.old) (supply_step key.now)) }

@@ -15,6 +15,7 @@ use crate::splitting::ENTRY_ROOM;
 use crate::{Node, NodeFault};
 use common_types::Bytes;
 use page_store::{PageHead, Pair, are_zero, child_at, head_at, pair_at};
+use sector_device::PAGE_SIZE;
 use std::alloc::{AllocError, Global};
 use std::cmp::Ordering;
 
@@ -123,7 +124,7 @@ impl<'a> Leaf<'a> {
     pub fn by_head(
         bounds: ImageBounds,
         page: u32,
-        bytes: &'a [u8; 4096],
+        bytes: &'a [u8; PAGE_SIZE],
     ) -> Result<Leaf<'a>, NodeFault>
         ensures pairs { IfOk result (λ leaf. pairs_in leaf.count leaf.entries.now ≡ entries_by_head pair_at bytes.now) }
         ensures head { IfOk result (λ leaf. has_head (place_in (bounds_of bounds) 0 page) bytes.now ≡ true) }
@@ -185,7 +186,11 @@ impl<'a> Leaf<'a> {
 
 impl<'a> Leaf<'a> {
     /// The pairs of a leaf, by the bytes of its page; `Damaged` exactly where they have not the form of that page. It takes no memory.
-    pub fn new(bounds: ImageBounds, page: u32, bytes: &'a [u8; 4096]) -> Result<Leaf<'a>, NodeFault>
+    pub fn new(
+        bounds: ImageBounds,
+        page: u32,
+        bytes: &'a [u8; PAGE_SIZE],
+    ) -> Result<Leaf<'a>, NodeFault>
         ensures pairs { IfOk result (λ leaf. leaf_of (place_in (bounds_of bounds) 0 page) [] None bytes.now ≡ Some (pairs_in leaf.count leaf.entries.now)) }
         ensures fault { IfErr result (λ e. (e ≡ Damaged page) × (leaf_of (place_in (bounds_of bounds) 0 page) [] None bytes.now ≡ None)) }
     {
@@ -223,7 +228,7 @@ impl<'a> Leaf<'a> {
         page: u32,
         low: &[u8],
         high: Option<&[u8]>,
-        bytes: &'a [u8; 4096],
+        bytes: &'a [u8; PAGE_SIZE],
     ) -> Result<Leaf<'a>, NodeFault>
         ensures pairs { IfOk result (λ leaf. leaf_of (place_in (bounds_of bounds) 0 page) low.now (option_copied high.entry) bytes.now ≡ Some (pairs_in leaf.count leaf.entries.now)) }
         ensures fault { IfErr result (λ e. (e ≡ Damaged page) × (leaf_of (place_in (bounds_of bounds) 0 page) low.now (option_copied high.entry) bytes.now ≡ None)) }
@@ -266,7 +271,7 @@ impl<'a> Leaf<'a> {
 }
 
 /// The leaf that the bytes of a page have the form of.
-fn leaf_in<'a>(bounds: ImageBounds, page: u32, bytes: &'a [u8; 4096]) -> Option<Leaf<'a>>
+fn leaf_in<'a>(bounds: ImageBounds, page: u32, bytes: &'a [u8; PAGE_SIZE]) -> Option<Leaf<'a>>
     ensures { MatchOption result (leaf_of (place_in (bounds_of bounds) 0 page) [] None bytes.now ≡ None) (λ leaf. leaf_of (place_in (bounds_of bounds) 0 page) [] None bytes.now ≡ Some (pairs_in leaf.count leaf.entries.now)) }
 {
     let (head, entries) = head_at(&PAGE_WORD, bytes)?;
@@ -293,7 +298,7 @@ impl<'a> Branch<'a> {
         bounds: ImageBounds,
         level: u16,
         page: u32,
-        bytes: &'a [u8; 4096],
+        bytes: &'a [u8; PAGE_SIZE],
     ) -> Result<Branch<'a>, NodeFault>
         ensures children { IfOk result (λ branch. branch_of (place_in (bounds_of bounds) level page) [] None bytes.now ≡ Some (children_in branch.count branch.entries.now)) }
         ensures fault { IfErr result (λ e. (e ≡ Damaged page) × (branch_of (place_in (bounds_of bounds) level page) [] None bytes.now ≡ None)) }
@@ -310,7 +315,7 @@ impl<'a> Branch<'a> {
         bounds: ImageBounds,
         level: u16,
         page: u32,
-        bytes: &'a [u8; 4096],
+        bytes: &'a [u8; PAGE_SIZE],
     ) -> Result<Branch<'a>, NodeFault>
         ensures children { IfOk result (λ branch. children_in branch.count branch.entries.now ≡ entries_by_head child_at bytes.now) }
         ensures head { IfOk result (λ branch. has_head (place_in (bounds_of bounds) level page) bytes.now ≡ true) }
@@ -418,7 +423,7 @@ impl<'a> Branch<'a> {
         page: u32,
         low: &[u8],
         high: Option<&[u8]>,
-        bytes: &'a [u8; 4096],
+        bytes: &'a [u8; PAGE_SIZE],
     ) -> Result<Branch<'a>, NodeFault>
         ensures children { IfOk result (λ branch. branch_of (place_in (bounds_of bounds) level page) low.now (option_copied high.entry) bytes.now ≡ Some (children_in branch.count branch.entries.now)) }
         ensures fault { IfErr result (λ e. (e ≡ Damaged page) × (branch_of (place_in (bounds_of bounds) level page) low.now (option_copied high.entry) bytes.now ≡ None)) }
@@ -468,7 +473,7 @@ fn branch_in<'a>(
     bounds: ImageBounds,
     level: u16,
     page: u32,
-    bytes: &'a [u8; 4096],
+    bytes: &'a [u8; PAGE_SIZE],
 ) -> Option<Branch<'a>>
     ensures { MatchOption result (branch_of (place_in (bounds_of bounds) level page) [] None bytes.now ≡ None) (λ branch. branch_of (place_in (bounds_of bounds) level page) [] None bytes.now ≡ Some (children_in branch.count branch.entries.now)) }
 {

@@ -8,6 +8,7 @@ ghost use Rattle.tree_nodes.specs.NodeView.{tree_of};
 use crate::deleting::with_child_left;
 use crate::node::place_of;
 use crate::{Branch, ImageBounds, Leaf, Node, NodeFault};
+use sector_device::PAGE_SIZE;
 use std::alloc::Global;
 use std::mem;
 
@@ -17,7 +18,7 @@ pub fn read_node(
     bounds: ImageBounds,
     level: u16,
     page: u32,
-    bytes: &[u8; 4096],
+    bytes: &[u8; PAGE_SIZE],
 ) -> Result<Node, NodeFault>
     ensures { MatchResult result (λ node. tree_in (bounds_of bounds) level page bytes.now ≡ Some (tree_of node)) (IsNodeReadFault page (tree_in (bounds_of bounds) level page bytes.now)) }
 {
@@ -33,7 +34,7 @@ fn read_leaf(
     alloc: Global,
     bounds: ImageBounds,
     page: u32,
-    bytes: &[u8; 4096],
+    bytes: &[u8; PAGE_SIZE],
 ) -> Result<Node, NodeFault>
     ensures { MatchResult result (λ node. tree_in (bounds_of bounds) 0 page bytes.now ≡ Some (tree_of node)) (IsNodeReadFault page (tree_in (bounds_of bounds) 0 page bytes.now)) }
 {
@@ -47,7 +48,7 @@ fn read_branch(
     bounds: ImageBounds,
     level: u16,
     page: u32,
-    bytes: &[u8; 4096],
+    bytes: &[u8; PAGE_SIZE],
 ) -> Result<Node, NodeFault>
     requires { 0 < level }
     ensures { MatchResult result (λ node. tree_in (bounds_of bounds) level page bytes.now ≡ Some (tree_of node)) (IsNodeReadFault page (tree_in (bounds_of bounds) level page bytes.now)) }

@@ -1,5 +1,6 @@
 -- The owned nodes of a tree as new pages: each has a number of its own, and a branch names its children's.
 use Rattle.std.specs.Prelude.{◌≡◌, ℕ, zero, suc, ◌+◌, ◌≤◌, ◌<◌, List, [], ◌∷◌, ◌++◌, length, take, drop}
+use Rattle.page_store.specs.Sizes.{page_size}
 use Rattle.page_store.specs.Commit.{numbers}
 use Rattle.page_store.specs.declared.commit.NewPage.{NewPage}
 use Rattle.tree_nodes.specs.Tree.{Tree, Others, page, leaf, branch, none, other, other_bytes, entry_room}
@@ -36,7 +37,7 @@ ArePut bytes (new ∷ pages) = (bytes new.number ≡ new.bytes) × ArePut bytes 
 -- these pages have 4,096 bytes each
 abbrev pub AreWhole : List NewPage → Type 0
 AreWhole [] = Unit {0}
-AreWhole (new ∷ pages) = (length new.bytes ≡ 4096) × AreWhole pages
+AreWhole (new ∷ pages) = (length new.bytes ≡ page_size) × AreWhole pages
 
 -- a page of an image of so many that is no root slot
 abbrev pub IsTreePage : ℕ → ℕ → Type 0

@@ -1,5 +1,6 @@
 // Laws of the pages that a tree reaches, while it is changed and once it is written.
 ghost use Rattle.std.specs.Prelude.{◌≡◌, ◌≤◌, ◌+◌, ℕ, [], ◌∷◌, List, Option, Some, None, true, false, length};
+ghost use Rattle.page_store.specs.Sizes.{page_size};
 ghost use Rattle.page_store.specs.Pages.{head_at, page_word};
 ghost use Rattle.page_store.specs.Content.{Bounds, Found, walk, is_among, are_distinct};
 ghost use Rattle.page_store.specs.Commit.{numbers, patched};
@@ -25,7 +26,7 @@ pub fn changes_reach_the_same_pages()
 
 /// A page that is supplied is no longer reached, and all others are as often as before.
 pub fn a_supply_leaves_one_page()
-    ensures { (bytes : ℕ → List ℕ) (bounds : Bounds) → ((n : ℕ) → length (bytes n) ≤ 4096) → (state : RootState) (key : List ℕ) (n : ℕ) → IsValidRoot (old_of bytes bounds) state.root state.height → needed_under key state.root ≡ Some n → (m : ℕ) →
+    ensures { (bytes : ℕ → List ℕ) (bounds : Bounds) → ((n : ℕ) → length (bytes n) ≤ page_size) → (state : RootState) (key : List ℕ) (n : ℕ) → IsValidRoot (old_of bytes bounds) state.root state.height → needed_under key state.root ≡ Some n → (m : ℕ) →
         times m (root_reached bytes bounds state.root) ≡ times m (root_reached bytes bounds (stepped (old_of bytes bounds) state (supply_step key)).root) + times m (n ∷ []) }
 {}
 

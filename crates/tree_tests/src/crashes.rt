@@ -6,8 +6,8 @@ use crate::pairs::{one_edit, pairs_of, value_of};
 use crate::trouble::Trouble;
 use common_types::Bytes;
 use cow_tree::TreeKeeper;
-use page_store::{Edit, KeeperFault};
-use sector_device::{Call, FuseDisk, MemDisk};
+use page_store::{Edit, KeeperFault, LONGEST_VALUE};
+use sector_device::{Call, FuseDisk, MemDisk, SECTOR_SIZE};
 use std::alloc::Global;
 
 /// How many pages the image has, how many pairs, and how many commits are made before.
@@ -66,7 +66,7 @@ pub fn used_image(alloc: Global, height: u16) -> Result<Sectors, Trouble> {
     let mut dice = Dice::new(u64::from(height));
     for number in 0..PAIRS {
         let key = key(alloc, height, 2 * number)?;
-        put(alloc, &mut keeper, &key, &[number; 1024])?;
+        put(alloc, &mut keeper, &key, &[number; LONGEST_VALUE])?;
     }
     for _ in 0..COMMITS {
         let number = 2 * dice.roll(PAIRS as usize) as u8;
@@ -74,7 +74,12 @@ pub fn used_image(alloc: Global, height: u16) -> Result<Sectors, Trouble> {
         if dice.roll(2) == 0 {
             commit_tree(&mut keeper, &one_edit(alloc, &key, None)?)?;
         }
-        put(alloc, &mut keeper, &key, &[dice.roll(256) as u8; 1024])?;
+        put(
+            alloc,
+            &mut keeper,
+            &key,
+            &[dice.roll(256) as u8; LONGEST_VALUE],
+        )?;
     }
     let image = image_of(alloc, &device_under(keeper)?)?;
     match height_of(alloc, &image)? == height {
@@ -88,7 +93,7 @@ fn four_puts(alloc: Global, height: u16) -> Result<Vec<Edit>, Trouble> {
     let mut batch = Vec::new(alloc);
     for number in [19, 21, 23, 25] {
         let key = Bytes::from_slice(alloc, &key(alloc, height, number)?)?;
-        let value = Bytes::from_slice(alloc, &[number; 1024])?;
+        let value = Bytes::from_slice(alloc, &[number; LONGEST_VALUE])?;
         batch.push(Edit {
             key,
             value: Some(value),
@@ -100,7 +105,7 @@ fn four_puts(alloc: Global, height: u16) -> Result<Vec<Edit>, Trouble> {
 /// The batch of a word: `new` puts a new key, `over` puts ten bytes over 1,024, `delete` takes a key, and `split` puts four new keys.
 pub fn batch_of(alloc: Global, height: u16, word: &str) -> Result<Vec<Edit>, Trouble> {
     match word {
-        "new" => one_edit(alloc, &key(alloc, height, 21)?, Some(&[9; 1024])),
+        "new" => one_edit(alloc, &key(alloc, height, 21)?, Some(&[9; LONGEST_VALUE])),
         "over" => one_edit(alloc, &key(alloc, height, 20)?, Some(&[9; 10])),
         "delete" => one_edit(alloc, &key(alloc, height, 20)?, None),
         "split" => four_puts(alloc, height),
@@ -209,7 +214,7 @@ fn try_all_left(
 /// A commit whose disk fails after so many calls: whether it was answered, and the disk. None where the opening was not done.
 fn stopped(
     alloc: Global,
-    image: &[[u8; 512]],
+    image: &[[u8; SECTOR_SIZE]],
     batch: &[Edit],
     calls: u64,
 ) -> Result<Option<(bool, MemDisk)>, Trouble> {
@@ -226,7 +231,7 @@ fn stopped(
 }
 
 /// The pairs of an image before and after a batch.
-fn sides_of(alloc: Global, image: &[[u8; 512]], batch: &[Edit]) -> Result<Sides, Trouble> {
+fn sides_of(alloc: Global, image: &[[u8; SECTOR_SIZE]], batch: &[Edit]) -> Result<Sides, Trouble> {
     let mut keeper = open_tree(alloc, disk_of(alloc, image)?)?;
     let old = pairs_of(alloc, &mut keeper)?;
     commit_tree(&mut keeper, batch)?;
@@ -238,7 +243,11 @@ fn sides_of(alloc: Global, image: &[[u8; 512]], batch: &[Edit]) -> Result<Sides,
 }
 
 /// Ends the commit of a batch at each call: every image that is left has the old pairs or the new ones, the new ones once it is answered, and takes one more commit.
-pub fn survives(alloc: Global, image: &[[u8; 512]], batch: &[Edit]) -> Result<Seen, Trouble> {
+pub fn survives(
+    alloc: Global,
+    image: &[[u8; SECTOR_SIZE]],
+    batch: &[Edit],
+) -> Result<Seen, Trouble> {
     let sides = sides_of(alloc, image, batch)?;
     let mut seen = Seen {
         crashes: 0,

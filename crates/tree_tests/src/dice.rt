@@ -1,6 +1,7 @@
 // Numbers that look random, and keys and values of them.
 ghost use Rattle.std.specs.Prelude.{◌<◌};
 
+use page_store::{LONGEST_KEY, LONGEST_VALUE};
 use std::alloc::{AllocError, Global};
 
 /// Numbers that look random, by a seed.
@@ -41,8 +42,8 @@ impl Dice {
     pub fn value(&mut self, alloc: Global) -> Result<Vec<u8>, AllocError> {
         let length = match self.roll(8) {
             0 => 0,
-            1 => 1024,
-            _ => self.roll(1025),
+            1 => LONGEST_VALUE,
+            _ => self.roll(LONGEST_VALUE + 1),
         };
         self.bytes(alloc, length)
     }
@@ -50,7 +51,7 @@ impl Dice {
 
 /// The key of a number: keys of 300 numbers in a row have all lengths. Those of every third number are the same but for their ends.
 pub fn key(alloc: Global, number: usize) -> Result<Vec<u8>, AllocError> {
-    let length = number % 300 + 1;
+    let length = number % LONGEST_KEY + 1;
     if number % 3 > 0 {
         return Dice::new(number as u64).bytes(alloc, length);
     }

@@ -4,7 +4,7 @@ use crate::made::{device_under, image_of, new_tree, open_tree};
 use crate::pairs::{kept_by, one_edit, pairs_of};
 use crate::trouble::Trouble;
 use cow_tree::TreeKeeper;
-use page_store::Keeper;
+use page_store::{Keeper, LONGEST_VALUE};
 use sector_device::MemDisk;
 use std::alloc::Global;
 
@@ -15,7 +15,7 @@ const PAGES: u16 = 16;
 fn put(alloc: Global, keeper: &mut TreeKeeper<MemDisk>, number: u8) -> Result<(), Trouble> {
     commit_tree(
         keeper,
-        &one_edit(alloc, &[b'k', number], Some(&[number; 1024]))?,
+        &one_edit(alloc, &[b'k', number], Some(&[number; LONGEST_VALUE]))?,
     )
 }
 

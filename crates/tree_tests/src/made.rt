@@ -5,11 +5,11 @@ use cow_tree::TreeKeeper;
 use page_store::{
     Banner, FlatKeeper, PinKeeper, Root, Slot, format_flat, slot_page, sync_all, write_page,
 };
-use sector_device::{Device, MemDisk};
+use sector_device::{Device, MemDisk, SECTOR_SIZE};
 use std::alloc::Global;
 
 /// A disk's sectors.
-pub(crate) type Sectors = Vec<[u8; 512]>;
+pub(crate) type Sectors = Vec<[u8; SECTOR_SIZE]>;
 
 /// A banner of a version and a port.
 fn banner(version: u16, port: u16) -> Result<Banner, Trouble> {
@@ -25,7 +25,7 @@ fn banner(version: u16, port: u16) -> Result<Banner, Trouble> {
 }
 
 /// A new disk with an image.
-pub fn disk_of(alloc: Global, image: &[[u8; 512]]) -> Result<MemDisk, Trouble> {
+pub fn disk_of(alloc: Global, image: &[[u8; SECTOR_SIZE]]) -> Result<MemDisk, Trouble> {
     Ok(MemDisk::of(alloc, image.to_vec(alloc)?)?)
 }
 
@@ -103,7 +103,7 @@ pub fn image_of(alloc: Global, disk: &MemDisk) -> Result<Sectors, Trouble> {
 }
 
 /// The height of the tree of an image.
-pub fn height_of(alloc: Global, image: &[[u8; 512]]) -> Result<u16, Trouble> {
+pub fn height_of(alloc: Global, image: &[[u8; SECTOR_SIZE]]) -> Result<u16, Trouble> {
     match current_slot(alloc, image)? {
         Some(slot) => Ok(slot.root.height),
         None => Err(Trouble::Wrong("no root slot")),
@@ -111,7 +111,7 @@ pub fn height_of(alloc: Global, image: &[[u8; 512]]) -> Result<u16, Trouble> {
 }
 
 /// The current root slot of an image.
-pub fn current_slot(alloc: Global, image: &[[u8; 512]]) -> Result<Option<Slot>, Trouble> {
+pub fn current_slot(alloc: Global, image: &[[u8; SECTOR_SIZE]]) -> Result<Option<Slot>, Trouble> {
     let mut disk = disk_of(alloc, image)?;
     if disk.sectors() < 16 {
         return Err(Trouble::Line);

@@ -1,7 +1,7 @@
 // What a keeper has.
 use crate::trouble::Trouble;
 use common_types::Bytes;
-use page_store::{Edit, Figures, Keeper};
+use page_store::{Edit, Figures, Keeper, LONGEST_KEY, LONGEST_VALUE};
 use std::alloc::Global;
 
 /// What a keeper has: keys and values by turns, and its figures.
@@ -14,7 +14,7 @@ pub(crate) struct Kept {
 /// All pairs of a keeper: keys and values by turns.
 pub fn pairs_of<K: Keeper>(alloc: Global, keeper: &mut K) -> Result<Vec<Bytes>, Trouble> {
     let mut all = Vec::new(alloc);
-    let (mut key, mut value) = ([0; 300], [0; 1024]);
+    let (mut key, mut value) = ([0; LONGEST_KEY], [0; LONGEST_VALUE]);
     let mut after = Vec::new(alloc);
     for _ in 0..100_000 {
         let Some((key_length, value_length)) = keeper.next(&after, &mut key, &mut value)? else {
@@ -41,7 +41,7 @@ pub fn value_of<K: Keeper>(
     keeper: &mut K,
     key: &[u8],
 ) -> Result<Option<Bytes>, Trouble> {
-    let mut value = [0; 1024];
+    let mut value = [0; LONGEST_VALUE];
     match keeper.get(key, &mut value)? {
         Some(length) => Ok(Some(Bytes::from_slice(alloc, &value[..length])?)),
         None => Ok(None),

@@ -8,7 +8,7 @@ use crate::pairs::{has_edits, kept_by, pairs_of};
 use crate::trouble::Trouble;
 use common_types::Bytes;
 use cow_tree::TreeKeeper;
-use page_store::{Edit, Keeper, KeeperFault};
+use page_store::{Edit, Keeper, KeeperFault, LONGEST_KEY, LONGEST_VALUE};
 use sector_device::MemDisk;
 use std::alloc::Global;
 use std::collections::BTreeMap;
@@ -109,7 +109,7 @@ impl Run {
 
     /// Deletes of pairs that stand side by side.
     fn row(&mut self, edits: &mut Edits, count: usize) -> Result<(), Trouble> {
-        let (mut key, mut value) = ([0; 300], [0; 1024]);
+        let (mut key, mut value) = ([0; LONGEST_KEY], [0; LONGEST_VALUE]);
         let mut after = self.key()?;
         for _ in 0..count {
             let Some((length, _)) = self.tree.next(&after, &mut key, &mut value)? else {

@@ -7,7 +7,7 @@ use crate::made::{
 use crate::pairs::{one_edit, pairs_of};
 use crate::trouble::Trouble;
 use page_store::{Keeper, slot_page};
-use sector_device::MemDisk;
+use sector_device::{MemDisk, SECTOR_SIZE};
 use std::alloc::Global;
 
 /// How many pages the images have.
@@ -24,7 +24,7 @@ pub(crate) struct Switch {
 }
 
 /// Whether an image has, on the page of a slot, the sectors that another has there.
-fn has_slot_of(image: &[[u8; 512]], other: &[[u8; 512]], number: usize) -> bool {
+fn has_slot_of(image: &[[u8; SECTOR_SIZE]], other: &[[u8; SECTOR_SIZE]], number: usize) -> bool {
     let slots = image.chunks(8).zip(other.chunks(8));
     match slots.skip(number).next() {
         Some((slot, other)) => slot == other,
@@ -70,10 +70,10 @@ fn two_images(alloc: Global) -> Result<(Sectors, Sectors), Trouble> {
 }
 
 /// Overwrites the sectors of a half of a slot.
-fn tear(image: &mut [[u8; 512]], number: u32, half: usize) {
+fn tear(image: &mut [[u8; SECTOR_SIZE]], number: u32, half: usize) {
     let first = 8 * number as usize + 4 * half.min(1);
     for sector in image.iter_mut().skip(first).take(4) {
-        *sector = [0xa5; 512];
+        *sector = [0xa5; SECTOR_SIZE];
     }
 }
 
@@ -113,8 +113,13 @@ pub fn spent(alloc: Global, sectors: usize) -> Result<(), Trouble> {
         return Err(Trouble::Line);
     }
     let page = slot_page(alloc, &slot)?;
-    for (sector, bytes) in image.iter_mut().skip(8).take(sectors).zip(page.chunks(512)) {
-        if bytes.len() == 512 {
+    for (sector, bytes) in image
+        .iter_mut()
+        .skip(8)
+        .take(sectors)
+        .zip(page.chunks(SECTOR_SIZE))
+    {
+        if bytes.len() == SECTOR_SIZE {
             sector.copy_from_slice(bytes);
         }
     }

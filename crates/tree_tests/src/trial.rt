@@ -4,7 +4,7 @@ use crate::made::{device_under, new_tree, open_tree};
 use crate::pairs::{one_edit, pairs_of};
 use crate::trouble::Trouble;
 use cow_tree::TreeKeeper;
-use page_store::Keeper;
+use page_store::{Keeper, LONGEST_VALUE};
 use sector_device::MemDisk;
 use std::alloc::Global;
 
@@ -31,7 +31,7 @@ fn opened(alloc: Global, disk: MemDisk) -> Result<TreeKeeper<MemDisk>, Trouble> 
 
 /// A put of 1,024 bytes, or in the end a delete.
 fn change(alloc: Global, keeper: &mut TreeKeeper<MemDisk>, number: u8) -> Result<(), Trouble> {
-    let value = [number; 1024];
+    let value = [number; LONGEST_VALUE];
     let batch = match number < COMMITS - 1 {
         true => one_edit(alloc, &[b'k', number], Some(&value))?,
         false => one_edit(alloc, b"k\0", None)?,

@@ -14,6 +14,10 @@ use Rattle.turns.specs.declared.connection.Stage.TheVariants.{New, Listening, Wa
 
 -- ---- one connection
 
+-- how many bytes a read asks for
+abbrev pub piece_size : ℕ
+piece_size = 512
+
 -- What was done for one connection: the calls of its wire, and the events of the hub with their outcomes.
 pub record Trace : Type 0 where
   pub calls : List WireCall
@@ -87,15 +91,15 @@ pub record HearsOneRead (id : ℕ) (t : Trace) (after : Stage) : Type 0 where
   pub outcome : Outcome
   pub sent : List WireCall
   pub whole : Bool
-  pub room : length piece ≤ 512
-  pub calls_are : t.calls ≡ Read 512 piece ∷ sent
+  pub room : length piece ≤ piece_size
+  pub calls_are : t.calls ≡ Read piece_size piece ∷ sent
   pub told : IsTold id piece t.events t.outcomes outcome
   pub reply : IsSent (heard_reply outcome) sent whole
   pub after_is : after ≡ heard_stage id outcome
 
 -- A read that failed: the hub gets nothing.
 pub record HearsNothing (t : Trace) (after : Stage) : Type 0 where
-  pub is : t ≡ trace (ReadFailed 512 ∷ []) [] []
+  pub is : t ≡ trace (ReadFailed piece_size ∷ []) [] []
   pub after_is : after ≡ Left
 
 abbrev pub drawn_bytes : Outcome → List ℕ
@@ -113,8 +117,8 @@ replied_stage id outcome whole = Left
 pub record DrawsAndSends (id : ℕ) (t : Trace) (after : Stage) : Type 0 where
   pub outcome : Outcome
   pub whole : Bool
-  pub room : length (drawn_bytes outcome) ≤ 512
-  pub events_are : t.events ≡ events.Draw id 512 ∷ []
+  pub room : length (drawn_bytes outcome) ≤ piece_size
+  pub events_are : t.events ≡ events.Draw id piece_size ∷ []
   pub outcomes_are : t.outcomes ≡ outcome ∷ []
   pub sent : IsSent (drawn_bytes outcome) t.calls whole
   pub after_is : after ≡ replied_stage id outcome whole

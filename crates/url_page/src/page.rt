@@ -1,7 +1,7 @@
 // The page of a link.
 ghost use Rattle.std.specs.Prelude.{◌≡◌, Some, IfOk, IfErr};
 ghost use Rattle.std.specs.List.{list_all};
-ghost use Rattle.url_page.specs.Faults.{IsFault};
+ghost use Rattle.url_page.specs.Faults.{IsUrlFault};
 ghost use Rattle.url_page.specs.Page as spec;
 
 use crate::{UrlFault, escape};
@@ -78,7 +78,7 @@ fn page_of(alloc: Global, url: &[u8]) -> Result<Vec<u8>, AllocError>
 /// The page that leads a browser on to the link: at most 251 bytes, each a printed character that is no space, behind `http://`, `https://`, `ftp://` or `gopher://`.
 pub fn redirect(alloc: Global, url: &[u8]) -> Result<Vec<u8>, UrlFault>
     ensures page { IfOk result (λ page. spec.redirect url.now ≡ Some page.items) }
-    ensures fault { IfErr result (IsFault url.now) }
+    ensures fault { IfErr result (IsUrlFault url.now) }
 {
     if !is_allowed(url) {
         return Err(UrlFault::NotAllowed);

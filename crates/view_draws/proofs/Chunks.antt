@@ -1,13 +1,22 @@
 -- Chunks of a view.
-use Rattle.std.proofs.Common.{◌≡◌, ◌+◌, ◌-◌, ◌*◌, ◌≤◌, ◌<◌, ◌/◌, ◌%◌, ◌⊎◌, inl, inr, ℕ, List, ◌++◌, ap, sym, ◌∙◌, subst, take, drop, length, length-drop, arith}
+use Rattle.std.proofs.Common.{◌≡◌, ◌+◌, ◌-◌, ◌*◌, ◌≤◌, ◌<◌, ◌/◌, ◌%◌, ◌⊎◌, inl, inr, ℕ, List, [], ◌∷◌, ◌++◌, ap, sym, ◌∙◌, subst, refl, take, drop, length, length-drop, arith}
 use Rattle.std.specs.Prelude.{Option, Some, IfSome}
 use Prim.Native.Nat.{min}
-use Rattle.std.proofs.lemmas.List.{drop-drop, length-take, take_min, take-append-drop, drop-append-le}
+use Rattle.std.proofs.lemmas.List.{drop_all, drop-drop, length-take, take_min, take-append-drop, drop-append-le}
 use Rattle.host_types.specs.Card.{chunk_of}
 
 pub chunk_length : (body : List ℕ) (k n size : ℕ) → length body ≡ size → n ≡ min (size - 1000 * k) 1000 → length (chunk_of body k) ≡ n
 unfolding chunk_of
 chunk_length body k n size is so_many = omega (arith, length-take 1000 (drop (1000 * k) body), length-drop (1000 * k) body)
+
+none_of : (k : ℕ) → chunk_of [] k ≡ []
+unfolding chunk_of
+none_of k = ap (take 1000) (drop_all (1000 * k) [] (omega arith))
+
+-- of no bytes each chunk has none
+pub chunk_of_none : (body buffer : List ℕ) (k : ℕ) → length body ≡ 0 → take (length (chunk_of body k)) buffer ≡ chunk_of body k
+chunk_of_none [] buffer k none = rw (none_of k) refl
+chunk_of_none (x ∷ body) buffer k none = absurd (omega (arith, none))
 
 -- a chunk is as many bytes of what is left as it has
 chunk_is_front : (body : List ℕ) (k n : ℕ) → length (chunk_of body k) ≡ n → chunk_of body k ≡ take n (drop (1000 * k) body)

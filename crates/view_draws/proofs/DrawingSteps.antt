@@ -3,10 +3,10 @@ use Rattle.std.proofs.Common.{◌≡◌, ◌+◌, ◌-◌, ◌≤◌, ◌++◌, 
 use Rattle.std.proofs.lemmas.List.{drop-drop}
 use Rattle.host_types.specs.SiteState.{SiteState, HasRead, IsUnchangedBehind}
 use Rattle.host_types.specs.Pins.{Pinned, pinned_items, viewed_among}
-use Rattle.view_draws.specs.Drawing.{HasPassed}
+use Rattle.view_draws.specs.Drawing.{HasPassedOn}
 use Rattle.view_draws.specs.Progress.{body_left}
 use Rattle.view_draws.specs.Source.{viewed_by, IsSameView}
-use Rattle.view_draws.specs.declared.progress.Progress.{Progress}
+use Rattle.view_draws.specs.declared.progress.DrawProgress.{DrawProgress}
 use Rattle.view_draws.specs.declared.source.ViewSource.{ViewSource}
 use Rattle.view_draws.proofs.LaterReads.{pinned_same}
 
@@ -16,7 +16,7 @@ unchanged_on n m xs ys onward same =
     let split : m ≡ n + (m - n) = omega (arith, onward) in
     ap (λ k. drop k xs) split ∙ sym (drop-drop (m - n) n xs) ∙ ap (drop (m - n)) same ∙ drop-drop (m - n) n ys ∙ sym (ap (λ k. drop k ys) split)
 
-pub passed_on : (source next : ViewSource) (p q r : Progress) (first mid last : List ℕ) (at half end : ℕ) → IsSameView source next → HasPassed source p q first mid at half → HasPassed next q r mid last half end → HasPassed source p r first last at end
+pub passed_on : (source next : ViewSource) (p q r : DrawProgress) (first mid last : List ℕ) (at half end : ℕ) → IsSameView source next → HasPassedOn source p q first mid at half → HasPassedOn next q r mid last half end → HasPassedOn source p r first last at end
 passed_on source next p q r first mid last at half end same before later = record {
   onward = omega (arith, before.onward, later.onward);
   within = later.within;
@@ -26,7 +26,7 @@ passed_on source next p q r first mid last at half end same before later = recor
   head = later.head ∙ before.head;
 }
 
-pub nothing_passed : (source : ViewSource) (p : Progress) (out : List ℕ) (at : ℕ) → at ≤ length out → p.taken ≤ source.size → HasPassed source p p out out at at
+pub nothing_passed : (source : ViewSource) (p : DrawProgress) (out : List ℕ) (at : ℕ) → at ≤ length out → p.taken ≤ source.size → HasPassedOn source p p out out at at
 nothing_passed source p out at room within = record { onward = omega arith; within = room; behind = refl; taken = omega arith; within_view = within; head = refl }
 
 pub same_on : (a b c : ViewSource) → IsSameView a b → IsSameView b c → IsSameView a c
@@ -47,11 +47,11 @@ viewed_same a b pin s t read same =
     ∙ ap (λ view. viewed_among (pinned_items a pin) s.selector view) same.view
 
 -- what one step gave of the view, and those before it, where its bytes are known by two names
-pub given_on : (now body before mid after : List ℕ) (p q r : Progress) → now ≡ body → after ++ body_left r now ≡ mid ++ body_left q now → mid ++ body_left q body ≡ before ++ body_left p body → after ++ body_left r body ≡ before ++ body_left p body
+pub given_on : (now body before mid after : List ℕ) (p q r : DrawProgress) → now ≡ body → after ++ body_left r now ≡ mid ++ body_left q now → mid ++ body_left q body ≡ before ++ body_left p body → after ++ body_left r body ≡ before ++ body_left p body
 given_on now body before mid after p q r same step first = subst (λ bytes. after ++ body_left r bytes ≡ mid ++ body_left q bytes) same step ∙ first
 
 -- what the end of a view gives, once all before it was given
-pub passed_at_end : (source : ViewSource) (p q r : Progress) (first mid last : List ℕ) (at half end : ℕ) → HasPassed source p q first mid at half → half ≤ end → end ≤ length last → IsUnchangedBehind end mid last → r.head_drawn ≡ q.head_drawn → r.taken ≡ q.taken → HasPassed source p r first last at end
+pub passed_at_end : (source : ViewSource) (p q r : DrawProgress) (first mid last : List ℕ) (at half end : ℕ) → HasPassedOn source p q first mid at half → half ≤ end → end ≤ length last → IsUnchangedBehind end mid last → r.head_drawn ≡ q.head_drawn → r.taken ≡ q.taken → HasPassedOn source p r first last at end
 passed_at_end source p q r first mid last at half end before onward within behind head taken = record {
   onward = omega (arith, before.onward, onward);
   within = within;

@@ -5,7 +5,7 @@ use Rattle.std.proofs.lemmas.Bool.{cases_Bool}
 use Rattle.std.proofs.lemmas.List.{drop-drop, drop-append-le, take-append-drop}
 use Rattle.text_writer.specs.Place.{closing, given_from, emitted, after}
 use Rattle.text_writer.specs.Pipe.{Piped, will_give, given_behind}
-use Rattle.text_writer.specs.declared.place.Place.{Place}
+use Rattle.text_writer.specs.declared.place.LinePlace.{LinePlace}
 
 -- what is left of a body, once bytes of its next chunk were taken
 pub left_on : (taken m : ℕ) (body chunk more : List ℕ) → drop taken body ≡ chunk ++ more → m ≤ length chunk → drop (taken + m) body ≡ drop m chunk ++ more
@@ -38,18 +38,18 @@ given_of_head drawn m head left given is =
     ∙ ap (λ l. l ++ left) (take-append-drop m (drop drawn head))
 
 -- the end of a body gives some bytes
-closing_some : (place : Place) → 0 < length (closing place)
+closing_some : (place : LinePlace) → 0 < length (closing place)
 closing_some place = elim (cases_Bool place.held) [
   | inl held ↦ rw held (omega arith)
   | inr free ↦ elim (cases_Bool place.at_start) [ inl start ↦ rw (free, start) (omega arith) | inr inside ↦ rw (free, inside) (omega arith) ]
 ]
 
-from_some : (place : Place) (rest : List ℕ) → 0 < length (given_from place rest)
+from_some : (place : LinePlace) (rest : List ℕ) → 0 < length (given_from place rest)
 from_some place [] = closing_some place
 from_some place (b ∷ bs) = omega (arith, length-append (emitted place b) (given_from (after place b) bs), from_some (after place b) bs)
 
 -- A pipe that has nothing left to give has had its end, so that it gives nothing for more bytes.
-behind_same : (place : Option Place) (ready xs ys : List ℕ) → ready ++ given_behind place xs ≡ [] → ready ++ given_behind place ys ≡ []
+behind_same : (place : Option LinePlace) (ready xs ys : List ℕ) → ready ++ given_behind place xs ≡ [] → ready ++ given_behind place ys ≡ []
 behind_same None ready xs ys none = none
 behind_same (Some place) ready xs ys none = absurd (omega (arith, ap length none, length-append ready (given_from place xs), from_some place xs))
 

@@ -3,18 +3,18 @@ use Rattle.std.proofs.Common.{◌≡◌, ◌≤◌, ◌++◌, ◌⊎◌, inl, in
 use Rattle.std.specs.Prelude.{Result, Ok, Err, OnErr}
 use Rattle.std.proofs.lemmas.List.{take_all, drop_all, length-take, take-append-le}
 use Rattle.view_draws.specs.Progress.{body_left, left_of}
-use Rattle.view_draws.specs.declared.progress.Progress.{Progress}
+use Rattle.view_draws.specs.declared.progress.DrawProgress.{DrawProgress}
 use Rattle.view_draws.proofs.Parts.{front_given, rest_given}
 
 -- once the head was given, what is left is left of the view
-head_given : (head : List ℕ) (p : Progress) (body : List ℕ) → p.head_drawn ≡ length head → left_of head p body ≡ body_left p body
+head_given : (head : List ℕ) (p : DrawProgress) (body : List ℕ) → p.head_drawn ≡ length head → left_of head p body ≡ body_left p body
 head_given head p body all = ap (λ l. l ++ body_left p body) (drop_all p.head_drawn head (omega (arith, all)))
 
 full_length : (n : ℕ) (out : List ℕ) → n ≤ length out → length (take n out) ≡ n
 full_length n out within = omega (arith, length-take n out, within)
 
 -- What was given of the head is `mid`, and `new` is what stands in the buffer then. The head was given whole, or there was no room for the view.
-pub whole_given : (head body mid new : List ℕ) (p q r : Progress) (half end : ℕ) → half ≤ length mid → end ≤ length new → length new ≡ length mid → half ≤ end → r.head_drawn ≡ q.head_drawn → (q.head_drawn ≡ length head) ⊎ (half ≡ length mid) →
+pub whole_given : (head body mid new : List ℕ) (p q r : DrawProgress) (half end : ℕ) → half ≤ length mid → end ≤ length new → length new ≡ length mid → half ≤ end → r.head_drawn ≡ q.head_drawn → (q.head_drawn ≡ length head) ⊎ (half ≡ length mid) →
     take half mid ++ left_of head q body ≡ left_of head p body → take end new ++ body_left r body ≡ take half mid ++ body_left q body → take end new ++ left_of head r body ≡ left_of head p body
 whole_given head body mid new p q r half end half_in end_in size onward same (inl all) first second =
     ap (λ l. take end new ++ l) (head_given head r body (same ∙ all))
@@ -38,7 +38,7 @@ whole_given head body mid new p q r half end half_in end_in size onward same (in
     ∙ first
 
 -- nothing is left, or there is no more room
-pub none_or_full : (head body mid new : List ℕ) (q r : Progress) (half end : ℕ) → end ≤ length new → length new ≡ length mid → half ≤ end → r.head_drawn ≡ q.head_drawn → (q.head_drawn ≡ length head) ⊎ (half ≡ length mid) →
+pub none_or_full : (head body mid new : List ℕ) (q r : DrawProgress) (half end : ℕ) → end ≤ length new → length new ≡ length mid → half ≤ end → r.head_drawn ≡ q.head_drawn → (q.head_drawn ≡ length head) ⊎ (half ≡ length mid) →
     (body_left r body ≡ []) ⊎ (end ≡ length new) → (left_of head r body ≡ []) ⊎ (end ≡ length new)
 none_or_full head body mid new q r half end end_in size onward same (inl all) (inl none) = inl (head_given head r body (same ∙ all) ∙ none)
 none_or_full head body mid new q r half end end_in size onward same (inl all) (inr full) = inr full
@@ -58,7 +58,7 @@ left_at_end n end given left whole is within joined (inl none) =
 left_at_end n end given left whole is within joined (inr full) = rest_given n given left whole (omega (arith, is, full)) joined
 
 -- What a fault leaves at the front of the buffer is the next of the reply.
-pub front_begun : (head body mid new : List ℕ) (p q : Progress) (half end : ℕ) → half ≤ length mid → end ≤ length new → length new ≡ length mid → half ≤ end → (q.head_drawn ≡ length head) ⊎ (half ≡ length mid) →
+pub front_begun : (head body mid new : List ℕ) (p q : DrawProgress) (half end : ℕ) → half ≤ length mid → end ≤ length new → length new ≡ length mid → half ≤ end → (q.head_drawn ≡ length head) ⊎ (half ≡ length mid) →
     take half mid ++ left_of head q body ≡ left_of head p body → take end new ≡ take end (take half mid ++ body_left q body) → take end new ≡ take end (left_of head p body)
 front_begun head body mid new p q half end half_in end_in size onward (inl all) first second =
     second ∙ ap (λ l. take end (take half mid ++ l)) (sym (head_given head q body all)) ∙ ap (take end) first
@@ -74,6 +74,6 @@ after_fault (Ok value) holds = tt
 after_fault (Err fault) holds = holds
 
 -- while bytes of the head are left, the reply isn't drawn
-pub head_left : (head : List ℕ) (p : Progress) (body : List ℕ) → p.head_drawn ≤ length head → left_of head p body ≡ [] → p.head_drawn ≡ length head
+pub head_left : (head : List ℕ) (p : DrawProgress) (body : List ℕ) → p.head_drawn ≤ length head → left_of head p body ≡ [] → p.head_drawn ≡ length head
 head_left head p body within none =
     omega (arith, within, ap length none, length-append (drop p.head_drawn head) (body_left p body), length-drop p.head_drawn head)

@@ -13,11 +13,11 @@ abbrev pub HasKnownSize : SiteState → Pinned → ViewSource → Type 0
 HasKnownSize h pin source = length (viewed_by h pin source) ≡ source.size
 
 -- The count of failed reads after a fault: a read that failed is counted, once. A view of another size than is known is told so too, and then no read failed. No other fault counts any.
-abbrev pub IsReadCounted : Bool → Type 0 → SiteFault → ℕ → ℕ → Type 0
-IsReadCounted honest Sized faults.Read before now = IsTrue honest → (now ≡ counted before) ⊎ ((Sized → ⊥) × (now ≡ before))
-IsReadCounted honest Sized other before now = now ≡ before
+abbrev pub IsViewReadCounted : Bool → Type 0 → SiteFault → ℕ → ℕ → Type 0
+IsViewReadCounted honest Sized faults.Read before now = IsTrue honest → (now ≡ counted before) ⊎ ((Sized → ⊥) × (now ≡ before))
+IsViewReadCounted honest Sized other before now = now ≡ before
 
 -- how a call that reads chunks of a view goes on with the count of failed reads
-abbrev pub CountsReads : {T : Type 0} → Pinned → ViewSource → Result T SiteFault → SiteState → SiteState → Type 0
-CountsReads pin source (Ok _) old new = new.failed_reads ≡ old.failed_reads
-CountsReads pin source (Err fault) old new = IsReadCounted old.honest (HasKnownSize old pin source) fault old.failed_reads new.failed_reads
+abbrev pub CountsViewReads : {T : Type 0} → Pinned → ViewSource → Result T SiteFault → SiteState → SiteState → Type 0
+CountsViewReads pin source (Ok _) old new = new.failed_reads ≡ old.failed_reads
+CountsViewReads pin source (Err fault) old new = IsViewReadCounted old.honest (HasKnownSize old pin source) fault old.failed_reads new.failed_reads

@@ -7,7 +7,7 @@ use text_writer::TextPipe;
 
 /// How far a reply is drawn.
 #[derive(Drop)]
-pub struct Progress {
+pub struct DrawProgress {
     /// How many bytes of the head were given.
     pub head_drawn: usize,
     /// How many bytes of the view were taken.
@@ -16,7 +16,7 @@ pub struct Progress {
     pub pipe: Option<TextPipe>,
 }
 
-impl Progress {
+impl DrawProgress {
     ghost use Rattle.text_writer.specs.Text.{sent_as};
     ghost use Rattle.view_draws.specs.Progress.{body_left, left_of};
 
@@ -25,7 +25,7 @@ impl Progress {
         ensures start { (result.head_drawn ≡ 0) × (result.taken ≡ 0) }
         ensures left { (head body : List ℕ) → left_of head result body ≡ head ++ sent_as is_text body }
     {
-        Progress {
+        DrawProgress {
             head_drawn: 0,
             taken: 0,
             pipe: if is_text { Some(TextPipe::new()) } else { None },
@@ -36,7 +36,7 @@ impl Progress {
     pub fn copied(&self) -> Self
         ensures { result ≡ self.now }
     {
-        Progress {
+        DrawProgress {
             head_drawn: self.head_drawn,
             taken: self.taken,
             pipe: match &self.pipe {

@@ -42,7 +42,7 @@ fn part(bytes: &[u8], start: usize, end: usize) -> &[u8]
 
 impl ViewSource {
     ghost use Rattle.view_draws.specs.Source.{viewed_by, HasChunk, IsSameView};
-    ghost use Rattle.view_draws.specs.Counting.{CountsReads};
+    ghost use Rattle.view_draws.specs.Counting.{CountsViewReads};
 
     /// Makes sure that the buffer holds chunk k.
     pub fn load<S: SiteKeeper>(
@@ -58,13 +58,17 @@ impl ViewSource {
         ensures same { IsSameView self.old self.new }
         ensures only { ReadsOnly S.site_state S.lacks S.crash_states site.old site.new }
         ensures fault { (IsTrue (S.site_state site.old).honest → length (viewed_by (S.site_state site.old) (S.pinned pin.now) self.old) ≡ self.old.size) → IfErr result (IsReadFault false (S.site_state site.old) (S.site_state site.new)) }
-        ensures reads { CountsReads (S.pinned pin.now) self.old result (S.site_state site.old) (S.site_state site.new) }
+        ensures reads { CountsViewReads (S.pinned pin.now) self.old result (S.site_state site.old) (S.site_state site.new) }
     {
         if self.place == Some(k) {
             return Ok(());
         }
+        if self.size == 0 {
+            self.place = Some(k);
+            return Ok(());
+        }
         self.place = None;
-        let count = site.chunk(pin, &self.selector, self.view, k, &mut self.buffer)?;
+        let count = site.known_chunk(pin, &self.selector, self.view, k, &mut self.buffer)?;
         if count != chunk_length(self.size, k) {
             return Err(SiteFault::Read);
         }

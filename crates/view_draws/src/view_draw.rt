@@ -5,7 +5,7 @@ ghost use Rattle.host_types.specs.Pins.{is_out};
 ghost use Rattle.view_draws.specs.Reading.{ReadsOnly};
 
 use crate::drawing::draw_body;
-use crate::progress::Progress;
+use crate::progress::DrawProgress;
 use crate::source::ViewSource;
 use host_types::{Bytes, Selector, SiteFault, SiteKeeper};
 
@@ -14,14 +14,14 @@ use host_types::{Bytes, Selector, SiteFault, SiteKeeper};
 pub struct ViewDraw {
     head: Bytes,
     source: ViewSource,
-    progress: Progress,
+    progress: DrawProgress,
     ghost within_head: { progress.head_drawn ≤ length head },
     ghost within_view: { progress.taken ≤ source.size },
 }
 
 impl ViewDraw {
     ghost use Rattle.text_writer.specs.Text.{sent_as};
-    ghost use Rattle.view_draws.specs.Counting.{CountsReads};
+    ghost use Rattle.view_draws.specs.Counting.{CountsViewReads};
     ghost use Rattle.view_draws.specs.ViewDraw.{rest_of, IsOf, body_at, IsSameReply, HasDrawn, HasBegun};
 
     /// The whole reply: a view of so many bytes, behind a head. It takes no memory.
@@ -42,7 +42,7 @@ impl ViewDraw {
                 place: None,
                 buffer: [0; 1000],
             },
-            progress: Progress::new(is_text),
+            progress: DrawProgress::new(is_text),
         }
     }
 
@@ -77,7 +77,7 @@ impl ViewDraw {
         ensures none_lost { OnErr result ((body : List ℕ) → rest_of self.new body ≡ rest_of self.old body) }
         ensures begun { OnErr result (HasBegun (S.site_state site.old).honest (body_at (S.site_state site.old) (S.pinned pin.now) self.old) self.old out.old out.new) }
         ensures fault { (IsTrue (S.site_state site.old).honest → IsOf (body_at (S.site_state site.old) (S.pinned pin.now) self.old) self.old) → IfErr result (IsReadFault false (S.site_state site.old) (S.site_state site.new)) }
-        ensures reads { CountsReads (S.pinned pin.now) self.old.source result (S.site_state site.old) (S.site_state site.new) }
+        ensures reads { CountsViewReads (S.pinned pin.now) self.old.source result (S.site_state site.old) (S.site_state site.new) }
 
         ensures same { IsSameReply self.old self.new }
         ensures only { ReadsOnly S.site_state S.lacks S.crash_states site.old site.new }

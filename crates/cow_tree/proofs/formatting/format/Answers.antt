@@ -17,14 +17,14 @@ slot_page_is slot made root size long is same page seal fits port =
     (subst (λ (s : Slot). ((sectors : ℕ) → s.seal < 2 ^ 64 → FitsDevice sectors s.root → 0 < s.root.banner.port → IsSlotPage sectors s root)) is page size seal fits port)
 
 least : (g : _) (c : goal.After-drop-tree-2 g) → 16 ≤ c.args.pages
-least g c = omega (arith, c.if-pages-lt16.false)
+least g c = omega (arith, c.if-pages-lt-LEAST_PAGES.false)
 
 page_is : (g : _) (c : goal.After-drop-tree-2 g) → IsTrue (g.D.Device.state c.args.device.now).honest → IsSlotPage (length (g.D.Device.state c.args.device.now).disk.view) (first_slot c.args.pages c.args.banner c.args.pairs.now) c.in_ok-root.root
 page_is g c keeps =
     let d = g.met.D.Device in
     let state = g.D.Device.state c.args.device.now in
     let size : length state.disk.view ≡ state.size = (d.view_is_image c.args.device.now keeps).size ∙ d.base_has_size c.args.device.now keeps in
-    let most : c.args.pages ≤ 65536 = omega (arith, c.if-pages-gt65536.false) in
+    let most : c.args.pages ≤ 65536 = omega (arith, c.if-pages-gt-MOST_PAGES.false) in
     let fits : 8 * c.args.pages ≤ state.size = omega (arith, c.if-from-sectors.false, c.from.ensures, c.sectors.ensures) in
     slot_page_is (first_slot c.args.pages c.args.banner c.args.pairs.now) c.first_slot.result c.in_ok-root.root state.size (length state.disk.view) c.first_slot.ensures size c.in_ok-root.ensures.valid (omega arith) (least g c, most, fits) c.requires.port
 

@@ -1,6 +1,6 @@
 use Rattle.std.proofs.Common.{◌≡◌, ℕ, ◌+◌, ◌*◌, ◌-◌, ◌<◌, [], Some, None, refl, sym, subst, arith, rules}
-use Rattle.sector_device.specs.Effects.{MadeExactly, MadeIfOk}
-use Rattle.sector_device.proofs.Works.{no_calls}
+use Rattle.sector_device.specs.Effects.{MadeAtMost}
+use Rattle.sector_device.proofs.Works.{no_calls, at_most, no_more_than}
 use Rattle.page_store.specs.Sectors.{page_of}
 use Rattle.page_store.specs.Content.{Bounds, walk}
 use Rattle.cow_tree.proofs.RootWalks.{walk_at, no_value}
@@ -14,7 +14,7 @@ returns-then-tree-eq0 g c = record {
     buffer = refl;
     reads = search rules;
   };
-  work = subst (λ (n : ℕ). MadeExactly (8 * n) 0 0 (g.D.Device.state c.args.device.now) (g.D.Device.state c.args.device.now)) (sym c.if-tree-eq0.true) (no_calls _);
+  work = no_more_than (at_most (no_calls _)) (omega arith) (omega arith) (omega arith);
 }
 
 pub returns : goal.returns
@@ -31,5 +31,5 @@ returns g c =
         buffer = under.buffer;
         reads = under.reads;
       };
-      work = subst (λ (n : ℕ). MadeIfOk c.get_under.result (8 * n) 0 0 (g.D.Device.state c.args.device.now) (g.D.Device.state c.get_under.new.device)) (let e : tree.height - 1 + 1 ≡ tree.height = omega (arith, ne) in e) c.get_under.ensures.work;
+      work = subst (λ (n : ℕ). MadeAtMost (8 * n) 0 0 (g.D.Device.state c.args.device.now) (g.D.Device.state c.get_under.new.device)) (let e : tree.height - 1 + 1 ≡ tree.height = omega (arith, ne) in e) c.get_under.ensures.work;
     }

@@ -2,8 +2,8 @@ use Rattle.std.proofs.Common.{◌≡◌, ◌+◌, ◌*◌, arith, ◌-◌, ℕ, 
 use Rattle.std.specs.Prelude.{option_map, take}
 use Rattle.std.proofs.lemmas.Result.{err_from_is_err_and}
 use Rattle.sector_device.specs.Disk.{Disk}
-use Rattle.sector_device.specs.Effects.{MadeIfOk}
-use Rattle.sector_device.proofs.Works.{most_of, if_err, ok_then, no_more_than}
+use Rattle.sector_device.specs.Effects.{MadeAtMost}
+use Rattle.sector_device.proofs.Works.{most_then, no_more_than}
 use Rattle.page_store.specs.Sectors.{page_of}
 use Rattle.page_store.specs.Batch.{value_at}
 use Rattle.page_store.specs.Content.{walk}
@@ -23,7 +23,7 @@ returns-then-level-eq0 g t c =
         buffer = here.buffer;
         reads = here.reads;
       };
-      work = subst (λ (n : ℕ). MadeIfOk c.get_in_leaf.result (8 * (n + 1)) 0 0 (g.D.Device.state c.args.device.now) (g.D.Device.state c.get_in_leaf.new.device)) (sym c.if-level-eq0.true) c.get_in_leaf.ensures.work;
+      work = subst (λ (n : ℕ). MadeAtMost (8 * (n + 1)) 0 0 (g.D.Device.state c.args.device.now) (g.D.Device.state c.get_in_leaf.new.device)) (sym c.if-level-eq0.true) c.get_in_leaf.ensures.work;
     }
 
 pub returns-in_err-child : goal.returns-in_err-child
@@ -36,7 +36,7 @@ returns-in_err-child g t c =
         buffer = search rules;
         reads = search rules;
       };
-      work = if_err c.from_residual.result c.from_residual.ensures.0 (no_more_than (most_of c.children_around.result c.children_around.ensures.work) (omega arith) (omega arith) (omega arith));
+      work = no_more_than c.children_around.ensures.work (omega arith) (omega arith) (omega arith);
     }
 
 pub returns : goal.returns
@@ -58,6 +58,6 @@ returns g t c =
       work =
           let ne = c.if-level-eq0.false in
           let more : 8 + 8 * (c.args.level - 1 + 1) ≡ 8 * (c.args.level + 1) = omega (arith, ne) in
-          subst (λ (n : ℕ). MadeIfOk c.get_under.result n 0 0 (d.state c.args.device.now) (d.state c.get_under.new.device)) more
-          (ok_then c.get_under.result (8 * (c.args.level - 1 + 1)) 0 0 (d.state c.get_under.new.device) c.in_ok-child.ensures.work c.get_under.ensures.work);
+          subst (λ (n : ℕ). MadeAtMost n 0 0 (d.state c.args.device.now) (d.state c.get_under.new.device)) more
+          (most_then c.in_ok-child.ensures.work c.get_under.ensures.work);
     }

@@ -1,7 +1,7 @@
 use Rattle.std.proofs.Common.{◌≡◌, ◌-◌, ℕ, Bool, [], Option, Some, None, sym, subst, ◌∙◌, arith, rules}
 use Rattle.std.proofs.lemmas.Result.{err_from_is_err_and}
 use Rattle.sector_device.specs.Disk.{Disk}
-use Rattle.sector_device.proofs.Works.{most_of, at_most, most_then, no_more_than}
+use Rattle.sector_device.proofs.Works.{most_then, no_more_than}
 use Rattle.page_store.specs.Sectors.{page_of}
 use Rattle.page_store.specs.Content.{walk}
 use Rattle.page_store.proofs.DeviceSequences.{still_honest}
@@ -23,7 +23,7 @@ leaf_after-returns-in_err-child g t c =
         some = search rules;
         reads = search rules;
       };
-      work = let ne = c.if-level-eq0.false in let tried = tried_under c.args.level ne in no_more_than (most_of c.children_around.result c.children_around.ensures.work) (omega (arith, tried)) (omega arith) (omega arith);
+      work = let ne = c.if-level-eq0.false in let tried = tried_under c.args.level ne in no_more_than c.children_around.ensures.work (omega (arith, tried)) (omega arith) (omega arith);
     }
 
 pub leaf_after-returns-in_err-leaf_after : goal.leaf_after-returns-in_err-leaf_after
@@ -43,7 +43,7 @@ leaf_after-returns-in_err-leaf_after g t c =
         some = search rules;
         reads = search rules;
       };
-      work = let ne = c.if-level-eq0.false in let tried = tried_under c.args.level ne in no_more_than (most_then (at_most c.in_ok-child.ensures.work) c.leaf_after.ensures.work) (omega (arith, tried)) (omega arith) (omega arith);
+      work = let ne = c.if-level-eq0.false in let tried = tried_under c.args.level ne in no_more_than (most_then c.in_ok-child.ensures.work c.leaf_after.ensures.work) (omega (arith, tried)) (omega arith) (omega arith);
     }
 
 pub leaf_after-returns-then-branch : goal.leaf_after-returns-then-branch
@@ -66,7 +66,7 @@ leaf_after-returns-then-branch g t c =
         some = under.some;
         reads = search rules;
       };
-      work = let ne = c.if-level-eq0.false in let tried = tried_under c.args.level ne in no_more_than (most_then (at_most c.in_ok-child.ensures.work) c.leaf_after.ensures.work) (omega (arith, tried)) (omega arith) (omega arith);
+      work = let ne = c.if-level-eq0.false in let tried = tried_under c.args.level ne in no_more_than (most_then c.in_ok-child.ensures.work c.leaf_after.ensures.work) (omega (arith, tried)) (omega arith) (omega arith);
     }
 
 pub leaf_after-returns-in-Some : goal.leaf_after-returns-in-Some
@@ -99,7 +99,7 @@ leaf_after-returns-in-Some g t c =
         some = beside.some;
         reads = search rules;
       };
-      work = let ne = c.if-level-eq0.false in let tried = tried_under c.args.level ne in no_more_than (most_then (most_then (at_most c.in_ok-child.ensures.work) c.leaf_after.ensures.work) c.leaf_in_sibling.ensures.work) (omega (arith, tried)) (omega arith) (omega arith);
+      work = let ne = c.if-level-eq0.false in let tried = tried_under c.args.level ne in no_more_than (most_then (most_then c.in_ok-child.ensures.work c.leaf_after.ensures.work) c.leaf_in_sibling.ensures.work) (omega (arith, tried)) (omega arith) (omega arith);
     }
 
 pub leaf_after-returns-in-None : goal.leaf_after-returns-in-None
@@ -124,5 +124,5 @@ leaf_after-returns-in-None g t c =
         some = under.some;
         reads = search rules;
       };
-      work = let ne = c.if-level-eq0.false in let tried = tried_under c.args.level ne in no_more_than (most_then (at_most c.in_ok-child.ensures.work) c.leaf_after.ensures.work) (omega (arith, tried)) (omega arith) (omega arith);
+      work = let ne = c.if-level-eq0.false in let tried = tried_under c.args.level ne in no_more_than (most_then c.in_ok-child.ensures.work c.leaf_after.ensures.work) (omega (arith, tried)) (omega arith) (omega arith);
     }

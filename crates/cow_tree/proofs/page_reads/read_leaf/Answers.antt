@@ -1,6 +1,5 @@
 use Rattle.std.proofs.Common.{rules}
 use Rattle.std.proofs.lemmas.Result.{err_from_is_err_and}
-use Rattle.sector_device.proofs.Works.{most_of, if_err}
 use Rattle.page_store.specs.Sectors.{page_of}
 use Rattle.tree_nodes.specs.PageViews.{bounds_of}
 use Rattle.cow_tree.proofs.AnswersGiven.{answer_err}
@@ -37,5 +36,5 @@ returns-in_err-read g c =
         some = search rules;
         reads = search rules;
       };
-      work = if_err c.from_residual.result c.from_residual.ensures.0 (most_of c.read.result c.read.ensures.work);
+      work = c.read.ensures.work;
     }

@@ -27,7 +27,7 @@ write_pages-requires g c = λ k n lt.
     let a = c.if-from-sectors.false in
     let b = c.from.ensures in
     let e = c.sectors.ensures in
-    let least = c.if-pages-lt16.false in
+    let least = c.if-pages-lt-LEAST_PAGES.false in
     let size = c.write_page.ensures.sectors.outcome.same.size in
     omega (arith, number, at.1, one, a, b, e, least, size)
 
@@ -40,8 +40,8 @@ returns-clause-content g c = λ keeps.
     let keeps2 : IsTrue (g.D.Device.state c.write_pages.new.device).honest = subst IsTrue (sym c.write_pages.ensures.pages.outcome.same.honest) keeps1 in
     let slot : SlotValue = record { number = 0; seal = 1; root = record { pages = c.args.pages; tree = 2; height = 0; keys = length pairs; banner = c.args.banner } } in
     let size : (g.D.Device.state c.write_pages.new.device).size ≡ (g.D.Device.state c.args.device.now).size = c.write_pages.ensures.pages.outcome.same.size ∙ c.write_page.ensures.sectors.outcome.same.size in
-    let least : 16 ≤ c.args.pages = omega (arith, c.if-pages-lt16.false) in
-    let most : c.args.pages ≤ 65536 = omega (arith, c.if-pages-gt65536.false) in
+    let least : 16 ≤ c.args.pages = omega (arith, c.if-pages-lt-LEAST_PAGES.false) in
+    let most : c.args.pages ≤ 65536 = omega (arith, c.if-pages-gt-MOST_PAGES.false) in
     let fits : 8 * c.args.pages ≤ (g.D.Device.state c.write_pages.new.device).size = let a = c.if-from-sectors.false in let b = c.from.ensures in let e = c.sectors.ensures in omega (arith, a, b, e, size) in
     let page : IsSlotPage (g.D.Device.state c.write_pages.new.device).size slot c.in_ok-root.root = c.in_ok-root.ensures.valid (g.D.Device.state c.write_pages.new.device).size (omega arith) (least, most, fits) c.requires.port in
     let keeps3 : IsTrue (g.D.Device.state c.write_page-2.new.device).honest = subst IsTrue (sym c.write_page-2.ensures.sectors.outcome.same.honest) keeps2 in
@@ -67,8 +67,8 @@ returns-clause-first g c = λ keeps.
     let keeps2 : IsTrue (g.D.Device.state c.write_pages.new.device).honest = subst IsTrue (sym c.write_pages.ensures.pages.outcome.same.honest) keeps1 in
     let slot : SlotValue = record { number = 0; seal = 1; root = record { pages = c.args.pages; tree = 2; height = 0; keys = length pairs; banner = c.args.banner } } in
     let size : (g.D.Device.state c.write_pages.new.device).size ≡ (g.D.Device.state c.args.device.now).size = c.write_pages.ensures.pages.outcome.same.size ∙ c.write_page.ensures.sectors.outcome.same.size in
-    let least : 16 ≤ c.args.pages = omega (arith, c.if-pages-lt16.false) in
-    let most : c.args.pages ≤ 65536 = omega (arith, c.if-pages-gt65536.false) in
+    let least : 16 ≤ c.args.pages = omega (arith, c.if-pages-lt-LEAST_PAGES.false) in
+    let most : c.args.pages ≤ 65536 = omega (arith, c.if-pages-gt-MOST_PAGES.false) in
     let fits : 8 * c.args.pages ≤ (g.D.Device.state c.write_pages.new.device).size = let a = c.if-from-sectors.false in let b = c.from.ensures in let e = c.sectors.ensures in omega (arith, a, b, e, size) in
     let page : IsSlotPage (g.D.Device.state c.write_pages.new.device).size slot c.in_ok-root.root = c.in_ok-root.ensures.valid (g.D.Device.state c.write_pages.new.device).size (omega arith) (least, most, fits) c.requires.port in
     let keeps3 : IsTrue (g.D.Device.state c.write_page-2.new.device).honest = subst IsTrue (sym c.write_page-2.ensures.sectors.outcome.same.honest) keeps2 in

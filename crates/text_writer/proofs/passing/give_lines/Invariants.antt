@@ -1,11 +1,11 @@
 use Rattle.std.proofs.Common.{◌≡◌, ◌-◌, ◌≤◌, ◌++◌, List, ℕ, length, take, drop}
 use Rattle.host_types.specs.SiteState.{IsUnchangedBehind}
 use Rattle.text_writer.specs.Place.{given_from}
-use Rattle.text_writer.specs.declared.place.Place.{Place}
+use Rattle.text_writer.specs.declared.place.LinePlace.{LinePlace}
 use Rattle.text_writer.proofs.passing.give_lines.Given as goal
 
 -- So many bytes were taken, and what they give stands from one place of the buffer to another.
-pub record IsGiving (start now : Place) (rest first out : List ℕ) (at taken end : ℕ) : Type 0 where
+pub record IsGiving (start now : LinePlace) (rest first out : List ℕ) (at taken end : ℕ) : Type 0 where
   pub within_rest : taken ≤ length rest
   pub onward : at ≤ end
   pub within : end ≤ length out

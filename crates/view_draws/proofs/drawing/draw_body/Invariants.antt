@@ -3,7 +3,7 @@ use Rattle.std.specs.Prelude.{IsTrue}
 use Rattle.view_draws.specs.Reading.{ReadsOnly}
 use Rattle.view_draws.specs.Source.{viewed_by, IsViewOf, IsSameView}
 use Rattle.view_draws.specs.Progress.{body_left}
-use Rattle.view_draws.specs.Drawing.{HasPassed}
+use Rattle.view_draws.specs.Drawing.{HasPassedOn}
 use Rattle.view_draws.proofs.drawing.draw_body.Given as goal
 
 -- what was given so far and what is left are what was to be given, and no read has failed
@@ -12,7 +12,7 @@ invariant-loop-progress g l =
     let site_state = g.S.SiteKeeper.site_state in
     let body = viewed_by (site_state l.fn.site) (g.S.SiteKeeper.pinned l.fn.pin) l.fn.source in
     record {
-      passed : HasPassed l.fn.source l.fn.progress l.progress l.fn.out l.out l.fn.at l.end;
+      passed : HasPassedOn l.fn.source l.fn.progress l.progress l.fn.out l.out l.fn.at l.end;
       same : IsSameView l.fn.source l.source;
       only : ReadsOnly site_state g.S.SiteKeeper.lacks g.S.SiteKeeper.crash_states l.fn.site l.site;
       none : (site_state l.site).failed_reads ≡ (site_state l.fn.site).failed_reads;

@@ -2,7 +2,7 @@ use Rattle.std.proofs.Common.{arith, ℕ, List, Option, sym, subst, IfSome}
 use Rattle.std.specs.Prelude.{option_map, take, ◌≡◌}
 use Rattle.page_store.specs.Batch.{pair_after}
 use Rattle.page_store.specs.Pages.{Pair}
-use Rattle.page_store.specs.StoreState.{IsReadFault}
+use Rattle.page_store.specs.StoreState.{IsStoreReadFault}
 use Rattle.page_store.specs.declared.fault.KeeperFault.{KeeperFault}
 use Rattle.cow_tree.specs.PinnedTrees.{found_at}
 use Rattle.cow_tree.specs.TreeState.{tree_holding}
@@ -51,7 +51,7 @@ returns-in-Err-clause-fault g c =
     let view = (d.state k.device).disk.view in
     let tree = c.tree_of-tree.result in
     let reads = c.in-Err.ensures.reads in
-    subst (λ (e : KeeperFault). IsReadFault (tree_holding (d.state k.device) k.slot k.ledger k.top k.usable k.pinned) (tree_holding (d.state c.read_next.new.device) k.slot k.ledger k.top k.usable k.pinned) e) (sym c.from.ensures)
+    subst (λ (e : KeeperFault). IsStoreReadFault (tree_holding (d.state k.device) k.slot k.ledger k.top k.usable k.pinned) (tree_holding (d.state c.read_next.new.device) k.slot k.ledger k.top k.usable k.pinned) e) (sym c.from.ensures)
     (read_fault (d.state k.device) (d.state c.read_next.new.device) k.slot k.ledger k.top k.usable k.pinned reads.device.only (Option (ℕ × ℕ)) c.in-Err.fault _ reads.reads
     (λ keeps. c.in-Err.ensures.pair keeps (found_at tree view) (k.pins_there keeps c.args.pin.now tree c.tree_of-tree.ensures).found_is))
 

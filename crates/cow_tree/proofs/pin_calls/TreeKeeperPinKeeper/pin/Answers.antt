@@ -1,7 +1,7 @@
 use Rattle.std.proofs.Common.{◌≡◌, ℕ, List, Option, Some, set, sym, ap, subst, ◌∙◌}
 use Rattle.page_alloc.specs.LedgerState.{LedgerState}
 use Rattle.page_alloc.specs.Calls.{pinning}
-use Rattle.page_store.specs.Pins.{IsPinned}
+use Rattle.page_store.specs.Pins.{IsStorePinned}
 use Rattle.cow_tree.specs.PinnedTrees.{tree_under, ArePinned, PinnedTreesAreKept}
 use Rattle.cow_tree.specs.TreeState.{tree_holding}
 use Rattle.cow_tree.specs.declared.tree_root.TreeRoot.{TreeRoot}
@@ -39,8 +39,8 @@ returns-in-Ok-clause-pinned g c =
     let is : c.pin.new.self ≡ pinning number k.ledger = given.3 in
     let trees : set k.pinned number (Some (tree_under k.slot)) ≡ set k.pinned c.number.result (Some c.under.result) =
     ap (λ (n : ℕ). set k.pinned n (Some (tree_under k.slot))) (sym c.number.ensures.number) ∙ ap (λ (t : TreeRoot). set k.pinned c.number.result (Some t)) (sym c.under.ensures) in
-    subst (λ (ts : List (Option TreeRoot)). IsPinned (tree_holding state k.slot k.ledger k.top k.usable k.pinned) (tree_holding state k.slot c.pin.new.self k.top k.usable ts) number) trees
-    (subst (λ (l : LedgerState). IsPinned (tree_holding state k.slot k.ledger k.top k.usable k.pinned) (tree_holding state k.slot l k.top k.usable (set k.pinned number (Some (tree_under k.slot)))) number) (sym is)
+    subst (λ (ts : List (Option TreeRoot)). IsStorePinned (tree_holding state k.slot k.ledger k.top k.usable k.pinned) (tree_holding state k.slot c.pin.new.self k.top k.usable ts) number) trees
+    (subst (λ (l : LedgerState). IsStorePinned (tree_holding state k.slot k.ledger k.top k.usable k.pinned) (tree_holding state k.slot l k.top k.usable (set k.pinned number (Some (tree_under k.slot)))) number) (sym is)
     (is_pinned k.slot k.ledger k.pinned number given.0 given.1 k.fitted.rest k.pins state k.top k.usable c.if-not-self.false k.there))
 
 pub returns-in-Err-clause-fault : goal.returns-in-Err-clause-fault

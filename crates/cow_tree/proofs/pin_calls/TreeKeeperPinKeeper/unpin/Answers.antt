@@ -1,6 +1,6 @@
 use Rattle.std.proofs.Common.{◌≡◌, ℕ, List, Option, None, is_some, get_or, set, sym, ap, subst, ◌∙◌, arith, true}
 use Rattle.page_alloc.specs.LedgerState.{LedgerState}
-use Rattle.page_store.specs.Pins.{IsUnpinned}
+use Rattle.page_store.specs.Pins.{IsStoreUnpinned}
 use Rattle.cow_tree.specs.PinnedTrees.{ArePinned, PinnedTreesAreKept}
 use Rattle.cow_tree.specs.TreeState.{tree_holding}
 use Rattle.cow_tree.specs.declared.tree_root.TreeRoot.{TreeRoot}
@@ -38,6 +38,6 @@ returns-clause-unpinned g c =
     let is = c.unpin.ensures in
     let out : is_some (get_or k.pinned c.args.pin None) ≡ true = sym (out_at state.disk.view 0 c.args.pin c.args.pin k.pinned (omega arith)) ∙ c.requires.out in
     let trees : set k.pinned c.args.pin None ≡ set k.pinned c.number.result None = ap (λ (n : ℕ). set k.pinned n None) (sym c.number.ensures.number) in
-    subst (λ (ts : List (Option TreeRoot)). IsUnpinned (tree_holding state k.slot k.ledger k.top k.usable k.pinned) (tree_holding state k.slot c.unpin.new.self k.top k.usable ts) c.args.pin) trees
-    (subst (λ (l : LedgerState). IsUnpinned (tree_holding state k.slot k.ledger k.top k.usable k.pinned) (tree_holding state k.slot l k.top k.usable (set k.pinned c.args.pin None)) c.args.pin) (sym is)
+    subst (λ (ts : List (Option TreeRoot)). IsStoreUnpinned (tree_holding state k.slot k.ledger k.top k.usable k.pinned) (tree_holding state k.slot c.unpin.new.self k.top k.usable ts) c.args.pin) trees
+    (subst (λ (l : LedgerState). IsStoreUnpinned (tree_holding state k.slot k.ledger k.top k.usable k.pinned) (tree_holding state k.slot l k.top k.usable (set k.pinned c.args.pin None)) c.args.pin) (sym is)
     (is_unpinned k.slot.root.pages k.ledger k.pinned c.args.pin out k.pins state k.slot k.top k.usable))

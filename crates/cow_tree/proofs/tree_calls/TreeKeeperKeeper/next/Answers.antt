@@ -1,5 +1,5 @@
 use Rattle.std.proofs.Common.{arith, ℕ, Option, sym, subst}
-use Rattle.page_store.specs.StoreState.{IsReadFault}
+use Rattle.page_store.specs.StoreState.{IsStoreReadFault}
 use Rattle.page_store.specs.declared.fault.KeeperFault.{KeeperFault}
 use Rattle.cow_tree.specs.TreeState.{found_under, tree_holding}
 use Rattle.cow_tree.proofs.KeeperReads.{needs_again, has_read, read_fault, counts_rise}
@@ -23,7 +23,7 @@ returns-in-Err-clause-fault g c =
     let d = g.D.Device in
     let k = c.args.self.now in
     let reads = c.in-Err.ensures.next.reads in
-    subst (λ (e : KeeperFault). IsReadFault (tree_holding (d.state k.device) k.slot k.ledger k.top k.usable k.pinned) (tree_holding (d.state c.find_next.new.device) k.slot k.ledger k.top k.usable k.pinned) e) (sym c.from.ensures)
+    subst (λ (e : KeeperFault). IsStoreReadFault (tree_holding (d.state k.device) k.slot k.ledger k.top k.usable k.pinned) (tree_holding (d.state c.find_next.new.device) k.slot k.ledger k.top k.usable k.pinned) e) (sym c.from.ensures)
     (read_fault (d.state k.device) (d.state c.find_next.new.device) k.slot k.ledger k.top k.usable k.pinned reads.device.only (Option (ℕ × ℕ)) c.in-Err.fault _ reads.reads
     (λ keeps. c.in-Err.ensures.next.pair keeps (found_under k.slot (d.state k.device).disk.view) ((k.there keeps).found_is, k.leaf keeps)))
 

@@ -22,8 +22,8 @@ tree_pages-requires-clause-room c =
 pub returns-then-need-free-clause-fault : goal.returns-then-need-free-clause-fault
 returns-then-need-free-clause-fault c =
     let need = need_is c.args.pairs.items c.owned_nodes-need.result (state_of c.in_ok-tree.tree) c.requires.map c.requires.few c.in_ok-tree.ensures c.owned_nodes-need.ensures in
-    let least = c.if-count-lt16.false in
-    let most = c.if-count-gt65536.false in
+    let least = c.if-count-lt-LEAST_PAGES.false in
+    let most = c.if-count-gt-MOST_PAGES.false in
     let free = c.from-free.ensures in
     (omega (arith, least), omega (arith, most), need, omega (arith, free, least), c.if-need-free.true)
 
@@ -32,8 +32,8 @@ invariant_of-result c =
     let pairs = c.args.pairs.items in
     let need = need_is pairs c.owned_nodes-need.result (state_of c.in_ok-tree.tree) c.requires.map c.requires.few c.in_ok-tree.ensures c.owned_nodes-need.ensures in
     let made = tree_made pairs c.owned_nodes-need.result (state_of c.in_ok-tree.tree) c.deref.result.now c.in_ok-page.pages.items c.in_ok-page.page c.requires.map c.requires.few c.in_ok-tree.ensures c.owned_nodes-need.ensures (c.deref.ensures.value ∙ c.in_ok-numbers.ensures) c.in_ok-page.ensures in
-    let least = c.if-count-lt16.false in
-    let most = c.if-count-gt65536.false in
+    let least = c.if-count-lt-LEAST_PAGES.false in
+    let most = c.if-count-gt-MOST_PAGES.false in
     let free = c.from-free.ensures in
     let room = c.if-need-free.false in
     let many = pages_counted pairs c.in_ok-page.pages.items c.in_ok-page.page made in
@@ -48,8 +48,8 @@ pub returns-clause-made : goal.returns-clause-made
 returns-clause-made c =
     let pairs = c.args.pairs.items in
     let tall = c.height.ensures ∙ ap (λ (s : RootState). s.height) c.in_ok-tree.ensures in
-    let least = c.if-count-lt16.false in
-    let most = c.if-count-gt65536.false in
+    let least = c.if-count-lt-LEAST_PAGES.false in
+    let most = c.if-count-gt-MOST_PAGES.false in
     record {
       tree = tree_made pairs c.owned_nodes-need.result (state_of c.in_ok-tree.tree) c.deref.result.now c.in_ok-page.pages.items c.in_ok-page.page c.requires.map c.requires.few c.in_ok-tree.ensures c.owned_nodes-need.ensures (c.deref.ensures.value ∙ c.in_ok-numbers.ensures) c.in_ok-page.ensures;
       slot_is = slot_made c.args.count c.in_ok-page.page c.height.result c.len-keys.result c.args.banner pairs tall (let size = c.len-keys.ensures in omega (arith, size, c.args.pairs.ok));

@@ -2,17 +2,17 @@ use Rattle.std.proofs.Common.{◌≡◌, ◌≤◌, ◌++◌, ◌⊎◌, ℕ, Li
 use Rattle.std.proofs.lemmas.List.{length-take}
 use Rattle.view_draws.specs.Progress.{left_of}
 use Rattle.view_draws.specs.ViewDraw.{rest_of, body_at}
-use Rattle.view_draws.specs.declared.progress.Progress.{Progress}
+use Rattle.view_draws.specs.declared.progress.DrawProgress.{DrawProgress}
 use Rattle.view_draws.proofs.DrawingSteps.{unchanged_on}
 use Rattle.view_draws.proofs.WholeDraws.{whole_given, none_or_full, given_to_end, left_at_end, front_begun, after_fault}
 use Rattle.view_draws.proofs.view_draw.ViewDraw.draw.Goals as goal
 
 -- what was given of the head, of equal heads and progresses
-of_same : (head slice : List ℕ) (start copy now : Progress) (given body : List ℕ) → slice ≡ head → copy ≡ start → given ++ left_of slice now body ≡ left_of slice copy body → given ++ left_of head now body ≡ left_of head start body
+of_same : (head slice : List ℕ) (start copy now : DrawProgress) (given body : List ℕ) → slice ≡ head → copy ≡ start → given ++ left_of slice now body ≡ left_of slice copy body → given ++ left_of head now body ≡ left_of head start body
 of_same head slice start copy now given body same_head same_start is =
     ap (λ l. given ++ left_of l now body) (sym same_head) ∙ is ∙ ap (λ l. left_of l copy body) same_head ∙ ap (λ p. left_of head p body) same_start
 
-head_or_full : (head slice mid : List ℕ) (now : Progress) (half : ℕ) → slice ≡ head → (now.head_drawn ≡ length slice) ⊎ (half ≡ length mid) → (now.head_drawn ≡ length head) ⊎ (half ≡ length mid)
+head_or_full : (head slice mid : List ℕ) (now : DrawProgress) (half : ℕ) → slice ≡ head → (now.head_drawn ≡ length slice) ⊎ (half ≡ length mid) → (now.head_drawn ≡ length head) ⊎ (half ≡ length mid)
 head_or_full head slice mid now half same is = subst (λ l. (now.head_drawn ≡ length l) ⊎ (half ≡ length mid)) same is
 
 pub returns-in_err-end-clause-begun : goal.returns-in_err-end-clause-begun

@@ -3,7 +3,7 @@ use Rattle.std.proofs.lemmas.Bool.Decides.{nat_tests}
 use Rattle.std.proofs.lemmas.List.{drop_all}
 use Rattle.view_draws.specs.Progress.{given_by}
 use Rattle.view_draws.proofs.Lefts.{none_for_any}
-use Rattle.view_draws.proofs.progress.Progress.is_body_finished.Goals as goal
+use Rattle.view_draws.proofs.progress.DrawProgress.is_body_finished.Goals as goal
 
 pub returns-in-Some : goal.returns-in-Some
 returns-in-Some c body size =

@@ -1,7 +1,7 @@
 use Rattle.std.proofs.Common.{◌+◌, take, drop, ap, sym, ◌++◌, ◌∙◌}
 use Rattle.view_draws.specs.Progress.{given_by}
 use Rattle.view_draws.proofs.Lefts.{given_as_bytes, given_as_text}
-use Rattle.view_draws.proofs.progress.Progress.pass.Goals as goal
+use Rattle.view_draws.proofs.progress.DrawProgress.pass.Goals as goal
 
 pub returns-in-Some-clause-given : goal.returns-in-Some-clause-given
 returns-in-Some-clause-given c body more next =

@@ -2,7 +2,7 @@ use Rattle.std.proofs.Common.{take, ap, sym, ◌∙◌, zero-add}
 use Rattle.view_draws.specs.Progress.{body_left}
 use Rattle.view_draws.proofs.Lefts.{given_of_head}
 use Rattle.view_draws.proofs.Parts.{rest_is}
-use Rattle.view_draws.proofs.progress.Progress.give_head.Goals as goal
+use Rattle.view_draws.proofs.progress.DrawProgress.give_head.Goals as goal
 
 pub returns-clause-given : goal.returns-clause-given
 returns-clause-given c body =
