@@ -43,3 +43,4 @@ pub mod PinsMade
 pub mod AllRetired
 pub mod PairsRead
 pub mod FirstImages
+pub mod NextPairs

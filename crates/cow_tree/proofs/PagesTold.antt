@@ -1,10 +1,10 @@
 -- What is read of a page of a tree by its head alone.
 use Rattle.std.proofs.Common.{◌≡◌, ℕ, zero, suc, ◌-◌, ◌<◌, ◌≤◌, Bool, true, false, List, [], ◌∷◌, length, Option, Some, None, refl, sym, ap, subst, ◌∙◌, arith}
-use Rattle.std.specs.Prelude.{IfSome, IfOk, IfErr, Result, Ok, Err, nat_lt}
-use Rattle.std.proofs.lemmas.Bool.{ltb-true, lt-ltb}
+use Rattle.std.specs.Prelude.{IfSome, IfOk, IfErr, Result, Ok, Err, nat_lt, nat_le, ◌&&◌}
+use Rattle.std.proofs.lemmas.Bool.{ltb-true, lt-ltb, le-leb}
 use Rattle.page_store.specs.Reading.{◌>>=◌, where_true}
-use Rattle.page_store.specs.Pages.{Pair, Child, pair_at, child_at, leaf_of, branch_of}
-use Rattle.page_store.specs.Batch.{value_at}
+use Rattle.page_store.specs.Pages.{Pair, Child, Place, pair_at, child_at, leaf_of, branch_of}
+use Rattle.page_store.specs.Batch.{value_at, pair_after}
 use Rattle.page_store.specs.Content.{Found, Bounds, place_in, fan, walk}
 use Rattle.page_store.proofs.Fields.{bind_some, test_passed}
 use Rattle.tree_nodes.specs.PageViews.{entries_by_head, has_head}
@@ -12,9 +12,10 @@ use Rattle.tree_nodes.proofs.KeyOrder.{both_true}
 use Rattle.tree_nodes.proofs.PageForm.{leaf_told, branch_told}
 use Rattle.tree_nodes.proofs.PageHeads.{leaf_headed, branch_headed}
 use Rattle.tree_nodes.proofs.WalksWithinBounds.{some_is}
-use Rattle.cow_tree.specs.Ways.{pages_around, is_page_or_none, are_inside, around_in, IsOnWay, AnswersBy}
+use Rattle.cow_tree.specs.Ways.{pages_around, is_page_or_none, are_inside, around_in, begins_leaf, IsOnWay, AnswersBy}
 use Rattle.cow_tree.specs.declared.page_fault.PageFault.{PageFault}
 use Rattle.cow_tree.specs.declared.page_fault.PageFault.TheVariants.{Damaged}
+use Rattle.cow_tree.proofs.FilledWalks.{leaf_filled, filled_some}
 use Rattle.cow_tree.proofs.OnTheWay.{branch_way, branch_keys, no_page, around_inside}
 use Rattle.cow_tree.proofs.Pages.{names_inside}
 
@@ -35,6 +36,17 @@ inside_told pages around t =
 
 told_inside : (pages : ℕ) (around : ℕ × Option ℕ) → around.0 < pages → IfSome around.1 (λ page. page < pages) → are_inside pages around ≡ true
 told_inside pages around here next = rw (lt-ltb around.0 pages here, next_inside pages around.1 next) refl
+
+-- ---- what a leaf's page begins with
+
+pub begins_there : (place : Place) (bytes : List ℕ) (pairs : List Pair) → has_head place bytes ≡ true → entries_by_head pair_at bytes ≡ pairs → 1 ≤ length pairs → begins_leaf place bytes ≡ true
+begins_there place bytes pairs head same some = rw (head, same, le-leb 1 (length pairs) some) refl
+
+pub begins_nowhere : (place : Place) (bytes : List ℕ) → has_head place bytes ≡ false → begins_leaf place bytes ≡ false
+begins_nowhere place bytes head = rw head refl
+
+pub begins_empty : (place : Place) (bytes : List ℕ) → has_head place bytes ≡ true → entries_by_head pair_at bytes ≡ [] → begins_leaf place bytes ≡ false
+begins_empty place bytes head none = rw (head, none) refl
 
 module _ (a : ℕ → List ℕ) (bounds : Bounds) (page : ℕ) (found : Found) where
   -- ---- a leaf
@@ -60,6 +72,19 @@ module _ (a : ℕ → List ℕ) (bounds : Bounds) (page : ℕ) (found : Found) w
       → IfOk r (λ x. shown x ≡ value_at (entries_by_head pair_at bytes) key) → IfErr r (λ e. (e ≡ Damaged page) × (has_head (place_in bounds 0 page) bytes ≡ false)) → AnswersBy r (λ x. shown x ≡ value_at found.pairs key)
   value_answered bytes is size e key shown (Ok x) value fault = value ∙ ap (λ (l : List Pair). value_at l key) (pairs_told bytes is e)
   value_answered bytes is size e key shown (Err f) value fault = let both = sym fault.1 ∙ leaf_head_told bytes is size e in absurd (cc both)
+
+  pub leaf_begins_told : (bytes : List ℕ) → a page ≡ bytes → length bytes ≤ 4096 → walk a bounds 0 page [] None ≡ Some found → begins_leaf (place_in bounds 0 page) bytes ≡ true
+  leaf_begins_told bytes is size e =
+      let l = leaf_walked e in
+      let same : entries_by_head pair_at bytes ≡ l.0 = ap (entries_by_head pair_at) (sym is) ∙ leaf_told (place_in bounds 0 page) [] None (a page) l.0 l.1 in
+      let some = filled_some l.0 (leaf_filled (place_in bounds 0 page) [] None (a page) l.0 l.1) in
+      begins_there (place_in bounds 0 page) bytes l.0 (leaf_head_told bytes is size e) same some
+
+  -- what looking the next pair up there answers
+  pub pair_answered : (bytes : List ℕ) → a page ≡ bytes → length bytes ≤ 4096 → walk a bounds 0 page [] None ≡ Some found → (key : List ℕ) (shown : Option (ℕ × ℕ) → Option Pair) (r : Result (Option (ℕ × ℕ)) PageFault)
+      → IfOk r (λ x. shown x ≡ pair_after (entries_by_head pair_at bytes) key) → IfErr r (λ e. (e ≡ Damaged page) × (begins_leaf (place_in bounds 0 page) bytes ≡ false)) → AnswersBy r (λ x. shown x ≡ pair_after found.pairs key)
+  pair_answered bytes is size e key shown (Ok x) pair fault = pair ∙ ap (λ (l : List Pair). pair_after l key) (pairs_told bytes is e)
+  pair_answered bytes is size e key shown (Err f) pair fault = let both = sym fault.1 ∙ leaf_begins_told bytes is size e in absurd (cc both)
 
   -- ---- a branch
 

@@ -1,11 +1,12 @@
 -- The sizes of pairs that are looked up.
 use Rattle.std.proofs.Common.{◌≡◌, ℕ, ◌≤◌, Bool, true, false, List, [], ◌∷◌, length, Option, Some, subst, sym, cond}
 use Rattle.std.specs.List.{list_all}
+use Rattle.std.specs.Ordering.{is_lt}
 use Rattle.std.specs.BTreeMap.{is_at}
 use Rattle.common_types.specs.ByteOrder.{byte_cmp}
 use Rattle.page_store.specs.Reading.{where_true}
 use Rattle.page_store.specs.Pages.{Pair, Place, pair_at, entries_of, leaf_of, are_leaf}
-use Rattle.page_store.specs.Batch.{is_pair, value_at}
+use Rattle.page_store.specs.Batch.{is_pair, value_at, pair_after}
 use Rattle.page_store.proofs.Fields.{bind_some, test_passed}
 use Rattle.page_store.proofs.DecodedPages.{pair_sizes}
 use Rattle.tree_nodes.proofs.KeyOrder.{both_true}
@@ -34,4 +35,20 @@ value_size (p ∷ ps) key v h e =
   where
     here : (t : Bool) → Some v ≡ cond t (Some p.1) (value_at ps key) → length p.1 ≤ 1024 → (Some v ≡ value_at ps key → length v ≤ 1024) → length v ≤ 1024
     here true e size later = let same = value_is v p.1 e in subst (λ (l : List ℕ). length l ≤ 1024) (sym same) size
+    here false e size later = later e
+
+abbrev some_pair : Pair → Option Pair
+some_pair p = Some p
+
+pair_is : (a b : Pair) → some_pair a ≡ some_pair b → a ≡ b
+pair_is a b e = cc
+
+pub after_sizes : (pairs : List Pair) (key : List ℕ) (p : Pair) → list_all is_pair pairs ≡ true → Some p ≡ pair_after pairs key → (length p.0 ≤ 300) × (length p.1 ≤ 1024)
+after_sizes [] key p h e = absurd (cc e)
+after_sizes (q ∷ qs) key p h e =
+    let b = both_true (is_pair q) (list_all is_pair qs) h in
+    here (is_lt (byte_cmp key q.0)) e (pair_sizes q b.0) (λ later. after_sizes qs key p b.1 later)
+  where
+    here : (t : Bool) → Some p ≡ cond t (Some q) (pair_after qs key) → (length q.0 ≤ 300) × (length q.1 ≤ 1024) → (Some p ≡ pair_after qs key → (length p.0 ≤ 300) × (length p.1 ≤ 1024)) → (length p.0 ≤ 300) × (length p.1 ≤ 1024)
+    here true e size later = let same = pair_is p q e in subst (λ (x : Pair). (length x.0 ≤ 300) × (length x.1 ≤ 1024)) (sym same) size
     here false e size later = later e

@@ -1,7 +1,7 @@
 -- What looking pairs up in a tree does to a device, and what it answers.
 use Rattle.std.specs.Prelude.{◌≡◌, ◌≤◌, ℕ, Bool, List, [], Option, Some, Result, IsTrue, IfOk, OnOk, IfSome, option_map, take}
 use Rattle.std.specs.Option.{is_some}
-use Rattle.page_store.specs.Sizes.{longest_value}
+use Rattle.page_store.specs.Sizes.{longest_key, longest_value}
 use Rattle.common_types.specs.CrashStates.{CrashStates}
 use Rattle.sector_device.specs.Device.{State}
 use Rattle.page_store.specs.Sectors.{Image, page_of}
@@ -19,6 +19,14 @@ pub record LooksUpValue {D : Type 0} (state : D → State) (crash_states : D →
   pub within : IfOk result (λ found. IfSome found (λ n. n ≤ longest_value))
   pub value : IsTrue (state old).honest → (found : Found) → tree (page_of (state old).disk.view) ≡ Some found → AnswersBy result (λ size. option_map (λ n. take n after) size ≡ value_at found.pairs key)
   pub buffer : IsFilled (λ n. n) result before after
+  pub reads : ReadsTreePages state crash_states old new result
+
+-- A call that looks up the pair after a key: it only reads pages, an honest device's tree has the pair that it answers, and it fills the buffers with its key and its value from the front.
+pub record LooksUpNext {D : Type 0} (state : D → State) (crash_states : D → CrashStates Image) (is_tree : (ℕ → List ℕ) → Found → Type 0) (after : List ℕ) (old new : D) (key_old key_new value_old value_new : List ℕ) (result : Result (Option (ℕ × ℕ)) PageFault) : Type 0 where
+  pub within : IfOk result (λ found. IfSome found (λ n. (n.0 ≤ longest_key) × (n.1 ≤ longest_value)))
+  pub pair : IsTrue (state old).honest → (found : Found) → is_tree (page_of (state old).disk.view) found → AnswersBy result (λ sizes. option_map (λ n. (take n.0 key_new, take n.1 value_new)) sizes ≡ pair_after found.pairs after)
+  pub key : IsFilled (λ n. n.0) result key_old key_new
+  pub value : IsFilled (λ n. n.1) result value_old value_new
   pub reads : ReadsTreePages state crash_states old new result
 
 -- A call that reads the leaf of the pair after a key: it only reads pages, on an honest device the leaf tells that pair of the tree, and the answer is whether the leaf has one. On every device the leaf has a pair.

@@ -1,9 +1,9 @@
 -- The way of a key through a tree of pages, and what reading along it answers.
-use Rattle.std.specs.Prelude.{◌≡◌, ◌&&◌, nat_lt, ℕ, Bool, true, List, [], ◌∷◌, Option, Some, None, Result, Ok, Err, if◌then◌else◌}
+use Rattle.std.specs.Prelude.{◌≡◌, ◌&&◌, nat_lt, nat_le, length, ℕ, Bool, true, List, [], ◌∷◌, Option, Some, None, Result, Ok, Err, if◌then◌else◌}
 use Rattle.std.specs.Option.{option_or}
 use Rattle.page_store.specs.Reading.{◌>>=◌, where_true}
 use Rattle.page_store.specs.Keys.{precedes}
-use Rattle.page_store.specs.Pages.{Pair, Child, Place, child_at}
+use Rattle.page_store.specs.Pages.{Pair, Child, Place, pair_at, child_at}
 use Rattle.page_store.specs.Batch.{value_at, pair_after}
 use Rattle.page_store.specs.Content.{Found, Bounds, walk}
 use Rattle.tree_nodes.specs.PageViews.{entries_by_head, has_head}
@@ -30,6 +30,10 @@ abbrev pub around_in : Place → List ℕ → List ℕ → Option (ℕ × Option
 around_in place key bytes = do
   around ← where_true (has_head place bytes) (pages_around key (entries_by_head child_at bytes))
   where_true (are_inside place.pages around) (Some around)
+
+-- whether bytes begin with the head of a leaf in its place, and a pair behind it
+abbrev pub begins_leaf : Place → List ℕ → Bool
+begins_leaf place bytes = has_head place bytes && nat_le 1 (length (entries_by_head pair_at bytes))
 
 -- An answer from the pages of a tree, of which none is damaged.
 abbrev pub AnswersBy : {T : Type 0} → Result T PageFault → (T → Type 0) → Type 0

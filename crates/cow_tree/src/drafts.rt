@@ -1,18 +1,20 @@
 // A tree that a commit changes, before anything is written.
-ghost use Rattle.std.specs.Prelude.{◌≡◌, ◌≤◌, ◌<◌, ◌+◌, ◌-◌, ◌*◌, ◌^◌, ℕ, List, None, Some, true, IsTrue, OnOk, IfOk, IfErr, length};
+ghost use Rattle.std.specs.Prelude.{◌≡◌, ◌≢◌, ◌≤◌, ◌<◌, ◌+◌, ◌-◌, ◌*◌, ◌^◌, ℕ, List, None, Some, true, IsTrue, OnOk, IfOk, IfErr, length};
 ghost use Rattle.sector_device.specs.Effects.{MadeAtMost};
+ghost use Rattle.page_alloc.specs.LedgerState.{is_alive};
+ghost use Rattle.page_store.specs.Sectors.{Image, page_of};
 ghost use Rattle.page_store.specs.Pages.{Pair};
 ghost use Rattle.page_store.specs.Batch.{edited, updated, is_edit, is_batch, is_map};
 ghost use Rattle.page_store.specs.Steps.{crash_states_of};
 ghost use Rattle.page_store.specs.StoreState.{most_levels};
-ghost use Rattle.page_store.specs.declared.fault.KeeperFault.TheVariants.{Deep};
+ghost use Rattle.page_store.specs.declared.fault.KeeperFault.TheVariants.{Deep, Device as NoRead};
 ghost use Rattle.tree_nodes.specs.Steps.{needed_under, put_under, delete_under, supply_step, stepped};
 ghost use Rattle.tree_nodes.specs.Keys.{has_under};
 ghost use Rattle.tree_nodes.specs.Needs.{needed_level};
 ghost use Rattle.tree_nodes.specs.OwnedTrees.{state_of};
 ghost use Rattle.cow_tree.specs.Opening.{IsRooted};
 ghost use Rattle.cow_tree.specs.Needs.{path_read, edit_made, drafted, StaysLow, GetsTooDeep};
-ghost use Rattle.cow_tree.specs.Drafts.{old_under, IsDraft, IsCounted, ReadsToDraft, TellsDraft, IsPutFault, MayBeTooDeep, keys_with, keys_without, root_under};
+ghost use Rattle.cow_tree.specs.Drafts.{old_under, IsDraft, IsCounted, ReadsToDraft, TellsDraft, IsPutFault, IsDraftFault, OnlyRetires, MayBeTooDeep, keys_with, keys_without, root_under};
 
 use crate::opening_walk::load_page;
 use crate::page_bounds::bounds_of;
@@ -32,7 +34,67 @@ pub(crate) struct Draft {
     pub(crate) keys: u64,
 }
 
-/// Reads a page that a key needs into the tree, and gives it up.
+/// Puts a page that a key needs, by its bytes, into the tree, and gives it up.
+fn take_needed(
+    alloc: Global,
+    ledger: &mut Ledger,
+    slot: &Slot,
+    tree: &mut OwnedTree,
+    key: &[u8],
+    page: u32,
+    bytes: &[u8; PAGE_SIZE],
+) -> Result<(), KeeperFault>
+    requires needed { needed_under key.now (state_of tree.old).root ≡ Some page }
+    requires alive { is_alive ledger.old page ≡ true }
+    // Of any image with these bytes at that page.
+    ensures draft { (view : Image) → page_of view page ≡ bytes.now → (edits read : ℕ) (pairs : List Pair) → IsDraft slot.now view edits read pairs ledger.old (state_of tree.old) →
+        TellsDraft ⊥ result (λ done. IsDraft slot.now view edits (read + 1) pairs ledger.new (state_of tree.new)) }
+    ensures read { (view : Image) → page_of view page ≡ bytes.now → OnOk result (state_of tree.new ≡ stepped (old_under slot.now view) (state_of tree.old) (supply_step key.now)) }
+    ensures down { OnOk result ((n : ℕ) → needed_under key.now (state_of tree.new).root ≡ Some n → needed_level key.now (state_of tree.new) < needed_level key.now (state_of tree.old)) }
+    ensures height { OnOk result ((state_of tree.new).height ≡ (state_of tree.old).height) }
+    ensures ledger { OnlyRetires ledger.old ledger.new }
+    ensures fault { IfErr result (λ e. IsDraftFault e × (e ≢ NoRead)) }
+{
+    match tree.supply(alloc, bounds_of(slot), key, bytes) {
+        Ok(()) => {
+            ledger.retire(page);
+            Ok(())
+        }
+        Err(NodeFault::Damaged { page }) => Err(KeeperFault::Damaged { page }),
+        Err(NodeFault::Memory) => Err(KeeperFault::Memory),
+    }
+}
+
+/// Reads a copy of a page that a key needs into the tree, and gives the page up.
+fn load_needed<D: Device>(
+    alloc: Global,
+    device: &mut D,
+    ledger: &mut Ledger,
+    slot: &Slot,
+    tree: &mut OwnedTree,
+    key: &[u8],
+    page: u32,
+) -> Result<(), KeeperFault>
+    requires alive { is_alive ledger.old page ≡ true }
+    requires needed { needed_under key.now (state_of tree.old).root ≡ Some page }
+    requires fits { 8 * slot.now.root.pages ≤ (D.state device.old).size }
+    requires pages { length ledger.old.lives ≡ slot.now.root.pages }
+    ensures draft { IsTrue (D.state device.old).honest → (edits read : ℕ) (pairs : List Pair) → IsDraft slot.now (D.state device.old).disk.view edits read pairs ledger.old (state_of tree.old) →
+        TellsDraft ⊥ result (λ done. IsDraft slot.now (D.state device.old).disk.view edits (read + 1) pairs ledger.new (state_of tree.new)) }
+    ensures read { IsTrue (D.state device.old).honest → OnOk result (state_of tree.new ≡ stepped (old_under slot.now (D.state device.old).disk.view) (state_of tree.old) (supply_step key.now)) }
+    ensures down { OnOk result ((n : ℕ) → needed_under key.now (state_of tree.new).root ≡ Some n → needed_level key.now (state_of tree.new) < needed_level key.now (state_of tree.old)) }
+    ensures height { OnOk result ((state_of tree.new).height ≡ (state_of tree.old).height) }
+    ensures reads { ReadsToDraft D.state (crash_states_of D.moment D.possible_since) device.old device.new ledger.old ledger.new result }
+    ensures work { MadeAtMost 8 0 0 (D.state device.old) (D.state device.new) }
+{
+    let mut bytes = [0; PAGE_SIZE];
+    if load_page(device, page, &mut bytes).is_err() {
+        return Err(KeeperFault::Device);
+    }
+    take_needed(alloc, ledger, slot, tree, key, page, &bytes)
+}
+
+/// Puts a page that a key needs into the tree, and gives it up.
 fn read_needed<D: Device>(
     alloc: Global,
     device: &mut D,
@@ -56,18 +118,10 @@ fn read_needed<D: Device>(
     if !ledger.lives(page) {
         return Err(KeeperFault::Damaged { page });
     }
-    let mut bytes = [0; PAGE_SIZE];
-    if load_page(device, page, &mut bytes).is_err() {
-        return Err(KeeperFault::Device);
+    if let Some(lent) = device.page(page) {
+        return take_needed(alloc, ledger, slot, tree, key, page, lent);
     }
-    match tree.supply(alloc, bounds_of(slot), key, &bytes) {
-        Ok(()) => {
-            ledger.retire(page);
-            Ok(())
-        }
-        Err(NodeFault::Damaged { page }) => Err(KeeperFault::Damaged { page }),
-        Err(NodeFault::Memory) => Err(KeeperFault::Memory),
-    }
+    load_needed(alloc, device, ledger, slot, tree, key, page)
 }
 
 /// Reads pages until all nodes on a key's path are owned.

@@ -10,6 +10,7 @@ mod formatting;
 mod kept_leaf;
 mod laws;
 mod lookups;
+mod next_reads;
 mod opening;
 mod opening_walk;
 mod page_bounds;

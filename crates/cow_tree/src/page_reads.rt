@@ -99,7 +99,7 @@ fn read_around<D: Device>(
 }
 
 /// The page under a branch's page under which a key stands, and the page after it.
-fn children_around<D: Device>(
+pub(crate) fn children_around<D: Device>(
     device: &mut D,
     bounds: ImageBounds,
     level: u16,

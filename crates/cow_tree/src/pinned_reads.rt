@@ -12,8 +12,7 @@ ghost use Rattle.cow_tree.specs.Walks.{ReadsTreePages};
 ghost use Rattle.cow_tree.specs.Ways.{AnswersBy};
 ghost use Rattle.cow_tree.specs.PinnedTrees.{IsRootedAt, tree_at};
 
-use crate::kept_leaf::KeptLeaf;
-use crate::lookups::read_next_leaf;
+use crate::next_reads::next_under;
 use crate::page_fault::PageFault;
 use crate::tree_root::TreeRoot;
 use page_store::{LONGEST_KEY, LONGEST_VALUE};
@@ -37,7 +36,16 @@ pub(crate) fn read_next<D: Device>(
     ensures reads { ReadsTreePages D.state (crash_states_of D.moment D.possible_since) device.old device.new result }
     ensures work { MadeAtMost (8 * pages_tried tree.height) 0 0 (D.state device.old) (D.state device.new) }
 {
-    let mut leaf = KeptLeaf::none();
-    read_next_leaf(device, tree, after, &mut leaf)?;
-    Ok(leaf.copy_after(after, key, value))
+    if tree.height == 0 {
+        return Ok(None);
+    }
+    next_under(
+        device,
+        tree.bounds(),
+        tree.height - 1,
+        tree.tree,
+        after,
+        key,
+        value,
+    )
 }
