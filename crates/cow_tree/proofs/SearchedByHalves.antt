@@ -203,9 +203,6 @@ around_counted key children count page next is some here behind =
     let around = around_there key children (count - 1) c.0 (sym is ∙ sym more) c.1 in
     sym (around ∙ ap (λ (n : ℕ). Some (c.0.page, option_map (λ (x : Child). x.page) (slice_get children n))) more ∙ ap (λ (o : Option ℕ). Some (c.0.page, o)) (sym behind) ∙ ap (λ (p : ℕ). Some (p, next)) c.2)
 
-
-
-
 pub pair_counted : (key : List ℕ) (pairs : List Pair) (count : ℕ) → count ≡ count_upto key (map key_of pairs) → 1 ≤ count → None ≡ slice_get pairs (count - 1) → ⊥
 pair_counted key pairs count is some none =
     let most = upto_most key (map key_of pairs) in

@@ -28,9 +28,9 @@ pub record AreFoundSoFar {E : Type 0} (found_at : ℕ → Option E) (all left : 
   pub rest : left ≡ drop placed all
 
 -- The entries of a page of a level, as its head counts them, begin at these places.
-abbrev pub ArePlaces : ℕ → List ℕ → ℕ → List ℕ → Type 0
-ArePlaces zero bytes = AreFoundAt (entry_from pair_at bytes) (entries_by_head pair_at bytes)
-ArePlaces (suc level) bytes = AreFoundAt (entry_from child_at bytes) (entries_by_head child_at bytes)
+pub record ArePlaces (level : ℕ) (bytes : List ℕ) (count : ℕ) (at : List ℕ) : Type 0 where
+  pub pairs : level ≡ 0 → AreFoundAt (entry_from pair_at bytes) (entries_by_head pair_at bytes) count at
+  pub children : 0 < level → AreFoundAt (entry_from child_at bytes) (entries_by_head child_at bytes) count at
 
 -- so many entries stand behind the head of a page of a level, and they are those that the head counts
 abbrev pub HasEntries : ℕ → List ℕ → ℕ → Type 0

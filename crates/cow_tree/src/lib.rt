@@ -9,6 +9,7 @@ mod drafts;
 mod formatting;
 mod kept_leaf;
 mod kept_places;
+mod kept_reads;
 mod laws;
 mod lookups;
 mod next_reads;

@@ -38,11 +38,7 @@ fn child_from(bytes: &[u8; PAGE_SIZE], place: Place) -> Option<(&[u8], u32, Plac
 }
 
 /// Where so many pairs begin, one after another from the head of a page on, as far as they have the form; none where they are too many.
-fn pair_places(
-    bytes: &[u8; PAGE_SIZE],
-    count: u16,
-    at: &mut [u16; MOST_PLACES],
-) -> Option<u16>
+fn pair_places(bytes: &[u8; PAGE_SIZE], count: u16, at: &mut [u16; MOST_PLACES]) -> Option<u16>
     ensures { IfSome result (λ n. AreFoundAt (entry_from pair_at bytes.now) (pairs_from bytes.now 24 count) n at.new) }
 {
     let mut place = Place {
@@ -62,11 +58,7 @@ fn pair_places(
 }
 
 /// Where so many children begin, likewise.
-fn child_places(
-    bytes: &[u8; PAGE_SIZE],
-    count: u16,
-    at: &mut [u16; MOST_PLACES],
-) -> Option<u16>
+fn child_places(bytes: &[u8; PAGE_SIZE], count: u16, at: &mut [u16; MOST_PLACES]) -> Option<u16>
     ensures { IfSome result (λ n. AreFoundAt (entry_from child_at bytes.now) (children_from bytes.now 24 count) n at.new) }
 {
     let mut place = Place {
@@ -122,12 +114,7 @@ fn precedes(key: &[u8], other: &[u8]) -> bool
 }
 
 /// How many entries of a page come before the first whose key is above a key, by halves.
-fn count_upto(
-    level: u16,
-    bytes: &[u8; PAGE_SIZE],
-    places: &PagePlaces,
-    key: &[u8],
-) -> Option<usize>
+fn count_upto(level: u16, bytes: &[u8; PAGE_SIZE], places: &PagePlaces, key: &[u8]) -> Option<usize>
     ensures { (keys : List (List ℕ)) → AreFoundAt (key_from level bytes.now) keys places.now.count places.now.at → IsTrue (rises keys) → result ≡ Some (count_upto key.now keys) }
 {
     let mut low = 0;
