@@ -101,6 +101,7 @@ impl Image {
         match node {
             Node::Page(page) => Ok(page),
             Node::Leaf(pairs) => self.store(&Node::Leaf(pairs), level),
+            Node::Packed(leaf) => self.store(&Node::Packed(leaf), level),
             Node::Branch(first, others) => {
                 if level == 0 {
                     return Err(Trouble::Wrong("a branch stands at level 0"));

@@ -87,6 +87,7 @@ impl Shown {
                 Ok(())
             }
             Node::Leaf(pairs) => self.number(pairs.len()),
+            Node::Packed(leaf) => self.number(leaf.len()),
             Node::Branch(first, others) => {
                 self.word("(")?;
                 self.node(first)?;

@@ -48,6 +48,7 @@ pub fn owned_pairs(node: &Node) -> usize {
     match node {
         Node::Page(_) => 0,
         Node::Leaf(pairs) => pairs.len(),
+        Node::Packed(leaf) => leaf.len(),
         Node::Branch(first, others) => {
             let mut count = owned_pairs(first);
             for child in others {

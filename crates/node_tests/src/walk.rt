@@ -83,6 +83,19 @@ impl<'a> Walk<'a> {
                 }
                 Ok(level == 0)
             }
+            Node::Packed(leaf) => {
+                let mut left = leaf.pairs();
+                for _ in 0..leaf.len() {
+                    let Some((key, value, others)) = left.first() else {
+                        break;
+                    };
+                    if !self.is_next(key, value) {
+                        return Ok(false);
+                    }
+                    left = others;
+                }
+                Ok(level == 0)
+            }
             Node::Branch(first, others) => {
                 if level == 0 || !self.meets_node(first, level - 1)? {
                     return Ok(false);

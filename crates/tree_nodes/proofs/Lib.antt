@@ -16,6 +16,7 @@ pub mod SizesRead
 pub mod PagesOpen
 pub mod EntriesOneByOne
 pub mod EncodedPages
+pub mod PackedEntries
 pub mod PageForm
 pub mod WrittenChildren
 pub mod ListsOfSteps

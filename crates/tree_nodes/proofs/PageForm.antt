@@ -17,7 +17,7 @@ everywhere : (keys : List (List ℕ)) → list_all (is_between [] None) keys ≡
 everywhere [] = refl
 everywhere (key ∷ keys) = rw (between_from [] None key (not_below_nothing key) refl) (everywhere keys)
 
-after_some : {E : Type 0} (r : Option (List E × List ℕ)) (rest : List ℕ) → Some rest ≡ after_entries r → (x : List E × List ℕ) × (r ≡ Some x) × (x.1 ≡ rest)
+pub after_some : {E : Type 0} (r : Option (List E × List ℕ)) (rest : List ℕ) → Some rest ≡ after_entries r → (x : List E × List ℕ) × (r ≡ Some x) × (x.1 ≡ rest)
 after_some None rest e = absurd (cc e)
 after_some (Some x) rest e = (x, refl, sym (some_is rest x.1 e))
 

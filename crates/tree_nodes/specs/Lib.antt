@@ -15,3 +15,4 @@ pub mod Needs
 pub mod OwnedTrees
 pub mod Growth
 pub mod Keys
+pub mod PackedEntries

@@ -15,6 +15,7 @@ others_of (child ∷ children) = other child.0 child.1 (others_of children)
 abbrev pub view_step : Node-F Tree → Tree
 view_step (Node-F.Page n) = page n
 view_step (Node-F.Leaf v) = leaf v.items
+view_step (Node-F.Packed pairs) = leaf pairs
 view_step (Node-F.Branch first v) = branch first.value (others_of v.items)
 
 abbrev pub tree_of : Node → Tree

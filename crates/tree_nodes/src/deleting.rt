@@ -6,8 +6,8 @@ ghost use Rattle.common_types.specs.ByteOrder.{byte_cmp};
 ghost use Rattle.tree_nodes.specs.Delete.{leaf_left, first_left, others_less, delete as delete_in};
 ghost use Rattle.tree_nodes.specs.NodeView.{others_view, tree_of, left_of};
 
-use crate::Node;
 use crate::node::place_of;
+use crate::{Node, PackedLeaf};
 use common_types::Bytes;
 use page_store::{Pair, remove_pair};
 use std::mem;
@@ -22,6 +22,19 @@ fn shrink_leaf(pairs: Vec<Pair>, key: &[u8]) -> Option<Node>
         None
     } else {
         Some(Node::Leaf(pairs))
+    }
+}
+
+/// What is left of a packed leaf without a key.
+fn shrink_packed(leaf: PackedLeaf, key: &[u8]) -> Option<Node>
+    ensures { left_of result ≡ leaf_left (remove_entry (is_at (byte_cmp key.now)) leaf) }
+{
+    let mut leaf = leaf;
+    leaf.remove(key);
+    if leaf.is_empty() {
+        None
+    } else {
+        Some(Node::Packed(leaf))
     }
 }
 
@@ -76,6 +89,7 @@ pub fn delete(node: Node, key: &[u8]) -> Option<Node>
     match node {
         Node::Page(page) => Some(Node::Page(page)),
         Node::Leaf(pairs) => shrink_leaf(pairs, key),
+        Node::Packed(leaf) => shrink_packed(leaf, key),
         Node::Branch(first, others) => {
             let place = place_of(&others, key);
             if place == 0 {

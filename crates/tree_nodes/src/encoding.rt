@@ -41,6 +41,7 @@ fn page_number(node: &Node) -> u32
     match node {
         Node::Page(page) => *page,
         Node::Leaf(_) => 0,
+        Node::Packed(_) => 0,
         Node::Branch(_, _) => 0,
     }
 }
@@ -120,6 +121,7 @@ pub fn is_writable(node: &Node) -> bool
     match node {
         Node::Page(_) => false,
         Node::Leaf(pairs) => are_pairs(pairs) && leaf_fits(pairs),
+        Node::Packed(leaf) => leaf.fits(),
         Node::Branch(_, others) => branch_fits(others),
     }
 }
@@ -138,6 +140,7 @@ pub fn encode(
     match node {
         Node::Page(_) => Ok([0; PAGE_SIZE]),
         Node::Leaf(pairs) => encode_leaf(alloc, page, generation, pairs),
+        Node::Packed(leaf) => Ok(leaf.to_page(page, generation)),
         Node::Branch(first, others) => {
             branch_page(alloc, page, generation, level, first, others)
         }

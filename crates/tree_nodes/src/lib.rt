@@ -7,6 +7,7 @@ mod fault;
 mod laws;
 mod node;
 mod owned_tree;
+mod packed_leaf;
 mod page_views;
 mod putting;
 mod splitting;
@@ -24,6 +25,7 @@ pub use laws::{
 };
 pub use node::{Node, NodeGrown, needed};
 pub use owned_tree::{EditAnswer, OwnedTree};
+pub use packed_leaf::PackedLeaf;
 pub use page_views::{Branch, ImageBounds, Leaf};
 pub use putting::put;
 pub use step_laws::{

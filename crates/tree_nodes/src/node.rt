@@ -5,6 +5,7 @@ ghost use Rattle.tree_nodes.specs.Tree.{way, place, owned_nodes};
 ghost use Rattle.tree_nodes.specs.Keys.{has_key};
 ghost use Rattle.tree_nodes.specs.NodeView.{tree_of, others_view};
 
+use crate::PackedLeaf;
 use common_types::Bytes;
 use page_store::Pair;
 use std::cmp::Ordering;
@@ -16,6 +17,8 @@ pub enum Node {
     Page(u32),
     /// A leaf of these pairs.
     Leaf(Vec<Pair>),
+    /// A leaf of the pairs of these entries.
+    Packed(PackedLeaf),
     /// A branch of its first child, and of the others, each with the key from which on its own keys are.
     Branch(Box<Node>, Vec<(Bytes, Node)>),
 }
@@ -36,6 +39,7 @@ pub fn needed(node: &Node, key: &[u8]) -> Option<u32>
     match node {
         Node::Page(page) => Some(*page),
         Node::Leaf(_) => None,
+        Node::Packed(_) => None,
         Node::Branch(first, others) => {
             let place = place_of(others, key);
             if place == 0 {
@@ -54,6 +58,7 @@ pub(crate) fn holds_key(node: &Node, key: &[u8]) -> bool
     match node {
         Node::Page(_) => false,
         Node::Leaf(pairs) => has_pair(pairs, key),
+        Node::Packed(leaf) => leaf.has(key),
         Node::Branch(first, others) => {
             let place = place_of(others, key);
             if place == 0 {
@@ -84,6 +89,7 @@ pub(crate) fn owned_count(node: &Node) -> u64
     match node {
         Node::Page(_) => 0,
         Node::Leaf(_) => 1,
+        Node::Packed(_) => 1,
         Node::Branch(first, others) => {
             let mut count = owned_count(first).saturating_add(1);
             for child in others {

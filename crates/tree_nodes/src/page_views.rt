@@ -11,6 +11,7 @@ ghost use Rattle.tree_nodes.specs.Supply.{others_named};
 ghost use Rattle.tree_nodes.specs.PageViews.{bounds_of, pairs_in, children_in, entries_by_head, least_entry, is_head_of, has_head, after_entries, are_children, page_on_path};
 ghost use Rattle.tree_nodes.specs.declared.fault.NodeFault.TheVariants.{Damaged};
 
+use crate::packed_leaf::entries_in;
 use crate::splitting::ENTRY_ROOM;
 use crate::{Node, NodeFault};
 use common_types::Bytes;
@@ -46,7 +47,7 @@ pub struct Branch<'a> {
 }
 
 /// Whether a head is that of a page of this number and level, of a generation up to the current one, and of at least one entry.
-fn fits_place(bounds: ImageBounds, level: u16, page: u32, head: PageHead) -> bool
+pub(crate) fn fits_place(bounds: ImageBounds, level: u16, page: u32, head: PageHead) -> bool
     ensures { result ≡ fits_place (place_in (bounds_of bounds) level page) (seen_head head) }
 {
     head.number == page
@@ -88,7 +89,7 @@ fn is_between(low: &[u8], high: Option<&[u8]>, key: &[u8]) -> bool
 }
 
 /// The bytes after so many pairs, where they have the form.
-fn after_pairs(count: u16, bytes: &[u8]) -> Option<&[u8]>
+pub(crate) fn after_pairs(count: u16, bytes: &[u8]) -> Option<&[u8]>
     ensures { option_map (λ r. r.now) result ≡ after_entries (entries_at pair_at count bytes.now) }
 {
     let mut rest = bytes;
@@ -194,14 +195,14 @@ impl<'a> Leaf<'a> {
         ensures pairs { IfOk result (λ leaf. leaf_of (place_in (bounds_of bounds) 0 page) [] None bytes.now ≡ Some (pairs_in leaf.count leaf.entries.now)) }
         ensures fault { IfErr result (λ e. (e ≡ Damaged page) × (leaf_of (place_in (bounds_of bounds) 0 page) [] None bytes.now ≡ None)) }
     {
-        match leaf_in(bounds, page, bytes) {
-            Some(leaf) => Ok(leaf),
+        match entries_in(bounds, page, bytes) {
+            Some((count, entries)) => Ok(Leaf::of_entries(count, entries)),
             None => Err(NodeFault::Damaged { page }),
         }
     }
 
     /// Whether its keys rise.
-    fn keys_rise(&self) -> bool
+    pub(crate) fn keys_rise(&self) -> bool
         ensures { result ≡ rises (map key_of (pairs_in self.now.count self.now.entries.now)) }
     {
         let Some((first, _, others)) = self.first() else {
@@ -268,28 +269,6 @@ impl<'a> Leaf<'a> {
         }
         Ok(pairs)
     }
-}
-
-/// The leaf that the bytes of a page have the form of.
-fn leaf_in<'a>(bounds: ImageBounds, page: u32, bytes: &'a [u8; PAGE_SIZE]) -> Option<Leaf<'a>>
-    ensures { MatchOption result (leaf_of (place_in (bounds_of bounds) 0 page) [] None bytes.now ≡ None) (λ leaf. leaf_of (place_in (bounds_of bounds) 0 page) [] None bytes.now ≡ Some (pairs_in leaf.count leaf.entries.now)) }
-{
-    let (head, entries) = head_at(&PAGE_WORD, bytes)?;
-    let rest = after_pairs(head.count, entries)?;
-    let leaf = Leaf {
-        count: head.count,
-        entries,
-    };
-    if !fits_place(bounds, 0, page, head) {
-        return None;
-    }
-    if !are_zero(rest) {
-        return None;
-    }
-    if !leaf.keys_rise() {
-        return None;
-    }
-    Some(leaf)
 }
 
 impl<'a> Branch<'a> {

@@ -7,7 +7,7 @@ ghost use Rattle.tree_nodes.specs.NodeView.{tree_of, others_view, grown_of};
 
 use crate::node::place_of;
 use crate::splitting::{split_branch, split_leaf};
-use crate::{Node, NodeGrown};
+use crate::{Node, NodeGrown, PackedLeaf};
 use common_types::Bytes;
 use page_store::{Pair, put_pair};
 use std::alloc::{AllocError, Global};
@@ -27,6 +27,25 @@ fn grow_leaf(
     let value = Bytes::from_slice(alloc, value)?;
     put_pair(&mut pairs, key, value)?;
     split_leaf(alloc, pairs)
+}
+
+/// A packed leaf in which a value is put at a key.
+fn grow_packed(
+    alloc: Global,
+    leaf: PackedLeaf,
+    key: &[u8],
+    value: &[u8],
+) -> Result<NodeGrown, AllocError>
+    ensures { IfOk result (λ g. grown_of g ≡ split_leaf (insert_entry byte_cmp leaf key.now value.now)) }
+{
+    if !leaf.takes(key, value) {
+        return grow_leaf(alloc, leaf.to_pairs(alloc)?, key, value);
+    }
+    let leaf = leaf.put(alloc, key, value)?;
+    if leaf.fits() {
+        return Ok(NodeGrown::One(Node::Packed(leaf)));
+    }
+    split_leaf(alloc, leaf.to_pairs(alloc)?)
 }
 
 /// A branch whose first child has grown.
@@ -83,6 +102,7 @@ pub fn put(alloc: Global, node: Node, key: &[u8], value: &[u8]) -> Result<NodeGr
     match node {
         Node::Page(page) => Ok(NodeGrown::One(Node::Page(page))),
         Node::Leaf(pairs) => grow_leaf(alloc, pairs, key, value),
+        Node::Packed(leaf) => grow_packed(alloc, leaf, key, value),
         Node::Branch(first, others) => {
             let place = place_of(&others, key);
             if place == 0 {

@@ -7,7 +7,7 @@ ghost use Rattle.tree_nodes.specs.NodeView.{tree_of};
 
 use crate::deleting::with_child_left;
 use crate::node::place_of;
-use crate::{Branch, ImageBounds, Leaf, Node, NodeFault};
+use crate::{Branch, ImageBounds, Node, NodeFault, PackedLeaf};
 use sector_device::PAGE_SIZE;
 use std::alloc::Global;
 use std::mem;
@@ -38,8 +38,8 @@ fn read_leaf(
 ) -> Result<Node, NodeFault>
     ensures { MatchResult result (λ node. tree_in (bounds_of bounds) 0 page bytes.now ≡ Some (tree_of node)) (IsNodeReadFault page (tree_in (bounds_of bounds) 0 page bytes.now)) }
 {
-    let leaf = Leaf::new(bounds, page, bytes)?;
-    Ok(Node::Leaf(leaf.to_pairs(alloc)?))
+    let leaf = PackedLeaf::of_page(alloc, bounds, page, bytes)?;
+    Ok(Node::Packed(leaf))
 }
 
 /// The node that the bytes of a page of a level above 0 say.
@@ -68,6 +68,7 @@ pub(crate) fn level_under(node: &Node, key: &[u8], level: u16) -> u16
     match node {
         Node::Page(_) => level,
         Node::Leaf(_) => level,
+        Node::Packed(_) => level,
         Node::Branch(first, others) => {
             let place = place_of(others, key);
             let below = level.saturating_sub(1);
@@ -87,6 +88,7 @@ pub fn supply(node: Node, key: &[u8], read: Node) -> Node
     match node {
         Node::Page(_) => read,
         Node::Leaf(pairs) => Node::Leaf(pairs),
+        Node::Packed(leaf) => Node::Packed(leaf),
         Node::Branch(first, others) => {
             let place = place_of(&others, key);
             if place == 0 {

@@ -13,7 +13,7 @@ pub fn fits_pages(node: &Node, level: u16) -> bool
 {
     match node {
         Node::Page(_) => true,
-        Node::Leaf(_) => is_writable(node),
+        Node::Leaf(_) | Node::Packed(_) => is_writable(node),
         Node::Branch(first, others) => {
             if level == 0 {
                 return false;

@@ -64,7 +64,9 @@ pub fn write_node(
 {
     match node {
         Node::Page(page) => Ok(*page),
-        Node::Leaf(_) => add_page(alloc, node, level, generation, numbers, pages),
+        Node::Leaf(_) | Node::Packed(_) => {
+            add_page(alloc, node, level, generation, numbers, pages)
+        }
         Node::Branch(first, others) => {
             let below = level.saturating_sub(1);
             let child = write_node(alloc, first, below, generation, numbers, pages)?;
