@@ -38,7 +38,7 @@ fits_pages-returns-else-not-fits_pages t c =
     let others = others_view c.in-Branch.others.items in
     let is : tree_of c.args.node.now ≡ branch first others = ap tree_of c.in-Branch.is ∙ tree_branch c.in-Branch.first c.in-Branch.others in
     let up : level ≡ suc (level - 1) = let some = c.if-level-eq0.false in omega (arith, some) in
-    let size : 6 + other_bytes others ≤ entry_room = subst IsWritable is (c.is_writable-in-Branch.ensures.0 c.if-not-is_writable.false) in
+    let size : 6 + other_bytes others ≤ entry_room = subst IsWritable is (c.is_writable.ensures.0 c.if-not-is_writable.false) in
     let child : AllFit (level - 1) first = subst (λ (m : Node). AllFit (level - 1) (tree_of m)) c.deref.ensures (c.fits_pages.ensures.0 c.if-not-fits_pages.false) in (
       λ yes.
           let row : RowFits (level - 1) others = subst (λ (l : Children). RowFits (level - 1) (others_view l)) c.deref-in-Branch.ensures.value (c.children_fit.ensures.0 yes) in
