@@ -37,7 +37,7 @@ use Rattle.tree_nodes.proofs.EncodedPages.{entries_length}
 abbrev pub AreBytes : List ℕ → Type 0
 AreBytes bytes = (i : ℕ) → get_or bytes i 0 < 256
 
-bytes_after : (n : ℕ) (bytes : List ℕ) → AreBytes bytes → AreBytes (drop n bytes)
+pub bytes_after : (n : ℕ) (bytes : List ℕ) → AreBytes bytes → AreBytes (drop n bytes)
 bytes_after n bytes h i = rw get_or-drop (h (n + i))
 
 bytes_until : (n : ℕ) (bytes : List ℕ) → AreBytes bytes → AreBytes (take n bytes)
@@ -67,7 +67,7 @@ piece_written n bytes x fits e =
     let rest : drop n bytes ≡ x.1 = ap (λ (y : List ℕ × List ℕ). y.1) is in
     (sym (take-append-drop n bytes) ∙ ap (λ (l : List ℕ). l ++ drop n bytes) front ∙ ap (λ (l : List ℕ). x.0 ++ l) rest, subst AreBytes rest (bytes_after n bytes fits))
 
-pair_written : (bytes : List ℕ) (x : Pair × List ℕ) → AreBytes bytes → pair_at bytes ≡ Some x → (bytes ≡ entry_bytes x.0 ++ x.1) × AreBytes x.1
+pub pair_written : (bytes : List ℕ) (x : Pair × List ℕ) → AreBytes bytes → pair_at bytes ≡ Some x → (bytes ≡ entry_bytes x.0 ++ x.1) × AreBytes x.1
 unfolding pair_at
 pair_written bytes x fits e =
     let a = bind_some (number_at w16 bytes) (λ key_length. number_at w16 key_length.1 >>= λ value_length. piece_at key_length.0 value_length.1 >>= λ key. piece_at value_length.0 key.1 >>= λ value.

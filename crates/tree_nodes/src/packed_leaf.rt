@@ -1,5 +1,6 @@
 // A leaf whose pairs stay as the bytes of its entries.
-ghost use Rattle.std.specs.Prelude.{◌≡◌, ◌↔◌, ◌≤◌, ◌<◌, ◌+◌, ◌-◌, ◌^◌, ◌++◌, ◌==◌, ◌&&◌, [], Some, None, IsTrue, IfOk, IfSome, OnOk, MatchOption, MatchResult, nat_lt, length, is_some};
+ghost use Rattle.std.specs.Prelude.{◌≡◌, ◌↔◌, ◌≤◌, ◌<◌, ◌+◌, ◌-◌, ◌^◌, ◌++◌, ◌==◌, ◌&&◌, [], Some, None, IsTrue, IsSome, IfOk, IfSome, OnOk, MatchOption, MatchResult, nat_lt, length, take, drop, is_some};
+ghost use Rattle.std.specs.Int.{w16, from_be_bytes};
 ghost use Rattle.std.specs.Map.{remove_entry};
 ghost use Rattle.std.specs.BTreeMap.{insert_entry, is_at};
 ghost use lib.Seq.{paste};
@@ -8,6 +9,7 @@ ghost use Rattle.common_types.specs.ByteOrder.{byte_cmp};
 ghost use Rattle.page_store.specs.Batch.{is_pair, value_at};
 ghost use Rattle.page_store.specs.Content.{place_in};
 ghost use Rattle.page_store.specs.Pages.{pair_at, entries_at, leaf_of};
+ghost use Rattle.page_store.specs.Flat.{entry_size};
 ghost use Rattle.page_store.specs.Encoding.{entry_bytes};
 ghost use Rattle.tree_nodes.specs.Tree.{leaf, entry_room, leaf_bytes};
 ghost use Rattle.tree_nodes.specs.PageBytes.{leaf_page, IsWritable};
@@ -24,6 +26,9 @@ use sector_device::PAGE_SIZE;
 use std::alloc::{AllocError, Global};
 use std::cmp::Ordering;
 use std::marker::Model;
+
+/// How many bytes an entry has before its key: the lengths of key and value.
+const LENGTHS: usize = 4;
 
 /// The pairs of a leaf, as the bytes of its entries.
 #[derive(Drop)]
@@ -78,42 +83,65 @@ pub(crate) fn entries_in<'a>(
     Some((head.count, packed))
 }
 
-/// How many bytes stand before the place of a key in a leaf, and how many the entry of the key has there.
-fn place_for(leaf: Leaf<'_>, key: &[u8]) -> (usize, usize)
-    ensures before { result.0 ≡ bytes_below key.now (pairs_in leaf.entry.count leaf.entry.entries.now) }
-    ensures there { result.1 ≡ bytes_there key.now (pairs_in leaf.entry.count leaf.entry.entries.now) }
+/// The number that two bytes say.
+fn length_at(bytes: &[u8], at: usize) -> u16
+    requires { at + 2 ≤ length bytes.now }
+    ensures { result ≡ from_be_bytes w16 (take 2 (drop at bytes.now)) }
 {
-    let mut left = leaf;
-    let mut at = 0;
-    while let Some((here, value, others)) = left.first() {
-        let size = 4 + here.len() + value.len();
-        match key.cmp(here) {
-            Ordering::Less => return (at, 0),
-            Ordering::Equal => return (at, size),
-            Ordering::Greater => {}
-        }
-        at += size;
-        left = others;
-    }
-    (at, 0)
+    let (_, rest) = bytes.split_at(at);
+    let (front, _) = rest.split_at(2);
+    u16::from_be_bytes([front[0], front[1]])
 }
 
-/// How many bytes stand before the entry of a key in a leaf, and how many that entry has, 0 where there is none.
-fn place_of(leaf: Leaf<'_>, key: &[u8]) -> (usize, usize)
-    ensures before { result.0 ≡ bytes_before (is_at (byte_cmp key.now)) (pairs_in leaf.entry.count leaf.entry.entries.now) }
-    ensures there { result.1 ≡ bytes_of_first (is_at (byte_cmp key.now)) (pairs_in leaf.entry.count leaf.entry.entries.now) }
+/// The key of the first of some entries, and how many bytes that entry has.
+fn first_key(entries: &[u8]) -> (&[u8], usize)
+    requires { IsSome (pair_at entries.now) }
+    ensures key { IfSome (pair_at entries.now) (λ x. result.0.now ≡ x.0.0) }
+    ensures size { IfSome (pair_at entries.now) (λ x. result.1 ≡ entry_size x.0) }
 {
-    let mut left = leaf;
-    let mut at = 0;
-    while let Some((here, value, others)) = left.first() {
-        let size = 4 + here.len() + value.len();
-        if key.cmp(here) == Ordering::Equal {
-            return (at, size);
+    let length = usize::from(length_at(entries, 0));
+    let size = LENGTHS + length + usize::from(length_at(entries, 2));
+    let (_, rest) = entries.split_at(LENGTHS);
+    let (key, _) = rest.split_at(length);
+    (key, size)
+}
+
+/// How many bytes stand before the place of a key among so many entries, and how many the entry of the key has there.
+fn place_for(count: u16, entries: &[u8], key: &[u8]) -> (usize, usize)
+    requires { length (pairs_in count entries.now) ≡ count }
+    ensures before { result.0 ≡ bytes_below key.now (pairs_in count entries.now) }
+    ensures there { result.1 ≡ bytes_there key.now (pairs_in count entries.now) }
+{
+    let mut left = entries;
+    for _ in 0..count {
+        let (here, size) = first_key(left);
+        match key.cmp(here) {
+            Ordering::Less => return (entries.len() - left.len(), 0),
+            Ordering::Equal => return (entries.len() - left.len(), size),
+            Ordering::Greater => {}
         }
-        at += size;
+        let (_, others) = left.split_at(size);
         left = others;
     }
-    (at, 0)
+    (entries.len() - left.len(), 0)
+}
+
+/// How many bytes stand before the entry of a key among so many, and how many that entry has, 0 where there is none.
+fn place_of(count: u16, entries: &[u8], key: &[u8]) -> (usize, usize)
+    requires { length (pairs_in count entries.now) ≡ count }
+    ensures before { result.0 ≡ bytes_before (is_at (byte_cmp key.now)) (pairs_in count entries.now) }
+    ensures there { result.1 ≡ bytes_of_first (is_at (byte_cmp key.now)) (pairs_in count entries.now) }
+{
+    let mut left = entries;
+    for _ in 0..count {
+        let (here, size) = first_key(left);
+        if key.cmp(here) == Ordering::Equal {
+            return (entries.len() - left.len(), size);
+        }
+        let (_, others) = left.split_at(size);
+        left = others;
+    }
+    (entries.len() - left.len(), 0)
 }
 
 /// Adds the entry of a pair to the bytes.
@@ -164,7 +192,7 @@ impl PackedLeaf {
     }
 
     /// Copies of its pairs.
-    pub fn to_pairs(&self, alloc: Global) -> Result<Vec<Pair>, AllocError>
+    pub(crate) fn to_pairs(&self, alloc: Global) -> Result<Vec<Pair>, AllocError>
         ensures { IfOk result (λ pairs. pairs.items ≡ self.now) }
     {
         self.pairs().to_pairs(alloc)
@@ -185,7 +213,7 @@ impl PackedLeaf {
     }
 
     /// Whether a pair stands at a key. It takes no memory.
-    pub fn has(&self, key: &[u8]) -> bool
+    pub(crate) fn has(&self, key: &[u8]) -> bool
         ensures { result ≡ is_some (value_at self.now key.now) }
     {
         self.pairs().get(key).is_some()
@@ -220,10 +248,11 @@ impl PackedLeaf {
         requires room { length self.now < 2 ^ 16 - 1 }
         ensures { IfOk result (λ packed. packed ≡ insert_entry byte_cmp self.now key.now value.now) }
     {
-        let (at, size) = place_for(self.pairs(), key);
-        let (front, rest) = self.bytes.split_at(at);
+        let old = self.bytes.as_slice();
+        let (at, size) = place_for(self.count, old, key);
+        let (front, rest) = old.split_at(at);
         let (_, back) = rest.split_at(size);
-        let room = front.len() + 4 + key.len() + value.len() + back.len();
+        let room = front.len() + LENGTHS + key.len() + value.len() + back.len();
         let mut bytes = Vec::with_capacity(alloc, room)?;
         bytes.extend_from_slice(front)?;
         put_entry(&mut bytes, key, value)?;
@@ -240,7 +269,7 @@ impl PackedLeaf {
     pub(crate) fn remove(&mut self, key: &[u8])
         ensures { self.new ≡ remove_entry (is_at (byte_cmp key.now)) self.old }
     {
-        let (at, size) = place_of(self.pairs(), key);
+        let (at, size) = place_of(self.count, &self.bytes, key);
         if size == 0 {
             return;
         }

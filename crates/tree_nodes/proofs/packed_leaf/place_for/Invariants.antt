@@ -1,15 +1,14 @@
-use Rattle.std.proofs.Common.{◌≡◌, ◌+◌}
-use Rattle.tree_nodes.specs.Tree.{leaf_bytes}
+use Rattle.std.proofs.Common.{◌≡◌, ◌+◌, ◌-◌, ◌≤◌, length}
 use Rattle.tree_nodes.specs.PageViews.{pairs_in}
 use Rattle.tree_nodes.specs.PackedEntries.{bytes_below, bytes_there}
+use Rattle.tree_nodes.proofs.PackedEntries.{AreBytes}
 use Rattle.tree_nodes.proofs.packed_leaf.place_for.Given as goal
 
-abbrev pub invariant-loop-here : goal.invariant-loop-here
-invariant-loop-here l = record {
-  before : l.at + bytes_below l.key (pairs_in l.left.count l.left.entries.now) ≡ bytes_below l.key (pairs_in l.fn.leaf.count l.fn.leaf.entries.now);
-  there : bytes_there l.key (pairs_in l.left.count l.left.entries.now) ≡ bytes_there l.key (pairs_in l.fn.leaf.count l.fn.leaf.entries.now);
-  size : l.at + leaf_bytes (pairs_in l.left.count l.left.entries.now) ≡ leaf_bytes (pairs_in l.fn.leaf.count l.fn.leaf.entries.now);
+abbrev pub invariant-loop : goal.invariant-loop
+invariant-loop l = record {
+  before : (length l.entries - length l.left) + bytes_below l.key (pairs_in (l.count - l.counter) l.left) ≡ bytes_below l.key (pairs_in l.count l.entries);
+  there : bytes_there l.key (pairs_in (l.count - l.counter) l.left) ≡ bytes_there l.key (pairs_in l.count l.entries);
+  all : length (pairs_in (l.count - l.counter) l.left) ≡ l.count - l.counter;
+  inside : length l.left ≤ length l.entries;
+  bytes : AreBytes l.left;
 }
-
-abbrev pub decreases-loop-here : goal.decreases-loop-here
-decreases-loop-here l = l.left.count
