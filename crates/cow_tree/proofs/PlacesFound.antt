@@ -7,7 +7,7 @@ use Rattle.tree_nodes.proofs.KeyOrder.{by_bool}
 use Rattle.std.proofs.lemmas.Bool.{ltb-true, ltb-false}
 use Rattle.cow_tree.proofs.LeafPlaces.{out_of_page as pairs_out}
 use Rattle.cow_tree.proofs.ChildPlaces.{out_of_page as children_out}
-use Rattle.cow_tree.specs.KeptPlaces.{entry_from, key_from, AreFoundAt, AreFoundSoFar, ArePlaces, HasEntries, IsKeptOf, AreKeptOf}
+use Rattle.cow_tree.specs.KeptPlaces.{entry_from, key_from, AreFoundAt, AreFoundSoFar, ArePlaces, HasSoManyEntries, IsKeptOf, AreKeptOf}
 use Rattle.cow_tree.specs.declared.kept_places.PagePlaces.{PagePlaces}
 
 -- ---- bytes
@@ -145,20 +145,20 @@ pub if_some_then : (r : Option ℕ) (P Q : ℕ → Type 0) → ((n : ℕ) → P 
 if_some_then None P Q f h = tt
 if_some_then (Some n) P Q f h = f n h
 
-pub leaf_placed : (level : ℕ) (bytes : List ℕ) (count n : ℕ) (at : List ℕ) → level ≡ 0 → AreFoundAt (entry_from pair_at bytes) (pairs_in count (drop 24 bytes)) n at → HasEntries level bytes count → ArePlaces level bytes n at
+pub leaf_placed : (level : ℕ) (bytes : List ℕ) (count n : ℕ) (at : List ℕ) → level ≡ 0 → AreFoundAt (entry_from pair_at bytes) (pairs_in count (drop 24 bytes)) n at → HasSoManyEntries level bytes count → ArePlaces level bytes n at
 leaf_placed zero bytes count n at is are has = record {
   pairs = λ leaf. subst (λ (l : List Pair). AreFoundAt (entry_from pair_at bytes) l n at) has are;
   children = λ some. absurd (omega (arith, some));
 }
 leaf_placed (suc level) bytes count n at is are has = absurd (omega (arith, is))
 
-pub branch_placed : (level : ℕ) (bytes : List ℕ) (count n : ℕ) (at : List ℕ) → 0 < level → AreFoundAt (entry_from child_at bytes) (children_in count (drop 24 bytes)) n at → HasEntries level bytes count → ArePlaces level bytes n at
+pub branch_placed : (level : ℕ) (bytes : List ℕ) (count n : ℕ) (at : List ℕ) → 0 < level → AreFoundAt (entry_from child_at bytes) (children_in count (drop 24 bytes)) n at → HasSoManyEntries level bytes count → ArePlaces level bytes n at
 branch_placed zero bytes count n at some are has = absurd (omega (arith, some))
 branch_placed (suc level) bytes count n at some are has = record {
   pairs = λ leaf. absurd (omega (arith, leaf));
   children = λ positive. subst (λ (l : List Child). AreFoundAt (entry_from child_at bytes) l n at) has are;
 }
 
-pub has_children : (level : ℕ) (bytes : List ℕ) (count : ℕ) → 0 < level → children_in count (drop 24 bytes) ≡ entries_by_head child_at bytes → HasEntries level bytes count
+pub has_children : (level : ℕ) (bytes : List ℕ) (count : ℕ) → 0 < level → children_in count (drop 24 bytes) ≡ entries_by_head child_at bytes → HasSoManyEntries level bytes count
 has_children zero bytes count some has = absurd (omega (arith, some))
 has_children (suc level) bytes count some has = has

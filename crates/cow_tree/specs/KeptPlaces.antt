@@ -33,9 +33,9 @@ pub record ArePlaces (level : ℕ) (bytes : List ℕ) (count : ℕ) (at : List �
   pub children : 0 < level → AreFoundAt (entry_from child_at bytes) (entries_by_head child_at bytes) count at
 
 -- so many entries stand behind the head of a page of a level, and they are those that the head counts
-abbrev pub HasEntries : ℕ → List ℕ → ℕ → Type 0
-HasEntries zero bytes count = pairs_in count (drop 24 bytes) ≡ entries_by_head pair_at bytes
-HasEntries (suc level) bytes count = children_in count (drop 24 bytes) ≡ entries_by_head child_at bytes
+abbrev pub HasSoManyEntries : ℕ → List ℕ → ℕ → Type 0
+HasSoManyEntries zero bytes count = pairs_in count (drop 24 bytes) ≡ entries_by_head pair_at bytes
+HasSoManyEntries (suc level) bytes count = children_in count (drop 24 bytes) ≡ entries_by_head child_at bytes
 
 -- how many of these keys come before the first that is above a key
 abbrev pub count_upto : List ℕ → List (List ℕ) → ℕ

@@ -1,6 +1,6 @@
 // Where the entries of pages begin: kept of pages that were looked into lately, so that these are searched by halves. No memory is taken for it.
 ghost use Rattle.std.specs.Prelude.{◌≡◌, ◌<◌, ◌≤◌, ℕ, List, IfSome, length, slice_index_or};
-ghost use Rattle.cow_tree.specs.KeptPlaces.{ArePlaces, HasEntries, AreKeptOf};
+ghost use Rattle.cow_tree.specs.KeptPlaces.{ArePlaces, HasSoManyEntries, AreKeptOf};
 
 use crate::page_places::{MOST_PLACES, places_in};
 use sector_device::PAGE_SIZE;
@@ -65,7 +65,7 @@ impl KeptPlaces {
 
     /// Keeps where so many entries of a page begin, by its bytes, in place of what was kept there.
     pub(crate) fn keep(&mut self, level: u16, page: u32, count: u16, bytes: &[u8; PAGE_SIZE])
-        ensures { (view : ℕ → List ℕ) → AreKeptOf view self.old.pages → view page ≡ bytes.now → HasEntries level bytes.now count → AreKeptOf view self.new.pages }
+        ensures { (view : ℕ → List ℕ) → AreKeptOf view self.old.pages → view page ≡ bytes.now → HasSoManyEntries level bytes.now count → AreKeptOf view self.new.pages }
     {
         self.pages[page as usize % KEPT_PAGES] = places_of(level, page, count, bytes);
     }
@@ -75,7 +75,7 @@ impl KeptPlaces {
 fn places_of(level: u16, page: u32, count: u16, bytes: &[u8; PAGE_SIZE]) -> PagePlaces
     ensures page { result.page ≡ page }
     ensures level { result.level ≡ level }
-    ensures places { HasEntries level bytes.now count → 0 < result.count → ArePlaces level bytes.now result.count result.at }
+    ensures places { HasSoManyEntries level bytes.now count → 0 < result.count → ArePlaces level bytes.now result.count result.at }
 {
     let mut at = [0; MOST_PLACES];
     let count = places_in(level, bytes, count, &mut at).unwrap_or(0);

@@ -8,7 +8,7 @@ ghost use Rattle.page_store.specs.Keys.{precedes, rises};
 ghost use Rattle.page_store.specs.Pages.{Pair, Child, key_of, child_key, starts_empty, pair_at, child_at};
 ghost use Rattle.page_store.specs.Batch.{value_at};
 ghost use Rattle.cow_tree.specs.KeptLeaves.{pairs_from};
-ghost use Rattle.cow_tree.specs.KeptPlaces.{entry_from, key_from, AreFoundAt, ArePlaces, HasEntries, count_upto};
+ghost use Rattle.cow_tree.specs.KeptPlaces.{entry_from, key_from, AreFoundAt, ArePlaces, HasSoManyEntries, count_upto};
 ghost use Rattle.cow_tree.specs.Ways.{pages_around, children_from};
 
 use crate::kept_leaf::{ENTRIES, Place, pair_from};
@@ -84,7 +84,7 @@ pub(crate) fn places_in(
     count: u16,
     at: &mut [u16; MOST_PLACES],
 ) -> Option<u16>
-    ensures { IfSome result (λ n. HasEntries level bytes.now count → ArePlaces level bytes.now n at.new) }
+    ensures { IfSome result (λ n. HasSoManyEntries level bytes.now count → ArePlaces level bytes.now n at.new) }
 {
     if level == 0 {
         pair_places(bytes, count, at)
