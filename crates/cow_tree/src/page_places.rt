@@ -18,7 +18,7 @@ use sector_device::PAGE_SIZE;
 use std::cmp::Ordering;
 
 /// Of how many entries of a page the places are kept, at most.
-pub(crate) const MOST_PLACES: usize = 128;
+pub(crate) const MOST_PLACES: usize = 256;
 
 /// The child at a place, and the place behind it.
 fn child_from(bytes: &[u8; PAGE_SIZE], place: Place) -> Option<(&[u8], u32, Place)>

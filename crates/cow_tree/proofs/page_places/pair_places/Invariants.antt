@@ -6,7 +6,7 @@ use Rattle.cow_tree.proofs.page_places.pair_places.Given as goal
 
 abbrev pub invariant-loop-behind : goal.invariant-loop-behind
 invariant-loop-behind l = record {
-  long : length l.at ≡ 128;
+  long : length l.at ≡ 256;
   places : AreFoundSoFar (entry_from pair_at l.bytes) (pairs_from l.bytes 24 l.count) (pairs_from l.bytes l.place.at l.place.left) l.placed l.at;
 }
 
