@@ -44,6 +44,3 @@ pub mod AllRetired
 pub mod PairsRead
 pub mod FirstImages
 pub mod NextPairs
-pub mod ChildPlaces
-pub mod SearchedByHalves
-pub mod PlacesFound

@@ -20,4 +20,3 @@ pub mod Committed
 pub mod KeysCounted
 pub mod KeeperLaws
 pub mod Formatting
-pub mod KeptPlaces

@@ -9,7 +9,6 @@ pub mod PassesBeside
 pub mod Sparing
 pub mod Rounds
 pub mod SameClients
-pub mod Sweeping
 pub mod SocketCalls
 pub mod Spread
 pub mod ToldOnes

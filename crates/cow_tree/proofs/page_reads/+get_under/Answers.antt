@@ -1,0 +1,63 @@
+use Rattle.std.proofs.Common.{◌≡◌, ◌+◌, ◌*◌, arith, ◌-◌, ℕ, [], Option, Some, None, sym, subst, rules}
+use Rattle.std.specs.Prelude.{option_map, take}
+use Rattle.std.proofs.lemmas.Result.{err_from_is_err_and}
+use Rattle.sector_device.specs.Disk.{Disk}
+use Rattle.sector_device.specs.Effects.{MadeAtMost}
+use Rattle.sector_device.proofs.Works.{most_then, no_more_than}
+use Rattle.page_store.specs.Sectors.{page_of}
+use Rattle.page_store.specs.Batch.{value_at}
+use Rattle.page_store.specs.Content.{walk}
+use Rattle.page_store.proofs.DeviceSequences.{still_honest}
+use Rattle.tree_nodes.specs.PageViews.{bounds_of}
+use Rattle.cow_tree.proofs.AnswersGiven.{answer_is, answer_err}
+use Rattle.cow_tree.proofs.page_reads.+get_under.Goals as goal
+
+pub returns-then-level-eq0 : goal.returns-then-level-eq0
+returns-then-level-eq0 g t c =
+    let here = c.get_in_leaf.ensures.found in
+    record {
+      found = record {
+        within = here.within;
+        value = λ keeps found walked.
+            here.value keeps found (subst (λ (n : ℕ). walk (page_of (g.D.Device.state c.args.device.now).disk.view) (bounds_of c.args.bounds) n c.args.page [] None ≡ Some found) c.if-level-eq0.true walked);
+        buffer = here.buffer;
+        reads = here.reads;
+      };
+      work = subst (λ (n : ℕ). MadeAtMost (8 * (n + 1)) 0 0 (g.D.Device.state c.args.device.now) (g.D.Device.state c.get_in_leaf.new.device)) (sym c.if-level-eq0.true) c.get_in_leaf.ensures.work;
+    }
+
+pub returns-in_err-child : goal.returns-in_err-child
+returns-in_err-child g t c =
+    let p = err_from_is_err_and c.from_residual.result c.from_residual.ensures.1 in
+    record {
+      found = record {
+        within = search rules;
+        value = λ keeps found walked. answer_err c.from_residual.result c.in_err-child.field-0.0 p.0 _ _ p.1 p.2 (c.in_err-child.ensures.way keeps found walked);
+        buffer = search rules;
+        reads = search rules;
+      };
+      work = no_more_than c.children_around.ensures.work (omega arith) (omega arith) (omega arith);
+    }
+
+pub returns : goal.returns
+returns g t c =
+    let d = g.D.Device in
+    let under = c.get_under.ensures.found in
+    let read = c.in_ok-child.ensures.reads in
+    record {
+      found = record {
+        within = under.within;
+        value = λ keeps found walked.
+            let w = c.in_ok-child.ensures.way keeps found walked in
+            let keeps1 = still_honest (d.state c.args.device.now) (d.state c.children_around.new.device) read.device.only.same keeps in
+            let here = subst (λ (x : Disk). walk (page_of x.view) (bounds_of c.args.bounds) (c.args.level - 1) c.in_ok-child.child [] None ≡ Some w.here) (sym (read.device.only.disk keeps)) w.here_is in
+            answer_is c.get_under.result (λ (size : Option ℕ). option_map (λ (n : ℕ). take n c.get_under.new.buffer) size) (value_at w.here.pairs c.args.key.now) (value_at found.pairs c.args.key.now) (sym w.value) (under.value keeps1 w.here here);
+        buffer = under.buffer;
+        reads = search rules;
+      };
+      work =
+          let ne = c.if-level-eq0.false in
+          let more : 8 + 8 * (c.args.level - 1 + 1) ≡ 8 * (c.args.level + 1) = omega (arith, ne) in
+          subst (λ (n : ℕ). MadeAtMost n 0 0 (d.state c.args.device.now) (d.state c.get_under.new.device)) more
+          (most_then c.in_ok-child.ensures.work c.get_under.ensures.work);
+    }

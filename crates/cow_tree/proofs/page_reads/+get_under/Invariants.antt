@@ -1,0 +1,4 @@
+use Rattle.cow_tree.proofs.page_reads.+get_under.Given as goal
+
+abbrev pub decreases-get_under : goal.decreases-get_under
+decreases-get_under g l = l.level
