@@ -1,5 +1,5 @@
 -- The pairs of a leaf in the bytes of its page.
-use Rattle.std.proofs.Common.{◌≡◌, ◌≤◌, ℕ, zero, suc, ◌+◌, true, List, [], length, drop, Option, Some, None, refl, sym, ap, ◌∙◌, arith}
+use Rattle.std.proofs.Common.{◌≡◌, ◌≤◌, ℕ, zero, suc, ◌+◌, true, List, [], ◌∷◌, length, drop, Option, Some, None, refl, sym, ap, ◌∙◌, arith}
 use Rattle.std.specs.Prelude.{◌&&◌, bytes_eq, nat_le, take}
 use Rattle.std.specs.List.{list_all}
 use Rattle.std.specs.Int.{Width, w16, w32, w64, byte_len, from_be_bytes}
@@ -9,7 +9,7 @@ use Rattle.page_store.specs.Roots.{is_zero}
 use Rattle.page_store.specs.Pages.{Pair, Head, Place, head_at, page_word, pair_at, entries_at, entries_of, fits_place, leaf_of, are_leaf}
 use Rattle.page_store.specs.Batch.{is_pair}
 use Rattle.page_store.proofs.Fields.{bind_some, test_passed}
-use Rattle.tree_nodes.specs.PageViews.{pairs_in, then_more, row_behind, entries_by_head, begins_page, has_head}
+use Rattle.tree_nodes.specs.PageViews.{in_row, pairs_in, then_more, row_behind, entries_by_head, begins_page, has_head}
 use Rattle.tree_nodes.proofs.SizesRead.{some_is, pair_read, pairs_read}
 use Rattle.tree_nodes.proofs.EntriesOneByOne.{in_row_all}
 use Rattle.tree_nodes.proofs.WalksWithinBounds.{pairs_is}
@@ -100,3 +100,24 @@ read_some place bytes count headed is some none = go (head_at page_word bytes) r
     go : (r : Option (Head × List ℕ)) → head_at page_word bytes ≡ r → begins_page place r ≡ true → count ≡ length (row_behind pair_at r) → ⊥
     go None e headed is = absurd (cc headed)
     go (Some h) e headed is = row_some h.0.count count (drop 24 bytes) (is ∙ ap (λ (l : List ℕ). length (pairs_in h.0.count l)) (head_rest page_word bytes h e)) some none
+
+-- ---- entries behind a head
+
+row_again : {E : Type 0} (entry_at : List ℕ → Option (E × List ℕ)) (n : ℕ) (bytes : List ℕ) → in_row entry_at (length (in_row entry_at n bytes)) bytes ≡ in_row entry_at n bytes
+row_again entry_at zero bytes = refl
+row_again {E = E} entry_at (suc n) bytes = go (entry_at bytes) refl (λ rest. row_again entry_at n rest)
+  where
+    go : (r : Option (E × List ℕ)) → entry_at bytes ≡ r → ((rest : List ℕ) → in_row entry_at (length (in_row entry_at n rest)) rest ≡ in_row entry_at n rest)
+        → in_row entry_at (length (then_more (in_row entry_at n) r)) bytes ≡ then_more (in_row entry_at n) r
+    go None e again = refl
+    go (Some x) e again = ap (then_more (in_row entry_at (length (in_row entry_at n x.1)))) e ∙ ap (λ (l : List E). x.0 ∷ l) (again x.1)
+
+-- so many entries as a head counts, of which each has the form, stand behind it
+pub entries_behind : {E : Type 0} (entry_at : List ℕ → Option (E × List ℕ)) (place : Place) (bytes : List ℕ) (count : ℕ) → has_head place bytes ≡ true → count ≡ length (entries_by_head entry_at bytes) → in_row entry_at count (drop 24 bytes) ≡ entries_by_head entry_at bytes
+entries_behind {E = E} entry_at place bytes count headed is = go (head_at page_word bytes) refl headed is
+  where
+    go : (r : Option (Head × List ℕ)) → head_at page_word bytes ≡ r → begins_page place r ≡ true → count ≡ length (row_behind entry_at r) → in_row entry_at count (drop 24 bytes) ≡ row_behind entry_at r
+    go None e headed is = absurd (cc headed)
+    go (Some h) e headed is =
+        let rest = head_rest page_word bytes h e in
+        ap (λ (n : ℕ). in_row entry_at n (drop 24 bytes)) is ∙ ap (λ (l : List ℕ). in_row entry_at (length (in_row entry_at h.0.count h.1)) l) (sym rest) ∙ row_again entry_at h.0.count h.1

@@ -44,3 +44,6 @@ pub mod AllRetired
 pub mod PairsRead
 pub mod FirstImages
 pub mod NextPairs
+pub mod ChildPlaces
+pub mod SearchedByHalves
+pub mod PlacesFound

@@ -1,9 +1,11 @@
 -- What is read of a page of a tree by its head alone.
-use Rattle.std.proofs.Common.{◌≡◌, ℕ, zero, suc, ◌-◌, ◌<◌, ◌≤◌, Bool, true, false, List, [], ◌∷◌, length, Option, Some, None, refl, sym, ap, subst, ◌∙◌, arith}
+use Rattle.std.proofs.Common.{◌≡◌, ℕ, zero, suc, ◌-◌, ◌<◌, ◌≤◌, Bool, true, false, List, [], ◌∷◌, length, map, Option, Some, None, refl, sym, ap, subst, ◌∙◌, arith}
 use Rattle.std.specs.Prelude.{IfSome, IfOk, IfErr, Result, Ok, Err, nat_lt, nat_le, ◌&&◌}
 use Rattle.std.proofs.lemmas.Bool.{ltb-true, lt-ltb, le-leb}
+use Rattle.std.specs.List.{list_all}
+use Rattle.page_store.specs.Keys.{rises, is_between}
 use Rattle.page_store.specs.Reading.{◌>>=◌, where_true}
-use Rattle.page_store.specs.Pages.{Pair, Child, Place, pair_at, child_at, leaf_of, branch_of}
+use Rattle.page_store.specs.Pages.{Pair, Child, Place, key_of, child_key, starts_empty, pair_at, child_at, leaf_of, branch_of, are_leaf, entries_of}
 use Rattle.page_store.specs.Batch.{value_at, pair_after}
 use Rattle.page_store.specs.Content.{Found, Bounds, place_in, fan, walk}
 use Rattle.page_store.proofs.Fields.{bind_some, test_passed}
@@ -11,7 +13,7 @@ use Rattle.tree_nodes.specs.PageViews.{entries_by_head, has_head}
 use Rattle.tree_nodes.proofs.KeyOrder.{both_true}
 use Rattle.tree_nodes.proofs.PageForm.{leaf_told, branch_told}
 use Rattle.tree_nodes.proofs.PageHeads.{leaf_headed, branch_headed}
-use Rattle.tree_nodes.proofs.WalksWithinBounds.{some_is}
+use Rattle.tree_nodes.proofs.WalksWithinBounds.{some_is, pairs_is}
 use Rattle.cow_tree.specs.Ways.{pages_around, is_page_or_none, are_inside, around_in, begins_leaf, IsOnWay, AnswersBy}
 use Rattle.cow_tree.specs.declared.page_fault.PageFault.{PageFault}
 use Rattle.cow_tree.specs.declared.page_fault.PageFault.TheVariants.{Damaged}
@@ -48,6 +50,21 @@ begins_nowhere place bytes head = rw head refl
 pub begins_empty : (place : Place) (bytes : List ℕ) → has_head place bytes ≡ true → entries_by_head pair_at bytes ≡ [] → begins_leaf place bytes ≡ false
 begins_empty place bytes head none = rw (head, none) refl
 
+leaf_rises : (place : Place) (low : List ℕ) (high : Option (List ℕ)) (bytes : List ℕ) (pairs : List Pair) → leaf_of place low high bytes ≡ Some pairs → rises (map key_of pairs) ≡ true
+unfolding leaf_of
+leaf_rises place low high bytes pairs e =
+    let f = bind_some (entries_of pair_at place bytes) (λ ps. where_true (are_leaf low high ps) (Some ps)) pairs e in
+    let t = test_passed (are_leaf low high f.0) (Some f.0) pairs f.2 in
+    let rise = (both_true (rises (map key_of f.0)) (list_all (is_between low high) (map key_of f.0)) t.0).0 in
+    subst (λ (ps : List Pair). rises (map key_of ps) ≡ true) (pairs_is f.0 pairs t.1) rise
+
+-- bytes that say which pages are around a key begin with the head of their page
+pub head_shown : (place : Place) (key bytes : List ℕ) (r : Result (ℕ × Option ℕ) PageFault) → IfOk r (λ around. around_in place key bytes ≡ Some around) → IfOk r (λ around. has_head place bytes ≡ true)
+head_shown place key bytes (Ok around) read =
+    let f = bind_some (where_true (has_head place bytes) (pages_around key (entries_by_head child_at bytes))) (λ x. where_true (are_inside place.pages x) (Some x)) around read in
+    (test_passed (has_head place bytes) (pages_around key (entries_by_head child_at bytes)) f.0 f.1).0
+head_shown place key bytes (Err e) read = tt
+
 module _ (a : ℕ → List ℕ) (bounds : Bounds) (page : ℕ) (found : Found) where
   -- ---- a leaf
 
@@ -66,6 +83,12 @@ module _ (a : ℕ → List ℕ) (bounds : Bounds) (page : ℕ) (found : Found) w
   leaf_head_told bytes is size e =
       let l = leaf_walked e in
       leaf_headed (place_in bounds 0 page) [] None bytes l.0 refl size (ap (leaf_of (place_in bounds 0 page) [] None) (sym is) ∙ l.1)
+
+  -- the keys of its pairs rise
+  pub pairs_rise : (bytes : List ℕ) → a page ≡ bytes → walk a bounds 0 page [] None ≡ Some found → rises (map key_of (entries_by_head pair_at bytes)) ≡ true
+  pairs_rise bytes is e =
+      let l = leaf_walked e in
+      subst (λ (ps : List Pair). rises (map key_of ps) ≡ true) (l.2 ∙ sym (pairs_told bytes is e)) (leaf_rises (place_in bounds 0 page) [] None (a page) l.0 l.1)
 
   -- what looking a value up there answers
   pub value_answered : (bytes : List ℕ) → a page ≡ bytes → length bytes ≤ 4096 → walk a bounds 0 page [] None ≡ Some found → (key : List ℕ) (shown : Option ℕ → Option (List ℕ)) (r : Result (Option ℕ) PageFault)
@@ -114,10 +137,24 @@ module _ (a : ℕ → List ℕ) (bounds : Bounds) (page : ℕ) (found : Found) w
     around_within around around_is = around_inside bounds.pages key children around (names_inside (place_in bounds level page) [] None (a page) children there) around_is
 
   module _ (level : ℕ) (some : 0 < level) (e : walk a bounds level page [] None ≡ Some found) (key : List ℕ) (bytes : List ℕ) (is : a page ≡ bytes) (size : length bytes ≤ 4096) where
-    branch_head_told : has_head (place_in bounds level page) bytes ≡ true
+    pub branch_head_told : has_head (place_in bounds level page) bytes ≡ true
     branch_head_told =
         let b = branch_walked level some e in
         branch_headed (place_in bounds level page) (level - 1) [] None bytes b.0 (omega (arith, some)) size (ap (branch_of (place_in bounds level page) [] None) (sym is) ∙ b.1)
+
+    -- the keys of its children rise from the empty one on
+    pub children_rise : (starts_empty (map child_key (entries_by_head child_at bytes)) ≡ true) × (rises (map child_key (entries_by_head child_at bytes)) ≡ true)
+    children_rise =
+        let b = branch_walked level some e in
+        let same : entries_by_head child_at bytes ≡ b.0 = ap (entries_by_head child_at) (sym is) ∙ branch_told (place_in bounds level page) [] None (a page) b.0 b.1 in
+        subst (λ (cs : List Child). (starts_empty (map child_key cs) ≡ true) × (rises (map child_key cs) ≡ true)) (sym same) (branch_keys (place_in bounds level page) [] None (a page) b.0 b.1)
+
+    -- the pages around a key are pages of the image
+    pub around_is_inside : (around : ℕ × Option ℕ) → Some around ≡ pages_around key (entries_by_head child_at bytes) → are_inside bounds.pages around ≡ false → ⊥
+    around_is_inside around r out =
+        let within = around_within level some e key bytes (entries_by_head child_at bytes) is refl around r in
+        let inside = told_inside bounds.pages around within.0 within.1 in
+        absurd (cc (inside, out))
 
     -- what the bytes of the page say is on its way
     pub around_told : (around : ℕ × Option ℕ) → around_in (place_in bounds level page) key bytes ≡ Some around → IsOnWay a bounds (level - 1) key found around

@@ -20,3 +20,4 @@ pub mod Committed
 pub mod KeysCounted
 pub mod KeeperLaws
 pub mod Formatting
+pub mod KeptPlaces

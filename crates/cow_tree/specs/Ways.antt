@@ -1,15 +1,19 @@
 -- The way of a key through a tree of pages, and what reading along it answers.
-use Rattle.std.specs.Prelude.{◌≡◌, ◌&&◌, nat_lt, nat_le, length, ℕ, Bool, true, List, [], ◌∷◌, Option, Some, None, Result, Ok, Err, if◌then◌else◌}
+use Rattle.std.specs.Prelude.{◌≡◌, ◌&&◌, nat_lt, nat_le, length, drop, ℕ, Bool, true, List, [], ◌∷◌, Option, Some, None, Result, Ok, Err, if◌then◌else◌}
 use Rattle.std.specs.Option.{option_or}
 use Rattle.page_store.specs.Reading.{◌>>=◌, where_true}
 use Rattle.page_store.specs.Keys.{precedes}
 use Rattle.page_store.specs.Pages.{Pair, Child, Place, pair_at, child_at}
 use Rattle.page_store.specs.Batch.{value_at, pair_after}
 use Rattle.page_store.specs.Content.{Found, Bounds, walk}
-use Rattle.tree_nodes.specs.PageViews.{entries_by_head, has_head}
+use Rattle.tree_nodes.specs.PageViews.{children_in, entries_by_head, has_head}
 use Rattle.cow_tree.specs.KeptLeaves.{IsPart}
 use Rattle.cow_tree.specs.declared.page_fault.PageFault.{PageFault}
 use Rattle.cow_tree.specs.declared.page_fault.PageFault.TheVariants.{Device, Damaged}
+
+-- so many children from a place of a page on, as far as they have the form
+abbrev pub children_from : List ℕ → ℕ → ℕ → List Child
+children_from bytes at left = children_in left (drop at bytes)
 
 -- the page under which a key stands, that of the last child whose key isn't above it, and the page of the child after it
 abbrev pub pages_around : List ℕ → List Child → Option (ℕ × Option ℕ)

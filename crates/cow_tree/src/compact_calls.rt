@@ -77,6 +77,7 @@ impl<D: Device> CompactKeeper for TreeKeeper<D> {
             Err(fault) => return Err(fault),
         };
         self.kept.clear();
+        self.places.clear();
         self.top = seal;
         self.usable = false;
         match write_plan(&mut self.device, &mut self.ledger, &self.slot, &plan) {

@@ -26,7 +26,7 @@ use std::marker::Model;
 use tree_nodes::{ImageBounds, Leaf};
 
 /// Where the entries of a page begin.
-const ENTRIES: usize = 24;
+pub(crate) const ENTRIES: usize = 24;
 
 /// A place from which on no pair stands.
 const NOWHERE: Place = Place {
@@ -36,9 +36,9 @@ const NOWHERE: Place = Place {
 
 /// A place in the page of a leaf: where a pair begins, and how many there are from it on.
 #[derive(Clone, Copy)]
-struct Place {
-    at: usize,
-    left: u16,
+pub(crate) struct Place {
+    pub(crate) at: usize,
+    pub(crate) left: u16,
 }
 
 /// The pairs of a leaf, in the bytes of its page; or none. The place of the pair that was given last is known, so that a walk takes one step for each.
@@ -167,7 +167,7 @@ fn first_place(count: u16) -> Place
 }
 
 /// The pair at a place, and the place behind it.
-fn pair_from(bytes: &[u8; PAGE_SIZE], place: Place) -> Option<(&[u8], &[u8], Place)>
+pub(crate) fn pair_from(bytes: &[u8; PAGE_SIZE], place: Place) -> Option<(&[u8], &[u8], Place)>
     ensures pairs { MatchOption result (pairs_from bytes.now place.at place.left ≡ []) (λ x. pairs_from bytes.now place.at place.left ≡ (x.0.now, x.1.now) ∷ pairs_from bytes.now x.2.at x.2.left) }
     ensures fewer { IfSome result (λ x. x.2.left < place.left) }
     ensures sizes { IfSome result (λ x. (length x.0.now ≤ longest_key) × (length x.1.now ≤ longest_value)) }

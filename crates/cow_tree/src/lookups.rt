@@ -2,19 +2,23 @@
 ghost use Rattle.std.specs.Prelude.{◌≡◌, ◌≤◌, ◌<◌, ◌*◌, [], IsTrue, OnOk, IfOk, IfSome, Some, option_map, take};
 ghost use Rattle.page_store.specs.Sizes.{longest_key, longest_value};
 ghost use Rattle.sector_device.specs.Effects.{MadeAtMost};
+ghost use Rattle.page_store.specs.Sectors.{page_of};
 ghost use Rattle.page_store.specs.Steps.{crash_states_of};
 ghost use Rattle.page_store.specs.Content.{tree_found};
 ghost use Rattle.page_store.specs.Batch.{pair_after};
 ghost use Rattle.page_store.specs.StoreState.{IsFilled};
 ghost use Rattle.page_store.specs.Work.{pages_tried};
 ghost use Rattle.cow_tree.specs.LookUps.{LooksUpValue, KeepsNext};
+ghost use Rattle.cow_tree.specs.KeptPlaces.{AreKeptOf};
 ghost use Rattle.cow_tree.specs.KeptLeaves.{IsKeptLeaf, has_next};
 ghost use Rattle.cow_tree.specs.Opening.{IsRooted, bounds_under};
 ghost use Rattle.cow_tree.specs.PinnedTrees.{IsRootedAt, bounds_at, tree_at};
 
 use crate::kept_leaf::KeptLeaf;
+use crate::kept_places::KeptPlaces;
+use crate::kept_reads::get_under;
 use crate::page_fault::PageFault;
-use crate::page_reads::{get_under, leaf_after};
+use crate::page_reads::leaf_after;
 use crate::tree_root::TreeRoot;
 use page_store::{LONGEST_KEY, LONGEST_VALUE, Slot};
 use sector_device::Device;
@@ -22,13 +26,16 @@ use sector_device::Device;
 /// Puts the value at a key of a tree into the buffer.
 pub(crate) fn find_value<D: Device>(
     device: &mut D,
+    places: &mut KeptPlaces,
     tree: TreeRoot,
     key: &[u8],
     buffer: &mut [u8; LONGEST_VALUE],
 ) -> Result<Option<usize>, PageFault>
     requires fits { 8 * tree.pages ≤ (D.state device.old).size }
     requires rooted { IsRootedAt tree }
+    requires kept { IsTrue (D.state device.old).honest → AreKeptOf (page_of (D.state device.old).disk.view) places.old.pages.items }
     ensures found { LooksUpValue D.state (crash_states_of D.moment D.possible_since) (λ pages. tree_at tree pages) key.now device.old device.new buffer.old buffer.new result }
+    ensures kept { IsTrue (D.state device.new).honest → AreKeptOf (page_of (D.state device.new).disk.view) places.new.pages.items }
     ensures work { MadeAtMost (8 * tree.height) 0 0 (D.state device.old) (D.state device.new) }
 {
     if tree.height == 0 {
@@ -36,6 +43,7 @@ pub(crate) fn find_value<D: Device>(
     }
     get_under(
         device,
+        places,
         tree.bounds(),
         tree.height - 1,
         tree.tree,

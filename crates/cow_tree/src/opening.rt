@@ -22,6 +22,7 @@ ghost use Rattle.cow_tree.specs.TreeSeen.{device_of, slot_of, ledger_of, top_of,
 
 use crate::TreeKeeper;
 use crate::kept_leaf::KeptLeaf;
+use crate::kept_places::KeptPlaces;
 use crate::opening_walk::walk_tree;
 use crate::page_fault::PageFault;
 use page_alloc::Ledger;
@@ -217,6 +218,7 @@ impl<D: Device> TreeKeeper<D> {
                 top,
                 usable: true,
                 kept: KeptLeaf::none(),
+                places: KeptPlaces::none(alloc),
                 pinned: [None; 32],
             }),
             Err(fault) => Err((fault, device)),
@@ -236,6 +238,7 @@ impl<D: Device> TreeKeeper<D> {
             top: _,
             usable: _,
             kept: _,
+            places: _,
             pinned: _,
         } = self;
         device

@@ -43,7 +43,7 @@ fn pages_around(branch: &Branch<'_>, key: &[u8]) -> Option<(u32, Option<u32>)>
 }
 
 /// Whether the pages around a key are pages of an image of so many.
-fn are_inside(pages: u32, around: (u32, Option<u32>)) -> bool
+pub(crate) fn are_inside(pages: u32, around: (u32, Option<u32>)) -> bool
     ensures { result ≡ are_inside pages around }
 {
     let (here, next) = around;
@@ -55,7 +55,7 @@ fn are_inside(pages: u32, around: (u32, Option<u32>)) -> bool
 
 /// The page under which a key stands, and the page after it, by the bytes of a branch's page; `Damaged` exactly where these don't begin with the head of that page, or name no pages
 /// of the image there.
-fn around_in(
+pub(crate) fn around_in(
     bounds: ImageBounds,
     level: u16,
     page: u32,
@@ -76,7 +76,7 @@ fn around_in(
 }
 
 /// The page under a branch's page under which a key stands, and the page after it, by a copy of the page.
-fn read_around<D: Device>(
+pub(crate) fn read_around<D: Device>(
     device: &mut D,
     bounds: ImageBounds,
     level: u16,
@@ -132,7 +132,7 @@ fn value_of<'a>(leaf: &Leaf<'a>, key: &[u8]) -> Option<&'a [u8]>
 }
 
 /// Puts the value at a key of a leaf's page into the buffer; `Damaged` exactly where the bytes don't begin with the head of that leaf.
-fn copy_value(
+pub(crate) fn copy_value(
     bounds: ImageBounds,
     page: u32,
     bytes: &[u8; PAGE_SIZE],
@@ -155,7 +155,7 @@ fn copy_value(
 }
 
 /// Puts the value at a key of a leaf into the buffer, by a copy of the page.
-fn read_value<D: Device>(
+pub(crate) fn read_value<D: Device>(
     device: &mut D,
     bounds: ImageBounds,
     page: u32,
@@ -170,25 +170,6 @@ fn read_value<D: Device>(
     let mut bytes = [0; PAGE_SIZE];
     load_page(device, page, &mut bytes)?;
     copy_value(bounds, page, &bytes, key, buffer)
-}
-
-/// Puts the value at a key of a leaf into the buffer.
-fn get_in_leaf<D: Device>(
-    device: &mut D,
-    bounds: ImageBounds,
-    page: u32,
-    key: &[u8],
-    buffer: &mut [u8; LONGEST_VALUE],
-) -> Result<Option<usize>, PageFault>
-    requires fits { 8 * bounds.pages ≤ (D.state device.old).size }
-    requires most { page < bounds.pages }
-    ensures found { LooksUpValue D.state (crash_states_of D.moment D.possible_since) (λ pages. walk pages (bounds_of bounds) 0 page [] None) key.now device.old device.new buffer.old buffer.new result }
-    ensures work { MadeAtMost 8 0 0 (D.state device.old) (D.state device.new) }
-{
-    if let Some(lent) = device.page(page) {
-        return copy_value(bounds, page, lent, key, buffer);
-    }
-    read_value(device, bounds, page, key, buffer)
 }
 
 /// Reads a leaf, and tells whether it has a pair after a key.
@@ -206,27 +187,6 @@ fn read_leaf<D: Device>(
 {
     kept.read(device, bounds, page)?;
     Ok(kept.has_above(after))
-}
-
-/// Puts the value at a key that stands under a page into the buffer.
-pub(crate) fn get_under<D: Device>(
-    device: &mut D,
-    bounds: ImageBounds,
-    level: u16,
-    page: u32,
-    key: &[u8],
-    buffer: &mut [u8; LONGEST_VALUE],
-) -> Result<Option<usize>, PageFault>
-    requires fits { 8 * bounds.pages ≤ (D.state device.old).size }
-    requires most { page < bounds.pages }
-    ensures found { LooksUpValue D.state (crash_states_of D.moment D.possible_since) (λ pages. walk pages (bounds_of bounds) level page [] None) key.now device.old device.new buffer.old buffer.new result }
-    ensures work { MadeAtMost (8 * (level + 1)) 0 0 (D.state device.old) (D.state device.new) }
-{
-    if level == 0 {
-        return get_in_leaf(device, bounds, page, key, buffer);
-    }
-    let (child, _) = children_around(device, bounds, level, page, key)?;
-    get_under(device, bounds, level - 1, child, key, buffer)
 }
 
 /// Reads the leaf of the pair after a key under a page, which has one.

@@ -98,7 +98,7 @@ impl<D: Device> PinKeeper for TreeKeeper<D> {
             return Err(KeeperFault::Failed);
         }
         let tree = self.tree_of(pin);
-        match find_value(&mut self.device, tree, key, buffer) {
+        match find_value(&mut self.device, &mut self.places, tree, key, buffer) {
             Ok(found) => Ok(found),
             Err(fault) => Err(KeeperFault::from(fault)),
         }

@@ -90,7 +90,13 @@ impl<D: Device> Keeper for TreeKeeper<D> {
         if !self.usable {
             return Err(KeeperFault::Failed);
         }
-        match find_value(&mut self.device, TreeRoot::under(&self.slot), key, buffer) {
+        match find_value(
+            &mut self.device,
+            &mut self.places,
+            TreeRoot::under(&self.slot),
+            key,
+            buffer,
+        ) {
             Ok(found) => Ok(found),
             Err(fault) => Err(KeeperFault::from(fault)),
         }
@@ -195,6 +201,7 @@ impl<D: Device> Keeper for TreeKeeper<D> {
             Err(fault) => return Err(fault),
         };
         self.kept.clear();
+        self.places.clear();
         self.top = seal;
         self.usable = false;
         match write_plan(&mut self.device, &mut self.ledger, &self.slot, &plan) {

@@ -14,6 +14,7 @@ returns-then-tree-eq0 g c = record {
     buffer = refl;
     reads = search rules;
   };
+  kept = c.requires.kept;
   work = no_more_than (at_most (no_calls _)) (omega arith) (omega arith) (omega arith);
 }
 
@@ -31,5 +32,6 @@ returns g c =
         buffer = under.buffer;
         reads = under.reads;
       };
+      kept = c.get_under.ensures.kept;
       work = subst (λ (n : ℕ). MadeAtMost (8 * n) 0 0 (g.D.Device.state c.args.device.now) (g.D.Device.state c.get_under.new.device)) (let e : tree.height - 1 + 1 ≡ tree.height = omega (arith, ne) in e) c.get_under.ensures.work;
     }

@@ -139,6 +139,7 @@ invariant_of-self-in-Ok-write_plan g c =
           (kept_done old.disk.view mid.disk.view new.disk.view k.slot.root.pages k.ledger c.plan_compaction.new.ledger k.pinned k.pins c.plan_compaction.ensures.marks (same keeps) (c.write_plan.ensures.held (keeps1 keeps) (ready keeps)) (k.pins_there keeps) c.in-Ok.plan.slot.seal
           (subst (λ (l : LedgerState). PinnedStay c.plan_compaction.new.ledger l) c.in-Ok-write_plan.ensures.advanced c.in-Ok-write_plan.ensures.pinned));
       leaf = λ keeps2. ∣ inl c.clear.ensures ∣₁;
+      places_kept = λ keeps2. c.clear-2.ensures (page_of (g.D.Device.state c.write_plan.new.device).disk.view);
       there = λ keeps2. (done (back keeps2)).there;
       durable = λ keeps2 usable. record {
         images = λ i image. (done (back keeps2)).all i (d.each_image_is_a_crash_state c.write_plan.new.device i keeps2 image);
@@ -264,6 +265,7 @@ invariant_of-self-in-Err-write_plan g c =
           subst (λ (l : LedgerState). PinnedTreesAreKept new.disk.view l k.pinned) (sym as_before)
           (kept_still old.disk.view mid.disk.view new.disk.view k.slot.root.pages k.ledger c.plan_compaction.new.ledger k.pinned k.pins c.plan_compaction.ensures.marks (same keeps) (c.write_plan.ensures.held (keeps1 keeps) (ready keeps)) (k.pins_there keeps));
       leaf = λ keeps2. ∣ inl c.clear.ensures ∣₁;
+      places_kept = λ keeps2. c.clear-2.ensures (page_of (g.D.Device.state c.write_plan.new.device).disk.view);
       there = λ keeps2.
           let keeps = back keeps2 in
           let here = subst (λ (v : Image). IsThere v k.slot k.ledger) (sym (same keeps)) (k.there keeps) in

@@ -28,6 +28,7 @@ invariant_of-self g c =
           (subst (λ (l : LedgerState). PinnedTreesAreKept view l (set k.pinned number (Some (tree_under k.slot)))) (sym is) (kept_more k.slot k.ledger k.pinned number given.0 given.1 k.fitted.rest k.pins view (k.there keeps) (k.pins_there keeps)));
       durable = k.durable;
       leaf = k.leaf;
+      places_kept = k.places_kept;
     }
 
 pub returns-in-Ok-clause-pinned : goal.returns-in-Ok-clause-pinned

@@ -29,6 +29,7 @@ invariant_of-self g c =
           (subst (λ (l : LedgerState). PinnedTreesAreKept view l (set k.pinned c.args.pin None)) (sym is) (kept_less k.slot.root.pages k.ledger k.pinned c.args.pin out k.pins view (k.pins_there keeps)));
       durable = k.durable;
       leaf = k.leaf;
+      places_kept = k.places_kept;
     }
 
 pub returns-clause-unpinned : goal.returns-clause-unpinned

@@ -35,6 +35,7 @@ invariant_of-result g c =
       };
       pins_there = λ keeps1 number tree is. absurd (no_tree 32 number tree is);
       leaf = λ keeps1. ∣ inl c.none.ensures ∣₁;
+      places_kept = λ keeps1. c.none-in-Ok.ensures (page_of (g.D.Device.state c.open_parts.new.device).disk.view);
       durable = λ keeps1 up.
           let keeps : IsTrue (g.D.Device.state c.args.device).honest = subst IsTrue c.open_parts.ensures.opens.device.same.honest keeps1 in
           let holds = opened.holds keeps in

@@ -10,7 +10,7 @@ use Rattle.page_store.specs.Content.{walk}
 use Rattle.page_store.proofs.DeviceSequences.{still_honest}
 use Rattle.tree_nodes.specs.PageViews.{bounds_of}
 use Rattle.cow_tree.proofs.AnswersGiven.{answer_is, answer_err}
-use Rattle.cow_tree.proofs.page_reads.+get_under.Goals as goal
+use Rattle.cow_tree.proofs.kept_reads.+get_under.Goals as goal
 
 pub returns-then-level-eq0 : goal.returns-then-level-eq0
 returns-then-level-eq0 g t c =
@@ -23,6 +23,7 @@ returns-then-level-eq0 g t c =
         buffer = here.buffer;
         reads = here.reads;
       };
+      kept = c.get_in_leaf.ensures.kept;
       work = subst (λ (n : ℕ). MadeAtMost (8 * (n + 1)) 0 0 (g.D.Device.state c.args.device.now) (g.D.Device.state c.get_in_leaf.new.device)) (sym c.if-level-eq0.true) c.get_in_leaf.ensures.work;
     }
 
@@ -36,7 +37,8 @@ returns-in_err-child g t c =
         buffer = search rules;
         reads = search rules;
       };
-      work = no_more_than c.children_around.ensures.work (omega arith) (omega arith) (omega arith);
+      kept = c.in_err-child.ensures.kept;
+      work = no_more_than c.page_around.ensures.work (omega arith) (omega arith) (omega arith);
     }
 
 pub returns : goal.returns
@@ -49,12 +51,13 @@ returns g t c =
         within = under.within;
         value = λ keeps found walked.
             let w = c.in_ok-child.ensures.way keeps found walked in
-            let keeps1 = still_honest (d.state c.args.device.now) (d.state c.children_around.new.device) read.device.only.same keeps in
+            let keeps1 = still_honest (d.state c.args.device.now) (d.state c.page_around.new.device) read.device.only.same keeps in
             let here = subst (λ (x : Disk). walk (page_of x.view) (bounds_of c.args.bounds) (c.args.level - 1) c.in_ok-child.child [] None ≡ Some w.here) (sym (read.device.only.disk keeps)) w.here_is in
             answer_is c.get_under.result (λ (size : Option ℕ). option_map (λ (n : ℕ). take n c.get_under.new.buffer) size) (value_at w.here.pairs c.args.key.now) (value_at found.pairs c.args.key.now) (sym w.value) (under.value keeps1 w.here here);
         buffer = under.buffer;
         reads = search rules;
       };
+      kept = c.get_under.ensures.kept;
       work =
           let ne = c.if-level-eq0.false in
           let more : 8 + 8 * (c.args.level - 1 + 1) ≡ 8 * (c.args.level + 1) = omega (arith, ne) in

@@ -1,0 +1,51 @@
+-- Where the entries of a page begin, kept so that the page is searched by halves.
+use Rattle.std.specs.Prelude.{◌≡◌, ◌≤◌, ◌<◌, ℕ, zero, suc, List, [], ◌∷◌, length, drop, Option, option_map, slice_get, slice_index_or, if◌then◌else◌}
+use Rattle.page_store.specs.Keys.{precedes}
+use Rattle.page_store.specs.Pages.{key_of, child_key, pair_at, child_at}
+use Rattle.tree_nodes.specs.PageViews.{pairs_in, children_in, entries_by_head}
+use Rattle.cow_tree.specs.declared.kept_places.PagePlaces.{PagePlaces}
+
+-- the entry that begins at a place of a page, where one has the form there
+abbrev pub entry_from : {E : Type 0} → (List ℕ → Option (E × List ℕ)) → List ℕ → ℕ → Option E
+entry_from entry_at bytes place = option_map (λ e. e.0) (entry_at (drop place bytes))
+
+-- the key of the entry of a page of a level that begins at a place
+abbrev pub key_from : ℕ → List ℕ → ℕ → Option (List ℕ)
+key_from zero bytes place = option_map key_of (entry_from pair_at bytes place)
+key_from (suc level) bytes place = option_map child_key (entry_from child_at bytes place)
+
+-- These are so many, and each is what is found at the place of its number.
+pub record AreFoundAt {E : Type 0} (found_at : ℕ → Option E) (all : List E) (count : ℕ) (at : List ℕ) : Type 0 where
+  pub many : length all ≡ count
+  pub few : count ≤ length at
+  pub each : (i : ℕ) → i < count → found_at (slice_index_or at i 0) ≡ slice_get all i
+
+-- The first of these are found at the places so far, and the others are left.
+pub record AreFoundSoFar {E : Type 0} (found_at : ℕ → Option E) (all left : List E) (placed : ℕ) (at : List ℕ) : Type 0 where
+  pub few : placed ≤ length at
+  pub inside : placed ≤ length all
+  pub each : (i : ℕ) → i < placed → found_at (slice_index_or at i 0) ≡ slice_get all i
+  pub rest : left ≡ drop placed all
+
+-- The entries of a page of a level, as its head counts them, begin at these places.
+pub record ArePlaces (level : ℕ) (bytes : List ℕ) (count : ℕ) (at : List ℕ) : Type 0 where
+  pub pairs : level ≡ 0 → AreFoundAt (entry_from pair_at bytes) (entries_by_head pair_at bytes) count at
+  pub children : 0 < level → AreFoundAt (entry_from child_at bytes) (entries_by_head child_at bytes) count at
+
+-- so many entries stand behind the head of a page of a level, and they are those that the head counts
+abbrev pub HasSoManyEntries : ℕ → List ℕ → ℕ → Type 0
+HasSoManyEntries zero bytes count = pairs_in count (drop 24 bytes) ≡ entries_by_head pair_at bytes
+HasSoManyEntries (suc level) bytes count = children_in count (drop 24 bytes) ≡ entries_by_head child_at bytes
+
+-- how many of these keys come before the first that is above a key
+abbrev pub count_upto : List ℕ → List (List ℕ) → ℕ
+count_upto key [] = 0
+count_upto key (first ∷ keys) = if precedes key first then 0 else suc (count_upto key keys)
+
+-- What is kept of a page, where anything is, is true of it.
+abbrev pub IsKeptOf : (ℕ → List ℕ) → PagePlaces → Type 0
+IsKeptOf view kept = 0 < kept.count → ArePlaces kept.level (view kept.page) kept.count kept.at
+
+-- What is kept of pages is true of them.
+abbrev pub AreKeptOf : (ℕ → List ℕ) → List PagePlaces → Type 0
+AreKeptOf view pages = (n : ℕ) (other : PagePlaces) → n < length pages → IsKeptOf view (slice_index_or pages n other)
