@@ -9,6 +9,7 @@ pub mod PassesBeside
 pub mod Sparing
 pub mod Rounds
 pub mod SameClients
+pub mod Sweeping
 pub mod SocketCalls
 pub mod Spread
 pub mod ToldOnes

@@ -1,6 +1,7 @@
 //! Visits over sockets that never wait: whoever is ready has a turn, up to 32 clients at a time.
 #![tactic(auto)]
 
+mod buffers;
 mod crowd;
 mod desk;
 mod door;

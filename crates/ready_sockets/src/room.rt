@@ -1,6 +1,7 @@
 // The door, and the clients that are in.
-ghost use Rattle.std.specs.Prelude.{◌≤◌, vec_len, vec_capacity};
+ghost use Rattle.std.specs.Prelude.{◌≡◌, ◌≤◌, ◌+◌, vec_len, vec_capacity};
 
+use crate::buffers::{make_buffers, sweep_gone};
 use crate::door::{Door, LISTENER};
 use crate::door_log::DoorLog;
 use crate::listen_fault::ListenFault;
@@ -10,6 +11,7 @@ use crate::waking::{all_wait, at_most_a_tick, is_called, names_office, wake_call
 use crate::{Desk, Pace};
 use mio::Token;
 use mio::net::TcpStream;
+use ready_turns::Unsent;
 use std::alloc::Global;
 use std::net::{IpAddr, Net, SocketAddr};
 use std::time::Duration;
@@ -37,7 +39,7 @@ pub enum VisitFault {
     Memory,
 }
 
-/// The door, whether somebody may be at it, the clients that are in, and the posts that came of late.
+/// The door, whether somebody may be at it, the clients that are in, buffers for those who may come yet, and the posts that came of late.
 #[derive(Drop)]
 pub struct Room {
     door: Door,
@@ -45,13 +47,15 @@ pub struct Room {
     /// Since the last wait one was lost who was at the door.
     lost: bool,
     pub(crate) visits: Vec<Visit>,
+    pub(crate) free: Vec<Unsent>,
     pub(crate) posts: RecentPosts,
-    ghost few: { vec_len visits ≤ 32 },
+    ghost each: { vec_len visits + vec_len free ≡ 32 },
     ghost space: { 32 ≤ vec_capacity visits },
+    ghost free_space: { 32 ≤ vec_capacity free },
 }
 
 impl Room {
-    ghost use Rattle.std.specs.Prelude.{◌≡◌, ◌⊎◌, ◌++◌, ◌<◌, true, false, not, List, [], length, filter, map, option_map, IfOk, IfErr, IfSome, OnErr};
+    ghost use Rattle.std.specs.Prelude.{◌⊎◌, ◌++◌, ◌<◌, true, false, not, List, [], length, filter, map, option_map, IfOk, IfErr, IfSome, OnErr};
     ghost use Rattle.std.specs.List.{list_any};
     ghost use Rattle.std.specs.Duration.{as_nanos};
     ghost use Rattle.mio.specs.Events.{items};
@@ -71,7 +75,8 @@ impl Room {
         ensures asked { asked.new.calls ≡ asked.old.calls ++ listen_calls address result }
         ensures fresh { IfOk result (λ room. IsFreshRoom room) }
     {
-        let Ok(visits) = Vec::with_capacity(alloc, MOST_VISITS) else {
+        let visits = Vec::with_capacity(alloc, MOST_VISITS);
+        let (Ok(visits), Ok(free)) = (visits, make_buffers(alloc)) else {
             return Err(ListenFault::Memory);
         };
         let door = Door::open(alloc, rt, address, MOST_SOCKETS, asked)?;
@@ -80,6 +85,7 @@ impl Room {
             may_accept: true,
             lost: false,
             visits,
+            free,
             posts: RecentPosts::new(),
         })
     }
@@ -196,7 +202,7 @@ impl Room {
         self.visits.iter().any(|visit| visit.is_closed())
     }
 
-    /// Those that have gone are in no more.
+    /// Those that have gone are in no more, and leave their buffers to the next.
     pub(crate) fn sweep(&mut self)
         ensures visits { self.new.visits.items ≡ filter (λ visit. not (has_gone visit)) self.old.visits.items }
         ensures door { self.new.door ≡ self.old.door }
@@ -204,6 +210,6 @@ impl Room {
         ensures lost { self.new.lost ≡ self.old.lost }
         ensures posts { self.new.posts ≡ self.old.posts }
     {
-        self.visits.retain(|visit| !visit.is_closed());
+        sweep_gone(&mut self.visits, &mut self.free);
     }
 }

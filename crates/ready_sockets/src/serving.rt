@@ -1,5 +1,5 @@
 // Serves whoever comes.
-ghost use Rattle.std.specs.Prelude.{◌≡◌, ◌+◌, ◌<◌, ◌≤◌, ℕ, List, [], ◌∷◌, ◌++◌, length, map, vec_capacity, IfOk, IsOkAnd};
+ghost use Rattle.std.specs.Prelude.{◌≡◌, ◌+◌, ◌<◌, ◌≤◌, ℕ, List, [], ◌∷◌, ◌++◌, length, map, vec_len, vec_capacity, IfOk, IsOkAnd};
 ghost use Rattle.group_hub.specs.Calls.{HubRun};
 ghost use Rattle.turns.specs.Runs.{HasRun};
 ghost use Rattle.ready_sockets.specs.Rounds.{who, HasLetIn, HasHadTurns, AllHadTurns, HasSeenOff, ServesVisits};
@@ -20,7 +20,7 @@ use group_hub::Hub;
 use host_types::Stamp;
 use mio::Token;
 use mio::net::TcpStream;
-use ready_turns::{Ending, dismiss, join, learn, take_turn, turn_down};
+use ready_turns::{Ending, Unsent, dismiss, join, learn, take_turn, turn_down};
 use socket_wires::SystemClock;
 use std::alloc::{AllocError, Global};
 use std::io::Write;
@@ -32,20 +32,25 @@ use word_index::SearchKeeper;
 /// How many turns each client has before others are let in, at most.
 const TURNS: u32 = 16;
 
-/// A session joins for a client that came. It leaves at once where no memory is found for it.
+/// A session joins for a client that came, with a buffer that is free. It leaves at once where no memory is found for it.
 fn enter<S: SearchKeeper>(
     visits: &mut Vec<Visit>,
+    free: &mut Vec<Unsent>,
     hub: &mut Hub<S>,
     next: (TcpStream, IpAddr, Token),
     now: u64,
     terms: Terms,
 )
+    requires { 0 < vec_len free.old }
     ensures run { HasRun (HubRun S.site_state S.lacks S.crash_states S.represents) hub.old hub.new [] [] (λ es os. ComesInOrNot terms (HasSpace visits.old) next.1 next.2 now visits.old.items es os visits.new.items) }
     ensures capacity { vec_capacity visits.old ≤ vec_capacity visits.new }
+    ensures each { vec_len visits.new + vec_len free.new ≡ vec_len visits.old + vec_len free.old }
+    ensures free_capacity { vec_capacity free.new ≡ vec_capacity free.old }
 {
     let (stream, from, token) = next;
+    let unsent = free.pop().unwrap();
     let visit = Visit {
-        seat: join(hub, ReadySocket::new(stream), terms.old_clients),
+        seat: join(hub, ReadySocket::new(stream), terms.old_clients, unsent),
         from,
         token,
         came: now,
@@ -54,21 +59,26 @@ fn enter<S: SearchKeeper>(
     if let Err(failed) = visits.push(visit) {
         let mut visit = failed.value;
         dismiss(hub, &mut visit.seat);
+        free.push_reserved(visit.seat.into_unsent());
     }
 }
 
 /// A session joins for a client that came, or it is turned away, where as many of its origin are in as may be.
 fn receive<S: SearchKeeper>(
     visits: &mut Vec<Visit>,
+    free: &mut Vec<Unsent>,
     hub: &mut Hub<S>,
     next: (TcpStream, IpAddr, Token),
     now: u64,
     terms: Terms,
     crowd: &mut Crowd,
 )
-    requires { length crowd.old.items < 32 }
+    requires few { length crowd.old.items < 32 }
+    requires free { 0 < vec_len free.old }
     ensures run { HasRun (HubRun S.site_state S.lacks S.crash_states S.represents) hub.old hub.new [] [] (λ es os. IsReceived terms (HasSpace visits.old) next.1 next.2 now visits.old.items es os visits.new.items crowd.old.items crowd.new.items) }
     ensures capacity { vec_capacity visits.old ≤ vec_capacity visits.new }
+    ensures each { vec_len visits.new + vec_len free.new ≡ vec_len visits.old + vec_len free.old }
+    ensures free_capacity { vec_capacity free.new ≡ vec_capacity free.old }
     ensures few { length crowd.new.items ≤ length crowd.old.items + 1 }
 {
     if is_crowded(visits.as_slice(), next.1, terms.most) {
@@ -76,7 +86,7 @@ fn receive<S: SearchKeeper>(
         let socket = decline(stream);
         note_away(crowd, from, &socket);
     } else {
-        enter(visits, hub, next, now, terms);
+        enter(visits, free, hub, next, now, terms);
     }
 }
 
@@ -89,7 +99,8 @@ fn admit<S: SearchKeeper>(room: &mut Room, hub: &mut Hub<S>, now: u64, terms: Te
         let Some(next) = room.next() else {
             return crowd;
         };
-        receive(&mut room.visits, hub, next, now, terms, &mut crowd);
+        let (visits, free) = (&mut room.visits, &mut room.free);
+        receive(visits, free, hub, next, now, terms, &mut crowd);
     }
     crowd
 }

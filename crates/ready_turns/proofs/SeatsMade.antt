@@ -1,7 +1,7 @@
 -- What is done in a turn, put together.
 use Rattle.std.proofs.Common.{◌≡◌, inl, ℕ, ◌≤◌, Bool, true, false, not, List, [], ◌∷◌, ◌++◌, length, take, drop, refl, sym, ap, subst, ◌∙◌, arith, Result, Ok, Err, Option, Some, None}
 use Rattle.std.proofs.lemmas.Bool.{true≢false}
-use Rattle.std.specs.Prelude.{IfSome, ◌==◌, ◌&&◌, min}
+use Rattle.std.specs.Prelude.{IfSome, ◌==◌, min}
 use Rattle.std.proofs.lemmas.List.{append-nil, take-append-drop, length-take-le, take_min}
 use Rattle.std.specs.Fmt.{digits}
 use Rattle.text_writer.specs.Errors.{error_reply, plus_error, words_of}
@@ -26,7 +26,7 @@ use Rattle.ready_turns.specs.declared.seat.Ending.{Ending}
 use Rattle.ready_turns.specs.declared.seat.Ending.TheVariants.{Served, Failed}
 use Rattle.ready_turns.specs.declared.seat.SeatStage.TheVariants as stages
 use Rattle.ready_turns.specs.DrawSizes.{draw_size}
-use Rattle.ready_turns.specs.Seats.{SeatState, at, state_of, leaving, has_left, joined_state, refused_state, heard_state, learned_state, drawn_state, draw_room, most_drawn, is_held, IsAdapted, TellsUnless, HearsPiece, Listens, KeepsClient, HasTurn, HasKept, AsksWhatCame, Draws, DrawsOrWrites, WritesOn, Finishes, ActsInHub, LeavesIfOver, WhereReady, Acts, SeatTurn, LearnsAt, LearnsWhatCame, DismissedAt, Dismissed, TurnedDownAt, TurnedDown, DoneFor}
+use Rattle.ready_turns.specs.Seats.{SeatState, at, state_of, leaving, has_left, joined_state, refused_state, heard_state, learned_state, drawn_state, draw_room, most_drawn, is_held, IsAdapted, TellsUnless, HearsPiece, Listens, HasTurn, HasKept, AsksWhatCame, Draws, DrawsOrWrites, WritesOn, Finishes, ActsInHub, LeavesIfOver, WhereReady, Acts, SeatTurn, LearnsAt, LearnsWhatCame, DismissedAt, Dismissed, TurnedDownAt, TurnedDown}
 
 abbrev ok_of : {E : Type 0} → Option ℕ → Result (Option ℕ) E
 ok_of field = Ok field
@@ -142,9 +142,6 @@ pub fault_follows : (id : ℕ) (result : Result Drawn HubFault) (fault : HubFaul
 fault_follows id result fault room is = sym (ap (λ r. drawn_state id (draw_outcome r room) []) is)
 
 -- ---- a piece
-
-pub held_by : (piece out : List ℕ) (count : ℕ) (answer : Bool) → count ≤ length out → answer ≡ (not (length piece == 0) && (count == 0)) → is_held piece (take count out) ≡ answer
-held_by piece out count answer within is = ap (λ n. not (length piece == 0) && (n == 0)) (length-take-le count out within) ∙ sym is
 
 pub heard_piece : (old mid new : Adapting) (id : ℕ) (piece passed : List ℕ) (es : List Event) (os : List Outcome) (outcome : Outcome) (after : SeatState) → new ≡ mid → HasHeard old piece passed mid → is_held piece passed ≡ false → IsTold id passed es os outcome → after ≡ heard_state id outcome → HearsPiece old new id piece es os after
 heard_piece old mid new id piece passed es os outcome after kept heard some told is = record { passed = passed; heard = subst (λ client. HasHeard old piece passed client) (sym kept) heard; told = subst (λ b. TellsUnless b id passed es os after) (sym some) (outcome, told, is) }

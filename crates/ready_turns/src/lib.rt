@@ -12,4 +12,4 @@ pub use laws::worked_examples;
 pub use ready_wire::ReadyWire;
 pub use seat::{Ending, Seat, SeatStage};
 pub use turn::{dismiss, join, learn, take_turn, turn_down};
-pub use unsent::DRAW_SIZE;
+pub use unsent::{DRAW_SIZE, Unsent};

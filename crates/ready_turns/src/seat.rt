@@ -142,3 +142,12 @@ impl<W> Seat<W> {
         self.waits = false;
     }
 }
+
+impl<W: Drop> Seat<W> {
+    /// Its room for what is to be sent, which the next client can have.
+    pub fn into_unsent(self) -> Unsent
+        ensures { result ≡ self.unsent }
+    {
+        self.unsent
+    }
+}

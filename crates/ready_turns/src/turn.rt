@@ -1,5 +1,5 @@
 // One turn of a session: a read, a draw or a write.
-ghost use Rattle.std.specs.Prelude.{◌≡◌, ◌≤◌, ◌==◌, ◌&&◌, not, true, false, [], ◌∷◌, ◌++◌, length};
+ghost use Rattle.std.specs.Prelude.{◌≡◌, ◌≤◌, true, false, [], ◌∷◌, ◌++◌, length};
 ghost use Rattle.old_clients.specs.Clients.{is_through};
 ghost use Rattle.group_hub.specs.Calls.{HubCall, HubRun};
 ghost use Rattle.group_world.specs.Outcomes.{join_outcome, bytes_outcome};
@@ -7,15 +7,16 @@ ghost use Rattle.turns.specs.Runs.{HasRun};
 ghost use Rattle.turns.specs.WireCalls.{HasMade, Closed};
 ghost use Rattle.turns.specs.Turns.{trace, piece_size};
 ghost use Rattle.ready_turns.specs.declared.seat.SeatStage.TheVariants as SeatStage;
+ghost use Rattle.ready_turns.specs.Seats as spec;
 ghost use Rattle.ready_turns.specs.Seats.{at, state_of, has_left, joined_state, refused_state, heard_state, HearsPiece, Listens, AsksWhatCame, Draws, DrawsOrWrites, LeavesIfOver, Finishes, LearnsWhatCame, Dismissed, TurnedDown, IsSeated, HasTurn, HasKept};
 
 use crate::ReadyWire;
 use crate::seat::{Ending, Seat, SeatStage};
-use crate::unsent::{DRAW_SIZE, Unsent};
+use crate::unsent::Unsent;
 use crate::writing::write_on;
 use group_hub::Hub;
 use group_world::{Drawn, HubFault, InputStatus};
-use old_clients::{ClientAdapter, PASSED, SHARE};
+use old_clients::{ClientAdapter, SHARE};
 use turns::{Clock, PIECE, tell, try_again_later};
 use word_index::SearchKeeper;
 
@@ -29,15 +30,21 @@ fn joined(answer: Result<u64, HubFault>) -> SeatStage
     }
 }
 
-/// A session joins on a wire, for an old client or another.
-pub fn join<S: SearchKeeper, W: ReadyWire>(hub: &mut Hub<S>, wire: W, old_client: bool) -> Seat<W>
+/// A session joins on a wire, for an old client or another. It sends from this room, and nothing of what another client left there.
+pub fn join<S: SearchKeeper, W: ReadyWire>(
+    hub: &mut Hub<S>,
+    wire: W,
+    old_client: bool,
+    mut unsent: Unsent,
+) -> Seat<W>
     ensures { HasRun (HubRun S.site_state S.lacks S.crash_states S.represents) hub.old hub.new [] [] (λ es os. IsSeated wire old_client es os result) }
 {
     let stage = joined(hub.join());
+    unsent.clear();
     Seat {
         wire,
         stage,
-        unsent: Unsent::new(),
+        unsent,
         waits: false,
         client: ClientAdapter::new(old_client),
     }
@@ -72,11 +79,11 @@ fn heard<W>(seat: &mut Seat<W>, id: u64, answer: Result<InputStatus, HubFault>)
     }
 }
 
-/// Whether all of a piece is held back, where so many bytes are passed on.
-fn is_held(piece: &[u8], count: usize) -> bool
-    ensures { result ≡ (not (length piece.now == 0) && (count == 0)) }
+/// Whether all of a piece is held back, where these bytes of it are passed on.
+fn is_held(piece: &[u8], passed: &[u8]) -> bool
+    ensures { result ≡ spec.is_held piece.now passed.now }
 {
-    !piece.is_empty() && count == 0
+    !piece.is_empty() && passed.is_empty()
 }
 
 /// What was read is passed on, and what the hub makes of that; it is told of nothing where all is held back.
@@ -91,12 +98,11 @@ fn hear_piece<S: SearchKeeper, W, C: Clock>(
     ensures run { HasRun (HubRun S.site_state S.lacks S.crash_states S.represents) hub.old hub.new (C.given clock.old) (C.given clock.new) (λ es os. HearsPiece seat.old.client seat.new.client id piece.now es os (state_of seat.new)) }
     ensures wire { seat.new.wire ≡ seat.old.wire }
 {
-    let mut passed = [0; PASSED];
-    let count = seat.client.hear(piece, &mut passed);
-    if is_held(piece, count) {
+    seat.unsent.hear(&mut seat.client, piece);
+    if is_held(piece, seat.unsent.as_slice()) {
         seat.become_stage(SeatStage::Listening(id), b"");
     } else {
-        let answer = tell(hub, id, &passed[..count], clock);
+        let answer = tell(hub, id, seat.unsent.as_slice(), clock);
         heard(seat, id, answer);
     }
 }
@@ -139,15 +145,15 @@ fn draw_adapted<S: SearchKeeper, W>(hub: &mut Hub<S>, seat: &mut Seat<W>, id: u6
     ensures wire { seat.new.wire ≡ seat.old.wire }
 {
     let mut drawn = [0; SHARE];
-    let mut part = [0; DRAW_SIZE];
     match hub.draw(id, &mut drawn) {
         Ok(Drawn::Bytes(count)) => {
-            let given = seat.client.answer(&drawn[..count.min(SHARE)], &mut part);
-            seat.become_stage(SeatStage::Replying(id), &part[..given]);
+            let drawn = &drawn[..count.min(SHARE)];
+            seat.unsent.answer(&mut seat.client, drawn);
+            seat.go_on(SeatStage::Replying(id));
         }
         Ok(Drawn::Finished) => {
-            let given = seat.client.close(&mut part);
-            seat.become_stage(SeatStage::Leaving(Ending::Served), &part[..given]);
+            seat.unsent.finish(&mut seat.client);
+            seat.go_on(SeatStage::Leaving(Ending::Served));
         }
         Err(_) => seat.become_stage(SeatStage::Leaving(Ending::Failed), b""),
     }

@@ -7,7 +7,7 @@ use crate::tree::tree_hub;
 use group_hub::Hub;
 use host_types::Stamp;
 use ready_sockets::{Head, LogForm, LogRecord, log_line};
-use ready_turns::{Ending, Seat, dismiss, join, learn, take_turn};
+use ready_turns::{Ending, Seat, Unsent, dismiss, join, learn, take_turn};
 use std::alloc::Global;
 use std::io;
 use word_index::SearchKeeper;
@@ -27,7 +27,8 @@ fn serve_round<S: SearchKeeper>(
     let mut seats = Vec::new(alloc);
     let mut is_full = false;
     for wire in wires {
-        let seat = join(hub, ShyWire::new(wire), place.old_clients);
+        let unsent = Unsent::new(alloc)?;
+        let seat = join(hub, ShyWire::new(wire), place.old_clients, unsent);
         is_full |= seats.push(seat).is_err();
     }
     for _pass in 0..passes {

@@ -1,4 +1,4 @@
-use Rattle.std.proofs.Common.{◌≡◌, [], take, refl, ap, sym, subst, ◌∙◌}
+use Rattle.std.proofs.Common.{[], take, refl, subst, ◌∙◌}
 use Rattle.group_world.specs.Outcomes.{draw_outcome}
 use Rattle.group_world.specs.declared.event.Event.TheVariants.{Draw}
 use Rattle.old_clients.specs.Clients.{HasAnswered}
@@ -10,27 +10,27 @@ use Rattle.ready_turns.proofs.turn.draw_adapted.Goals as goal
 pub returns-in-Ok-Bytes-clause-run : goal.returns-in-Ok-Bytes-clause-run
 returns-in-Ok-Bytes-clause-run g c =
     let out = c.draw.new.out in
-    let part = take c.answer-given.result c.answer-given.new.out in
+    let part = c.answer.new.self.items in
     run_one _ _ _ _ g.met.S.SiteKeeper.crash_states_represent _ _ (Draw c.args.id 500) (draw_outcome c.draw.result out) _ _ _ c.draw.ensures.call refl
-    (drawn_made c.args.seat.now.client c.become_stage.new.self.client c.args.id 500 _ part _ (room_adapted c.args.seat.now.client c.requires) (draws_few 500 c.draw.result out c.draw.auto.out)
-    (part_adapted c.args.seat.now.client c.answer-given.new.self c.become_stage.new.self.client c.draw.result _ _ 500 out part c.in-Ok-Bytes.is c.in-Ok-Bytes.field-0-is c.draw.auto.out c.become_stage.ensures.client
-    (subst (λ n. HasAnswered c.args.seat.now.client (take n out) part c.answer-given.new.self) c.min.ensures c.answer-given.ensures.answered))
-    (c.become_stage.ensures.state ∙ part_follows c.args.id _ c.draw.result _ out part c.in-Ok-Bytes.is c.in-Ok-Bytes.field-0-is))
+    (drawn_made c.args.seat.now.client c.go_on.new.self.client c.args.id 500 _ part _ (room_adapted c.args.seat.now.client c.requires) (draws_few 500 c.draw.result out c.draw.auto.out)
+    (part_adapted c.args.seat.now.client c.answer.new.client c.go_on.new.self.client c.draw.result _ _ 500 out part c.in-Ok-Bytes.is c.in-Ok-Bytes.field-0-is c.draw.auto.out c.go_on.ensures.client
+    (subst (λ n. HasAnswered c.args.seat.now.client (take n out) part c.answer.new.client) c.min.ensures c.answer.ensures))
+    (c.go_on.ensures.state ∙ part_follows c.args.id _ c.draw.result _ out part c.in-Ok-Bytes.is c.in-Ok-Bytes.field-0-is))
 
 pub returns-in-Ok-Finished-clause-run : goal.returns-in-Ok-Finished-clause-run
 returns-in-Ok-Finished-clause-run g c =
     let out = c.draw.new.out in
-    let part = take c.close-given.result c.close-given.new.out in
-    let left = c.become_stage-in-Ok-Finished in
+    let part = c.finish.new.self.items in
+    let left = c.go_on-in-Ok-Finished in
     run_one _ _ _ _ g.met.S.SiteKeeper.crash_states_represent _ _ (Draw c.args.id 500) (draw_outcome c.draw.result out) _ _ _ c.draw.ensures.call refl
     (drawn_made c.args.seat.now.client left.new.self.client c.args.id 500 _ part _ (room_adapted c.args.seat.now.client c.requires) (draws_few 500 c.draw.result out c.draw.auto.out)
-    (end_adapted c.args.seat.now.client c.close-given.new.self left.new.self.client c.draw.result _ out part c.in-Ok-Finished.is c.in-Ok-Finished.field-0-is left.ensures.client c.close-given.ensures.closed)
+    (end_adapted c.args.seat.now.client c.finish.new.client left.new.self.client c.draw.result _ out part c.in-Ok-Finished.is c.in-Ok-Finished.field-0-is left.ensures.client c.finish.ensures)
     (left.ensures.state ∙ end_follows c.args.id c.draw.result _ out part c.in-Ok-Finished.is c.in-Ok-Finished.field-0-is))
 
 pub returns-in-Err-clause-run : goal.returns-in-Err-clause-run
 returns-in-Err-clause-run g c =
     let out = c.draw.new.out in
-    let left = c.become_stage-in-Err in
+    let left = c.become_stage in
     run_one _ _ _ _ g.met.S.SiteKeeper.crash_states_represent _ _ (Draw c.args.id 500) (draw_outcome c.draw.result out) _ _ _ c.draw.ensures.call refl
     (drawn_made c.args.seat.now.client left.new.self.client c.args.id 500 _ [] _ (room_adapted c.args.seat.now.client c.requires) (draws_few 500 c.draw.result out c.draw.auto.out)
     (fault_adapted c.args.seat.now.client left.new.self.client c.draw.result _ out c.in-Err.is left.ensures.client)
