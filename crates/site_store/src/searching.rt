@@ -12,7 +12,7 @@ ghost use Rattle.word_index.specs.Search.{search_of};
 
 use crate::SiteOpenFault;
 use crate::longest::longest;
-use crate::records::record_at;
+use crate::records::front_at;
 use crate::word_walk::{has_all, has_word, next_with};
 use host_types::{Bytes, Selector, Stamp, is_over};
 use page_store::Keeper;
@@ -22,7 +22,6 @@ use word_index::{MOST_FOUND, SelectorList, words_in};
 
 /// Whether an item that has the word has expired, by its record.
 fn has_expired<K: Keeper>(
-    alloc: Global,
     keeper: &mut K,
     selector: &Selector,
     word: &Bytes,
@@ -30,8 +29,8 @@ fn has_expired<K: Keeper>(
 ) -> Result<bool, SiteOpenFault>
     ensures expired { ReadsKnown K.store_state K.may_need K.crash_states keeper.old keeper.new result (StandsWith selector.now word.now) (λ item expired. expired ≡ is_over item.until now) }
 {
-    match record_at(alloc, keeper, selector) {
-        Ok(Some(record)) => Ok(is_over(record.until, now)),
+    match front_at(keeper, selector) {
+        Ok(Some(front)) => Ok(is_over(front.until, now)),
         Ok(None) => Err(SiteOpenFault::BadRecord),
         Err(fault) => Err(fault),
     }
@@ -39,7 +38,6 @@ fn has_expired<K: Keeper>(
 
 /// Looks at an item that has the word: it is found where it has all words that are asked for, and hasn't expired.
 fn look_in<K: Keeper>(
-    alloc: Global,
     keeper: &mut K,
     found: &mut SelectorList,
     selector: &Selector,
@@ -55,7 +53,7 @@ fn look_in<K: Keeper>(
         Ok(false) => return Ok(()),
         Err(fault) => return Err(fault),
     }
-    match has_expired(alloc, keeper, selector, word, now) {
+    match has_expired(keeper, selector, word, now) {
         Ok(true) => Ok(()),
         Ok(false) => {
             found.push(selector.clone()?)?;
@@ -85,7 +83,7 @@ fn begin<K: Keeper>(
         Ok(false) => return Ok(found),
         Err(fault) => return Err(fault),
     }
-    match look_in(alloc, keeper, &mut found, scope, word, asked, now) {
+    match look_in(keeper, &mut found, scope, word, asked, now) {
         Ok(()) => Ok(found),
         Err(fault) => Err(fault),
     }
@@ -93,7 +91,6 @@ fn begin<K: Keeper>(
 
 /// Goes on to the next item that has the word and looks at it; false where all that is to be found is found.
 fn step<K: Keeper>(
-    alloc: Global,
     keeper: &mut K,
     found: &mut SelectorList,
     scope: &Selector,
@@ -115,7 +112,7 @@ fn step<K: Keeper>(
         Ok(None) => return Ok(false),
         Err(fault) => return Err(fault),
     };
-    match look_in(alloc, keeper, found, &next, word, asked, now) {
+    match look_in(keeper, found, &next, word, asked, now) {
         Ok(()) => {
             *last = next;
             Ok(true)
@@ -144,9 +141,7 @@ fn search_in<K: Keeper>(
         Err(fault) => return Err(fault),
     };
     for _ in 0..u64::MAX {
-        match step(
-            alloc, keeper, &mut found, scope, word, asked, now, &mut last,
-        ) {
+        match step(keeper, &mut found, scope, word, asked, now, &mut last) {
             Ok(true) => {}
             Ok(false) => return Ok(found),
             Err(fault) => return Err(fault),
