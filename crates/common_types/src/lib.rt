@@ -1,6 +1,7 @@
 //! Bytes, names and refusals, which the crates of the site and those of the disk share.
 #![tactic(auto)]
 
+mod byte_order;
 mod bytes;
 mod digits;
 mod list;
@@ -8,6 +9,7 @@ mod names;
 mod post_name;
 mod refused;
 
+pub use byte_order::compare_bytes;
 pub use bytes::Bytes;
 pub use digits::{is_number, number_of};
 pub use list::List;

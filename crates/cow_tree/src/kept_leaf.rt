@@ -19,6 +19,7 @@ use crate::opening_walk::count_pairs;
 use crate::page_copies::copy_page;
 use crate::page_fault::PageFault;
 use crate::page_heads::leaf_by_head;
+use common_types::compare_bytes;
 use page_store::{LONGEST_KEY, LONGEST_VALUE, pair_at};
 use sector_device::{Device, PAGE_SIZE};
 use std::cmp::Ordering;
@@ -189,7 +190,7 @@ fn begins_by(bytes: &[u8; PAGE_SIZE], place: Place, key: &[u8]) -> bool
     ensures { result ≡ begins_by key.now (pairs_from bytes.now place.at place.left) }
 {
     match pair_from(bytes, place) {
-        Some((first, _, _)) => key.cmp(first) != Ordering::Less,
+        Some((first, _, _)) => compare_bytes(key, first) != Ordering::Less,
         None => false,
     }
 }
@@ -206,7 +207,7 @@ fn place_after<'a>(
 {
     let mut place = from;
     while let Some((here, value, behind)) = pair_from(bytes, place) {
-        if key.cmp(here) == Ordering::Less {
+        if compare_bytes(key, here) == Ordering::Less {
             return Some((place, here, value));
         }
         place = behind;

@@ -13,6 +13,7 @@ ghost use Rattle.cow_tree.specs.Ways.{pages_around, children_from};
 
 use crate::kept_leaf::{ENTRIES, Place, pair_from};
 use crate::kept_places::PagePlaces;
+use common_types::compare_bytes;
 use page_store::{child_at, pair_at};
 use sector_device::PAGE_SIZE;
 use std::cmp::Ordering;
@@ -110,7 +111,7 @@ fn key_from(level: u16, bytes: &[u8; PAGE_SIZE], place: u16) -> Option<&[u8]>
 fn precedes(key: &[u8], other: &[u8]) -> bool
     ensures { result ≡ precedes key.now other.now }
 {
-    key.cmp(other) == Ordering::Less
+    compare_bytes(key, other) == Ordering::Less
 }
 
 /// How many entries of a page come before the first whose key is above a key, by halves.
@@ -135,7 +136,7 @@ fn count_upto(level: u16, bytes: &[u8; PAGE_SIZE], places: &PagePlaces, key: &[u
 fn is_same(key: &[u8], other: &[u8]) -> bool
     ensures { result ≡ is_at (byte_cmp key.now) other.now }
 {
-    key.cmp(other) == Ordering::Equal
+    compare_bytes(key, other) == Ordering::Equal
 }
 
 /// The pair that begins at a place of a leaf's page.

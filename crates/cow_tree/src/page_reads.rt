@@ -20,6 +20,7 @@ use crate::kept_leaf::KeptLeaf;
 use crate::opening_walk::load_page;
 use crate::page_fault::PageFault;
 use crate::page_heads::{branch_by_head, leaf_by_head};
+use common_types::compare_bytes;
 use page_store::LONGEST_VALUE;
 use sector_device::{Device, PAGE_SIZE};
 use std::cmp::Ordering;
@@ -33,7 +34,7 @@ fn pages_around(branch: &Branch<'_>, key: &[u8]) -> Option<(u32, Option<u32>)>
     let mut page = first;
     let mut left = others;
     while let Some((next, after, others)) = left.first() {
-        if key.cmp(next) == Ordering::Less {
+        if compare_bytes(key, next) == Ordering::Less {
             return Some((page, Some(after)));
         }
         page = after;

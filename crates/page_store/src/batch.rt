@@ -8,7 +8,7 @@ ghost use Rattle.common_types.specs.ByteOrder.{byte_cmp};
 ghost use Rattle.page_store.specs.Batch.{value_at, pair_after, edited, updated, is_pair};
 
 use crate::{Edit, Pair};
-use common_types::Bytes;
+use common_types::{Bytes, compare_bytes};
 use std::alloc::{AllocError, Global};
 use std::cmp::Ordering;
 
@@ -19,7 +19,7 @@ pub(crate) fn value_of<'a>(pairs: &'a [Pair], key: &[u8]) -> Option<&'a [u8]>
     ensures size { IfSome result (λ v. length v.now ≤ longest_value) }
 {
     for pair in pairs {
-        if key.cmp(pair.key()) == Ordering::Equal {
+        if compare_bytes(key, pair.key()) == Ordering::Equal {
             return Some(pair.value());
         }
     }
@@ -34,7 +34,7 @@ pub(crate) fn next_pair<'a>(pairs: &'a [Pair], after: &[u8]) -> Option<&'a Pair>
     ensures value { IfSome result (λ pair. length pair.now.1 ≤ longest_value) }
 {
     for pair in pairs {
-        if after.cmp(pair.key()) == Ordering::Less {
+        if compare_bytes(after, pair.key()) == Ordering::Less {
             return Some(pair);
         }
     }
@@ -46,7 +46,7 @@ pub fn put_pair(pairs: &mut Vec<Pair>, key: Bytes, value: Bytes) -> Result<(), A
     ensures { OnOk result (pairs.new.items ≡ insert_entry byte_cmp pairs.old.items key value) }
 {
     for place in 0..pairs.len() {
-        match key.as_slice().cmp(pairs[place].key()) {
+        match compare_bytes(key.as_slice(), pairs[place].key()) {
             Ordering::Less => {
                 pairs.insert(place, Pair::new(key, value))?;
                 return Ok(());
@@ -67,7 +67,7 @@ pub fn remove_pair(pairs: &mut Vec<Pair>, key: &[u8])
     ensures { pairs.new.items ≡ remove_entry (is_at (byte_cmp key.now)) pairs.old.items }
 {
     for place in 0..pairs.len() {
-        if key.cmp(pairs[place].key()) == Ordering::Equal {
+        if compare_bytes(key, pairs[place].key()) == Ordering::Equal {
             let _ = pairs.remove(place);
             return;
         }

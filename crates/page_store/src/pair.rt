@@ -3,7 +3,7 @@ ghost use Rattle.std.specs.Prelude.{◌≡◌, map, IfOk};
 ghost use Rattle.page_store.specs.Keys.{rises};
 ghost use Rattle.page_store.specs.Pages.{key_of};
 
-use common_types::Bytes;
+use common_types::{Bytes, compare_bytes};
 use std::alloc::{AllocError, Global};
 use std::cmp::Ordering;
 use std::marker::Model;
@@ -80,7 +80,7 @@ pub fn keys_rise(pairs: &[Pair]) -> bool
     ensures { result ≡ rises (map key_of pairs.now) }
 {
     for place in 1..pairs.len() {
-        match pairs[place - 1].key().cmp(pairs[place].key()) {
+        match compare_bytes(pairs[place - 1].key(), pairs[place].key()) {
             Ordering::Less => {}
             Ordering::Equal | Ordering::Greater => return false,
         }

@@ -6,7 +6,7 @@ ghost use Rattle.tree_nodes.specs.Keys.{has_key};
 ghost use Rattle.tree_nodes.specs.NodeView.{tree_of, others_view};
 
 use crate::PackedLeaf;
-use common_types::Bytes;
+use common_types::{Bytes, compare_bytes};
 use page_store::Pair;
 use std::cmp::Ordering;
 
@@ -75,7 +75,7 @@ fn has_pair(pairs: &[Pair], key: &[u8]) -> bool
     ensures { result ≡ is_some (value_at pairs.now key.now) }
 {
     for pair in pairs {
-        if key.cmp(pair.key()) == Ordering::Equal {
+        if compare_bytes(key, pair.key()) == Ordering::Equal {
             return true;
         }
     }
@@ -106,7 +106,7 @@ pub(crate) fn place_of(children: &[(Bytes, Node)], key: &[u8]) -> usize
     ensures bound { result ≤ length children.now }
 {
     for at in 0..children.len() {
-        if key.cmp(children[at].0.as_slice()) == Ordering::Less {
+        if compare_bytes(key, children[at].0.as_slice()) == Ordering::Less {
             return at;
         }
     }

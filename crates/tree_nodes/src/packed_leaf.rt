@@ -21,6 +21,7 @@ ghost use Rattle.tree_nodes.specs.Needs.{IsNodeReadFault};
 use crate::page_views::{PAGE_WORD, after_pairs, fits_place};
 use crate::splitting::ENTRY_ROOM;
 use crate::{ImageBounds, Leaf, NodeFault};
+use common_types::compare_bytes;
 use page_store::{LONGEST_KEY, LONGEST_VALUE, Pair, are_zero, head_at};
 use sector_device::PAGE_SIZE;
 use std::alloc::{AllocError, Global};
@@ -115,7 +116,7 @@ fn place_for(count: u16, entries: &[u8], key: &[u8]) -> (usize, usize)
     let mut left = entries;
     for _ in 0..count {
         let (here, size) = first_key(left);
-        match key.cmp(here) {
+        match compare_bytes(key, here) {
             Ordering::Less => return (entries.len() - left.len(), 0),
             Ordering::Equal => return (entries.len() - left.len(), size),
             Ordering::Greater => {}
@@ -135,7 +136,7 @@ fn place_of(count: u16, entries: &[u8], key: &[u8]) -> (usize, usize)
     let mut left = entries;
     for _ in 0..count {
         let (here, size) = first_key(left);
-        if key.cmp(here) == Ordering::Equal {
+        if compare_bytes(key, here) == Ordering::Equal {
             return (entries.len() - left.len(), size);
         }
         let (_, others) = left.split_at(size);

@@ -14,7 +14,7 @@ ghost use Rattle.tree_nodes.specs.declared.fault.NodeFault.TheVariants.{Damaged}
 use crate::packed_leaf::entries_in;
 use crate::splitting::ENTRY_ROOM;
 use crate::{Node, NodeFault};
-use common_types::Bytes;
+use common_types::{Bytes, compare_bytes};
 use page_store::{PageHead, Pair, are_zero, child_at, head_at, pair_at};
 use sector_device::PAGE_SIZE;
 use std::alloc::{AllocError, Global};
@@ -79,11 +79,11 @@ fn is_head_of(bounds: ImageBounds, level: u16, page: u32, head: PageHead) -> boo
 fn is_between(low: &[u8], high: Option<&[u8]>, key: &[u8]) -> bool
     ensures { result ≡ is_between low.now (option_copied high.entry) key.now }
 {
-    if key.cmp(low) == Ordering::Less {
+    if compare_bytes(key, low) == Ordering::Less {
         return false;
     }
     match high {
-        Some(high) => key.cmp(high) == Ordering::Less,
+        Some(high) => compare_bytes(key, high) == Ordering::Less,
         None => true,
     }
 }
@@ -162,7 +162,7 @@ impl<'a> Leaf<'a> {
     {
         let mut left = *self;
         while let Some((here, value, others)) = left.first() {
-            if key.cmp(here) == Ordering::Equal {
+            if compare_bytes(key, here) == Ordering::Equal {
                 return Some(value);
             }
             left = others;
@@ -176,7 +176,7 @@ impl<'a> Leaf<'a> {
     {
         let mut left = *self;
         while let Some((here, value, others)) = left.first() {
-            if key.cmp(here) == Ordering::Less {
+            if compare_bytes(key, here) == Ordering::Less {
                 return Some((here, value));
             }
             left = others;
@@ -211,7 +211,7 @@ impl<'a> Leaf<'a> {
         let mut before = first;
         let mut left = others;
         while let Some((key, _, others)) = left.first() {
-            if before.cmp(key) != Ordering::Less {
+            if compare_bytes(before, key) != Ordering::Less {
                 return false;
             }
             before = key;
@@ -333,7 +333,7 @@ impl<'a> Branch<'a> {
         let mut page = first;
         let mut left = others;
         while let Some((next, after, others)) = left.first() {
-            if key.cmp(next) == Ordering::Less {
+            if compare_bytes(key, next) == Ordering::Less {
                 return Some(page);
             }
             page = after;
@@ -352,7 +352,7 @@ impl<'a> Branch<'a> {
         let mut before = first;
         let mut left = others;
         while let Some((key, _, others)) = left.first() {
-            if before.cmp(key) != Ordering::Less {
+            if compare_bytes(before, key) != Ordering::Less {
                 return false;
             }
             before = key;

@@ -21,7 +21,7 @@ loop-preserved c =
     let size : c.first_key-size.result.1 ≡ entry_size x.0.0 = rw x.1.read at c.first_key-size.ensures.size in
     let key : c.first_key-size.result.0.now ≡ x.0.0.0 = rw x.1.read at c.first_key-size.ensures.key in
     let rest : c.split_at.result.1.now ≡ drop (entry_size x.0.0) c.loop.left.now = c.split_at.ensures.back ∙ ap (λ (n : ℕ). drop n c.loop.left.now) size in
-    let passed : is_at (byte_cmp c.args.key.now) x.0.0.0 ≡ false = ap (is_at (byte_cmp c.args.key.now)) (sym key) ∙ ap is_eq (sym c.cmp.ensures) ∙ not_equal c.cmp.result c.if-eq.ensures in
+    let passed : is_at (byte_cmp c.args.key.now) x.0.0.0 ≡ false = ap (is_at (byte_cmp c.args.key.now)) (sym key) ∙ ap is_eq (sym c.compare_bytes.ensures) ∙ not_equal c.compare_bytes.result c.if-eq.ensures in
     let over = over_other (is_at (byte_cmp c.args.key.now)) (pairs_in (c.args.count - c.loop.counter) c.loop.left.now) (pairs_in m c.split_at.result.1.now) x.0.0 (x.1.row ∙ ap (λ (l : List ℕ). x.0.0 ∷ pairs_in m l) (sym rest)) passed in
     record {
       before = omega (arith, c.loop.invariant.before, c.loop.invariant.inside, over.0, size, x.1.entry.room, c.split_at.ensures.back_len);
