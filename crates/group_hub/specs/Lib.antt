@@ -3,6 +3,7 @@ pub mod Counting
 pub mod Understood
 pub mod HeldPins
 pub mod Sessions
+pub mod SessionDraws
 pub mod Hears
 pub mod Preparing
 pub mod Worlds

@@ -1,18 +1,14 @@
 // What moves one session that draws its reply.
-ghost use Rattle.std.specs.Prelude.{◌≡◌, ◌≤◌, true, [], length, take, drop, OnErr, OnOk, IfOk, IfErr, IfSome, IsTrue};
+ghost use Rattle.std.specs.Prelude.{◌≡◌, ◌≤◌, true, length, drop, OnErr, IfOk, IfSome, IsTrue};
 ghost use Rattle.host_types.specs.Pins.{is_out};
 ghost use Rattle.host_types.specs.SiteState.{HasRead, IsUnchangedBehind};
-ghost use Rattle.host_types.specs.CrashStates.{AddsNone};
 ghost use Rattle.group_world.specs.World as world;
 ghost use Rattle.group_world.specs.Step.{draws};
-ghost use Rattle.group_hub.specs.Counting.{CountsCall};
-ghost use Rattle.group_hub.specs.HeldPins.{MovesPins};
-ghost use Rattle.group_hub.specs.Understood.{IsDrawFault, KeepsSite, DrawHasBegun};
 ghost use Rattle.group_world.specs.Outcomes.{drawn_outcome, drawn_length};
-ghost use Rattle.group_hub.specs.Sessions.{phase_of, pin_of, is_waiting, IsSound, IsDrawn};
-ghost use Rattle.group_world.specs.declared.event.Outcome.TheVariants as outcomes;
+ghost use Rattle.group_hub.specs.HeldPins.{MovesPins};
+ghost use Rattle.group_hub.specs.SessionDraws.{view_drawn, DrawsReply};
+ghost use Rattle.group_hub.specs.Sessions.{pin_of, IsSound, IsDrawn};
 ghost use Rattle.group_hub.specs.declared.session.Phase.TheVariants as phases;
-ghost use Rattle.group_world.specs.declared.fault.HubFault.TheVariants.{NotReady};
 
 use crate::pins::give_back;
 use crate::session::{Drawing, Phase, Replying};
@@ -46,19 +42,11 @@ fn draw_view<S: SiteKeeper>(
     requires usable { (S.site_state site.old).usable ≡ true }
     requires out { IsTrue (is_out (S.site_state site.old) (S.pinned drawing.old.pin)) }
     requires sound { IsTrue (S.site_state site.old).honest → IsSound S.pinned (S.site_state site.old) (phases.Drawing drawing.old) }
-    ensures gives { IsTrue (S.site_state site.old).honest → IfOk result (λ r. outcomes.Drawn (take r.0 out.new) ≡ (draws (length out.old) (phase_of S.pinned (S.site_state site.old) (phases.Drawing drawing.old))).outcome) }
-    ensures phase { IsTrue (S.site_state site.old).honest → OnOk result (phase_of S.pinned (S.site_state site.new) (phases.Drawing drawing.new) ≡ (draws (length out.old) (phase_of S.pinned (S.site_state site.old) (phases.Drawing drawing.old))).phase) }
-    ensures err { OnErr result (phase_of S.pinned (S.site_state site.new) (phases.Drawing drawing.new) ≡ phase_of S.pinned (S.site_state site.old) (phases.Drawing drawing.old)) }
+    ensures draws { DrawsReply S.pinned (phases.Drawing drawing.old) (phases.Drawing drawing.new) (S.site_state site.old) (S.site_state site.new) (S.crash_states site.old) (S.crash_states site.new) out.old out.new (view_drawn result) }
     ensures finished { IsTrue (S.site_state site.old).honest → IfOk result (λ r. IsDrawn S.pinned (S.site_state site.new) r.1 (phases.Drawing drawing.new)) }
     ensures still_sound { IsTrue (S.site_state site.old).honest → OnErr result (IsSound S.pinned (S.site_state site.new) (phases.Drawing drawing.new)) }
     ensures pin { drawing.new.pin ≡ drawing.old.pin }
     ensures read { HasRead (S.site_state site.old) (S.site_state site.new) }
-    ensures fault { IfErr result (IsDrawFault (S.site_state site.old) (S.site_state site.new) (phase_of S.pinned (S.site_state site.old) (phases.Drawing drawing.old))) }
-    ensures counts { CountsCall result (S.site_state site.old) (S.site_state site.new) }
-    ensures at_crash { IsTrue (S.site_state site.old).honest → AddsNone (S.crash_states site.old) (S.crash_states site.new) }
-    ensures within { IfOk result (λ r. r.0 ≤ length out.old) }
-    ensures behind { IfOk result (λ r. IsUnchangedBehind r.0 out.old out.new) }
-    ensures begun { OnErr result (DrawHasBegun (S.site_state site.old).honest (phase_of S.pinned (S.site_state site.old) (phases.Drawing drawing.old)) out.old out.new) }
 {
     match drawing.view.draw(site, &drawing.pin, out) {
         Ok(count) => Ok((count, drawing.view.is_finished())),
@@ -75,20 +63,9 @@ pub fn draw<S: SiteKeeper>(
     requires usable { (S.site_state site.old).usable ≡ true }
     requires out { IfSome (pin_of S.pinned phase.old) (λ pin. IsTrue (is_out (S.site_state site.old) pin)) }
     requires sound { IsTrue (S.site_state site.old).honest → IsSound S.pinned (S.site_state site.old) phase.old }
-    ensures gives { IsTrue (S.site_state site.old).honest → IfOk result (λ drawn. drawn_outcome drawn out.new ≡ (draws (length out.old) (phase_of S.pinned (S.site_state site.old) phase.old)).outcome) }
-    ensures phase { IsTrue (S.site_state site.old).honest → OnOk result (phase_of S.pinned (S.site_state site.new) phase.new ≡ (draws (length out.old) (phase_of S.pinned (S.site_state site.old) phase.old)).phase) }
-    ensures err { OnErr result (phase_of S.pinned (S.site_state site.new) phase.new ≡ phase_of S.pinned (S.site_state site.old) phase.old) }
+    ensures draws { DrawsReply S.pinned phase.old phase.new (S.site_state site.old) (S.site_state site.new) (S.crash_states site.old) (S.crash_states site.new) out.old out.new result }
     ensures still_sound { IsTrue (S.site_state site.old).honest → IsSound S.pinned (S.site_state site.new) phase.new }
-    ensures waits { is_waiting phase.new ≡ is_waiting phase.old }
     ensures pins { MovesPins (S.site_state site.old) (S.site_state site.new) (pin_of S.pinned phase.old) (pin_of S.pinned phase.new) }
-    ensures kept { KeepsSite (S.site_state site.old) (S.site_state site.new) }
-    ensures fault { IfErr result (IsDrawFault (S.site_state site.old) (S.site_state site.new) (phase_of S.pinned (S.site_state site.old) phase.old)) }
-    ensures counts { CountsCall result (S.site_state site.old) (S.site_state site.new) }
-    ensures at_crash { IsTrue (S.site_state site.old).honest → AddsNone (S.crash_states site.old) (S.crash_states site.new) }
-    ensures within { IfOk result (λ drawn. drawn_length drawn ≤ length out.old) }
-    ensures behind { IfOk result (λ drawn. IsUnchangedBehind (drawn_length drawn) out.old out.new) }
-    ensures begun { OnErr result (DrawHasBegun (S.site_state site.old).honest (phase_of S.pinned (S.site_state site.old) phase.old) out.old out.new) }
-    ensures untouched { IfErr result (λ e. e ≡ NotReady → out.new ≡ out.old) }
 {
     let (count, is_finished) = match phase {
         Phase::Hearing(_) | Phase::Waiting(_) => return Err(HubFault::NotReady),

@@ -1,5 +1,5 @@
 // The hub: all sessions over one site.
-ghost use Rattle.std.specs.Prelude.{ℕ, List, [], Some, ◌≡◌, ◌≤◌, ◌<◌, ◌==◌, ◌&&◌, true, false, nat_le, length, IfOk, IfErr, IfSome, IsTrue, vec_len, vec_capacity};
+ghost use Rattle.std.specs.Prelude.{[], ◌≡◌, ◌≤◌, ◌<◌, ◌==◌, ◌&&◌, true, false, nat_le, length, IfOk, IfErr, IfSome, IsTrue, vec_len, vec_capacity};
 ghost use Rattle.std.specs.List.{position};
 ghost use Rattle.group_hub.specs.HeldPins.{HoldsAll, HoldsAll-prop};
 ghost use Rattle.group_world.specs.World.{count_waiting};
@@ -55,15 +55,15 @@ fn place_in<P>(sessions: &[Session<P>], id: u64) -> Option<usize>
 }
 
 impl<S: SearchKeeper> Hub<S> {
-    ghost use Rattle.group_world.specs.World.{Reply, started_as, phase_of};
-    ghost use Rattle.host_types.specs.SiteState.{Rose};
+    ghost use Rattle.group_world.specs.World.{started_as, phase_of};
     ghost use Rattle.host_types.specs.CrashStates.{AddsNone};
     ghost use Rattle.host_types.specs.Site.{IsSite};
     ghost use Rattle.group_world.specs.Run.{Step};
     ghost use Rattle.group_world.specs.Outcomes.{join_outcome, bytes_outcome, draw_outcome, leave_outcome, admin_outcome, flush_outcome};
     ghost use Rattle.group_world.specs.declared.event.Event.TheVariants.{Join, Bytes, End, Draw, Leave, Admin, Flush};
-    ghost use Rattle.group_world.specs.declared.fault.HubFault.TheVariants.{Memory, Broken};
+    ghost use Rattle.group_world.specs.declared.fault.HubFault.TheVariants.{Memory};
     ghost use Rattle.group_hub.specs.HeldPins.{HoldsForReplies, IsClosed};
+    ghost use Rattle.group_hub.specs.SessionDraws.{OnlyReadsBreak};
     ghost use Rattle.group_hub.specs.Understood.{KeepsSite, FillsOut};
     ghost use Rattle.group_hub.specs.Hub.{keeper_of, seats_of, world_of, is_grouped as groups};
     ghost use Rattle.group_hub.specs.Hears.{is_grouped, is_full};
@@ -204,8 +204,7 @@ impl<S: SearchKeeper> Hub<S> {
     /// `Broken` where a read failed: nothing is lost, and the same draw again goes on where it was. The front of the buffer may have some of the next bytes then.
     pub fn draw(&mut self, id: u64, out: &mut [u8]) -> Result<Drawn, HubFault>
         ensures call { HubCall S.site_state S.lacks S.crash_states S.represents self.old (Draw id (length out.old)) (draw_outcome result out.new) self.new }
-        ensures reply { IsTrue (S.site_state (keeper_of self.old)).honest → (S.site_state (keeper_of self.old)).usable ≡ true → (rest : List ℕ) → phase_of (world_of S.site_state self.old) id ≡ Some (Reply rest) →
-            IfErr result (λ e. (e ≡ Broken) × Rose (S.site_state (keeper_of self.old)).failed_reads (S.site_state (keeper_of self.new)).failed_reads) }
+        ensures reply { OnlyReadsBreak (phase_of (world_of S.site_state self.old) id) (S.site_state (keeper_of self.old)) (S.site_state (keeper_of self.new)) result }
         ensures keeper { KeepsSite (S.site_state (keeper_of self.old)) (S.site_state (keeper_of self.new)) }
         ensures out { FillsOut (S.site_state (keeper_of self.old)).honest (phase_of (world_of S.site_state self.old) id) out.old out.new result }
         ensures at_crash { IsTrue (S.site_state (keeper_of self.old)).honest → AddsNone (S.crash_states (keeper_of self.old)) (S.crash_states (keeper_of self.new)) }

@@ -81,12 +81,12 @@ invariant_of-self-2 g c =
       room = search rules;
       few = search rules;
       held = moved.held;
-      sound = λ honest. (let before = subst IsTrue c.draw.ensures.kept.honest honest in moved.sound (c.args.self.now.sound before) (c.draw.ensures.still_sound before));
-      valid = λ groups honest. (let before = subst IsTrue c.draw.ensures.kept.honest honest in subst (λ (t : Site). ∥ IsSite t ∥₁) (sym (c.draw.ensures.kept.site before)) (c.args.self.now.valid groups before));
+      sound = λ honest. (let before = subst IsTrue c.draw.ensures.draws.kept.honest honest in moved.sound (c.args.self.now.sound before) (c.draw.ensures.still_sound before));
+      valid = λ groups honest. (let before = subst IsTrue c.draw.ensures.draws.kept.honest honest in subst (λ (t : Site). ∥ IsSite t ∥₁) (sym (c.draw.ensures.draws.kept.site before)) (c.args.self.now.valid groups before));
       alone = λ plain honest.
-          let before = subst IsTrue c.draw.ensures.kept.honest honest in
+          let before = subst IsTrue c.draw.ensures.draws.kept.honest honest in
           let there = (seat s.pinned k items c.args.id c.in-Some.at c.index_mut-session.result.now found c.index_mut-session.ensures.value).there in
-          let one = drawn_waits (length c.args.out.now) (phase_of s.pinned k c.index_mut-session.result.now.phase) (phase_of s.pinned l c.draw.new.phase) c.draw.result (c.draw.ensures.phase before) c.draw.ensures.err in
+          let one = drawn_waits (length c.args.out.now) (phase_of s.pinned k c.index_mut-session.result.now.phase) (phase_of s.pinned l c.draw.new.phase) c.draw.result (c.draw.ensures.draws.phase before) c.draw.ensures.draws.err in
           ap count_waiting moved.seen ∙ omega (arith, c.args.self.now.alone plain before, count_moved (sessions_of s.pinned k items) c.args.id (phase_of s.pinned k c.index_mut-session.result.now.phase) (phase_of s.pinned l c.draw.new.phase) there, one);
     }
 
@@ -99,7 +99,7 @@ returns-clause-reply g c = λ honest usable rest has.
     let x = c.index_mut-session.result.now in
     let found = ap (position (λ (x : Session g.row.S-Pin.Denot). x.id == c.args.id)) (sym c.deref.ensures.value) ∙ sym c.in-Some.ensures.place in
     let there = (seat s.pinned k items c.args.id c.in-Some.at x found c.index_mut-session.ensures.value).there in
-    draw_breaks k l rest c.draw.result honest (subst (λ (p : world.Phase). IfErr c.draw.result (IsDrawFault k l p)) (same_phase _ _ _ there has) c.draw.ensures.fault)
+    draw_breaks k l rest c.draw.result honest (subst (λ (p : world.Phase). IfErr c.draw.result (IsDrawFault k l p)) (same_phase _ _ _ there has) c.draw.ensures.draws.fault)
 
 pub returns-clause-out : goal.returns-clause-out
 returns-clause-out g c =
@@ -110,10 +110,10 @@ returns-clause-out g c =
     let found = ap (position (λ (x : Session g.row.S-Pin.Denot). x.id == c.args.id)) (sym c.deref.ensures.value) ∙ sym c.in-Some.ensures.place in
     let there = (seat s.pinned k items c.args.id c.in-Some.at x found c.index_mut-session.ensures.value).there in
     record {
-      within = c.draw.ensures.within;
-      behind = c.draw.ensures.behind;
-      untouched = untouched_at k (s.site_state c.draw.new.site) (phase_of s.pinned k x.phase) c.args.out.now c.draw.new.out c.draw.result c.draw.ensures.fault c.draw.ensures.untouched;
-      begun = begun_at k.honest _ (phase_of s.pinned k x.phase) _ _ c.draw.result there c.draw.ensures.begun;
+      within = c.draw.ensures.draws.within;
+      behind = c.draw.ensures.draws.behind;
+      untouched = untouched_at k (s.site_state c.draw.new.site) (phase_of s.pinned k x.phase) c.args.out.now c.draw.new.out c.draw.result c.draw.ensures.draws.fault c.draw.ensures.draws.untouched;
+      begun = begun_at k.honest _ (phase_of s.pinned k x.phase) _ _ c.draw.result there c.draw.ensures.draws.begun;
     }
 
 pub returns-clause-call : goal.returns-clause-call
@@ -130,8 +130,8 @@ returns-clause-call g c =
     let place = seat s.pinned k items c.args.id c.in-Some.at x found c.index_mut-session.ensures.value in
     let moved = session_moves s.pinned k l items c.args.id c.in-Some.at x c.draw.new.phase found c.index_mut-session.ensures.value c.args.self.now.held c.draw.ensures.pins in
     let step : IsTrue k.honest → Step w (Draw c.args.id (length c.args.out.now)) (draw_outcome c.draw.result c.draw.new.out) v = λ honest. draws_so k l c.args.self.now.next c.args.self.now.grouped (sessions_of s.pinned k items) _ c.args.id c.args.out.now c.draw.new.out (phase_of s.pinned k x.phase) (phase_of s.pinned l c.draw.new.phase) c.draw.result honest usable
-    (c.draw.ensures.kept.site honest) c.draw.ensures.kept.usable place.there moved.seen place.stays (c.draw.ensures.gives honest) (c.draw.ensures.phase honest) c.draw.ensures.err c.draw.ensures.fault in
-    let kept = seats_stay (sessions_of s.pinned k items) _ c.args.id (phase_of s.pinned k x.phase) (phase_of s.pinned l c.draw.new.phase) c.draw.result moved.seen place.stays c.draw.ensures.err in
+    (c.draw.ensures.draws.kept.site honest) c.draw.ensures.draws.kept.usable place.there moved.seen place.stays (c.draw.ensures.draws.gives honest) (c.draw.ensures.draws.phase honest) c.draw.ensures.draws.err c.draw.ensures.draws.fault in
+    let kept = seats_stay (sessions_of s.pinned k items) _ c.args.id (phase_of s.pinned k x.phase) (phase_of s.pinned l c.draw.new.phase) c.draw.result moved.seen place.stays c.draw.ensures.draws.err in
     drawn_call s.site_state s.lacks s.crash_states s.represents w c.args.self.now.site c.args.id (length c.args.out.now) v c.draw.new.site (phase_of s.pinned k x.phase) c.draw.result c.draw.new.out
     (g.met.S.SiteKeeper.crash_states_represent c.args.self.now.site) (g.met.S.SiteKeeper.crash_states_represent c.draw.new.site)
-    step usable c.draw.ensures.kept.honest c.draw.ensures.kept.usable refl refl kept c.draw.ensures.fault c.draw.ensures.counts c.draw.ensures.at_crash refl refl refl refl
+    step usable c.draw.ensures.draws.kept.honest c.draw.ensures.draws.kept.usable refl refl kept c.draw.ensures.draws.fault c.draw.ensures.draws.counts c.draw.ensures.draws.at_crash refl refl refl refl
