@@ -1,6 +1,6 @@
 -- Calls that only read, and may pin the site, one after another.
 use Rattle.std.proofs.Common.{◌≡◌, ℕ, Bool, sym, subst, ◌∙◌, arith}
-use Rattle.std.specs.Prelude.{Result, Ok, Err, IsErrAnd, IfErr, IsTrue}
+use Rattle.std.specs.Prelude.{Result, Ok, Err, IsErrAnd, OnOk, IfErr, IsTrue}
 use Rattle.host_types.specs.AllChanges.{Changes}
 use Rattle.host_types.specs.SiteState.{SiteState, Rose}
 use Rattle.host_types.specs.CrashStates.{CrashStates, adds_none_again}
@@ -14,6 +14,11 @@ use Rattle.group_hub.specs.Preparing.{IsPrepareFault, Prepares}
 -- what went well
 abbrev pub done : Result (Unit {0}) HubFault
 done = Ok tt
+
+-- A fault that is passed on says nothing of what went well.
+pub not_ok : {T : Type 0} (P : Type 0) (r : Result T HubFault) (fault : HubFault) → IsErrAnd r (λ e. e ≡ fault) → OnOk r P
+not_ok P (Ok x) fault is = absurd is
+not_ok P (Err e) fault is = tt
 
 -- ---- faults and counts behind a call that succeeded
 

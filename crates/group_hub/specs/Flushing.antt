@@ -1,5 +1,5 @@
 -- What a flush makes of the sessions that wait, before its commit and behind it.
-use Rattle.std.specs.Prelude.{◌≡◌, ◌⊎◌, ◌≤◌, ℕ, Bool, true, false, not, List, [], ◌∷◌, ◌++◌, length, Option, None, Result, OnErr, OnOk, IfOk, IfErr, IsTrue}
+use Rattle.std.specs.Prelude.{◌≡◌, ◌⊎◌, ◌≤◌, ℕ, Bool, true, false, not, List, [], ◌∷◌, ◌++◌, length, Option, None, Some, Result, OnErr, OnOk, IfOk, IfErr, IsTrue}
 use Rattle.host_types.specs.AllChanges.{Changes}
 use Rattle.host_types.specs.Site.{Site, IsSite}
 use Rattle.host_types.specs.SiteState.{SiteState, HasNotChanged, HasTried, Rose}
@@ -11,13 +11,14 @@ use Rattle.host_types.specs.declared.site_fault.SiteFault.TheVariants as faults
 use Rattle.site_replies.specs.LaterReply.{are_posts}
 use Rattle.group_world.specs.World as world
 use Rattle.group_world.specs.World.{count_waiting}
+use Rattle.group_world.specs.Laws.{all_made}
 use Rattle.group_world.specs.Step.{without_form, without_forms, answered_from, post_from, taken, all_of}
 use Rattle.group_world.specs.Calls.{IsKeeperLacking, MaySplit, CountsLeft}
 use Rattle.group_world.specs.CrashStates.{HoldsCommits, with_changes, one_by_one}
 use Rattle.group_world.specs.declared.fault.HubFault.TheVariants as hub
 use Rattle.group_world.specs.declared.fault.HubFault.{HubFault}
 use Rattle.group_hub.specs.Counting.{HubCountsWrites, CountsCall}
-use Rattle.group_hub.specs.HeldPins.{listed, HoldsAll}
+use Rattle.group_hub.specs.HeldPins.{listed, HoldsAll, MovesPins, MayGiveBack}
 use Rattle.group_hub.specs.Sessions.{phase_of, sessions_of, pin_of, pins_of, is_waiting, IsSound, AreSound}
 use Rattle.group_hub.specs.Understood.{HasFailedNow, HasWorked}
 use Rattle.group_hub.specs.declared.group_commit.GroupCommit.{GroupCommit}
@@ -98,6 +99,14 @@ put_seats putting pinned h [] ns = []
 put_seats putting pinned h (x ∷ xs) [] = x ∷ xs
 put_seats putting pinned h (x ∷ xs) (n ∷ ns) = (x.0, put_one putting pinned h x.1 n) ∷ put_seats putting pinned h xs ns
 
+-- Sessions are put into their next phases, and the pins given back of those that are not put.
+pub record PutsSeats {P : Type 0} (putting : Putting) (pinned : P → Pinned) (old new : SiteState) (before after : List (Session P)) (next : List (Next P)) : Type 0 where
+  pub seats : sessions_of pinned new after ≡ put_seats putting pinned old (sessions_of pinned old before) next
+  pub held : HoldsAll new (pins_of pinned after)
+  pub sound : IsTrue old.honest → AreNextSound pinned old next → AreSound pinned old before → AreSound pinned new after
+  pub fewer : count_waiting (sessions_of pinned new after) ≤ count_waiting (sessions_of pinned old before)
+  pub keeper : MayGiveBack old new
+
 -- ---- a group is prepared
 
 -- What a session is to have by a site t, on which a flush of the site s has come that far, and the changes before it and behind it.
@@ -106,6 +115,24 @@ pub record IsNextReply {P : Type 0} (pinned : P → Pinned) (h : SiteState) (s t
   pub gone : put_one puttings.Gone pinned h x n ≡ without_form s x
   pub changes : after ≡ before ++ post_from t (without_form s x)
   pub posts : are_posts after ≡ true
+
+-- What a session is given to have by a site t, on which a flush has come that far.
+abbrev pub GivesReplyBy : {P : Type 0} → (P → Pinned) → SiteState → SiteState → Site → Changes → Changes → world.Phase → Result (Next P) HubFault → Type 0
+GivesReplyBy pinned old new t before after x result = IsTrue old.honest → IfOk result (IsNextReply pinned new old.site t before after x)
+
+-- the same by the site on which the posts before it are made
+abbrev pub GivesReplyBehind : {P : Type 0} → (P → Pinned) → SiteState → SiteState → Changes → Changes → world.Phase → Result (Next P) HubFault → Type 0
+GivesReplyBehind pinned old new before after x result = (t : Site) → all_made old.site before ≡ Some t → GivesReplyBy pinned old new t before after x result
+
+-- the same by any site, whatever posts stand before it: it makes none itself
+abbrev pub GivesReplyAlways : {P : Type 0} → (P → Pinned) → SiteState → SiteState → world.Phase → Result (Next P) HubFault → Type 0
+GivesReplyAlways pinned old new x result = (t : Site) (before : Changes) → are_posts before ≡ true → GivesReplyBy pinned old new t before before x result
+
+-- The pin that is taken for what a session is to have; after a fault none is.
+pub record TakesNextPin {P : Type 0} (pinned : P → Pinned) (old new : SiteState) (result : Result (Next P) HubFault) : Type 0 where
+  pub sound : IsTrue old.honest → IfOk result (IsNextSound pinned new)
+  pub pins : IfOk result (λ n. MovesPins old new None (next_pin pinned n))
+  pub pins_after_fault : OnErr result (new.pins ≡ old.pins)
 
 -- What the first sessions are to have by the site s, and the changes that they make; a flush takes them all.
 pub record ArePrepared {P : Type 0} (pinned : P → Pinned) (h : SiteState) (s : Site) (xs : List (ℕ × world.Phase)) (ns : List (Next P)) (made : Changes) : Type 0 where
@@ -119,6 +146,17 @@ pub record StandsBeside {P : Type 0} (pinned : P → Pinned) (old new : SiteStat
   pub held : HoldsAll new (pins ++ pins_of pinned items)
   pub seen : sessions_of pinned new items ≡ sessions_of pinned old items
   pub sound : AreSound pinned old items → AreSound pinned new items
+
+-- What all sessions are to have is prepared, and the changes of their posts. After a fault pins may be out for some.
+pub record PreparesGroup {P : Type 0} {T : Type 0} (pinned : P → Pinned) (old new : SiteState) (sessions : List (Session P)) (next : List (Next P)) (changes : Changes) (result : Result T HubFault) : Type 0 where
+  pub prepared : IsTrue old.honest → OnOk result (ArePrepared pinned new old.site (sessions_of pinned old sessions) next changes)
+  pub sound : IsTrue old.honest → AreNextSound pinned new next
+  pub waiting : OnOk result (AreForWaiting sessions next)
+  pub stands : StandsBeside pinned old new (next_pins pinned next) sessions
+
+-- Sessions stay as they are while these pins, which were taken beside theirs, are given back.
+abbrev pub GivesBackBeside : {P : Type 0} → (P → Pinned) → SiteState → SiteState → List Pinned → Type 0
+GivesBackBeside {P = P} pinned old new pins = (sessions : List (Session P)) → HoldsAll old (pins ++ pins_of pinned sessions) → StandsBeside pinned old new [] sessions
 
 -- ---- a group is made in one step
 
@@ -186,6 +224,20 @@ AllTaken site_state crash_states represents pinned k olds l news left =
 abbrev pub TakenUpToFault : {K L P : Type 0} → (K → SiteState) → (K → CrashStates L) → (L → Site → Type 0) → (P → Pinned) → K → List (Session P) → K → List (Session P) → Type 0
 TakenUpToFault site_state crash_states represents pinned k olds l news =
     TakesUpTo represents (site_state k).site (site_state l).site (crash_states k) (crash_states l) (sessions_of pinned (site_state k) olds) (sessions_of pinned (site_state l) news)
+
+-- Posts are taken one at a time: all, or those before one whose commit failed.
+pub record TakesSingly {K L P : Type 0} (site_state : K → SiteState) (crash_states : K → CrashStates L) (represents : L → Site → Type 0) (pinned : P → Pinned) (k : K) (olds : List (Session P)) (l : K) (news : List (Session P)) (result : Result ℕ HubFault) : Type 0 where
+  pub takes : IsTrue (site_state k).honest → IfOk result (AllTaken site_state crash_states represents pinned k olds l news)
+  pub fails : IsTrue (site_state k).honest → OnErr result (TakenUpToFault site_state crash_states represents pinned k olds l news)
+
+-- One session that waits is answered; after a fault it still waits.
+pub record AnswersAlone {P : Type 0} {T : Type 0} (pinned : P → Pinned) (before after : Phase P) (old new : SiteState) (result : Result T HubFault) : Type 0 where
+  pub phase : IsTrue old.honest → OnOk result (phase_of pinned new after ≡ answered_from old.site (phase_of pinned old before))
+  pub answered : OnOk result (is_waiting after ≡ false)
+  pub err : OnErr result (after ≡ before)
+  pub sound : IsTrue old.honest → IsSound pinned new after
+  pub pins : MovesPins old new None (pin_of pinned after)
+  pub uncrowded : IfErr result (λ e. e ≡ hub.Crowded → ⊥)
 
 -- What a call that takes posts one at a time leaves of a keeper, on any device.
 pub record WorksSingly (old new : SiteState) (waiting : ℕ) (result : Result ℕ HubFault) : Type 0 where

@@ -80,8 +80,9 @@ abbrev pub made_post : Option Answered → Option Change
 made_post None = None
 made_post (Some a) = a.post
 
--- What a session that has heard its request gets: its next phase, and maybe a pin with it; after a fault no pin is taken.
+-- What a session that has heard its request gets: what it is answered, its next phase, and maybe a pin with it; after a fault no pin is taken.
 pub record GetsNext {P : Type 0} (pinned : P → Pinned) (step : StepResult) (old new : SiteState) (result : Result (InputStatus × Phase P) HubFault) : Type 0 where
+  pub heard : IfOk result (λ r. heard_outcome r.0 ≡ step.outcome)
   pub phase : IsTrue old.honest → IfOk result (λ r. phase_of pinned new r.1 ≡ step.phase)
   pub sound : IsTrue old.honest → IfOk result (λ r. IsSound pinned new r.1)
   pub pins : IfOk result (λ r. MovesPins old new None (pin_of pinned r.1))

@@ -1,8 +1,8 @@
 -- The pins that sessions hold, and those that are out.
-use Rattle.std.specs.Prelude.{◌≡◌, ◌≤◌, ◌+◌, ◌==◌, ℕ, Bool, true, false, List, [], ◌∷◌, ◌++◌, length, Option, None, Some, IsTrue, if◌then◌else◌}
+use Rattle.std.specs.Prelude.{◌≡◌, ◌<◌, ◌≤◌, ◌+◌, ◌==◌, ℕ, Bool, true, false, List, [], ◌∷◌, ◌++◌, length, Option, None, Some, IsTrue, if◌then◌else◌}
 use Rattle.std.proofs.Props.{props}
 use Rattle.host_types.specs.SiteState.{SiteState, numbers_out}
-use Rattle.host_types.specs.Pins.{Pinned, Copied, Numbered, is_among, is_out, pinned_items}
+use Rattle.host_types.specs.Pins.{Pinned, Copied, Numbered, most_pins, is_among, is_out, pinned_items}
 use Rattle.host_types.specs.CrashStates.{CrashStates, AddsNone}
 use Rattle.group_world.specs.World.{Phase, Heard, Waits, Reply, Early}
 
@@ -25,6 +25,11 @@ count_numbered (Numbered n ∷ pins) = 1 + count_numbered pins
 pub record HoldsAll (h : SiteState) (pins : List Pinned) : Type 0 where
   pub once : (n : ℕ) → times n pins ≡ one_if (is_among n (numbers_out h))
   pub count : count_numbered pins ≡ length h.pins
+
+-- The keeper is usable, and one more pin may be taken.
+pub record MayPin (h : SiteState) : Type 0 where
+  pub usable : h.usable ≡ true
+  pub room : length h.pins < most_pins
 
 -- These pins are out beside some others, which are all others.
 pub record HoldsBeside (h : SiteState) (pins : List Pinned) : Type 0 where

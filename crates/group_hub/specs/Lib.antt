@@ -5,6 +5,7 @@ pub mod HeldPins
 pub mod Sessions
 pub mod SessionDraws
 pub mod Hears
+pub mod HeardSteps
 pub mod Preparing
 pub mod Worlds
 pub mod Flushing

@@ -1,5 +1,5 @@
 -- What the sessions that a hub keeps are to the world.
-use Rattle.std.specs.Prelude.{◌≡◌, ℕ, Bool, true, false, List, [], ◌∷◌, ◌++◌, remove, drop, map, Option, None, Some, IsTrue, IfSome, length, take, refl}
+use Rattle.std.specs.Prelude.{◌≡◌, ◌≤◌, ℕ, Bool, true, false, List, [], ◌∷◌, ◌++◌, remove, drop, map, Option, None, Some, IsTrue, IfSome, length, take, refl}
 use Rattle.std.specs.Coded.{Π_prop}
 use Rattle.std.proofs.Props.{props}
 use Rattle.host_types.specs.Card.{chunk_of}
@@ -9,9 +9,10 @@ use Rattle.host_types.specs.SiteState.{SiteState}
 use Rattle.host_types.specs.Pins.{Pinned}
 use Rattle.view_draws.specs.ViewDraw.{rest_of, body_at, IsOf}
 use Rattle.group_world.specs.World as world
+use Rattle.group_world.specs.World.{count_waiting}
 use Rattle.request_reader.specs.Verdict.{Verdict, Open, Early as EndedEarly, Whole, Bad}
 use Rattle.request_reader.specs.ReceivedInput.{verdict_by}
-use Rattle.group_hub.specs.HeldPins.{listed}
+use Rattle.group_hub.specs.HeldPins.{listed, HoldsAll}
 use Rattle.group_hub.specs.declared.session.Session.{Session}
 use Rattle.group_hub.specs.declared.session.Phase.{Phase}
 use Rattle.group_hub.specs.declared.session.Phase.TheVariants as phases
@@ -82,6 +83,17 @@ IsDrawn pinned h false phase = IsSound pinned h phase
 abbrev pub AreSound : {P : Type 0} → (P → Pinned) → SiteState → List (Session P) → Type 0
 AreSound pinned h [] = Unit {0}
 AreSound pinned h (s ∷ sessions) = IsSound pinned h s.phase × AreSound pinned h sessions
+
+-- Sessions over a site: they hold all pins that are out, and each draws what its pin keeps.
+pub record SeatsStand {P : Type 0} (pinned : P → Pinned) (h : SiteState) (items : List (Session P)) : Type 0 where
+  pub held : HoldsAll h (pins_of pinned items)
+  pub sound : IsTrue h.honest → AreSound pinned h items
+
+-- What a call leaves of sessions over a site: they stand, and no more of them wait than before.
+pub record KeepsSeats {P : Type 0} (pinned : P → Pinned) (old new : SiteState) (before after : List (Session P)) : Type 0 where
+  pub held : HoldsAll new (pins_of pinned after)
+  pub sound : IsTrue new.honest → AreSound pinned new after
+  pub fewer : count_waiting (sessions_of pinned new after) ≤ count_waiting (sessions_of pinned old before)
 
 -- ---- it is known or not
 

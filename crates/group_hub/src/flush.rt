@@ -5,8 +5,7 @@ ghost use Rattle.group_world.specs.World.{count_waiting};
 ghost use Rattle.group_world.specs.Outcomes.{flush_outcome};
 ghost use Rattle.group_world.specs.declared.event.Event.TheVariants.{Flush};
 ghost use Rattle.group_hub.specs.Calls.{SeatsCall};
-ghost use Rattle.group_hub.specs.HeldPins.{HoldsAll};
-ghost use Rattle.group_hub.specs.Sessions.{sessions_of, pins_of, AreSound};
+ghost use Rattle.group_hub.specs.Sessions.{sessions_of, SeatsStand, KeepsSeats};
 
 use crate::group_commit::GroupCommit;
 use crate::next::Putting;
@@ -27,15 +26,12 @@ pub fn flush<S: SearchKeeper>(
 ) -> Result<Flushed, HubFault>
     requires usable { (S.site_state site.old).usable ≡ true }
     requires few { vec_len sessions.old ≤ 32 }
-    requires held { HoldsAll (S.site_state site.old) (pins_of S.pinned sessions.old.items) }
-    requires sound { IsTrue (S.site_state site.old).honest → AreSound S.pinned (S.site_state site.old) sessions.old.items }
+    requires stand { SeatsStand S.pinned (S.site_state site.old) sessions.old.items }
     requires valid { 0 < count_waiting (sessions_of S.pinned (S.site_state site.old) sessions.old.items) → IsTrue (S.site_state site.old).honest → ∥ IsSite (S.site_state site.old).site ∥₁ }
     ensures call { SeatsCall S.site_state S.lacks S.crash_states S.represents S.pinned site.old sessions.old.items Flush (flush_outcome result) site.new sessions.new.items }
-    ensures held { HoldsAll (S.site_state site.new) (pins_of S.pinned sessions.new.items) }
-    ensures sound { IsTrue (S.site_state site.new).honest → AreSound S.pinned (S.site_state site.new) sessions.new.items }
-    ensures places { (vec_len sessions.new ≡ vec_len sessions.old) × (vec_capacity sessions.old ≤ vec_capacity sessions.new) }
-    ensures fewer { IsTrue (S.site_state site.old).honest → count_waiting (sessions_of S.pinned (S.site_state site.new) sessions.new.items) ≤ count_waiting (sessions_of S.pinned (S.site_state site.old) sessions.old.items) }
+    ensures seats { KeepsSeats S.pinned (S.site_state site.old) (S.site_state site.new) sessions.old.items sessions.new.items }
     ensures valid { (IsTrue (S.site_state site.old).honest → ∥ IsSite (S.site_state site.old).site ∥₁) → IsTrue (S.site_state site.new).honest → ∥ IsSite (S.site_state site.new).site ∥₁ }
+    ensures places { (vec_len sessions.new ≡ vec_len sessions.old) × (vec_capacity sessions.old ≤ vec_capacity sessions.new) }
 {
     let waiting = waiting_in(sessions);
     if waiting == 0 {

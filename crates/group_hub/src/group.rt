@@ -1,7 +1,6 @@
 // Posts that are made together: what their sessions are to have, and the changes.
-ghost use Rattle.std.specs.Prelude.{◌≡◌, ◌<◌, ◌≤◌, ◌++◌, true, false, [], None, Some, length, OnErr, OnOk, IfOk, IfErr, IsTrue, vec_capacity};
-ghost use Rattle.host_types.specs.AllChanges.{Changes};
-ghost use Rattle.host_types.specs.Site.{Site, IsSite, item_at};
+ghost use Rattle.std.specs.Prelude.{◌≡◌, ◌<◌, ◌≤◌, ◌++◌, true, false, [], length, OnOk, IfOk, IfErr, IsTrue, vec_capacity};
+ghost use Rattle.host_types.specs.Site.{IsSite, item_at};
 ghost use Rattle.host_types.specs.SiteState.{SiteState};
 ghost use Rattle.host_types.specs.Pins.{most_pins};
 ghost use Rattle.host_types.specs.Visible.{visible};
@@ -9,17 +8,15 @@ ghost use Rattle.request_reader.specs.Seen.{request_of};
 ghost use Rattle.request_reader.specs.ReceivedInput.{verdict_by};
 ghost use Rattle.site_replies.specs.Forms.{is_form_in};
 ghost use Rattle.site_replies.specs.LaterReply.{are_posts};
-ghost use Rattle.site_replies.specs.Replies.{IsSized, reply_bytes};
-ghost use Rattle.group_world.specs.Laws.{all_made};
+ghost use Rattle.site_replies.specs.Replies.{IsSized};
 ghost use Rattle.group_world.specs.Step.{at_moment};
 ghost use Rattle.group_world.specs.World as world;
-ghost use Rattle.group_world.specs.declared.answer.InputStatus.TheVariants.{Ready};
 ghost use Rattle.group_world.specs.declared.fault.HubFault.TheVariants.{Memory as OutOfMemory};
-ghost use Rattle.group_hub.specs.Flushing.{next_pin, next_pins, waits_no_more, IsNextReply, IsNextSound, AreNextSound, IsForWaiting, AreForWaiting, ArePrepared, StandsBeside};
-ghost use Rattle.group_hub.specs.Hears.{status_of};
-ghost use Rattle.group_hub.specs.HeldPins.{HoldsAll, MovesPins};
+ghost use Rattle.group_hub.specs.Flushing.{waits_no_more, IsForWaiting, GivesReplyAlways, GivesReplyBehind, TakesNextPin, PreparesGroup};
+ghost use Rattle.group_hub.specs.HeardSteps.{SendsReply};
+ghost use Rattle.group_hub.specs.HeldPins.{HoldsAll, MayPin};
 ghost use Rattle.group_hub.specs.Preparing.{Prepares};
-ghost use Rattle.group_hub.specs.Sessions.{waits_by, phase_of, sessions_of, pin_of, pins_of, is_waiting, IsSound};
+ghost use Rattle.group_hub.specs.Sessions.{waits_by, phase_of, pins_of, is_waiting};
 
 use crate::next::Next;
 use crate::phase::pin_view;
@@ -33,14 +30,9 @@ use word_index::SearchKeeper;
 
 /// The phase of a session that is sent a reply.
 fn sent<S: SearchKeeper>(site: &mut S, reply: Reply) -> Result<Phase<S::Pin>, HubFault>
-    requires usable { (S.site_state site.old).usable ≡ true }
-    requires room { length (S.site_state site.old).pins < most_pins }
+    requires may_pin { MayPin (S.site_state site.old) }
     requires sized { IsTrue (S.site_state site.old).honest → IsSized (S.site_state site.old).site reply }
-    ensures phase { IsTrue (S.site_state site.old).honest → IfOk result (λ p. phase_of S.pinned (S.site_state site.new) p ≡ world.Reply (reply_bytes (S.site_state site.old).site reply)) }
-    ensures sound { IsTrue (S.site_state site.old).honest → IfOk result (IsSound S.pinned (S.site_state site.new)) }
-    ensures ready { IfOk result (λ p. status_of p ≡ Ready) }
-    ensures pins { IfOk result (λ p. MovesPins (S.site_state site.old) (S.site_state site.new) None (pin_of S.pinned p)) }
-    ensures pins_after_fault { OnErr result ((S.site_state site.new).pins ≡ (S.site_state site.old).pins) }
+    ensures sends { SendsReply S.pinned reply (S.site_state site.old) (S.site_state site.new) result }
     ensures prepares { Prepares S.site_state S.lacks S.crash_states site.old site.new result }
 {
     match reply {
@@ -56,15 +48,11 @@ fn gone_of<S: SearchKeeper>(
     request: Request<'_>,
     now: Stamp,
 ) -> Result<Next<S::Pin>, HubFault>
-    requires usable { (S.site_state site.old).usable ≡ true }
-    requires room { length (S.site_state site.old).pins < most_pins }
+    requires may_pin { MayPin (S.site_state site.old) }
     requires gone { IsTrue (S.site_state site.old).honest → is_form_in (item_at (visible (S.site_state site.old).site now) (request_of request).selector) ≡ false }
-    ensures next { IsTrue (S.site_state site.old).honest → (t : Site) (before : Changes) → are_posts before ≡ true →
-        IfOk result (IsNextReply S.pinned (S.site_state site.new) (S.site_state site.old).site t before before (world.Waits (request_of request.entry) now)) }
-    ensures sound { IsTrue (S.site_state site.old).honest → IfOk result (IsNextSound S.pinned (S.site_state site.new)) }
+    ensures next { GivesReplyAlways S.pinned (S.site_state site.old) (S.site_state site.new) (world.Waits (request_of request.entry) now) result }
     ensures answers { IfOk result (λ n. waits_no_more n ≡ true) }
-    ensures pins { IfOk result (λ n. MovesPins (S.site_state site.old) (S.site_state site.new) None (next_pin S.pinned n)) }
-    ensures pins_after_fault { OnErr result ((S.site_state site.new).pins ≡ (S.site_state site.old).pins) }
+    ensures takes_pin { TakesNextPin S.pinned (S.site_state site.old) (S.site_state site.new) result }
     ensures prepares { Prepares S.site_state S.lacks S.crash_states site.old site.new result }
 {
     match reply(alloc, site, request, now) {
@@ -102,17 +90,13 @@ fn replied_of<S: SearchKeeper>(
     now: Stamp,
     changes: &mut Vec<(Change, Stamp)>,
 ) -> Result<Next<S::Pin>, HubFault>
-    requires usable { (S.site_state site.old).usable ≡ true }
-    requires room { length (S.site_state site.old).pins < most_pins }
+    requires may_pin { MayPin (S.site_state site.old) }
     requires valid { IsTrue (S.site_state site.old).honest → ∥ IsSite (S.site_state site.old).site ∥₁ }
     requires posts { IsTrue (S.site_state site.old).honest → are_posts changes.old.items ≡ true }
     requires stands { IsTrue (S.site_state site.old).honest → is_form_in (item_at (visible (S.site_state site.old).site now) (request_of request).selector) ≡ true }
-    ensures next { IsTrue (S.site_state site.old).honest → (t : Site) → all_made (S.site_state site.old).site changes.old.items ≡ Some t →
-        IfOk result (IsNextReply S.pinned (S.site_state site.new) (S.site_state site.old).site t changes.old.items changes.new.items (world.Waits (request_of request.entry) now)) }
-    ensures sound { IsTrue (S.site_state site.old).honest → IfOk result (IsNextSound S.pinned (S.site_state site.new)) }
+    ensures next { GivesReplyBehind S.pinned (S.site_state site.old) (S.site_state site.new) changes.old.items changes.new.items (world.Waits (request_of request.entry) now) result }
     ensures answers { IfOk result (λ n. waits_no_more n ≡ true) }
-    ensures pins { IfOk result (λ n. MovesPins (S.site_state site.old) (S.site_state site.new) None (next_pin S.pinned n)) }
-    ensures pins_after_fault { OnErr result ((S.site_state site.new).pins ≡ (S.site_state site.old).pins) }
+    ensures takes_pin { TakesNextPin S.pinned (S.site_state site.old) (S.site_state site.new) result }
     ensures prepares { Prepares S.site_state S.lacks S.crash_states site.old site.new result }
 {
     match later_reply(alloc, site, request, changes, now) {
@@ -132,16 +116,12 @@ fn next_of<S: SearchKeeper>(
     waiting: &Waiting,
     changes: &mut Vec<(Change, Stamp)>,
 ) -> Result<Next<S::Pin>, HubFault>
-    requires usable { (S.site_state site.old).usable ≡ true }
-    requires room { length (S.site_state site.old).pins < most_pins }
+    requires may_pin { MayPin (S.site_state site.old) }
     requires valid { IsTrue (S.site_state site.old).honest → ∥ IsSite (S.site_state site.old).site ∥₁ }
     requires posts { IsTrue (S.site_state site.old).honest → are_posts changes.old.items ≡ true }
-    ensures next { IsTrue (S.site_state site.old).honest → (t : Site) → all_made (S.site_state site.old).site changes.old.items ≡ Some t →
-        IfOk result (IsNextReply S.pinned (S.site_state site.new) (S.site_state site.old).site t changes.old.items changes.new.items (waits_by (verdict_by waiting.entry.now.reader.input) waiting.entry.now.now)) }
-    ensures sound { IsTrue (S.site_state site.old).honest → IfOk result (IsNextSound S.pinned (S.site_state site.new)) }
+    ensures next { GivesReplyBehind S.pinned (S.site_state site.old) (S.site_state site.new) changes.old.items changes.new.items (waits_by (verdict_by waiting.entry.now.reader.input) waiting.entry.now.now) result }
     ensures answers { IfOk result (λ n. waits_no_more n ≡ true) }
-    ensures pins { IfOk result (λ n. MovesPins (S.site_state site.old) (S.site_state site.new) None (next_pin S.pinned n)) }
-    ensures pins_after_fault { OnErr result ((S.site_state site.new).pins ≡ (S.site_state site.old).pins) }
+    ensures takes_pin { TakesNextPin S.pinned (S.site_state site.old) (S.site_state site.new) result }
     ensures prepares { Prepares S.site_state S.lacks S.crash_states site.old site.new result }
 {
     let StreamVerdict::Whole(request) = waiting.reader.answer() else {
@@ -165,12 +145,9 @@ fn next_for<S: SearchKeeper>(
     requires room { is_waiting phase.now ≡ true → length (S.site_state site.old).pins < most_pins }
     requires valid { IsTrue (S.site_state site.old).honest → ∥ IsSite (S.site_state site.old).site ∥₁ }
     requires posts { IsTrue (S.site_state site.old).honest → are_posts changes.old.items ≡ true }
-    ensures next { IsTrue (S.site_state site.old).honest → (g : SiteState) (t : Site) → all_made (S.site_state site.old).site changes.old.items ≡ Some t →
-        IfOk result (IsNextReply S.pinned (S.site_state site.new) (S.site_state site.old).site t changes.old.items changes.new.items (phase_of S.pinned g phase.now)) }
-    ensures sound { IsTrue (S.site_state site.old).honest → IfOk result (IsNextSound S.pinned (S.site_state site.new)) }
+    ensures next { (g : SiteState) → GivesReplyBehind S.pinned (S.site_state site.old) (S.site_state site.new) changes.old.items changes.new.items (phase_of S.pinned g phase.now) result }
     ensures waiting { IfOk result (IsForWaiting phase.now) }
-    ensures pins { IfOk result (λ n. MovesPins (S.site_state site.old) (S.site_state site.new) None (next_pin S.pinned n)) }
-    ensures pins_after_fault { OnErr result ((S.site_state site.new).pins ≡ (S.site_state site.old).pins) }
+    ensures takes_pin { TakesNextPin S.pinned (S.site_state site.old) (S.site_state site.new) result }
     ensures prepares { Prepares S.site_state S.lacks S.crash_states site.old site.new result }
 {
     match phase {
@@ -193,10 +170,7 @@ pub fn prepare<S: SearchKeeper>(
     requires none { changes.old.items ≡ [] }
     requires held { HoldsAll (S.site_state site.old) (pins_of S.pinned sessions.now) }
     requires valid { IsTrue (S.site_state site.old).honest → ∥ IsSite (S.site_state site.old).site ∥₁ }
-    ensures prepared { IsTrue (S.site_state site.old).honest → OnOk result (ArePrepared S.pinned (S.site_state site.new) (S.site_state site.old).site (sessions_of S.pinned (S.site_state site.old) sessions.now) next.new.items changes.new.items) }
-    ensures sound { IsTrue (S.site_state site.old).honest → AreNextSound S.pinned (S.site_state site.new) next.new.items }
-    ensures waiting { OnOk result (AreForWaiting sessions.now next.new.items) }
-    ensures stands { StandsBeside S.pinned (S.site_state site.old) (S.site_state site.new) (next_pins S.pinned next.new.items) sessions.now }
+    ensures group { PreparesGroup S.pinned (S.site_state site.old) (S.site_state site.new) sessions.now next.new.items changes.new.items result }
     ensures prepares { Prepares S.site_state S.lacks S.crash_states site.old site.new result }
 {
     for session in sessions {

@@ -1,28 +1,26 @@
 // What moves one session that hears a request.
-ghost use Rattle.std.specs.Prelude.{◌≡◌, ◌<◌, ◌&&◌, true, false, [], None, Bool, length, OnErr, OnOk, IfOk, IfErr, IfSome, IsTrue, is_some};
+ghost use Rattle.std.specs.Prelude.{◌≡◌, ◌&&◌, true, false, [], None, IfOk, IfErr, IfSome, IsTrue, is_some};
 ghost use Rattle.std.specs.Option.{option_map};
-ghost use Rattle.host_types.specs.Pins.{Pinned, most_pins};
-ghost use Rattle.host_types.specs.Site.{IsSite};
-ghost use Rattle.host_types.specs.SiteState.{SiteState, HasRead, LacksTheSame, IsReadFault};
-ghost use Rattle.host_types.specs.CrashStates.{AddsNone};
-ghost use Rattle.group_world.specs.World as world;
-ghost use Rattle.group_world.specs.Step.{listens, ends, at_moment};
-ghost use Rattle.group_hub.specs.HeldPins.{MovesPins};
-ghost use Rattle.group_hub.specs.Understood.{reply_by, answered, post_of, concluded, is_whole, HasRoomFor};
-ghost use Rattle.group_hub.specs.Hears.{is_grouped, is_full, MakesChanges, GetsNext, IsConcluded, IsLetWait, IsCrowded, pin_in, fault_alone, status_of, made_post, TakesIn, Hears};
-ghost use Rattle.group_hub.specs.Preparing.{KeeperOnlyReads, Prepares};
 ghost use Rattle.host_types.specs.Counting.{CountsReads};
-ghost use Rattle.site_replies.specs.PostReply.{IsRight};
-ghost use Rattle.site_replies.specs.Replies.{answer_of, IsSized, PostsNoView, reply_bytes};
-ghost use Rattle.group_world.specs.Outcomes.{heard_outcome};
-ghost use Rattle.group_hub.specs.Sessions.{phase_of, pin_of, IsSound};
-ghost use Rattle.group_world.specs.declared.answer.InputStatus.TheVariants.{Ready};
-ghost use Rattle.group_world.specs.declared.fault.HubFault.TheVariants.{Memory as OutOfMemory, Crowded};
-ghost use Rattle.group_hub.specs.declared.phase.Concluded.TheVariants.{Waits};
-ghost use Rattle.site_replies.specs.declared.answered.Reply.TheVariants as replies;
-ghost use Rattle.request_reader.specs.Seen.{seen};
-ghost use Rattle.request_reader.specs.Verdict.{is_open};
+ghost use Rattle.host_types.specs.Pins.{Pinned};
+ghost use Rattle.host_types.specs.Site.{IsSite};
+ghost use Rattle.host_types.specs.SiteState.{SiteState, IsReadFault};
 ghost use Rattle.request_reader.specs.ReceivedInput.{verdict_by, undone};
+ghost use Rattle.request_reader.specs.Seen.{seen};
+ghost use Rattle.site_replies.specs.PostReply.{IsRight};
+ghost use Rattle.site_replies.specs.Replies.{answer_of, IsSized, PostsNoView};
+ghost use Rattle.site_replies.specs.declared.answered.Reply.TheVariants as replies;
+ghost use Rattle.group_world.specs.World as world;
+ghost use Rattle.group_world.specs.Step.{at_moment};
+ghost use Rattle.group_world.specs.declared.fault.HubFault.TheVariants.{Memory as OutOfMemory, Crowded};
+ghost use Rattle.group_hub.specs.HeldPins.{MayPin};
+ghost use Rattle.group_hub.specs.Hears.{is_grouped, is_full, fault_alone, status_of, made_post, MakesChanges, GetsNext, TakesIn, Hears};
+ghost use Rattle.group_hub.specs.HeardSteps.{verdict_step, piece_step, end_step, MakesPost, SendsReply, Concludes};
+ghost use Rattle.group_hub.specs.Preparing.{KeeperOnlyReads, Prepares};
+ghost use Rattle.group_hub.specs.Sessions.{phase_of, pin_of, IsSound};
+ghost use Rattle.group_hub.specs.Understood.{reply_by, answered, post_of, is_whole, HasRoomFor};
+ghost use Rattle.group_hub.specs.declared.phase.Concluded.TheVariants.{Waits};
+ghost use Rattle.group_hub.specs.declared.session.Phase.TheVariants as phases;
 
 use crate::pins::give_back;
 use crate::posting::Posting;
@@ -108,15 +106,11 @@ fn store<S: SearchKeeper>(site: &mut S, post: Option<Change>, now: Stamp) -> Res
 
 /// Pins the site for a view that is sent, of which the reply has this many bytes.
 pub fn pin_view<S: SearchKeeper>(site: &mut S, reply: ViewReply) -> Result<Phase<S::Pin>, HubFault>
-    requires usable { (S.site_state site.old).usable ≡ true }
-    requires room { length (S.site_state site.old).pins < most_pins }
+    requires may_pin { MayPin (S.site_state site.old) }
     requires sized { IsTrue (S.site_state site.old).honest → IsSized (S.site_state site.old).site (replies.View reply) }
-    ensures phase { IsTrue (S.site_state site.old).honest → IfOk result (λ p. phase_of S.pinned (S.site_state site.new) p ≡ world.Reply (reply_bytes (S.site_state site.old).site (replies.View reply))) }
-    ensures sound { IsTrue (S.site_state site.old).honest → IfOk result (IsSound S.pinned (S.site_state site.new)) }
-    ensures prepares { Prepares S.site_state S.lacks S.crash_states site.old site.new result }
+    ensures sends { SendsReply S.pinned (replies.View reply) (S.site_state site.old) (S.site_state site.new) result }
     ensures fault { IfErr result (λ e. (e ≡ OutOfMemory) × ((S.site_state site.new) ≡ (S.site_state site.old))) }
-    ensures pins { IfOk result (λ p. MovesPins (S.site_state site.old) (S.site_state site.new) None (pin_of S.pinned p)) }
-    ensures ready { IfOk result (λ p. status_of p ≡ Ready) }
+    ensures prepares { Prepares S.site_state S.lacks S.crash_states site.old site.new result }
 {
     let ViewReply {
         head,
@@ -141,12 +135,10 @@ fn settle<S: SearchKeeper>(
     made: Option<Answered>,
     now: Stamp,
 ) -> Result<(InputStatus, Phase<S::Pin>), HubFault>
-    requires usable { (S.site_state site.old).usable ≡ true }
-    requires room { length (S.site_state site.old).pins < most_pins }
+    requires may_pin { MayPin (S.site_state site.old) }
     requires right { IsTrue (S.site_state site.old).honest → IsRight (S.site_state site.old).site now (post_of (option_map (answer_of (S.site_state site.old).site) made)) }
     requires sized { IsTrue (S.site_state site.old).honest → IfSome made (λ a. IsSized (S.site_state site.old).site a.reply) }
     requires posts { IfSome made (λ a. PostsNoView a.reply a.post) }
-    ensures heard { IfOk result (λ r. heard_outcome r.0 ≡ (answered (option_map (answer_of (S.site_state site.old).site) made)).outcome) }
     ensures next { GetsNext S.pinned (answered (option_map (answer_of (S.site_state site.old).site) made)) (S.site_state site.old) (S.site_state site.new) result }
     ensures site { MakesChanges S.site_state S.lacks S.crash_states S.represents (at_moment now (post_of (option_map (answer_of (S.site_state site.old).site) made))) site.old site.new result }
     ensures valid { IsTrue (S.site_state site.old).honest → ∥ IsSite (S.site_state site.old).site ∥₁ → ∥ IsSite (S.site_state site.new).site ∥₁ }
@@ -198,14 +190,9 @@ pub fn conclude<S: SearchKeeper>(
     now: Stamp,
     posting: Posting,
 ) -> Result<Concluded<S::Pin>, HubFault>
-    requires usable { (S.site_state site.old).usable ≡ true }
-    requires room { length (S.site_state site.old).pins < most_pins }
-    ensures concluded { IsTrue (S.site_state site.old).honest → IfOk result (IsConcluded S.pinned (concluded (is_grouped posting) (S.site_state site.old).site now (seen answer.entry)) (seen answer.entry) now (S.site_state site.new)) }
-    ensures pins { IfOk result (λ c. MovesPins (S.site_state site.old) (S.site_state site.new) None (pin_in S.pinned c)) }
-    ensures pins_after_fault { OnErr result ((S.site_state site.new).pins ≡ (S.site_state site.old).pins) }
-    ensures waits { IfOk result (IsLetWait posting (seen answer.entry)) }
-    ensures crowded { IsCrowded (S.site_state site.old).honest posting (concluded (is_grouped posting) (S.site_state site.old).site now (seen answer.entry)) result }
-    ensures site { MakesChanges S.site_state S.lacks S.crash_states S.represents (at_moment now (concluded (is_grouped posting) (S.site_state site.old).site now (seen answer.entry)).post) site.old site.new result }
+    requires may_pin { MayPin (S.site_state site.old) }
+    ensures concludes { Concludes S.pinned posting (seen answer.entry) now (S.site_state site.old) (S.site_state site.new) result }
+    ensures site { MakesPost S.site_state S.lacks S.crash_states S.represents now (verdict_step posting (S.site_state site.old) now (seen answer.entry)) site.old site.new result }
     ensures valid { IsTrue (S.site_state site.old).honest → ∥ IsSite (S.site_state site.old).site ∥₁ → ∥ IsSite (S.site_state site.new).site ∥₁ }
 {
     let made = match reply_to(alloc, site, answer, now) {
@@ -229,11 +216,10 @@ fn take_in<S: SearchKeeper>(
     now: Stamp,
     posting: Posting,
 ) -> Result<(InputStatus, Phase<S::Pin>), (HubFault, Reader)>
-    requires usable { (S.site_state site.old).usable ≡ true }
-    requires room { length (S.site_state site.old).pins < most_pins }
-    ensures takes { TakesIn S.pinned (concluded (is_grouped posting) (S.site_state site.old).site now (verdict_by reader.input)) posting (S.site_state site.old) (S.site_state site.new) (fault_alone result) }
+    requires may_pin { MayPin (S.site_state site.old) }
+    ensures takes { TakesIn S.pinned (verdict_step posting (S.site_state site.old) now (verdict_by reader.input)) posting (S.site_state site.old) (S.site_state site.new) (fault_alone result) }
     ensures err { IfErr result (λ e. e.1 ≡ undone reader) }
-    ensures site { MakesChanges S.site_state S.lacks S.crash_states S.represents (at_moment now (concluded (is_grouped posting) (S.site_state site.old).site now (verdict_by reader.input)).post) site.old site.new (fault_alone result) }
+    ensures site { MakesPost S.site_state S.lacks S.crash_states S.represents now (verdict_step posting (S.site_state site.old) now (verdict_by reader.input)) site.old site.new (fault_alone result) }
 {
     match conclude(alloc, site, reader.answer(), now, posting) {
         Ok(Concluded::Answered(status, phase)) => Ok((status, phase)),
@@ -258,11 +244,10 @@ fn hear_piece<S: SearchKeeper>(
     now: Stamp,
     posting: Posting,
 ) -> Result<(InputStatus, Phase<S::Pin>), (HubFault, Hearing)>
-    requires usable { (S.site_state site.old).usable ≡ true }
-    requires room { length (S.site_state site.old).pins < most_pins }
-    ensures takes { TakesIn S.pinned (listens (is_grouped posting) (S.site_state site.old).site now piece.now (world.Heard hearing.reader.input.bytes)) posting (S.site_state site.old) (S.site_state site.new) (fault_alone result) }
+    requires may_pin { MayPin (S.site_state site.old) }
+    ensures takes { TakesIn S.pinned (piece_step S.pinned posting (S.site_state site.old) now piece.now (phases.Hearing hearing)) posting (S.site_state site.old) (S.site_state site.new) (fault_alone result) }
     ensures err { IfErr result (λ e. e.1.reader.input.bytes ≡ hearing.reader.input.bytes) }
-    ensures site { MakesChanges S.site_state S.lacks S.crash_states S.represents (at_moment now (listens (is_grouped posting) (S.site_state site.old).site now piece.now (world.Heard hearing.reader.input.bytes)).post) site.old site.new (fault_alone result) }
+    ensures site { MakesPost S.site_state S.lacks S.crash_states S.represents now (piece_step S.pinned posting (S.site_state site.old) now piece.now (phases.Hearing hearing)) site.old site.new (fault_alone result) }
 {
     let Hearing { reader } = hearing;
     let mut reader = reader;
@@ -286,11 +271,10 @@ fn hear_last<S: SearchKeeper>(
     now: Stamp,
     posting: Posting,
 ) -> Result<(InputStatus, Phase<S::Pin>), (HubFault, Hearing)>
-    requires usable { (S.site_state site.old).usable ≡ true }
-    requires room { length (S.site_state site.old).pins < most_pins }
-    ensures takes { TakesIn S.pinned (ends (is_grouped posting) (S.site_state site.old).site now (world.Heard hearing.reader.input.bytes)) posting (S.site_state site.old) (S.site_state site.new) (fault_alone result) }
+    requires may_pin { MayPin (S.site_state site.old) }
+    ensures takes { TakesIn S.pinned (end_step S.pinned posting (S.site_state site.old) now (phases.Hearing hearing)) posting (S.site_state site.old) (S.site_state site.new) (fault_alone result) }
     ensures err { IfErr result (λ e. e.1.reader.input.bytes ≡ hearing.reader.input.bytes) }
-    ensures site { MakesChanges S.site_state S.lacks S.crash_states S.represents (at_moment now (ends (is_grouped posting) (S.site_state site.old).site now (world.Heard hearing.reader.input.bytes)).post) site.old site.new (fault_alone result) }
+    ensures site { MakesPost S.site_state S.lacks S.crash_states S.represents now (end_step S.pinned posting (S.site_state site.old) now (phases.Hearing hearing)) site.old site.new (fault_alone result) }
 {
     let Hearing { reader } = hearing;
     let mut reader = reader;
@@ -338,8 +322,8 @@ pub fn hear<S: SearchKeeper>(
 ) -> Result<InputStatus, HubFault>
     requires usable { (S.site_state site.old).usable ≡ true }
     requires room { HasRoomFor (S.site_state site.old) (phase_of S.pinned (S.site_state site.old) phase.old) }
-    ensures hears { Hears S.pinned (listens (is_grouped posting) (S.site_state site.old).site now piece.now (phase_of S.pinned (S.site_state site.old) phase.old)) posting phase.old phase.new (S.site_state site.old) (S.site_state site.new) result }
-    ensures site { MakesChanges S.site_state S.lacks S.crash_states S.represents (at_moment now (listens (is_grouped posting) (S.site_state site.old).site now piece.now (phase_of S.pinned (S.site_state site.old) phase.old)).post) site.old site.new result }
+    ensures hears { Hears S.pinned (piece_step S.pinned posting (S.site_state site.old) now piece.now phase.old) posting phase.old phase.new (S.site_state site.old) (S.site_state site.new) result }
+    ensures site { MakesPost S.site_state S.lacks S.crash_states S.represents now (piece_step S.pinned posting (S.site_state site.old) now piece.now phase.old) site.old site.new result }
 {
     let hearing = match mem::replace(phase, Phase::Early) {
         Phase::Hearing(hearing) => hearing,
@@ -371,8 +355,8 @@ pub fn hear_end<S: SearchKeeper>(
 ) -> Result<InputStatus, HubFault>
     requires usable { (S.site_state site.old).usable ≡ true }
     requires room { HasRoomFor (S.site_state site.old) (phase_of S.pinned (S.site_state site.old) phase.old) }
-    ensures hears { Hears S.pinned (ends (is_grouped posting) (S.site_state site.old).site now (phase_of S.pinned (S.site_state site.old) phase.old)) posting phase.old phase.new (S.site_state site.old) (S.site_state site.new) result }
-    ensures site { MakesChanges S.site_state S.lacks S.crash_states S.represents (at_moment now (ends (is_grouped posting) (S.site_state site.old).site now (phase_of S.pinned (S.site_state site.old) phase.old)).post) site.old site.new result }
+    ensures hears { Hears S.pinned (end_step S.pinned posting (S.site_state site.old) now phase.old) posting phase.old phase.new (S.site_state site.old) (S.site_state site.new) result }
+    ensures site { MakesPost S.site_state S.lacks S.crash_states S.represents now (end_step S.pinned posting (S.site_state site.old) now phase.old) site.old site.new result }
 {
     let hearing = match mem::replace(phase, Phase::Early) {
         Phase::Hearing(hearing) => hearing,

@@ -1,12 +1,10 @@
 // Sessions are put into their next phases.
-ghost use Rattle.std.specs.Prelude.{◌≡◌, ◌≤◌, ◌++◌, List, [], None, IfSome, IsTrue, vec_len, vec_capacity};
+ghost use Rattle.std.specs.Prelude.{◌≡◌, ◌≤◌, ◌++◌, None, IfSome, IsTrue, vec_len, vec_capacity};
 ghost use Rattle.host_types.specs.CrashStates.{AddsNone};
 ghost use Rattle.host_types.specs.Pins.{is_out};
-ghost use Rattle.group_world.specs.World.{count_waiting};
-ghost use Rattle.group_hub.specs.Flushing.{next_pins, given_back, put_phase, AreNextSound, IsForWaiting, AreForWaiting, StandsBeside, put_seats};
+ghost use Rattle.group_hub.specs.Flushing.{next_pins, given_back, put_phase, IsForWaiting, AreForWaiting, PutsSeats, GivesBackBeside};
 ghost use Rattle.group_hub.specs.HeldPins.{HoldsAll, HoldsBeside, MovesPins, MayGiveBack};
-ghost use Rattle.group_hub.specs.Sessions.{sessions_of, pins_of, AreSound};
-ghost use Rattle.group_hub.specs.declared.session.Session.{Session as SessionOf};
+ghost use Rattle.group_hub.specs.Sessions.{pins_of};
 
 use crate::next::{Next, Putting};
 use crate::phase::put;
@@ -48,11 +46,7 @@ pub fn put_next<S: SearchKeeper>(
 )
     requires waiting { AreForWaiting sessions.old.items next.items }
     requires held { HoldsAll (S.site_state site.old) (next_pins S.pinned next.items ++ pins_of S.pinned sessions.old.items) }
-    ensures seats { sessions_of S.pinned (S.site_state site.new) sessions.new.items ≡ put_seats putting S.pinned (S.site_state site.old) (sessions_of S.pinned (S.site_state site.old) sessions.old.items) next.items }
-    ensures held { HoldsAll (S.site_state site.new) (pins_of S.pinned sessions.new.items) }
-    ensures sound { IsTrue (S.site_state site.old).honest → AreNextSound S.pinned (S.site_state site.old) next.items → AreSound S.pinned (S.site_state site.old) sessions.old.items → AreSound S.pinned (S.site_state site.new) sessions.new.items }
-    ensures fewer { count_waiting (sessions_of S.pinned (S.site_state site.new) sessions.new.items) ≤ count_waiting (sessions_of S.pinned (S.site_state site.old) sessions.old.items) }
-    ensures keeper { MayGiveBack (S.site_state site.old) (S.site_state site.new) }
+    ensures puts { PutsSeats putting S.pinned (S.site_state site.old) (S.site_state site.new) sessions.old.items sessions.new.items next.items }
     ensures at_crash { IsTrue (S.site_state site.old).honest → AddsNone (S.crash_states site.old) (S.crash_states site.new) }
     ensures places { (vec_len sessions.new ≡ vec_len sessions.old) × (vec_capacity sessions.old ≤ vec_capacity sessions.new) }
 {
@@ -66,7 +60,7 @@ pub fn put_next<S: SearchKeeper>(
 /// Gives the pins back that were taken for some sessions, none of which is put.
 pub fn put_nobody<S: SearchKeeper>(site: &mut S, next: Vec<Next<S::Pin>>)
     requires held { HoldsBeside (S.site_state site.old) (next_pins S.pinned next.items) }
-    ensures stands { (sessions : List (SessionOf S.Pin)) → HoldsAll (S.site_state site.old) (next_pins S.pinned next.items ++ pins_of S.pinned sessions) → StandsBeside S.pinned (S.site_state site.old) (S.site_state site.new) [] sessions }
+    ensures stands { GivesBackBeside S.pinned (S.site_state site.old) (S.site_state site.new) (next_pins S.pinned next.items) }
     ensures keeper { MayGiveBack (S.site_state site.old) (S.site_state site.new) }
     ensures at_crash { IsTrue (S.site_state site.old).honest → AddsNone (S.crash_states site.old) (S.crash_states site.new) }
 {

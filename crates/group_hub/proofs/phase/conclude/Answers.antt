@@ -22,7 +22,7 @@ returns-then-is_to_wait-clause-site g c =
     let k = c.args.site.now in
     let l = c.reply_to.new.site in
     let read : HaveRead s.site_state s.lacks s.crash_states s.represents k l = record {
-      usable = c.requires.usable;
+      usable = c.requires.may_pin.usable;
       stands = g.met.S.SiteKeeper.crash_states_represent k;
       only = c.reply_to.ensures.only;
     } in
@@ -30,18 +30,17 @@ returns-then-is_to_wait-clause-site g c =
     let none : changes ≡ [] = none_to_make (is_grouped c.args.posting) (s.site_state k).site c.args.now (seen c.args.answer) (and_left _ _ (sym c.is_to_wait.ensures ∙ c.if-is_to_wait.true)) in
     waits_made s.site_state s.lacks s.crash_states s.represents c.args.posting changes k l c.let_wait.result (c.let_wait.ensures.ok, c.let_wait.ensures.err) read c.in-Ok.ensures.reads none
 
-pub returns-then-is_to_wait-clause-concluded : goal.returns-then-is_to_wait-clause-concluded
-returns-then-is_to_wait-clause-concluded g c = λ honest.
-    waits_as_said g.S.SiteKeeper.pinned _ c.args.posting (seen c.args.answer) c.args.now (g.S.SiteKeeper.site_state c.reply_to.new.site) c.let_wait.result (c.let_wait.ensures.ok, c.let_wait.ensures.err)
-    (post_waits (is_grouped c.args.posting) (g.S.SiteKeeper.site_state c.args.site.now).site c.args.now (seen c.args.answer) c.in-Ok.made (sym c.is_to_wait.ensures ∙ c.if-is_to_wait.true) (c.in-Ok.ensures.reply honest))
-
-pub returns-then-is_to_wait-clause-waits : goal.returns-then-is_to_wait-clause-waits
-returns-then-is_to_wait-clause-waits g c = waits_rightly c.args.posting (seen c.args.answer) c.in-Ok.made c.let_wait.result (c.let_wait.ensures.ok, c.let_wait.ensures.err) (sym c.is_to_wait.ensures ∙ c.if-is_to_wait.true) c.in-Ok.ensures.whole
-
-pub returns-then-is_to_wait-clause-crowded : goal.returns-then-is_to_wait-clause-crowded
-returns-then-is_to_wait-clause-crowded g c =
-    crowded_rightly (g.S.SiteKeeper.site_state c.args.site.now).honest _ c.args.posting (seen c.args.answer) c.args.now c.let_wait.result (c.let_wait.ensures.ok, c.let_wait.ensures.err)
-    (λ honest. post_waits (is_grouped c.args.posting) (g.S.SiteKeeper.site_state c.args.site.now).site c.args.now (seen c.args.answer) c.in-Ok.made (sym c.is_to_wait.ensures ∙ c.if-is_to_wait.true) (c.in-Ok.ensures.reply honest))
+pub returns-then-is_to_wait-clause-concludes : goal.returns-then-is_to_wait-clause-concludes
+returns-then-is_to_wait-clause-concludes g c = record {
+  concluded = λ honest.
+      waits_as_said g.S.SiteKeeper.pinned _ c.args.posting (seen c.args.answer) c.args.now (g.S.SiteKeeper.site_state c.reply_to.new.site) c.let_wait.result (c.let_wait.ensures.ok, c.let_wait.ensures.err)
+      (post_waits (is_grouped c.args.posting) (g.S.SiteKeeper.site_state c.args.site.now).site c.args.now (seen c.args.answer) c.in-Ok.made (sym c.is_to_wait.ensures ∙ c.if-is_to_wait.true) (c.in-Ok.ensures.reply honest));
+  pins = search rules;
+  pins_after_fault = search rules;
+  waits = waits_rightly c.args.posting (seen c.args.answer) c.in-Ok.made c.let_wait.result (c.let_wait.ensures.ok, c.let_wait.ensures.err) (sym c.is_to_wait.ensures ∙ c.if-is_to_wait.true) c.in-Ok.ensures.whole;
+  crowded = crowded_rightly (g.S.SiteKeeper.site_state c.args.site.now).honest _ c.args.posting (seen c.args.answer) c.args.now c.let_wait.result (c.let_wait.ensures.ok, c.let_wait.ensures.err)
+      (λ honest. post_waits (is_grouped c.args.posting) (g.S.SiteKeeper.site_state c.args.site.now).site c.args.now (seen c.args.answer) c.in-Ok.made (sym c.is_to_wait.ensures ∙ c.if-is_to_wait.true) (c.in-Ok.ensures.reply honest));
+}
 
 pub returns-in-Ok-settle-clause-site : goal.returns-in-Ok-settle-clause-site
 returns-in-Ok-settle-clause-site g c =
@@ -49,7 +48,7 @@ returns-in-Ok-settle-clause-site g c =
     let k = c.args.site.now in
     let l = c.reply_to.new.site in
     let read : HaveRead s.site_state s.lacks s.crash_states s.represents k l = record {
-      usable = c.requires.usable;
+      usable = c.requires.may_pin.usable;
       stands = g.met.S.SiteKeeper.crash_states_represent k;
       only = c.reply_to.ensures.only;
     } in
@@ -59,8 +58,14 @@ returns-in-Ok-settle-clause-site g c =
     (to_make (is_grouped c.args.posting) (s.site_state k) (s.site_state l) c.args.now (seen c.args.answer) c.in-Ok.made read.only.kept (sym c.is_to_wait.ensures ∙ c.if-is_to_wait.false) c.in-Ok.ensures.reply)
     c.in-Ok-settle.ensures.site
 
-pub returns-in-Ok-settle-clause-waits : goal.returns-in-Ok-settle-clause-waits
-returns-in-Ok-settle-clause-waits g c = (c.in-Ok-settle.ensures.next.status, never_waits c.in-Ok-settle.status _ c.in-Ok-settle.ensures.heard)
+pub returns-in-Ok-settle-clause-concludes : goal.returns-in-Ok-settle-clause-concludes
+returns-in-Ok-settle-clause-concludes g c = record {
+  concluded = search rules;
+  pins = search rules;
+  pins_after_fault = search rules;
+  waits = (c.in-Ok-settle.ensures.next.status, never_waits c.in-Ok-settle.status _ c.in-Ok-settle.ensures.next.heard);
+  crowded = search rules;
+}
 
 pub returns-in-Err-settle-clause-site : goal.returns-in-Err-settle-clause-site
 returns-in-Err-settle-clause-site g c =
@@ -68,7 +73,7 @@ returns-in-Err-settle-clause-site g c =
     let k = c.args.site.now in
     let l = c.reply_to.new.site in
     let read : HaveRead s.site_state s.lacks s.crash_states s.represents k l = record {
-      usable = c.requires.usable;
+      usable = c.requires.may_pin.usable;
       stands = g.met.S.SiteKeeper.crash_states_represent k;
       only = c.reply_to.ensures.only;
     } in
@@ -86,7 +91,7 @@ returns-in-Err-clause-site g c =
       still_usable = search rules;
       fault = search rules;
       worked = search rules;
-      counts = read_fault_counts true c.in-Err.fault c.of_site.result (s.site_state c.args.site.now) (s.site_state c.reply_to.new.site) c.requires.usable c.of_site.ensures c.reply_to.ensures.only.kept c.in-Err.ensures.fault c.in-Err.ensures.reads;
+      counts = read_fault_counts true c.in-Err.fault c.of_site.result (s.site_state c.args.site.now) (s.site_state c.reply_to.new.site) c.requires.may_pin.usable c.of_site.ensures c.reply_to.ensures.only.kept c.in-Err.ensures.fault c.in-Err.ensures.reads;
       unchanged = search rules;
       at_crash = search rules;
     }

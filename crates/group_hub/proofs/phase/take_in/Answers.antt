@@ -34,4 +34,4 @@ pub returns-in-Ok-Answered-clause-takes : goal.returns-in-Ok-Answered-clause-tak
 returns-in-Ok-Answered-clause-takes g c =
     let s = g.S.SiteKeeper in
     let e = rw c.in-Ok-Answered.field-0-is at c.in-Ok-Answered.ensures in
-    takes s.pinned (is_grouped c.args.posting) c.args.posting (s.site_state c.args.site.now) (s.site_state c.conclude.new.site) c.args.now (seen c.answer.result) (verdict_by c.args.reader.input) c.in-Ok-Answered.status c.in-Ok-Answered.phase c.answer.ensures e.concluded e.pins e.waits
+    takes s.pinned (is_grouped c.args.posting) c.args.posting (s.site_state c.args.site.now) (s.site_state c.conclude.new.site) c.args.now (seen c.answer.result) (verdict_by c.args.reader.input) c.in-Ok-Answered.status c.in-Ok-Answered.phase c.answer.ensures e.concludes.concluded e.concludes.pins e.concludes.waits

@@ -52,22 +52,7 @@ destroy_empty-requires g c =
     let zero : length c.loop-session.next.items ≡ 0 = ap length none in
     omega arith
 
-pub returns-clause-seats : goal.returns-clause-seats
-returns-clause-seats g c =
+pub returns-clause-puts : goal.returns-clause-puts
+returns-clause-puts g c =
     let all = all_put g.S.SiteKeeper.pinned c.args.putting _ _ _ _ _ _ c.loop-session.session-index c.requires.waiting (omega arith) c.loop-session.invariant.put in
-    rw (written_back c.args.sessions.now.items c.loop-session.session-items c.args.sessions.now.len (omega arith)) all.seats
-
-pub returns-clause-held : goal.returns-clause-held
-returns-clause-held g c =
-    let all = all_put g.S.SiteKeeper.pinned c.args.putting _ _ _ _ _ _ c.loop-session.session-index c.requires.waiting (omega arith) c.loop-session.invariant.put in
-    rw (written_back c.args.sessions.now.items c.loop-session.session-items c.args.sessions.now.len (omega arith)) all.held
-
-pub returns-clause-sound : goal.returns-clause-sound
-returns-clause-sound g c =
-    let all = all_put g.S.SiteKeeper.pinned c.args.putting _ _ _ _ _ _ c.loop-session.session-index c.requires.waiting (omega arith) c.loop-session.invariant.put in
-    rw (written_back c.args.sessions.now.items c.loop-session.session-items c.args.sessions.now.len (omega arith)) (λ honest next sessions. all.sound next sessions)
-
-pub returns-clause-fewer : goal.returns-clause-fewer
-returns-clause-fewer g c =
-    let all = all_put g.S.SiteKeeper.pinned c.args.putting _ _ _ _ _ _ c.loop-session.session-index c.requires.waiting (omega arith) c.loop-session.invariant.put in
-    rw (written_back c.args.sessions.now.items c.loop-session.session-items c.args.sessions.now.len (omega arith)) all.fewer
+    rw (written_back c.args.sessions.now.items c.loop-session.session-items c.args.sessions.now.len (omega arith)) (record { seats = all.seats; held = all.held; sound = λ honest. all.sound; fewer = all.fewer; keeper = c.loop-session.invariant.keeper })

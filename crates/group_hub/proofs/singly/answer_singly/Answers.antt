@@ -1,4 +1,4 @@
-use Rattle.std.proofs.Common.{◌≡◌, ◌+◌, ◌<◌, ◌++◌, List, length, length-set, get_or, set, take, drop, refl, sym, ap, ◌∙◌, arith}
+use Rattle.std.proofs.Common.{◌≡◌, ◌+◌, ◌<◌, ◌++◌, List, length, length-set, get_or, set, take, drop, refl, sym, ap, ◌∙◌, arith, rules}
 use Rattle.group_hub.specs.declared.session.Session.{Session}
 use Rattle.group_hub.proofs.SeatsHeld.{room_beside}
 use Rattle.group_hub.proofs.SeatsPut.{none_waits, written_back}
@@ -10,15 +10,18 @@ use Rattle.group_hub.proofs.singly.answer_singly.Goals.{In-Failed, then-is_waiti
 pub loop-session-init : goal.loop-session-init
 loop-session-init g c =
     let s = g.S.SiteKeeper in
-    rw c.deref_mut-session-items.ensures.value (singly_none s.pinned s.site_state s.lacks s.crash_states s.represents g.met.S.SiteKeeper.crash_states_represent c.args.site.now c.args.sessions.now.items c.requires.usable c.requires.held c.requires.sound)
+    rw c.deref_mut-session-items.ensures.value (singly_none s.pinned s.site_state s.lacks s.crash_states s.represents g.met.S.SiteKeeper.crash_states_represent c.args.site.now c.args.sessions.now.items c.requires.usable c.requires.stand.held c.requires.stand.sound)
 
-pub answer_alone-requires-clause-room : goal.answer_alone-requires-clause-room
-answer_alone-requires-clause-room g c =
+pub answer_alone-requires-clause-may_pin : goal.answer_alone-requires-clause-may_pin
+answer_alone-requires-clause-may_pin g c =
     let s = g.S.SiteKeeper in
     let items = c.loop-session.session-items in
     let i = c.loop-session.session-index in
     let x = get_or items i c.session-item.result in
-    room_beside s.pinned (s.site_state c.loop-session.site) items i x (omega arith) (ap (get_or items i) c.session-item.is) (none_waits s.pinned x.phase (sym c.is_waiting.ensures ∙ c.if-is_waiting.true)) c.loop-session.invariant.held (omega arith)
+    record {
+      usable = c.loop-session.invariant.works.usable;
+      room = room_beside s.pinned (s.site_state c.loop-session.site) items i x (omega arith) (ap (get_or items i) c.session-item.is) (none_waits s.pinned x.phase (sym c.is_waiting.ensures ∙ c.if-is_waiting.true)) c.loop-session.invariant.held (omega arith);
+    }
 
 pub loop-session-preserved : goal.loop-session-preserved
 loop-session-preserved g c =
@@ -36,13 +39,13 @@ loop-session-preserved g c =
           let alone = w.in-Ok.ensures in
           let left_is : c.if-is_waiting.left ≡ left = omega (arith, w.left-is) in
           rw (w.site-is, left_is, w.session-items-is) (turn_done s.pinned s.site_state s.lacks s.crash_states s.represents g.met.S.SiteKeeper.crash_states_represent c.args.site.now c.args.sessions.now.items k items i left x within read c.loop-session.invariant
-          w.answer_alone.new.site y (sym c.is_waiting.ensures ∙ w.if-is_waiting.true) refl alone.answered alone.phase alone.sound alone.pins alone.valid alone.site)
+          w.answer_alone.new.site y (sym c.is_waiting.ensures ∙ w.if-is_waiting.true) refl alone.answers.answered alone.answers.phase alone.answers.sound alone.answers.pins alone.valid alone.site)
       | then-is_waiting+in-Err+in_default w ↦
           let y : Session g.row.S-Pin.Denot = record { id = x.id; phase = w.answer_alone.new.phase } in
           let alone = w.in-Err.ensures in
           let left_is : c.if-is_waiting.left ≡ left + 1 = omega (arith, w.left-is) in
           rw (w.site-is, left_is, w.session-items-is) (turn_left s.pinned s.site_state s.lacks s.crash_states s.represents g.met.S.SiteKeeper.crash_states_represent c.args.site.now c.args.sessions.now.items k items i left x within read c.loop-session.invariant
-          w.answer_alone.new.site y w.in-Err.fault w.in_default.not-Failed (sym c.is_waiting.ensures ∙ w.if-is_waiting.true) refl alone.err alone.sound alone.pins alone.valid alone.site)
+          w.answer_alone.new.site y w.in-Err.fault w.in_default.not-Failed (sym c.is_waiting.ensures ∙ w.if-is_waiting.true) refl alone.answers.err alone.answers.sound alone.answers.pins alone.valid alone.site)
       | else-is_waiting w ↦ rw (w.site-is, w.left-is, w.session-items-is) (turn_none s.pinned s.site_state s.lacks s.crash_states s.represents g.met.S.SiteKeeper.crash_states_represent c.args.site.now c.args.sessions.now.items k items i left x within read c.loop-session.invariant (sym c.is_waiting.ensures ∙ w.if-is_waiting.false))
     ]
 
@@ -63,28 +66,22 @@ failed g c =
     let y : Session g.row.S-Pin.Denot = record { id = x.id; phase = c.answer_alone.new.phase } in
     let alone = rw c.in-Failed.is at c.in-Err.ensures in
     turn_fails s.pinned s.site_state s.lacks s.crash_states s.represents g.met.S.SiteKeeper.crash_states_represent c.args.site.now c.args.sessions.now.items c.loop-session.site items i c.loop-session.left x within read c.loop-session.invariant
-    c.answer_alone.new.site y c.requires.usable (sym c.is_waiting.ensures ∙ c.if-is_waiting.true) refl alone.err alone.sound alone.pins alone.valid alone.site
+    c.answer_alone.new.site y c.requires.usable (sym c.is_waiting.ensures ∙ c.if-is_waiting.true) refl alone.answers.err alone.answers.sound alone.answers.pins alone.valid alone.site
 
 written : (g : Over) (c : In-Failed g) → take c.args.sessions.now.len (changed g c ++ drop (length (changed g c)) c.args.sessions.now.items) ≡ changed g c
 written g c = written_back c.args.sessions.now.items (changed g c) c.args.sessions.now.len (omega (arith, length-set {A = Session g.row.S-Pin.Denot}))
 
-pub returns-in-Failed-clause-fails : goal.returns-in-Failed-clause-fails
-returns-in-Failed-clause-fails g c = rw (written g c.before) (failed g c.before).fails
+pub returns-in-Failed-clause-takes : goal.returns-in-Failed-clause-takes
+returns-in-Failed-clause-takes g c = record { takes = search rules; fails = rw (written g c.before) (failed g c.before).fails }
 
 pub returns-in-Failed-clause-works : goal.returns-in-Failed-clause-works
 returns-in-Failed-clause-works g c = (failed g c.before).works
 
-pub returns-in-Failed-clause-held : goal.returns-in-Failed-clause-held
-returns-in-Failed-clause-held g c = rw (written g c.before) (failed g c.before).held
-
-pub returns-in-Failed-clause-sound : goal.returns-in-Failed-clause-sound
-returns-in-Failed-clause-sound g c = rw (written g c.before) (failed g c.before).sound
-
-pub returns-in-Failed-clause-fewer : goal.returns-in-Failed-clause-fewer
-returns-in-Failed-clause-fewer g c = rw (written g c.before) (failed g c.before).fewer
+pub returns-in-Failed-clause-seats : goal.returns-in-Failed-clause-seats
+returns-in-Failed-clause-seats g c = let f = failed g c.before in rw (written g c.before) (record { held = f.held; sound = f.sound; fewer = f.fewer })
 
 pub returns-clause-takes : goal.returns-clause-takes
 returns-clause-takes g c =
     let s = g.S.SiteKeeper in
     let all = singly_all s.pinned s.site_state s.lacks s.crash_states s.represents g.met.S.SiteKeeper.crash_states_represent c.args.site.now c.args.sessions.now.items c.loop-session.site c.loop-session.session-items c.loop-session.session-index c.loop-session.left (omega arith) c.loop-session.invariant in
-    rw (written_back c.args.sessions.now.items c.loop-session.session-items c.args.sessions.now.len (omega arith)) all.takes
+    record { takes = rw (written_back c.args.sessions.now.items c.loop-session.session-items c.args.sessions.now.len (omega arith)) all.takes; fails = search rules }

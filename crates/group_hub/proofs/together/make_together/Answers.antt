@@ -9,16 +9,16 @@ commit_group-requires-clause-right g c =
     let s = g.S.SiteKeeper in
     let k = c.args.site.now in
     let done = c.in-Ok.ensures in
-    changes_right s.site_state s.lacks s.crash_states s.represents s.pinned c.args.sessions.now c.prepare.new.next.items k c.prepare.new.site c.requires.usable (g.met.S.SiteKeeper.crash_states_represent k) done.sound done.stands
-    c.prepare.new.changes.items done.prepares done.prepared done.waiting
+    changes_right s.site_state s.lacks s.crash_states s.represents s.pinned c.args.sessions.now c.prepare.new.next.items k c.prepare.new.site c.requires.usable (g.met.S.SiteKeeper.crash_states_represent k) done.group.sound done.group.stands
+    c.prepare.new.changes.items done.prepares done.group.prepared done.group.waiting
 
 pub returns-in-Ok-clause-makes : goal.returns-in-Ok-clause-makes
 returns-in-Ok-clause-makes g c =
     let s = g.S.SiteKeeper in
     let k = c.args.site.now in
     let done = c.in-Ok.ensures in
-    made_together s.site_state s.lacks s.crash_states s.represents s.pinned c.args.sessions.now c.prepare.new.next.items k c.prepare.new.site c.requires.usable (g.met.S.SiteKeeper.crash_states_represent k) done.sound done.stands
-    c.prepare.new.changes.items done.prepares done.prepared done.waiting c.commit_group.new.site c.commit_group.result c.commit_group.ensures
+    made_together s.site_state s.lacks s.crash_states s.represents s.pinned c.args.sessions.now c.prepare.new.next.items k c.prepare.new.site c.requires.usable (g.met.S.SiteKeeper.crash_states_represent k) done.group.sound done.group.stands
+    c.prepare.new.changes.items done.prepares done.group.prepared done.group.waiting c.commit_group.new.site c.commit_group.result c.commit_group.ensures
 
 pub returns-in-Ok-clause-valid : goal.returns-in-Ok-clause-valid
 returns-in-Ok-clause-valid g c = λ honest.
@@ -32,4 +32,4 @@ returns-in-Err-clause-makes g c =
     let s = g.S.SiteKeeper in
     let k = c.args.site.now in
     let failed = c.in-Err.ensures in
-    not_prepared s.site_state s.lacks s.crash_states s.represents s.pinned c.args.sessions.now c.prepare.new.next.items k c.prepare.new.site c.requires.usable (g.met.S.SiteKeeper.crash_states_represent k) failed.sound failed.stands c.in-Err.fault failed.prepares
+    not_prepared s.site_state s.lacks s.crash_states s.represents s.pinned c.args.sessions.now c.prepare.new.next.items k c.prepare.new.site c.requires.usable (g.met.S.SiteKeeper.crash_states_represent k) failed.group.sound failed.group.stands c.in-Err.fault failed.prepares
