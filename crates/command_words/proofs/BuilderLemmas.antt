@@ -38,11 +38,11 @@ needing rule old new x is adds =
     (rules ∙ ap₂ (λ (r : Rule) (b : Bool). record r { is_free = b }) is.0 bound, ap (λ (a : Arg). a.global) adds.0 ∙ is.1)
 
 -- it needs no other, where it needed none before
-pub needs_alone : (rule : Rule) (old optional new : Arg) (x : ArgPredicate × Bor Text) → rule.is_free ≡ true → IsArg rule old → optional ≡ record old { required = false } → AddsRequirements optional new (x ∷ []) → new.needs.items ≡ x ∷ []
-needs_alone rule old optional new x is_free is made adds =
+pub needs_alone : (rule : Rule) (old new : Arg) (x : ArgPredicate × Bor Text) → rule.is_free ≡ true → IsArg rule old → AddsRequirements old new (x ∷ []) → new.needs.items ≡ x ∷ []
+needs_alone rule old new x is_free is adds =
     let free : is_free_arg old ≡ true = ap (λ (r : Rule). r.is_free) is.0 ∙ is_free in
     let none : old.needs.items ≡ [] = is_nil old.needs.items (both _ _ (both _ _ (both _ _ free).1).1).0 in
-    adds.1 ∙ (ap (λ (a : Arg). a.needs.items ++ x ∷ []) made ∙ ap (λ xs. xs ++ x ∷ []) none)
+    adds.1 ∙ ap (λ xs. xs ++ x ∷ []) none
 
 -- and so has one that stands beside no other
 pub conflicting : (rule : Rule) (old new : Arg) (x : Bor Text) → IsArg rule old → AddsConflicts old new (x ∷ []) → IsArg (record rule { is_free = false }) new
@@ -62,17 +62,7 @@ pub with_command : (app : App) (shape : Shape) (old new sub : Command) → IsApp
 with_command app shape old new sub is_app is_sub adds =
     (adds.shape is_sub.1 ∙ ap₂ with_subcommand is_app.0 (ap (λ (a : App). a.top) is_sub.0), adds.globals ∙ ap₂ (λ x y. x || y) is_app.1 is_sub.1)
 
--- an argument that need not be there
-pub may_be_missing : (rule : Rule) (old new : Arg) → IsArg rule old → new ≡ record old { required = false } → IsArg (record rule { required = false }) new
-may_be_missing rule old new is made =
-    (ap rule_of made ∙ ap (λ (r : Rule). record r { required = false }) is.0, ap (λ (a : Arg). a.global) made ∙ is.1)
-
--- one that has to be there
-pub has_to_be_there : (rule : Rule) (old new : Arg) → IsArg rule old → new ≡ record old { required = true } → IsArg (record rule { required = true }) new
-has_to_be_there rule old new is made =
-    (ap rule_of made ∙ ap (λ (r : Rule). record r { required = true }) is.0, ap (λ (a : Arg). a.global) made ∙ is.1)
-
--- and what stands for one that is missing
+-- what stands for an argument that is missing
 pub standing_arg : (rule : Rule) (value : Bor Text) (old missing valued new : Arg) (h : _) → IsArg rule old → missing ≡ record old { required = false } → valued ≡ record missing { default_vals = One value } → new ≡ record valued { hide_default_value = h } → IsArg (standing value.now rule) new
 standing_arg rule value old missing valued new h is e1 e2 e3 =
     let rules : rule_of new ≡ record (rule_of old) { required = false; defaults = value.now ∷ [] } =

@@ -19,6 +19,10 @@ two_words name a b differ is_a is_b =
     let bad : false ≡ true = sym differ ∙ same in
     cc
 
+-- what a word asks for, the name asks for that is the word
+pub named : (name word : Text) (rows : List Row) (r : Option Task) → name ≡ word → GivesOne (AsksFor word rows) r → GivesOne (AsksFor name rows) r
+named name word rows r is asks = subst (λ w. GivesOne (AsksFor w rows) r) (sym is) asks
+
 -- without an image only a script is run, or a folder imported
 pub no_image : (name : Text) (rows : List Row) → first_of (codes "IMAGE") rows ≡ None → (name ≡ codes "replay" → ⊥) → (name ≡ codes "import" → ⊥) → (t : Task) → AsksFor name rows t → ⊥
 no_image name rows none other imports (task.Format image site pages now) h = not_both _ _ none h.1

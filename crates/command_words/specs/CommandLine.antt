@@ -1,5 +1,5 @@
 -- The command line: what clap reads of each command and of its arguments.
-use Rattle.std.specs.Prelude.{◌≡◌, ℕ, true, false, List, [], ◌∷◌, Some, codes}
+use Rattle.std.specs.Prelude.{◌≡◌, ◌++◌, ℕ, Bool, true, false, List, [], ◌∷◌, Some, codes}
 use Rattle.clap.specs.Lexer.{usize_max}
 use Rattle.clap.specs.Words.{App, Rule, Shape, Text, app_of, new_rule, rule_of}
 use Rattle.clap.specs.Simple.{new_shape}
@@ -12,6 +12,10 @@ use Rattle.clap.specs.declared.builder.value_parser.ValueParser.TheVariants as p
 -- a file, by its place among the words
 abbrev pub path_rule : Text → Rule
 path_rule name = record (new_rule name) { action = Some Set }
+
+-- the same where this says whether it has to be there
+abbrev pub where_required : Bool → Rule → Rule
+where_required is_required rule = record rule { required = is_required }
 
 abbrev pub required_path : Text → Rule
 required_path name = record (path_rule name) { required = true }
@@ -32,6 +36,10 @@ number_rule name least most =
 -- the same where it may be left out, and can't stand beside or without another
 abbrev pub bound_rule : Rule → Rule
 bound_rule rule = record rule { required = false; is_free = false }
+
+-- the same where it can't stand beside a number of rounds
+abbrev pub unless_rounds : Rule → Rule
+unless_rounds rule = record rule { is_free = false }
 
 -- the same where it may be left out
 abbrev pub free_rule : Rule → Rule
@@ -120,29 +128,51 @@ copy_command = command (codes "copy")
 abbrev pub replay_command : Shape
 replay_command = command (codes "replay") (path_rule (codes "IMAGE") ∷ flag_rule (codes "group") ∷ [])
 
+-- what `serve` takes as far as rounds go
+abbrev pub round_rules : List Rule
+round_rules = image_rule ∷ bound_rule (number_rule (codes "together") 1 32)
+    ∷ bound_rule (number_rule (codes "rounds") 0 4294967295) ∷ []
+
+-- and what bounds its clients
+abbrev pub client_rules : List Rule
+client_rules = round_rules ++ bound_rule (text_rule (codes "listen")) ∷ quiet_rule
+    ∷ bound_rule (number_rule (codes "per-address") 1 32)
+    ∷ bound_rule (number_rule (codes "posts-per-minute") 1 1000) ∷ []
+
+abbrev pub serve_with : List Rule → Shape
+serve_with rules = command (codes "serve") rules
+
 abbrev pub serve_command : Shape
-serve_command = command (codes "serve")
-    (image_rule ∷ bound_rule (number_rule (codes "together") 1 32)
-    ∷ bound_rule (number_rule (codes "rounds") 0 4294967295)
-    ∷ bound_rule (text_rule (codes "listen")) ∷ quiet_rule
-    ∷ bound_rule (number_rule (codes "per-address") 1 32) ∷ bound_rule (number_rule (codes "posts-per-minute") 1 1000) ∷ old_clients_rule
-    ∷ common_log_rule ∷ bound_rule socket_rule ∷ no_socket_rule ∷ [])
+serve_command = serve_with (client_rules
+    ++ old_clients_rule ∷ common_log_rule ∷ bound_rule socket_rule ∷ no_socket_rule ∷ [])
+
+-- the commands that make an image and change it
+abbrev pub changing_commands : List Shape
+changing_commands = format_command ∷ init_command ∷ apply_command ∷ drop_command ∷ []
+
+-- and those that say what it holds
+abbrev pub telling_commands : List Shape
+telling_commands = changing_commands ++ get_command ∷ posts_command ∷ show_command
+    ∷ image_command (codes "export") ∷ import_command ∷ []
 
 abbrev pub commands : List Shape
-commands = format_command ∷ init_command ∷ apply_command ∷ drop_command ∷ get_command ∷ posts_command ∷ show_command
-    ∷ image_command (codes "export") ∷ import_command ∷ image_command (codes "check") ∷ image_command (codes "compact")
+commands = telling_commands ++ image_command (codes "check") ∷ image_command (codes "compact")
     ∷ image_command (codes "upgrade") ∷ copy_command ∷ replay_command ∷ serve_command ∷ []
+
+-- the command line without its commands
+abbrev pub head : App
+head = record {
+  top = record (new_shape (codes "gopher_host")) { has_version = true; subcommand_required = true };
+  subs = [];
+}
+
+-- and with these
+abbrev pub host_of : List Shape → App
+host_of subs = record { top = record head.top { is_leaf = false }; subs = subs }
 
 -- the whole of it
 abbrev pub gopher_host : App
-gopher_host = record {
-  top = record (new_shape (codes "gopher_host")) {
-    is_leaf = false;
-    has_version = true;
-    subcommand_required = true;
-  };
-  subs = commands;
-}
+gopher_host = host_of commands
 
 -- the argument is read by this rule, at its own command alone
 abbrev pub IsArg : Rule → Arg → Type 0

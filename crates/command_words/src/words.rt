@@ -1,23 +1,19 @@
 // What the words of the command line ask for.
-ghost use Rattle.std.specs.Prelude.{◌≡◌, ◌≤◌, ◌↔◌, ◌⊎◌, IfOk, IfErr, codes, map};
+ghost use Rattle.std.specs.Prelude.{◌≡◌, ◌≤◌, ◌↔◌, ◌⊎◌, IfOk, IfErr, map};
 ghost use Rattle.std.specs.String.{string_bytes};
 ghost use Rattle.std.specs.Process.{exit_status};
-ghost use Rattle.clap.specs.Words.{found_of, rows_of};
 ghost use Rattle.command_words.specs.Misreads.{misread_of, status_of};
 ghost use Rattle.command_words.specs.Reading.{IsReadAs};
-ghost use Rattle.command_words.specs.Tasks.{AsksFor, AsksToServe, GivesOne, HasNumber, HasNumberIfAny, HasNumberOr, HasPlace, IsSiteIn};
 ghost use Rattle.command_words.specs.declared.words.Misread.TheVariants.{Memory};
 
 use crate::command_line::command_line;
+use crate::tasks::task_of;
+use clap::Error;
 use clap::error::ErrorKind;
-use clap::{ArgMatches, Error};
 use std::alloc::{AllocError, Global};
 use std::io;
 use std::net::SocketAddr;
 use std::process::ExitCode;
-
-/// How many clients of one address are let in at a time, where no number is given.
-const MOST_PER_ADDRESS: u32 = 8;
 
 /// What the program is asked to do. Images are names of files, and moments seconds since 1970-01-01; where none is given, the system's clock tells it.
 #[derive(Debug, Drop)]
@@ -207,186 +203,6 @@ pub fn given(rt: &HostRuntime) -> Result<Vec<String>, Misread>
         Err(_) => return Err(Misread::Memory),
     };
     Ok(words.collect(rt.alloc())?)
-}
-
-fn new_site<'a>(matches: &ArgMatches<'a>) -> Option<NewSite<'a>>
-    ensures { GivesOne (IsSiteIn (rows_of (found_of matches.now))) result }
-{
-    Some(NewSite {
-        host: matches.get_str("host")?,
-        port: matches.get_one::<u16>("port")?,
-        admin: matches.get_str("admin")?,
-        title: matches.get_str("title")?,
-    })
-}
-
-/// How many clients of one address are let in at a time.
-fn per_address(matches: &ArgMatches<'_>) -> u32
-    ensures { HasNumberOr 8 (rows_of (found_of matches.now)) (codes "per-address") 32 result }
-{
-    match matches.get_one::<u32>("per-address") {
-        Some(most) => most,
-        None => MOST_PER_ADDRESS,
-    }
-}
-
-/// How many posts of one address are taken in a minute, where that is limited.
-fn posts_a_minute(matches: &ArgMatches<'_>) -> Option<u32>
-    ensures { GivesOne (HasNumber (rows_of (found_of matches.now)) (codes "posts-per-minute") 32) result }
-{
-    matches.get_one::<u32>("posts-per-minute")
-}
-
-/// How many pages an image is to have.
-fn pages(matches: &ArgMatches<'_>) -> Option<u32>
-    ensures { GivesOne (HasNumber (rows_of (found_of matches.now)) (codes "pages") 32) result }
-{
-    matches.get_one::<u32>("pages")
-}
-
-/// The moment that is given, or that none is; nothing where what is given is no number.
-fn moment(matches: &ArgMatches<'_>) -> Option<Option<u64>>
-    ensures { GivesOne (HasNumberIfAny (rows_of (found_of matches.now)) (codes "now") 64) result }
-{
-    match matches.get_str("now") {
-        Some(_) => Some(Some(matches.get_one::<u64>("now")?)),
-        None => Some(None),
-    }
-}
-
-/// Where administrators are to come.
-fn socket_place<'a>(matches: &ArgMatches<'a>) -> SocketPlace<'a>
-    ensures { HasPlace (rows_of (found_of matches.now)) result }
-{
-    if matches.get_flag("no-admin") {
-        return SocketPlace::Nowhere;
-    }
-    match matches.get_str("admin") {
-        Some(name) => SocketPlace::Named(name),
-        None => SocketPlace::Beside,
-    }
-}
-
-/// How an image is to be served.
-fn serving<'a>(image: &'a str, matches: &ArgMatches<'a>) -> Option<Task<'a>>
-    ensures { GivesOne (AsksToServe image.entry.now (rows_of (found_of matches.now))) result }
-{
-    let Some(rounds) = matches.get_one::<u32>("rounds") else {
-        let listen = match matches.get_str("listen") {
-            Some(address) => Some(address.parse::<SocketAddr>().ok()?),
-            None => None,
-        };
-        let quiet = matches.get_flag("quiet");
-        let common_log = matches.get_flag("common-log");
-        return Some(Task::ServeClients {
-            image,
-            listen,
-            quiet,
-            per_address: per_address(matches),
-            posts: posts_a_minute(matches),
-            old_clients: matches.get_flag("old-clients"),
-            common_log,
-            place: socket_place(matches),
-        });
-    };
-    Some(Task::ServeRounds {
-        image,
-        together: matches.get_one::<u32>("together")?,
-        rounds,
-    })
-}
-
-/// Which items are to be removed.
-fn removing<'a>(alloc: Global, matches: &ArgMatches<'a>) -> Result<Option<Task<'a>>, AllocError>
-    ensures { IfOk result (GivesOne (AsksFor (codes "drop") (rows_of (found_of matches.now)))) }
-{
-    let Some(image) = matches.get_str("IMAGE") else {
-        return Ok(None);
-    };
-    let Some(found) = matches.get_strs("SELECTOR") else {
-        return Ok(None);
-    };
-    let mut selectors = Vec::new(alloc);
-    selectors.extend_from_slice(found)?;
-    let socket = matches.get_str("admin");
-    Ok(Some(Task::Remove {
-        image,
-        selectors,
-        socket,
-    }))
-}
-
-/// What the words behind a command ask for, but for the one that removes items.
-fn other_task_of<'a>(name: &str, matches: &ArgMatches<'a>) -> Option<Task<'a>>
-    ensures { (name.now ≡ codes "drop" → ⊥) → GivesOne (AsksFor name.now (rows_of (found_of matches.now))) result }
-{
-    let image = matches.get_str("IMAGE");
-    match name {
-        "format" => Some(Task::Format {
-            image: image?,
-            site: new_site(matches)?,
-            pages: pages(matches)?,
-            now: moment(matches)?,
-        }),
-        "init" => Some(Task::Init {
-            image: image?,
-            site: new_site(matches)?,
-            pages: pages(matches)?,
-            now: moment(matches)?,
-        }),
-        "apply" => Some(Task::Apply {
-            image: image?,
-            file: matches.get_str("FILE")?,
-            now: moment(matches)?,
-            socket: matches.get_str("admin"),
-        }),
-        "get" => Some(Task::Get {
-            image: image?,
-            selector: matches.get_str("SELECTOR")?,
-            view: matches.get_str("view"),
-        }),
-        "posts" => Some(Task::Posts {
-            image: image?,
-            board: matches.get_str("BOARD")?,
-        }),
-        "show" => Some(Task::Show {
-            image: image?,
-            long: matches.get_flag("long"),
-        }),
-        "export" => Some(Task::Export { image: image? }),
-        "import" => Some(Task::Import {
-            folder: matches.get_str("FOLDER")?,
-            under: matches.get_str("under"),
-        }),
-        "check" => Some(Task::Check { image: image? }),
-        "compact" => Some(Task::Compact { image: image? }),
-        "upgrade" => Some(Task::Upgrade { image: image? }),
-        "copy" => Some(Task::Copy {
-            image: image?,
-            new: matches.get_str("NEW")?,
-            pages: pages(matches),
-        }),
-        "replay" => Some(Task::Replay {
-            image,
-            group: matches.get_flag("group"),
-        }),
-        "serve" => serving(image?, matches),
-        _ => None,
-    }
-}
-
-/// What the words behind a command ask for.
-fn task_of<'a>(
-    alloc: Global,
-    name: &str,
-    matches: &ArgMatches<'a>,
-) -> Result<Option<Task<'a>>, AllocError>
-    ensures { IfOk result (GivesOne (AsksFor name.now (rows_of (found_of matches.now)))) }
-{
-    if name == "drop" {
-        return removing(alloc, matches);
-    }
-    Ok(other_task_of(name, matches))
 }
 
 /// What the words ask for, the first of which is the program's name.

@@ -1,0 +1,4 @@
+use Rattle.command_words.proofs.serve_words.no_socket.Goals as goal
+
+pub returns : goal.returns
+returns c = c.unless_rounds.ensures _ c.flag.ensures

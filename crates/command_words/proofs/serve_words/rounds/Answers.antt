@@ -1,0 +1,4 @@
+use Rattle.command_words.proofs.serve_words.rounds.Goals as goal
+
+pub returns : goal.returns
+returns c = c.in_rounds.ensures.rule
