@@ -1,5 +1,5 @@
 -- What is known once a call succeeded.
-use Rattle.std.proofs.Common.{◌≡◌, ℕ, Bool, true, false, Result, Ok, Err, OnOk}
+use Rattle.std.proofs.Common.{◌≡◌, ℕ, Bool, true, false, Result, Ok, Err, OnOk, sym, ◌∙◌}
 use Rattle.std.specs.Result.{is_err}
 use Rattle.common_types.specs.Counts.{counted, Counts}
 use Rattle.sector_device.specs.Device.{State}
@@ -20,3 +20,7 @@ counts_err (Err _) b before now is on h = h
 pub made_ok : {T E : Type 0} (result : Result T E) (is : Bool) {r w s : ℕ} {a b : State} → is ≡ is_err result → is ≡ false → MadeIfOk result r w s a b → MadeExactly r w s a b
 made_ok (Ok _) b is off h = h
 made_ok (Err _) b is off h = absurd (cc (is, off))
+
+-- no keeper is both usable and closed
+pub both_flags : {A : Type 0} (usable : Bool) → usable ≡ true → usable ≡ false → A
+both_flags usable up shut = let clash : true ≡ false = sym up ∙ shut in absurd (cc clash)

@@ -18,12 +18,14 @@ pub mod Counting
 pub mod Opening
 pub mod Work
 pub mod StoreState
+pub mod CommitCalls
 pub mod Compaction
 pub mod Pins
 pub mod ReadFaults
 pub mod FlatState
 pub mod FlatPlan
 pub mod FlatSeen
+pub mod FlatCommits
 pub mod CrashStatesRepresent
 pub mod Formatting
 pub mod ImageExamples

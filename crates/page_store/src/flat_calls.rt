@@ -6,11 +6,12 @@ ghost use Rattle.page_store.specs.Batch.{is_batch, is_map, updated};
 ghost use Rattle.page_store.specs.Encoding.{pages_needed};
 ghost use Rattle.common_types.specs.Counts.{Counts};
 ghost use Rattle.page_store.specs.Commit.{IsBetween};
+ghost use Rattle.page_store.specs.FlatCommits.{WritesOtherHalf};
 ghost use Rattle.page_store.specs.FlatPlan.{IsFlatPlan};
-ghost use Rattle.page_store.specs.Counting.{CountsStoreReads, CountsStoreWrites};
+ghost use Rattle.page_store.specs.CommitCalls.{TakesBanner, CommitsBatch, FailsToCommit, CommitsNoMore, CountsCommit, CommitCrashes};
 ghost use Rattle.page_store.specs.StoreState.{SoManyPages, StoreHasTried, NeedsTheSame, IsCommitFault, numbers_out, last_generation, most_levels};
 ghost use Rattle.page_store.specs.Work.{CommitsWithin};
-ghost use Rattle.page_store.specs.FlatSeen.{held, device_of, slot_of, pairs_of, top_of, is_open};
+ghost use Rattle.page_store.specs.FlatSeen.{held, device_of, slot_of, pairs_of, top_of, is_open, crashes_of};
 ghost use Rattle.page_store.specs.declared.fault.KeeperFault.TheVariants.{Failed, Spent};
 ghost use Rattle.page_store.specs.Content.{is_opened, ImageHas};
 ghost use Rattle.page_store.specs.Sectors.{Image};
@@ -137,42 +138,13 @@ impl<D: Device> Keeper for FlatKeeper<D> {
 
     fn commit(&mut self, batch: &[Edit], banner: Banner) -> Result<(), KeeperFault>
         requires batch { IsTrue (is_batch batch.now) }
-        requires port { 0 < banner.port }
-        requires version { IsTrue (is_opened banner.version) }
-        ensures done { IsTrue (held D.state self.old).honest → OnOk result ((held D.state self.new).pairs ≡ updated (held D.state self.old).pairs batch.now) }
-        ensures banner { OnOk result ((held D.state self.new).banner ≡ banner) }
-        ensures still_usable { OnOk result ((held D.state self.new).usable ≡ true) }
-        ensures rises { OnOk result ((held D.state self.new).top ≡ (held D.state self.old).top + 1) }
-        ensures out { OnOk result (numbers_out (held D.state self.new) ≡ numbers_out (held D.state self.old)) }
-        ensures pins { IsTrue (held D.state self.old).honest → OnOk result ((held D.state self.new).pins ≡ (held D.state self.old).pins) }
-        ensures generation { OnOk result ((held D.state self.new).generation ≡ (held D.state self.old).top + 1) }
-        ensures fits { IsTrue (held D.state self.old).honest → OnOk result ((n : ℕ) × FlatNeeds (pairs_of self.old) batch.now (SoManyPages n) × (n ≤ (held D.state self.old).free)) }
-        ensures fault { IfErr result (IsCommitFault (held D.state self.old) (held D.state self.new) (length batch.now) (FlatNeeds (pairs_of self.old) batch.now)) }
-        ensures need { IfErr result (λ e. (held D.state self.new).usable ≡ (held D.state self.old).usable → NeedsTheSame (FlatNeeds (pairs_of self.old)) (FlatNeeds (pairs_of self.new))) }
-        ensures closed { (held D.state self.old).usable ≡ false → IsErrOf result Failed }
-        ensures spent { (held D.state self.old).usable ≡ true → (held D.state self.old).top ≡ last_generation → IsErrOf result Spent }
-        ensures unchanged { (held D.state self.old).usable ≡ false → held D.state self.new ≡ held D.state self.old }
-        ensures tried { StoreHasTried (held D.state self.old) (held D.state self.new) }
-        ensures reads { CountsStoreReads result (held D.state self.old).failed_reads (held D.state self.new).failed_reads }
-        ensures writes { CountsStoreWrites (held D.state self.old).usable result (held D.state self.old).failed_writes (held D.state self.new).failed_writes }
-        ensures work { CommitsWithin (most_levels * length batch.now) (held D.state self.old).free (held D.state self.old).made (held D.state self.new).made }
-        ensures at_crash { IsTrue (held D.state self.old).honest → (held D.state self.old).usable ≡ true →
-            AddsOnly (crash_states_of D.moment D.possible_since (device_of self.old)) (crash_states_of D.moment D.possible_since (device_of self.new))
-            (λ c. ImageHas c (held D.state self.old).pairs (held D.state self.old).banner ⊎ ImageHas c (updated (held D.state self.old).pairs batch.now) banner) }
-        ensures tight { IsTrue (held D.state self.old).honest → (held D.state self.old).usable ≡ true → (held D.state self.new).usable ≡ false → (n : ℕ) × FlatNeeds (pairs_of self.old) batch.now (SoManyPages n) × (n ≤ (held D.state self.old).free) }
-        ensures no_new_crash_state { IsTrue (held D.state self.old).honest → IfErr result (λ e. (held D.state self.new).usable ≡ true → AddsNone (crash_states_of D.moment D.possible_since (device_of self.old)) (crash_states_of D.moment D.possible_since (device_of self.new))) }
-        ensures no_new_crash_state_when_closed { IsTrue (held D.state self.old).honest → (held D.state self.old).usable ≡ false → AddsNone (crash_states_of D.moment D.possible_since (device_of self.old)) (crash_states_of D.moment D.possible_since (device_of self.new)) }
-
-        // How it writes: a crash leaves what one before the call might have left, or an image on the way to the other half and the other slot.
-        ensures between { IsTrue (held D.state self.old).honest → (held D.state self.old).usable ≡ true →
-            AddsOnly (crash_states_of D.moment D.possible_since (device_of self.old)) (crash_states_of D.moment D.possible_since (device_of self.new))
-            (λ c. may_crash_to (crash_states_of D.moment D.possible_since (device_of self.old)) c ⊎ IsFlatBetween (slot_of self.old) (pairs_of self.old) (top_of self.old) (D.state (device_of self.old)).disk.view batch.now banner c) }
-
-        // So many pages as the batch needs and the page of a root are written, with two syncs.
-        ensures written { MadeIfOk result 0 (8 * pages_needed (updated (pairs_of self.old) batch.now) + 8) 2 (D.state (device_of self.old)) (D.state (device_of self.new)) }
-
-        // A fault before the first write leaves the device as it is.
-        ensures unwritten { IfErr result (λ e. is_open self.new ≡ is_open self.old → device_of self.new ≡ device_of self.old) }
+        requires banner { TakesBanner is_opened banner }
+        ensures done { OnOk result (CommitsBatch (held D.state self.old) (held D.state self.new) batch.now banner (FlatNeeds (pairs_of self.old) batch.now)) }
+        ensures fault { IfErr result (FailsToCommit (held D.state self.old) (held D.state self.new) (length batch.now) (FlatNeeds (pairs_of self.old) batch.now) (FlatNeeds (pairs_of self.old)) (FlatNeeds (pairs_of self.new))) }
+        ensures ended { CommitsNoMore (held D.state self.old) (held D.state self.new) result }
+        ensures counts { CountsCommit (held D.state self.old) (held D.state self.new) (length batch.now) result }
+        ensures at_crash { CommitCrashes (crashes_of D.moment D.possible_since) ImageHas (held D.state) self.old self.new batch.now banner result }
+        ensures writes { WritesOtherHalf D.state (crashes_of D.moment D.possible_since) self.old self.new batch.now banner result }
     {
         if !self.usable {
             return Err(KeeperFault::Failed);

@@ -1,14 +1,15 @@
 // A map of byte keys that is kept on a device.
-ghost use Rattle.std.specs.Prelude.{◌≡◌, ◌⊎◌, ◌≤◌, ◌<◌, ◌+◌, ◌*◌, ℕ, Bool, List, true, false, IfOk, OnOk, IfErr, IsErrOf, IfSome, IsTrue, length, take, option_map};
-ghost use Rattle.common_types.specs.CrashStates.{CrashStates, AddsOnly, AddsNone, may_crash_to};
+ghost use Rattle.std.specs.Prelude.{◌≡◌, ◌≤◌, ℕ, Bool, List, true, false, IfOk, OnOk, IfErr, IsErrOf, IfSome, IsTrue, length, take, option_map};
+ghost use Rattle.common_types.specs.CrashStates.{CrashStates, AddsNone, may_crash_to};
 ghost use Rattle.page_store.specs.Pages.{Pair};
 ghost use Rattle.page_store.specs.Batch.{value_at, pair_after, updated, is_batch, is_map};
-ghost use Rattle.page_store.specs.Counting.{CountsStoreReads, CountsStoreWrites};
-ghost use Rattle.page_store.specs.StoreState.{StoreState, CommitNeed, SoManyPages, IsFigures, StoreHasRead, StoreHasTried, NeedsTheSame, IsFilled, IsStoreReadFault, IsCommitFault, numbers_out, last_generation, most_levels};
-ghost use Rattle.page_store.specs.Work.{ReadsPages, CommitsWithin, pages_tried};
+ghost use Rattle.page_store.specs.CommitCalls.{TakesBanner, CommitsBatch, FailsToCommit, CommitsNoMore, CountsCommit, CommitCrashes};
+ghost use Rattle.page_store.specs.Counting.{CountsStoreReads};
+ghost use Rattle.page_store.specs.StoreState.{StoreState, CommitNeed, IsFigures, StoreHasRead, NeedsTheSame, IsFilled, IsStoreReadFault, most_levels};
+ghost use Rattle.page_store.specs.Work.{ReadsPages, pages_tried};
 ghost use Rattle.page_store.specs.declared.banner.Banner.{Banner as BannerValue};
 ghost use Rattle.page_store.specs.declared.edit.Edit.{Edit as EditValue};
-ghost use Rattle.page_store.specs.declared.fault.KeeperFault.TheVariants.{Failed, Spent};
+ghost use Rattle.page_store.specs.declared.fault.KeeperFault.TheVariants.{Failed};
 
 use crate::{Banner, Edit, Figures, KeeperFault, LONGEST_KEY, LONGEST_VALUE};
 
@@ -89,36 +90,12 @@ pub trait Keeper {
     /// Faults in order: `Failed`, `Spent`, `Device` and `Damaged`, `Deep`, `Full`, and `Failed` again once a write or a sync has failed. `Memory` may stand in place of any fault or success after `Spent`; nothing is written then.
     fn commit(&mut self, batch: &[Edit], banner: Banner) -> Result<(), KeeperFault>
         requires batch { IsTrue (is_batch batch.now) }
-        requires port { 0 < banner.port }
-        requires version { IsTrue (holds_version banner.version) }
-        ensures done { IsTrue (store_state self.old).honest → OnOk result ((store_state self.new).pairs ≡ updated (store_state self.old).pairs batch.now) }
-        ensures banner { OnOk result ((store_state self.new).banner ≡ banner) }
-        ensures still_usable { OnOk result ((store_state self.new).usable ≡ true) }
-        ensures rises { OnOk result ((store_state self.new).top ≡ (store_state self.old).top + 1) }
-        ensures out { OnOk result (numbers_out (store_state self.new) ≡ numbers_out (store_state self.old)) }
-        ensures pins { IsTrue (store_state self.old).honest → OnOk result ((store_state self.new).pins ≡ (store_state self.old).pins) }
-        ensures generation { OnOk result ((store_state self.new).generation ≡ (store_state self.old).top + 1) }
-        ensures fits { IsTrue (store_state self.old).honest → OnOk result ((n : ℕ) × may_need self.old batch.now (SoManyPages n) × (n ≤ (store_state self.old).free)) }
-        ensures fault { IfErr result (IsCommitFault (store_state self.old) (store_state self.new) (length batch.now) (may_need self.old batch.now)) }
-        ensures need { IfErr result (λ e. (store_state self.new).usable ≡ (store_state self.old).usable → NeedsTheSame (may_need self.old) (may_need self.new)) }
-        ensures closed { (store_state self.old).usable ≡ false → IsErrOf result Failed }
-        ensures spent { (store_state self.old).usable ≡ true → (store_state self.old).top ≡ last_generation → IsErrOf result Spent }
-        ensures unchanged { (store_state self.old).usable ≡ false → store_state self.new ≡ store_state self.old }
-        ensures tried { StoreHasTried (store_state self.old) (store_state self.new) }
-        ensures reads { CountsStoreReads result (store_state self.old).failed_reads (store_state self.new).failed_reads }
-        ensures writes { CountsStoreWrites (store_state self.old).usable result (store_state self.old).failed_writes (store_state self.new).failed_writes }
-        ensures work { CommitsWithin (most_levels * length batch.now) (store_state self.old).free (store_state self.old).made (store_state self.new).made }
-
-        // A crash within the call leaves the pairs and the banner from before it, or the new ones.
-        ensures at_crash { IsTrue (store_state self.old).honest → (store_state self.old).usable ≡ true →
-            AddsOnly (crash_states self.old) (crash_states self.new) (λ c. has_content c (store_state self.old).pairs (store_state self.old).banner ⊎ has_content c (updated (store_state self.old).pairs batch.now) banner) }
-
-        // Where a write or a sync failed, the batch had room.
-        ensures tight { IsTrue (store_state self.old).honest → (store_state self.old).usable ≡ true → (store_state self.new).usable ≡ false → (n : ℕ) × may_need self.old batch.now (SoManyPages n) × (n ≤ (store_state self.old).free) }
-
-        // Where no write or sync has failed and nothing was changed, nothing was written.
-        ensures no_new_crash_state { IsTrue (store_state self.old).honest → IfErr result (λ e. (store_state self.new).usable ≡ true → AddsNone (crash_states self.old) (crash_states self.new)) }
-        ensures no_new_crash_state_when_closed { IsTrue (store_state self.old).honest → (store_state self.old).usable ≡ false → AddsNone (crash_states self.old) (crash_states self.new) };
+        requires banner { TakesBanner holds_version banner }
+        ensures done { OnOk result (CommitsBatch (store_state self.old) (store_state self.new) batch.now banner (may_need self.old batch.now)) }
+        ensures fault { IfErr result (FailsToCommit (store_state self.old) (store_state self.new) (length batch.now) (may_need self.old batch.now) (may_need self.old) (may_need self.new)) }
+        ensures ended { CommitsNoMore (store_state self.old) (store_state self.new) result }
+        ensures counts { CountsCommit (store_state self.old) (store_state self.new) (length batch.now) result }
+        ensures at_crash { CommitCrashes crash_states has_content store_state self.old self.new batch.now banner result };
 
     /// The banner is of a version that is held.
     ghost held: { (k : Self) → IsTrue (holds_version (store_state k).banner.version) };
