@@ -13,7 +13,7 @@ use Rattle.page_store.specs.Pages.{Pair}
 use Rattle.page_store.specs.Batch.{is_map}
 use Rattle.page_store.specs.Same.{Agree}
 use Rattle.page_store.specs.Steps.{AllAre}
-use Rattle.page_store.specs.Counting.{CountsStoreReads, reads_after}
+use Rattle.page_store.specs.Counting.{CountsStoreReads, reads_after, writes_after}
 use Rattle.page_store.specs.Content.{tree_as, Found, content_under, found_as, tree_found, is_among}
 use Rattle.page_store.specs.StoreState.{StoreState, CommitNeed, SoManyPages, TooManyLevels, HasStayed, IsCommitFault, MayBeDeep}
 use Rattle.page_store.specs.Compaction.{IsCompactFault}
@@ -96,6 +96,20 @@ commit_fault old new edits may slot deep P N (faults.Full n left) stayed reads a
 commit_fault old new edits may slot deep P N faults.Failed stayed reads answered levels fault need = absurd fault
 commit_fault old new edits may slot deep P N faults.Memory stayed reads answered levels fault need = stayed
 commit_fault old new edits may slot deep P N faults.Deep stayed reads answered levels fault need = (stayed, λ keeps. levels (answered keeps))
+
+-- it has written nothing
+pub plan_writes_none : (usable : Bool) (free : ℕ) (N : ℕ → Type 0) (e : KeeperFault) (old new : ℕ) → IsTreePlanFault free N e → new ≡ old → new ≡ writes_after usable e old
+plan_writes_none true free N faults.Device old new fault same = same
+plan_writes_none true free N faults.NoImage old new fault same = absurd fault
+plan_writes_none true free N faults.Version old new fault same = absurd fault
+plan_writes_none true free N (faults.Damaged page) old new fault same = same
+plan_writes_none true free N faults.Small old new fault same = absurd fault
+plan_writes_none true free N faults.Spent old new fault same = absurd fault
+plan_writes_none true free N (faults.Full n left) old new fault same = same
+plan_writes_none true free N faults.Failed old new fault same = absurd fault
+plan_writes_none true free N faults.Memory old new fault same = same
+plan_writes_none true free N faults.Deep old new fault same = same
+plan_writes_none false free N e old new fault same = same
 
 -- a compaction that is refused
 pub compact_fault : {T : Type 0} (old new : StoreState) (may : ℕ → Type 0) (P : T → Type 0) (N : ℕ → Type 0) (e : KeeperFault) → HasStayed old new → CountsStoreReads {T = T} (Err e) old.failed_reads new.failed_reads

@@ -17,6 +17,7 @@ pub mod Compacting
 pub mod Drafts
 pub mod Taken
 pub mod Committed
+pub mod TreeCommitCalls
 pub mod KeysCounted
 pub mod KeeperLaws
 pub mod Formatting

@@ -1,10 +1,15 @@
 -- A keeper of a tree as its callers see it.
 use Rattle.std.specs.Prelude.{ℕ, Bool, List, Option}
+use Rattle.common_types.specs.CrashStates.{CrashStates}
 use Rattle.sector_device.specs.Device.{State}
 use Rattle.page_alloc.specs.LedgerState.{LedgerState}
 use Rattle.page_store.specs.Pages.{Pair}
-use Rattle.page_store.specs.StoreState.{StoreState}
+use Rattle.page_store.specs.Sectors.{Image}
+use Rattle.page_store.specs.Steps.{crash_states_of}
+use Rattle.page_store.specs.StoreState.{StoreState, CommitNeed}
+use Rattle.page_store.specs.declared.edit.Edit.{Edit}
 use Rattle.page_store.specs.declared.slot.Slot.{Slot}
+use Rattle.cow_tree.specs.Needs.{MayNeed}
 use Rattle.cow_tree.specs.TreeState.{tree_holding}
 use Rattle.cow_tree.specs.declared.tree_root.TreeRoot.{TreeRoot}
 use Rattle.cow_tree.specs.declared.tree_keeper.TreeKeeper.{TreeKeeper}
@@ -38,3 +43,11 @@ pinned_by k = k.pinned
 -- the pairs of the leaf that the last `next` that read one has kept, if there is any
 abbrev pub kept_by : {D : Type 0} {dict : _} → TreeKeeper D dict → List Pair
 kept_by k = k.kept
+
+-- what a batch may need
+abbrev pub needs : {D : Type 0} {dict : _} → (D → State) → TreeKeeper D dict → List Edit → CommitNeed → Type 0
+needs state k batch need = MayNeed k.slot (state k.device) batch need
+
+-- what its trait tells that a crash may leave
+abbrev pub crashes_of : {D : Type 0} {dict : _} → (D → ℕ) → (D → ℕ → Image → Type 0) → TreeKeeper D dict → CrashStates Image
+crashes_of moment possible_since k = crash_states_of moment possible_since k.device

@@ -1,17 +1,18 @@
 // The calls of a keeper of a tree.
-ghost use Rattle.std.specs.Prelude.{◌≡◌, ◌≤◌, ◌<◌, ◌+◌, ◌⊎◌, ℕ, [], true, false, IsTrue, OnOk, IfOk, IfErr, IfSome, IsErrOf, length, option_map, take, ◌*◌};
-ghost use Rattle.page_store.specs.Work.{ReadsPages, CommitsWithin, pages_tried};
-ghost use Rattle.cow_tree.specs.Work.{WritesPages};
-ghost use Rattle.common_types.specs.CrashStates.{AddsOnly, AddsNone};
+ghost use Rattle.std.specs.Prelude.{◌≡◌, ◌≤◌, ◌<◌, [], false, IsTrue, OnOk, IfOk, IfErr, IfSome, IsErrOf, length, option_map, take};
+ghost use Rattle.page_store.specs.Work.{ReadsPages, pages_tried};
+ghost use Rattle.common_types.specs.CrashStates.{AddsNone};
 ghost use Rattle.page_store.specs.Sectors.{Image, page_of};
-ghost use Rattle.page_store.specs.Batch.{is_batch, updated, value_at, pair_after};
-ghost use Rattle.page_store.specs.Counting.{CountsStoreReads, CountsStoreWrites};
-ghost use Rattle.page_store.specs.StoreState.{SoManyPages, StoreHasRead, StoreHasTried, NeedsTheSame, IsFilled, IsStoreReadFault, IsCommitFault, numbers_out, last_generation, most_levels};
-ghost use Rattle.page_store.specs.declared.fault.KeeperFault.TheVariants.{Failed, Spent};
+ghost use Rattle.page_store.specs.Batch.{is_batch, value_at, pair_after};
+ghost use Rattle.page_store.specs.CommitCalls.{TakesBanner, CommitsBatch, FailsToCommit, CommitsNoMore, CountsCommit, CommitCrashes};
+ghost use Rattle.page_store.specs.Counting.{CountsStoreReads};
+ghost use Rattle.page_store.specs.StoreState.{StoreHasRead, NeedsTheSame, IsFilled, IsStoreReadFault};
+ghost use Rattle.page_store.specs.declared.fault.KeeperFault.TheVariants.{Failed};
 ghost use Rattle.page_store.specs.Steps.{crash_states_of};
 ghost use Rattle.cow_tree.specs.Needs.{MayNeed};
-ghost use Rattle.cow_tree.specs.Committed.{is_tree_version, TreeHas, WritesOnePlan, WritesNoPinnedPage};
-ghost use Rattle.cow_tree.specs.TreeSeen.{held, device_of, slot_of, top_of, kept_by, pinned_by};
+ghost use Rattle.cow_tree.specs.Committed.{is_tree_version, TreeHas};
+ghost use Rattle.cow_tree.specs.TreeSeen.{held, device_of, slot_of, kept_by, needs, crashes_of};
+ghost use Rattle.cow_tree.specs.TreeCommitCalls.{WritesTree};
 ghost use Rattle.cow_tree.specs.KeptLeaves.{has_next};
 ghost use Rattle.cow_tree.specs.TreeState.{found_under};
 ghost use Rattle.cow_tree.specs.KeysCounted.{keys_told};
@@ -145,41 +146,13 @@ impl<D: Device> Keeper for TreeKeeper<D> {
 
     fn commit(&mut self, batch: &[Edit], banner: Banner) -> Result<(), KeeperFault>
         requires batch { IsTrue (is_batch batch.now) }
-        requires port { 0 < banner.port }
-        requires version { IsTrue (is_tree_version banner.version) }
-        ensures done { IsTrue (held D.state self.old).honest → OnOk result ((held D.state self.new).pairs ≡ updated (held D.state self.old).pairs batch.now) }
-        ensures banner { OnOk result ((held D.state self.new).banner ≡ banner) }
-        ensures still_usable { OnOk result ((held D.state self.new).usable ≡ true) }
-        ensures rises { OnOk result ((held D.state self.new).top ≡ (held D.state self.old).top + 1) }
-        ensures out { OnOk result (numbers_out (held D.state self.new) ≡ numbers_out (held D.state self.old)) }
-        ensures pins { IsTrue (held D.state self.old).honest → OnOk result ((held D.state self.new).pins ≡ (held D.state self.old).pins) }
-        ensures generation { OnOk result ((held D.state self.new).generation ≡ (held D.state self.old).top + 1) }
-        ensures fits { IsTrue (held D.state self.old).honest → OnOk result ((n : ℕ) × MayNeed (slot_of self.old) (D.state (device_of self.old)) batch.now (SoManyPages n) × (n ≤ (held D.state self.old).free)) }
-        ensures fault { IfErr result (IsCommitFault (held D.state self.old) (held D.state self.new) (length batch.now) (MayNeed (slot_of self.old) (D.state (device_of self.old)) batch.now)) }
-        ensures need { IfErr result (λ e. (held D.state self.new).usable ≡ (held D.state self.old).usable → NeedsTheSame (MayNeed (slot_of self.old) (D.state (device_of self.old))) (MayNeed (slot_of self.new) (D.state (device_of self.new)))) }
-        ensures closed { (held D.state self.old).usable ≡ false → IsErrOf result Failed }
-        ensures spent { (held D.state self.old).usable ≡ true → (held D.state self.old).top ≡ last_generation → IsErrOf result Spent }
-        ensures unchanged { (held D.state self.old).usable ≡ false → held D.state self.new ≡ held D.state self.old }
-        ensures tried { StoreHasTried (held D.state self.old) (held D.state self.new) }
-        ensures reads { CountsStoreReads result (held D.state self.old).failed_reads (held D.state self.new).failed_reads }
-        ensures writes { CountsStoreWrites (held D.state self.old).usable result (held D.state self.old).failed_writes (held D.state self.new).failed_writes }
-        ensures at_crash { IsTrue (held D.state self.old).honest → (held D.state self.old).usable ≡ true →
-            AddsOnly (crash_states_of D.moment D.possible_since (device_of self.old)) (crash_states_of D.moment D.possible_since (device_of self.new))
-            (λ c. TreeHas c (held D.state self.old).pairs (held D.state self.old).banner ⊎ TreeHas c (updated (held D.state self.old).pairs batch.now) banner) }
-        ensures tight { IsTrue (held D.state self.old).honest → (held D.state self.old).usable ≡ true → (held D.state self.new).usable ≡ false → (n : ℕ) × MayNeed (slot_of self.old) (D.state (device_of self.old)) batch.now (SoManyPages n) × (n ≤ (held D.state self.old).free) }
-        ensures no_new_crash_state { IsTrue (held D.state self.old).honest → IfErr result (λ e. (held D.state self.new).usable ≡ true → AddsNone (crash_states_of D.moment D.possible_since (device_of self.old)) (crash_states_of D.moment D.possible_since (device_of self.new))) }
-        ensures no_new_crash_state_when_closed { IsTrue (held D.state self.old).honest → (held D.state self.old).usable ≡ false → AddsNone (crash_states_of D.moment D.possible_since (device_of self.old)) (crash_states_of D.moment D.possible_since (device_of self.new)) }
-
-        // How it writes: by one plan, on whose way each crash leaves the image, and by no page that a pinned tree has.
-        ensures between { IsTrue (held D.state self.old).honest → (held D.state self.old).usable ≡ true →
-            WritesOnePlan (crash_states_of D.moment D.possible_since (device_of self.old)) (crash_states_of D.moment D.possible_since (device_of self.new))
-            (D.state (device_of self.old)).disk.view (slot_of self.old) (top_of self.old) (pinned_by self.old) (λ n. MayNeed (slot_of self.old) (D.state (device_of self.old)) batch.now (SoManyPages n)) (updated (held D.state self.old).pairs batch.now) banner }
-        ensures unheld { IsTrue (held D.state self.old).honest → (held D.state self.old).usable ≡ true → WritesNoPinnedPage (pinned_by self.old) (D.state (device_of self.old)).disk.view (D.state (device_of self.new)).disk.view
-            (crash_states_of D.moment D.possible_since (device_of self.old)) (crash_states_of D.moment D.possible_since (device_of self.new)) }
-
-        // So many pages as the batch needs and a root are written, with two syncs.
-        ensures written { OnOk result ((n : ℕ) × (IsTrue (held D.state self.old).honest → MayNeed (slot_of self.old) (D.state (device_of self.old)) batch.now (SoManyPages n)) × WritesPages n (D.state (device_of self.old)) (D.state (device_of self.new))) }
-        ensures work { CommitsWithin (most_levels * length batch.now) (held D.state self.old).free (held D.state self.old).made (held D.state self.new).made }
+        requires banner { TakesBanner is_tree_version banner }
+        ensures done { OnOk result (CommitsBatch (held D.state self.old) (held D.state self.new) batch.now banner (needs D.state self.old batch.now)) }
+        ensures fault { IfErr result (FailsToCommit (held D.state self.old) (held D.state self.new) (length batch.now) (needs D.state self.old batch.now) (needs D.state self.old) (needs D.state self.new)) }
+        ensures ended { CommitsNoMore (held D.state self.old) (held D.state self.new) result }
+        ensures counts { CountsCommit (held D.state self.old) (held D.state self.new) (length batch.now) result }
+        ensures at_crash { CommitCrashes (crashes_of D.moment D.possible_since) TreeHas (held D.state) self.old self.new batch.now banner result }
+        ensures writes { WritesTree D.state (crashes_of D.moment D.possible_since) self.old self.new batch.now banner result }
     {
         if !self.usable {
             return Err(KeeperFault::Failed);

@@ -1,5 +1,5 @@
 -- What a commit of a batch and a banner takes and leaves, effect by effect.
-use Rattle.std.specs.Prelude.{◌≡◌, ◌⊎◌, ◌<◌, ◌≤◌, ◌+◌, ◌*◌, ℕ, Bool, true, false, List, length, Result, IsTrue, IfErr, IsErrOf}
+use Rattle.std.specs.Prelude.{◌≡◌, ◌⊎◌, ◌<◌, ◌≤◌, ◌+◌, ◌*◌, ℕ, Bool, true, false, List, Result, IsTrue, IfErr, IsErrOf}
 use Rattle.common_types.specs.CrashStates.{CrashStates, AddsOnly, AddsNone}
 use Rattle.page_store.specs.Batch.{updated}
 use Rattle.page_store.specs.Counting.{CountsStoreReads, CountsStoreWrites}

@@ -1,22 +1,14 @@
 // The calls of a keeper of flat pages.
-ghost use Rattle.std.specs.Prelude.{refl, ◌≡◌, ◌⊎◌, ◌≤◌, ◌<◌, ◌+◌, ◌*◌, ◌==◌, ℕ, true, false, length, IsTrue, OnOk, OnErr, IfErr, IsErrOf};
-ghost use Rattle.sector_device.specs.Effects.{MadeIfOk};
-ghost use Rattle.common_types.specs.CrashStates.{AddsOnly, AddsNone, may_crash_to};
-ghost use Rattle.page_store.specs.Batch.{is_batch, is_map, updated};
-ghost use Rattle.page_store.specs.Encoding.{pages_needed};
-ghost use Rattle.common_types.specs.Counts.{Counts};
-ghost use Rattle.page_store.specs.Commit.{IsBetween};
-ghost use Rattle.page_store.specs.FlatCommits.{WritesOtherHalf};
+ghost use Rattle.std.specs.Prelude.{refl, ◌+◌, length, IsTrue, OnOk, OnErr, IfErr};
+ghost use Rattle.page_store.specs.Batch.{is_batch};
+ghost use Rattle.page_store.specs.FlatCommits.{WritesOtherHalf, MayWriteHalf, HoldsHalf, HoldsOldHalf, CountsHalf, CrashesHalfWay};
 ghost use Rattle.page_store.specs.FlatPlan.{IsFlatPlan};
 ghost use Rattle.page_store.specs.CommitCalls.{TakesBanner, CommitsBatch, FailsToCommit, CommitsNoMore, CountsCommit, CommitCrashes};
-ghost use Rattle.page_store.specs.StoreState.{SoManyPages, StoreHasTried, NeedsTheSame, IsCommitFault, numbers_out, last_generation, most_levels};
-ghost use Rattle.page_store.specs.Work.{CommitsWithin};
 ghost use Rattle.page_store.specs.FlatSeen.{held, device_of, slot_of, pairs_of, top_of, is_open, crashes_of};
-ghost use Rattle.page_store.specs.declared.fault.KeeperFault.TheVariants.{Failed, Spent};
 ghost use Rattle.page_store.specs.Content.{is_opened, ImageHas};
 ghost use Rattle.page_store.specs.Sectors.{Image};
 ghost use Rattle.page_store.specs.Steps.{crash_states_of};
-ghost use Rattle.page_store.specs.FlatState.{FlatNeeds, IsFlatBetween, flat_commit};
+ghost use Rattle.page_store.specs.FlatState.{FlatNeeds};
 ghost use Rattle.page_store.specs.CrashStatesRepresent.{crash_states_represent_content, opens_zero, no_levels, one_flat_need};
 
 use crate::batch::{next_pair, value_of};
@@ -28,24 +20,12 @@ use sector_device::{Device, DeviceFault};
 impl<D: Device> FlatKeeper<D> {
     /// Writes a commit to the other half that was planned. Where a write or a sync fails, nothing is held anew, and no further commit is taken.
     fn write_plan(&mut self, plan: Plan) -> Result<(), DeviceFault>
-        requires open { is_open self.old ≡ true }
-        requires left { top_of self.old < last_generation }
         requires plan { IsFlatPlan (slot_of self.old) (top_of self.old + 1) plan.pairs.items plan.slot.root.banner plan }
-        requires map { is_map plan.pairs.items ≡ true }
-        requires version { IsTrue (is_opened plan.slot.root.banner.version) }
-        ensures at_crash { IsTrue (D.state (device_of self.old)).honest → AddsOnly (crash_states_of D.moment D.possible_since (device_of self.old)) (crash_states_of D.moment D.possible_since (device_of self.new))
-            (IsBetween (flat_commit (slot_of self.old) (pairs_of self.old) (top_of self.old + 1) plan.pairs.items plan.slot.root.banner) plan.pages.items (D.state (device_of self.old)).disk.view) }
-        ensures pairs { OnOk result (pairs_of self.new ≡ plan.pairs.items) }
-        ensures slot { OnOk result (slot_of self.new ≡ plan.slot) }
-        ensures open { OnOk result (is_open self.new ≡ true) }
-        ensures same_pairs { OnErr result (pairs_of self.new ≡ pairs_of self.old) }
-        ensures same_slot { OnErr result (slot_of self.new ≡ slot_of self.old) }
-        ensures shut { OnErr result (is_open self.new ≡ false) }
-        ensures top { top_of self.new ≡ top_of self.old + 1 }
-        ensures honest { (D.state (device_of self.new)).honest ≡ (D.state (device_of self.old)).honest }
-        ensures reads { (D.state (device_of self.new)).failed_reads ≡ (D.state (device_of self.old)).failed_reads }
-        ensures writes { Counts result (D.state (device_of self.old)).failed_writes (D.state (device_of self.new)).failed_writes }
-        ensures work { MadeIfOk result 0 (8 * length plan.pages.items + 8) 2 (D.state (device_of self.old)) (D.state (device_of self.new)) }
+        requires may { MayWriteHalf (is_open self.old) (top_of self.old) plan }
+        ensures at_crash { IsTrue (D.state (device_of self.old)).honest → CrashesHalfWay D.state (crashes_of D.moment D.possible_since) self.old self.new plan }
+        ensures done { OnOk result (HoldsHalf plan self.new) }
+        ensures failed { OnErr result (HoldsOldHalf self.old self.new) }
+        ensures counts { CountsHalf D.state self.old self.new (length plan.pages.items) result }
     {
         let Plan {
             pairs,

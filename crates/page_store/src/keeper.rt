@@ -2,7 +2,7 @@
 ghost use Rattle.std.specs.Prelude.{◌≡◌, ◌≤◌, ℕ, Bool, List, true, false, IfOk, OnOk, IfErr, IsErrOf, IfSome, IsTrue, length, take, option_map};
 ghost use Rattle.common_types.specs.CrashStates.{CrashStates, AddsNone, may_crash_to};
 ghost use Rattle.page_store.specs.Pages.{Pair};
-ghost use Rattle.page_store.specs.Batch.{value_at, pair_after, updated, is_batch, is_map};
+ghost use Rattle.page_store.specs.Batch.{value_at, pair_after, is_batch, is_map};
 ghost use Rattle.page_store.specs.CommitCalls.{TakesBanner, CommitsBatch, FailsToCommit, CommitsNoMore, CountsCommit, CommitCrashes};
 ghost use Rattle.page_store.specs.Counting.{CountsStoreReads};
 ghost use Rattle.page_store.specs.StoreState.{StoreState, CommitNeed, IsFigures, StoreHasRead, NeedsTheSame, IsFilled, IsStoreReadFault, most_levels};
