@@ -1,4 +1,5 @@
 pub mod EditsMakeLayouts
+pub mod EditsCommitted
 pub mod ChangedKeys
 pub mod ChangesMade
 pub mod FoundItems

@@ -6,9 +6,12 @@ use Rattle.std.proofs.lemmas.Bool.{cases_eq}
 use Rattle.std.proofs.lemmas.List.{length-map}
 use Rattle.host_types.specs.Site.{Items}
 use Rattle.host_types.specs.Pins as sites
+use Rattle.page_store.specs.CommitCalls.{CommitsBatch, FailsToCommit}
 use Rattle.page_store.specs.Content as stores
 use Rattle.page_store.specs.Pages.{Pair}
 use Rattle.page_store.specs.StoreState.{StoreState, CommitNeed, StoreHasRead, HasStayed, IsCommitFault, numbers_out}
+use Rattle.page_store.specs.declared.banner.Banner.{Banner}
+use Rattle.page_store.specs.declared.edit.Edit.{Edit}
 use Rattle.page_store.specs.declared.fault.KeeperFault.{KeeperFault}
 use Rattle.page_store.specs.declared.fault.KeeperFault.TheVariants as kinds
 use Rattle.site_store.specs.Represented.{HasSite, site_state_of}
@@ -118,9 +121,9 @@ fault_pins old new edits may_need (kinds.Full need free) h = pins_stayed old new
 fault_pins old new edits may_need kinds.Failed h = record { out = h.out; pins = h.pins }
 fault_pins old new edits may_need kinds.Memory h = pins_stayed old new h
 
-pub pins_stay_written : {U : Type 0} (r : Result U KeeperFault) (old new : StoreState) (edits : ℕ) (may_need : CommitNeed → Type 0) → OnOk r (numbers_out new ≡ numbers_out old) → (IsTrue old.honest → OnOk r (new.pins ≡ old.pins)) → IfErr r (IsCommitFault old new edits may_need) → PinsStay old new
-pins_stay_written (Ok x) old new edits may_need out pins fault = record { out = out; pins = pins }
-pins_stay_written (Err e) old new edits may_need out pins fault = fault_pins old new edits may_need e fault
+pub pins_stay_written : {U : Type 0} (r : Result U KeeperFault) (old new : StoreState) (batch : List Edit) (banner : Banner) (edits : ℕ) (may_need : CommitNeed → Type 0) (needs now : List Edit → CommitNeed → Type 0) → OnOk r (CommitsBatch old new batch banner may_need) → IfErr r (FailsToCommit old new edits may_need needs now) → PinsStay old new
+pins_stay_written (Ok x) old new batch banner edits may_need needs now done fault = record { out = done.out; pins = done.pins }
+pins_stay_written (Err e) old new batch banner edits may_need needs now done fault = fault_pins old new edits may_need e fault.cause
 
 -- they keep items still
 pub have_still : (old new : StoreState) → PinsStay old new → IsTrue old.honest → AllHave old.pins → AllHave new.pins

@@ -16,6 +16,7 @@ use Rattle.host_types.specs.declared.site_fault.SiteFault.{SiteFault}
 use Rattle.host_types.specs.declared.site_fault.SiteFault.TheVariants as faults
 use Rattle.page_store.specs.Pages.{Pair}
 use Rattle.page_store.specs.Batch.{updated, edit_key}
+use Rattle.page_store.specs.CommitCalls.{CommitsBatch, FailsToCommit}
 use Rattle.page_store.specs.StoreState.{StoreState, CommitNeed, SoManyPages, TooManyLevels, StoreHasRead, NeedsTheSame, HasStayed, StoreHasFailed, StoreHasTried, MayBeDeep, IsStoreReadFault, IsCommitFault, edits_to_be_deep}
 use Rattle.page_store.specs.declared.banner.Banner.{Banner}
 use Rattle.page_store.specs.declared.edit.Edit.{Edit}
@@ -407,16 +408,16 @@ err_banner b c edits may_need kinds.Memory h = h.banner
 have_twice : (a b c : StoreState) → HasSite a → StoreHasRead a b → PinsStay b c → IsTrue b.honest → AllHave c.pins
 have_twice a b c ka read stay honest = let keeps = keeps_read a b read ka in have_still b c stay honest (keeps honest).2
 
-pub keeps_written : {U : Type 0} → (r : Result U KeeperFault) (a b c : StoreState) (ka : HasSite a) (changes : Changes) (replacements : List Replacement) (banner : Banner) (edits : ℕ) (may_need : CommitNeed → Type 0) → StoreHasRead a b → c.honest ≡ b.honest → PinsStay b c
-    → (IsTrue a.honest → Makes a b ka changes replacements banner) → (IsTrue b.honest → OnOk r (c.pairs ≡ updated b.pairs (batch_of (edits_of replacements)))) → OnOk r (c.banner ≡ banner) → IfErr r (IsCommitFault b c edits may_need) → HasSite c
-keeps_written (Ok u) a b c ka changes replacements banner edits may_need read same stay m pairs named fault honest2 =
+pub keeps_written : {U : Type 0} → (r : Result U KeeperFault) (a b c : StoreState) (ka : HasSite a) (changes : Changes) (replacements : List Replacement) (banner : Banner) (edits : ℕ) (may_need : CommitNeed → Type 0) (needs now : List Edit → CommitNeed → Type 0) → StoreHasRead a b → c.honest ≡ b.honest → PinsStay b c
+    → (IsTrue a.honest → Makes a b ka changes replacements banner) → OnOk r (CommitsBatch b c (batch_of (edits_of replacements)) banner may_need) → IfErr r (FailsToCommit b c edits may_need needs now) → HasSite c
+keeps_written (Ok u) a b c ka changes replacements banner edits may_need needs now read same stay m done fault honest2 =
     let honest1 : IsTrue b.honest = sym same ∙ honest2 in
     let made = m (sym read.honest ∙ honest1) in
-    (made.site, kept_made a b c ka changes replacements banner made (pairs honest1) named, have_twice a b c ka read stay honest1)
-keeps_written (Err e) a b c ka changes replacements banner edits may_need read same stay m pairs named fault honest2 =
+    (made.site, kept_made a b c ka changes replacements banner made (done.done honest1) done.banner, have_twice a b c ka read stay honest1)
+keeps_written (Err e) a b c ka changes replacements banner edits may_need needs now read same stay m done fault honest2 =
     let honest1 : IsTrue b.honest = sym same ∙ honest2 in
     let made = m (sym read.honest ∙ honest1) in
-    (site_of a ka, err_kept b c edits may_need e (site_of a ka) fault honest1 made.before, have_twice a b c ka read stay honest1)
+    (site_of a ka, err_kept b c edits may_need e (site_of a ka) fault.cause honest1 made.before, have_twice a b c ka read stay honest1)
 
 -- what a change leaves that was tried
 pub has_tried : (a b c : StoreState) (ka : HasSite a) (kc : HasSite c) → StoreHasRead a b → StoreHasTried b c → PinsStay b c → sites.HasTried (site_state_of a ka) (site_state_of c kc)
@@ -432,9 +433,10 @@ has_tried a b c ka kc read tried stay =
 pub has_tried_reading : (a b : StoreState) (ka : HasSite a) (kb : HasSite b) → StoreHasRead a b → sites.HasTried (site_state_of a ka) (site_state_of b kb)
 has_tried_reading a b ka kb read = record { honest = read.honest; reads = read.reads; writes = omega (arith, read.writes); pins = pins_still a b ka kb read.honest (pins_stay_read a b read) }
 
-pub port_written : {U : Type 0} → (r : Result U KeeperFault) (a b c : StoreState) (banner : Banner) (edits : ℕ) (may_need : CommitNeed → Type 0) → StoreHasRead a b → 0 < a.banner.port → 0 < banner.port → OnOk r (c.banner ≡ banner) → IfErr r (IsCommitFault b c edits may_need) → 0 < c.banner.port
-port_written (Ok u) a b c banner edits may_need read old new named fault = subst (λ (x : Banner). 0 < x.port) (sym named) new
-port_written (Err e) a b c banner edits may_need read old new named fault = subst (λ (x : Banner). 0 < x.port) (sym (err_banner b c edits may_need e fault ∙ read.same.banner)) old
+pub port_written : {U : Type 0} → (r : Result U KeeperFault) (a b c : StoreState) (batch : List Edit) (banner : Banner) (edits : ℕ) (may_need : CommitNeed → Type 0) (needs now : List Edit → CommitNeed → Type 0) → StoreHasRead a b → 0 < a.banner.port → 0 < banner.port
+    → OnOk r (CommitsBatch b c batch banner may_need) → IfErr r (FailsToCommit b c edits may_need needs now) → 0 < c.banner.port
+port_written (Ok u) a b c batch banner edits may_need needs now read old new done fault = subst (λ (x : Banner). 0 < x.port) (sym done.banner) new
+port_written (Err e) a b c batch banner edits may_need needs now read old new done fault = subst (λ (x : Banner). 0 < x.port) (sym (err_banner b c edits may_need e fault.cause ∙ read.same.banner)) old
 
 -- what a crash within a change may leave
 abbrev pub EitherSite : {L R : Type 0} → (L → List Pair → Banner → Type 0) → Site → Result Site R → L → Type 0

@@ -1,7 +1,10 @@
 -- A plan as a key-value store makes it: replacements, and a banner.
 use Rattle.std.specs.Prelude.{ℕ, List, Option, Some, None}
 use Rattle.host_types.specs.Site.{Site}
+use Rattle.change_plan.specs.declared.replacement.Replacement.{Replacement}
 use Rattle.page_store.specs.declared.banner.Banner.{Banner}
+use Rattle.page_store.specs.declared.edit.Edit.{Edit}
+use Rattle.site_pairs.specs.Edits.{batch_of, edits_of}
 
 -- a banner with another name, where one is set
 abbrev pub with_host : Banner → Option (List ℕ × ℕ) → Banner
@@ -19,3 +22,7 @@ banner_after b host admin = with_admin (with_host b host) admin
 -- a site under the name of a banner
 abbrev pub named : Site → Banner → Site
 named s banner = record s { host = banner.host; port = banner.port; admin = banner.admin }
+
+-- the batch that makes some replacements
+abbrev pub batch_by : List Replacement → List Edit
+batch_by replacements = batch_of (edits_of replacements)

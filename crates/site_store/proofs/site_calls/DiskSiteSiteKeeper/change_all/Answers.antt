@@ -64,11 +64,11 @@ returns-in_err-banner-clause-work g c = nothing_at_most c.in-Ok.ensures.reads_on
 
 pub returns-in-Ok-write_replacements-clause-work : goal.returns-in-Ok-write_replacements-clause-work
 returns-in-Ok-write_replacements-clause-work g c =
-    wrote_behind (g.K.Keeper.store_state c.args.self.now.keeper) (g.K.Keeper.store_state c.plan_all.new.lookup.keeper) c.in-Ok.ensures.reads_only.reads_only.read c.write_replacements.ensures.work
+    wrote_behind (g.K.Keeper.store_state c.args.self.now.keeper) (g.K.Keeper.store_state c.plan_all.new.lookup.keeper) c.in-Ok.ensures.reads_only.reads_only.read c.write_replacements.ensures.counts.work
 
 pub returns-clause-work : goal.returns-clause-work
 returns-clause-work g c =
-    wrote_behind (g.K.Keeper.store_state c.args.self.now.keeper) (g.K.Keeper.store_state c.plan_all.new.lookup.keeper) c.in-Ok.ensures.reads_only.reads_only.read c.write_replacements.ensures.work
+    wrote_behind (g.K.Keeper.store_state c.args.self.now.keeper) (g.K.Keeper.store_state c.plan_all.new.lookup.keeper) c.in-Ok.ensures.reads_only.reads_only.read c.write_replacements.ensures.counts.work
 
 pub invariant_of-self : goal.invariant_of-self
 invariant_of-self g c =
@@ -88,10 +88,12 @@ invariant_of-self g c =
     let batch = batch_of (edits_of replacements) in
     let may = MayNeedForEdits g.K.Keeper.may_need d1.keeper batch in
     let new : 0 < banner.port = subst (λ (b : Banner). 0 < b.port) (sym named) (after_port h1.banner plan.host plan.admin d1.port c.in-Ok.ensures.port) in
-    let stay = pins_stay_written c.write_replacements.result h1 h2 (length batch) may c.write_replacements.ensures.out c.write_replacements.ensures.pins c.write_replacements.ensures.fault in
+    let needs = g.K.Keeper.may_need d1.keeper in
+    let now = g.K.Keeper.may_need c.write_replacements.new.keeper in
+    let stay = pins_stay_written c.write_replacements.result h1 h2 batch banner (length batch) may needs now c.write_replacements.ensures.done c.write_replacements.ensures.fault in
     record {
-      kept = keeps_written c.write_replacements.result h0 h1 h2 d.kept c.args.changes.items replacements banner (length batch) may read c.write_replacements.ensures.tried.honest stay make c.write_replacements.ensures.done c.write_replacements.ensures.banner c.write_replacements.ensures.fault;
-      port = port_written c.write_replacements.result h0 h1 h2 banner (length batch) may read d.port new c.write_replacements.ensures.banner c.write_replacements.ensures.fault;
+      kept = keeps_written c.write_replacements.result h0 h1 h2 d.kept c.args.changes.items replacements banner (length batch) may needs now read c.write_replacements.ensures.counts.tried.honest stay make c.write_replacements.ensures.done c.write_replacements.ensures.fault;
+      port = port_written c.write_replacements.result h0 h1 h2 batch banner (length batch) may needs now read d.port new c.write_replacements.ensures.done c.write_replacements.ensures.fault;
     }
 
 pub returns-in-Ok-write_replacements-clause-done : goal.returns-in-Ok-write_replacements-clause-done
@@ -110,7 +112,7 @@ returns-in-Ok-write_replacements-clause-done g c = λ honest0.
     let named : banner ≡ banner_after h1.banner plan.host plan.admin = c.in_ok-banner.ensures ∙ ap (λ (b : Banner). banner_after b plan.host plan.admin) c.banner.ensures in
     let make = plan_makes h0 h1 d.kept c.args.changes.items plan replacements banner c.deref.ensures.value named read (λ s shown. c.in-Ok.ensures.plan s shown) in
     let honest1 = read.honest ∙ honest0 in
-    done_made h0 h1 h2 d.kept c.self-1.given.0 c.args.changes.items replacements banner (make honest0) (c.write_replacements.ensures.tried.honest ∙ honest1) (c.in-Ok-write_replacements.ensures.done honest1) c.in-Ok-write_replacements.ensures.banner
+    done_made h0 h1 h2 d.kept c.self-1.given.0 c.args.changes.items replacements banner (make honest0) (c.write_replacements.ensures.counts.tried.honest ∙ honest1) (c.in-Ok-write_replacements.ensures.done.done honest1) c.in-Ok-write_replacements.ensures.done.banner
 
 pub returns-in-Ok-write_replacements-clause-at_crash : goal.returns-in-Ok-write_replacements-clause-at_crash
 returns-in-Ok-write_replacements-clause-at_crash g c = λ honest0 up.
@@ -129,7 +131,7 @@ returns-in-Ok-write_replacements-clause-at_crash g c = λ honest0 up.
     let make = plan_makes h0 h1 d.kept c.args.changes.items plan replacements banner c.deref.ensures.value named read (λ s shown. c.in-Ok.ensures.plan s shown) in
     let crash_states = g.K.Keeper.crash_states in
     crash_states_made g.K.Keeper.has_content h0 h1 d.kept c.args.changes.items replacements banner (crash_states d.keeper) (crash_states d1.keeper) (crash_states c.write_replacements.new.keeper) honest0 (reads_only.no_new_crash_state honest0)
-    (λ i left. g.met.K.Keeper.crash_states_represent d.keeper i honest0 up left) (make honest0) (c.write_replacements.ensures.at_crash (read.honest ∙ honest0))
+    (λ i left. g.met.K.Keeper.crash_states_represent d.keeper i honest0 up left) (make honest0) (c.write_replacements.ensures.at_crash.at_crash (read.honest ∙ honest0) (read.same.usable ∙ up))
 
 pub returns-clause-fault : goal.returns-clause-fault
 returns-clause-fault g c =
@@ -150,8 +152,8 @@ returns-clause-fault g c =
     let applied = all_applied (site_of h0 d.kept) c.args.changes.items in
     subst (IsChangesFault lacks (site_state_of h0 d.kept) (site_state_of h2 c.self-1.given.0) applied) (sym c.changes_fault_comes.ensures)
     (commit_fault_of_all lacks (site_state_of h0 d.kept) (site_state_of h2 c.self-1.given.0) applied 0 c.in-Err-write_replacements.fault
-    (commit_fault_comes store_state g.K.Keeper.may_need d.keeper d1.keeper c.write_replacements.new.keeper d.kept c.self-1.given.0 c.args.changes.items replacements banner c.in-Err-write_replacements.fault read reads_only.need c.write_replacements.ensures.tried
-    (read.same.usable ∙ sym c.is_usable.ensures ∙ c.if-not-is_usable.false) make c.in-Err-write_replacements.ensures.fault))
+    (commit_fault_comes store_state g.K.Keeper.may_need d.keeper d1.keeper c.write_replacements.new.keeper d.kept c.self-1.given.0 c.args.changes.items replacements banner c.in-Err-write_replacements.fault read reads_only.need c.write_replacements.ensures.counts.tried
+    (read.same.usable ∙ sym c.is_usable.ensures ∙ c.if-not-is_usable.false) make c.in-Err-write_replacements.ensures.fault.cause))
 
 pub returns-clause-at_crash : goal.returns-clause-at_crash
 returns-clause-at_crash g c = λ honest0 up.
@@ -170,7 +172,7 @@ returns-clause-at_crash g c = λ honest0 up.
     let make = plan_makes h0 h1 d.kept c.args.changes.items plan replacements banner c.deref.ensures.value named read (λ s shown. c.in-Ok.ensures.plan s shown) in
     let crash_states = g.K.Keeper.crash_states in
     crash_states_made g.K.Keeper.has_content h0 h1 d.kept c.args.changes.items replacements banner (crash_states d.keeper) (crash_states d1.keeper) (crash_states c.write_replacements.new.keeper) honest0 (reads_only.no_new_crash_state honest0)
-    (λ i left. g.met.K.Keeper.crash_states_represent d.keeper i honest0 up left) (make honest0) (c.write_replacements.ensures.at_crash (read.honest ∙ honest0))
+    (λ i left. g.met.K.Keeper.crash_states_represent d.keeper i honest0 up left) (make honest0) (c.write_replacements.ensures.at_crash.at_crash (read.honest ∙ honest0) (read.same.usable ∙ up))
 
 pub returns-in-Err-clause-tried : goal.returns-in-Err-clause-tried
 returns-in-Err-clause-tried g c =
@@ -193,8 +195,8 @@ returns-in-Ok-write_replacements-clause-tried g c =
     let h1 = store_state c.plan_all.new.lookup.keeper in
     let h2 = store_state c.write_replacements.new.keeper in
     let batch = batch_of (edits_of c.deref.result.now) in
-    let stay = pins_stay_written c.write_replacements.result h1 h2 (length batch) (MayNeedForEdits g.K.Keeper.may_need c.plan_all.new.lookup.keeper batch) c.write_replacements.ensures.out c.write_replacements.ensures.pins c.write_replacements.ensures.fault in
-    has_tried (store_state d.keeper) h1 h2 d.kept c.self-1.given.0 c.in-Ok.ensures.reads_only.reads_only.read c.write_replacements.ensures.tried stay
+    let stay = pins_stay_written c.write_replacements.result h1 h2 batch c.in_ok-banner.banner (length batch) (MayNeedForEdits g.K.Keeper.may_need c.plan_all.new.lookup.keeper batch) (g.K.Keeper.may_need c.plan_all.new.lookup.keeper) (g.K.Keeper.may_need c.write_replacements.new.keeper) c.write_replacements.ensures.done c.write_replacements.ensures.fault in
+    has_tried (store_state d.keeper) h1 h2 d.kept c.self-1.given.0 c.in-Ok.ensures.reads_only.reads_only.read c.write_replacements.ensures.counts.tried stay
 
 pub returns-clause-tried : goal.returns-clause-tried
 returns-clause-tried g c =
@@ -203,8 +205,8 @@ returns-clause-tried g c =
     let h1 = store_state c.plan_all.new.lookup.keeper in
     let h2 = store_state c.write_replacements.new.keeper in
     let batch = batch_of (edits_of c.deref.result.now) in
-    let stay = pins_stay_written c.write_replacements.result h1 h2 (length batch) (MayNeedForEdits g.K.Keeper.may_need c.plan_all.new.lookup.keeper batch) c.write_replacements.ensures.out c.write_replacements.ensures.pins c.write_replacements.ensures.fault in
-    has_tried (store_state d.keeper) h1 h2 d.kept c.self-1.given.0 c.in-Ok.ensures.reads_only.reads_only.read c.write_replacements.ensures.tried stay
+    let stay = pins_stay_written c.write_replacements.result h1 h2 batch c.in_ok-banner.banner (length batch) (MayNeedForEdits g.K.Keeper.may_need c.plan_all.new.lookup.keeper batch) (g.K.Keeper.may_need c.plan_all.new.lookup.keeper) (g.K.Keeper.may_need c.write_replacements.new.keeper) c.write_replacements.ensures.done c.write_replacements.ensures.fault in
+    has_tried (store_state d.keeper) h1 h2 d.kept c.self-1.given.0 c.in-Ok.ensures.reads_only.reads_only.read c.write_replacements.ensures.counts.tried stay
 
 pub returns-in-Err-clause-reads : goal.returns-in-Err-clause-reads
 returns-in-Err-clause-reads g c =
@@ -233,10 +235,10 @@ returns-in_err-banner-clause-writes g c =
     rw (p.1, p.2, up) c.in-Ok.ensures.reads_only.reads_only.read.writes
 
 pub returns-in-Ok-write_replacements-clause-reads : goal.returns-in-Ok-write_replacements-clause-reads
-returns-in-Ok-write_replacements-clause-reads g c = c.in-Ok-write_replacements.ensures.reads ∙ c.in-Ok.ensures.reads_only.none
+returns-in-Ok-write_replacements-clause-reads g c = c.in-Ok-write_replacements.ensures.counts.reads ∙ c.in-Ok.ensures.reads_only.none
 
 pub returns-in-Ok-write_replacements-clause-writes : goal.returns-in-Ok-write_replacements-clause-writes
-returns-in-Ok-write_replacements-clause-writes g c = c.in-Ok-write_replacements.ensures.writes ∙ c.in-Ok.ensures.reads_only.reads_only.read.writes
+returns-in-Ok-write_replacements-clause-writes g c = c.in-Ok-write_replacements.ensures.counts.writes ∙ c.in-Ok.ensures.reads_only.reads_only.read.writes
 
 pub returns-clause-reads : goal.returns-clause-reads
 returns-clause-reads g c =
@@ -246,7 +248,7 @@ returns-clause-reads g c =
     let h2 = store_state c.write_replacements.new.keeper in
     let batch = batch_of (edits_of c.deref.result.now) in
     subst (λ (f : SiteFault). IsReadCounted h0.honest f h0.failed_reads h2.failed_reads) (sym (ap one_fault c.changes_fault_comes.ensures ∙ one_commit_fault 0 c.in-Err-write_replacements.fault))
-    (commit_reads h0 h1 h2 (length batch) (MayNeedForEdits g.K.Keeper.may_need c.plan_all.new.lookup.keeper batch) c.in-Err-write_replacements.fault c.in-Ok.ensures.reads_only.reads_only.read c.in-Ok.ensures.reads_only.none c.in-Err-write_replacements.ensures.fault c.in-Err-write_replacements.ensures.reads)
+    (commit_reads h0 h1 h2 (length batch) (MayNeedForEdits g.K.Keeper.may_need c.plan_all.new.lookup.keeper batch) c.in-Err-write_replacements.fault c.in-Ok.ensures.reads_only.reads_only.read c.in-Ok.ensures.reads_only.none c.in-Err-write_replacements.ensures.fault.cause c.in-Err-write_replacements.ensures.counts.reads)
 
 pub returns-clause-writes : goal.returns-clause-writes
 returns-clause-writes g c =
@@ -255,7 +257,7 @@ returns-clause-writes g c =
     let h1 = store_state c.plan_all.new.lookup.keeper in
     let h2 = store_state c.write_replacements.new.keeper in
     subst (λ (f : SiteFault). h2.failed_writes ≡ writes_after h0.usable f h0.failed_writes) (sym (ap one_fault c.changes_fault_comes.ensures ∙ one_commit_fault 0 c.in-Err-write_replacements.fault))
-    (commit_writes h0 h1 h2 c.in-Err-write_replacements.fault c.in-Ok.ensures.reads_only.reads_only.read (sym c.is_usable.ensures ∙ c.if-not-is_usable.false) c.in-Err-write_replacements.ensures.writes)
+    (commit_writes h0 h1 h2 c.in-Err-write_replacements.fault c.in-Ok.ensures.reads_only.reads_only.read (sym c.is_usable.ensures ∙ c.if-not-is_usable.false) c.in-Err-write_replacements.ensures.counts.writes)
 
 pub returns-in-Err-clause-lacking : goal.returns-in-Err-clause-lacking
 returns-in-Err-clause-lacking g c = λ same.
@@ -282,5 +284,5 @@ returns-clause-lacking g c = λ same.
     let reads_only = c.in-Ok.ensures.reads_only.reads_only in
     let batch = batch_of (edits_of c.deref.result.now) in
     let up : (store_state k1).usable ≡ true = reads_only.read.same.usable ∙ sym c.is_usable.ensures ∙ c.if-not-is_usable.false in
-    lacks_behind store_state g.K.Keeper.may_need d.keeper k1 k2 d.kept c.self-1.given.0 reads_only.read (length batch) (MayNeedForEdits g.K.Keeper.may_need k1 batch) c.in-Err-write_replacements.fault reads_only.need c.write_replacements.ensures.tried up c.in-Err-write_replacements.ensures.fault
-    c.in-Err-write_replacements.ensures.need same
+    lacks_behind store_state g.K.Keeper.may_need d.keeper k1 k2 d.kept c.self-1.given.0 reads_only.read (length batch) (MayNeedForEdits g.K.Keeper.may_need k1 batch) c.in-Err-write_replacements.fault reads_only.need c.write_replacements.ensures.counts.tried up c.in-Err-write_replacements.ensures.fault.cause
+    c.in-Err-write_replacements.ensures.fault.need same
