@@ -13,6 +13,7 @@ pub mod SectorRows
 pub mod PairsByPage
 pub mod DecodedPages
 pub mod WrittenSlots
+pub mod Zeros
 pub mod Parsing
 pub mod Outcomes
 pub mod Maps

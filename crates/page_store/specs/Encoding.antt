@@ -1,7 +1,7 @@
 -- The bytes of flat pages and root slots.
 use Rattle.std.specs.Prelude.{IsTrue, ◌<◌, ◌≤◌, ◌^◌, ℕ, zero, suc, ◌-◌, ◌*◌, List, [], ◌∷◌, ◌++◌, length, take, drop, replicate, nat_le, if◌then◌else◌}
 use Rattle.std.specs.Int.{w16, w32, w64, to_be_bytes}
-use Rattle.sector_device.specs.Sizes.{page_size}
+use Rattle.page_store.specs.Sizes.{page_size, part_size, record_size}
 use Rattle.common_types.specs.Names.{is_word, is_field}
 use Rattle.page_store.specs.Roots.{root_word}
 use Rattle.page_store.specs.Pages.{Pair}
@@ -64,7 +64,7 @@ record_fields root =
 
 -- the record of a root slot
 unfoldable pub record_bytes : Root → List ℕ
-record_bytes root = padded 3904 (record_fields root)
+record_bytes root = padded record_size (record_fields root)
 
 -- a root sector
 unfoldable pub root_sector : ℕ → ℕ → List ℕ → List ℕ
@@ -73,7 +73,7 @@ root_sector n seal part = root_word ++ to_be_bytes w64 n ++ to_be_bytes w64 seal
 -- so many root sectors from one on, with the bytes of a record
 unfoldable pub root_sectors : ℕ → ℕ → ℕ → List ℕ → List ℕ
 root_sectors n seal zero bytes = []
-root_sectors n seal (suc count) bytes = root_sector n seal (take 488 bytes) ++ root_sectors (suc n) seal count (drop 488 bytes)
+root_sectors n seal (suc count) bytes = root_sector n seal (take part_size bytes) ++ root_sectors (suc n) seal count (drop part_size bytes)
 
 -- the page of a slot
 unfoldable pub slot_bytes : Slot → List ℕ

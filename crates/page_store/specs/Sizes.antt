@@ -8,6 +8,13 @@ longest_key = 300
 abbrev pub longest_value : ℕ
 longest_value = 1024
 
+-- of a root slot's record in each of its eight sectors
+abbrev pub part_size : ℕ
+part_size = 488
+
+abbrev pub record_size : ℕ
+record_size = 3904
+
 abbrev pub least_pages : ℕ
 least_pages = 16
 

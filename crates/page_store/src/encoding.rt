@@ -2,7 +2,7 @@
 ghost use Rattle.std.specs.Prelude.{◌≡◌, ◌+◌, ◌-◌, ◌*◌, ◌<◌, ◌≤◌, ◌++◌, ◌∷◌, ◌^◌, ℕ, [], IsTrue, IfOk, OnOk, length, take, drop, map};
 ghost use Rattle.std.specs.Int.{w16, w32, w64, to_be_bytes};
 ghost use Rattle.std.specs.List.{list_all};
-ghost use Rattle.sector_device.specs.Sizes.{page_size};
+ghost use Rattle.page_store.specs.Sizes.{page_size, record_size};
 ghost use Rattle.page_store.specs.Batch.{is_pair};
 ghost use Rattle.page_store.specs.Roots.{FitsDevice};
 ghost use Rattle.page_store.specs.Switch.{IsSlotPage};
@@ -10,6 +10,7 @@ ghost use Rattle.page_store.specs.Flat.{flat_word, entry_size};
 ghost use Rattle.page_store.specs.Encoding.{padded, entry_bytes, entries_bytes, flat_head_bytes, flat_bytes, fitting, page_room, paged, by_pages, pages_needed, flat_pages, IsRootTyped, record_fields, record_bytes, root_sector, root_sectors, slot_bytes};
 
 use crate::reading::{FLAT_WORD, ROOT_WORD};
+use crate::sizes::{PART_SIZE, RECORD_SIZE};
 use crate::{NewPage, Pair, Root, Slot};
 use sector_device::PAGE_SIZE;
 use std::alloc::{AllocError, Global};
@@ -42,27 +43,21 @@ pub fn put_entries(out: &mut Vec<u8>, pairs: &[Pair]) -> Result<(), AllocError>
 }
 
 /// The bytes, and zeros after them up to so many.
-fn padded(bytes: Vec<u8>, most: usize) -> Result<Vec<u8>, AllocError>
-    requires { length bytes.items ≤ most }
-    ensures bytes { IfOk result (λ all. all.items ≡ padded most bytes.items) }
-    ensures length { IfOk result (λ all. length all.items ≡ most) }
+fn padded<const N: usize>(bytes: &[u8]) -> [u8; N]
+    requires { length bytes.now ≤ N }
+    ensures { result ≡ padded N bytes.now }
 {
-    let mut bytes = bytes;
-    if bytes.as_slice().len() < most {
-        bytes.resize(most, 0)?;
-    }
-    Ok(bytes)
+    let mut all = [0; N];
+    all[..bytes.len()].copy_from_slice(bytes);
+    all
 }
 
-/// A page of these bytes, and zeros after them.
-pub fn padded_page(bytes: Vec<u8>) -> Result<[u8; PAGE_SIZE], AllocError>
-    requires { length bytes.items ≤ page_size }
-    ensures { IfOk result (λ page. page ≡ padded page_size bytes.items) }
+/// A page of these bytes, and zeros after them. It takes no memory.
+pub fn padded_page(bytes: &[u8]) -> [u8; PAGE_SIZE]
+    requires { length bytes.now ≤ page_size }
+    ensures { result ≡ padded page_size bytes.now }
 {
-    let bytes = padded(bytes, PAGE_SIZE)?;
-    let mut page = [0; PAGE_SIZE];
-    page.copy_from_slice(&bytes);
-    Ok(page)
+    padded(bytes)
 }
 
 /// The bytes of a flat page of a generation.
@@ -85,7 +80,7 @@ fn flat_page(
     bytes.extend_from_slice(&0u16.to_be_bytes())?;
     bytes.extend_from_slice(&(pairs.len() as u16).to_be_bytes())?;
     put_entries(&mut bytes, pairs)?;
-    padded_page(bytes)
+    Ok(padded_page(&bytes))
 }
 
 /// How many pairs from the first on fit into one page.
@@ -173,12 +168,12 @@ fn record_fields(alloc: Global, root: &Root) -> Result<Vec<u8>, AllocError>
 
 /// The record of a root slot.
 #[tactic(auto, unfolding(crate::specs::Encoding::record_bytes))]
-fn record_of(alloc: Global, root: &Root) -> Result<Vec<u8>, AllocError>
-    ensures bytes { IfOk result (λ bytes. bytes.items ≡ record_bytes root.now) }
-    ensures length { IfOk result (λ bytes. length bytes.items ≡ 3904) }
+fn record_of(alloc: Global, root: &Root) -> Result<[u8; RECORD_SIZE], AllocError>
+    ensures bytes { IfOk result (λ bytes. bytes ≡ record_bytes root.now) }
+    ensures length { IfOk result (λ bytes. length bytes ≡ record_size) }
     ensures typed { IfOk result (λ bytes. IsRootTyped root.now) }
 {
-    padded(record_fields(alloc, root)?, 3904)
+    Ok(padded(&record_fields(alloc, root)?))
 }
 
 /// One root sector.
@@ -207,7 +202,7 @@ pub fn slot_page(alloc: Global, slot: &Slot) -> Result<[u8; PAGE_SIZE], AllocErr
             &mut out,
             first + k as u64,
             slot.seal,
-            &record[488 * k..488 * k + 488],
+            &record[PART_SIZE * k..PART_SIZE * k + PART_SIZE],
         )?;
     }
     let mut page = [0; PAGE_SIZE];

@@ -81,7 +81,11 @@ fn short_text_at(bytes: &[u8]) -> Option<(&[u8], &[u8])>
 pub fn are_zero(bytes: &[u8]) -> bool
     ensures { result ≡ list_all is_zero bytes.now }
 {
-    bytes.iter().all(|byte| *byte == 0)
+    match bytes {
+        [] => true,
+        // each byte is the one before it
+        [first, rest @ ..] => *first == 0 && rest == &bytes[..rest.len()],
+    }
 }
 
 /// The root that a record says, on a device of so many sectors. It takes no memory.

@@ -1,6 +1,7 @@
 // Which root slots are valid, and which is current.
 ghost use Rattle.std.specs.Prelude.{◌⊎◌, IfSome, ◌≡◌, ◌+◌, ◌*◌, ◌<◌, ◌≤◌, ℕ, IfOk, length, drop, ◌++◌};
 ghost use Rattle.page_store.specs.Sectors.{sector};
+ghost use Rattle.page_store.specs.Sizes.{part_size, record_size};
 ghost use Rattle.page_store.specs.Roots.{IsFoundSlot, shared_seal, record_from, slot_in, newer, current, greater, seal_or_zero, greatest_seal};
 ghost use Rattle.sector_device.specs.Effects.{MadeIfOk};
 ghost use Rattle.page_store.specs.Steps.{crash_states_of};
@@ -8,6 +9,7 @@ ghost use Rattle.page_store.specs.DeviceEffects.{ReadsDevice};
 
 use crate::pages::read_sector;
 use crate::reading::{root_at, seal_at};
+use crate::sizes::RECORD_SIZE;
 use crate::{Root, Slot};
 use arrayvec::ArrayVec;
 use sector_device::{Device, DeviceFault, SECTOR_SIZE};
@@ -37,10 +39,10 @@ fn shared_seal(sectors: &[[u8; SECTOR_SIZE]; 16], slot: usize) -> Option<u64>
 }
 
 /// Adds what a sector has of the record.
-fn push_part(out: &mut ArrayVec<u8, 3904>, sector: &[u8; SECTOR_SIZE])
-    requires { length out.old.items + 488 ≤ 3904 }
+fn push_part(out: &mut ArrayVec<u8, RECORD_SIZE>, sector: &[u8; SECTOR_SIZE])
+    requires { length out.old.items + part_size ≤ record_size }
     ensures items { out.new.items ≡ out.old.items ++ drop 24 sector.now }
-    ensures length { length out.new.items ≡ length out.old.items + 488 }
+    ensures length { length out.new.items ≡ length out.old.items + part_size }
 {
     let (_, part) = sector.split_at(24);
     if out.try_extend_from_slice(part).is_err() {
@@ -49,7 +51,7 @@ fn push_part(out: &mut ArrayVec<u8, 3904>, sector: &[u8; SECTOR_SIZE])
 }
 
 /// The record of a slot.
-fn record_of(sectors: &[[u8; SECTOR_SIZE]; 16], slot: usize) -> ArrayVec<u8, 3904>
+fn record_of(sectors: &[[u8; SECTOR_SIZE]; 16], slot: usize) -> ArrayVec<u8, RECORD_SIZE>
     requires { slot < 2 }
     ensures { result.items ≡ record_from sectors.now (8 * slot) 8 }
 {

@@ -81,7 +81,7 @@ pub fn encode_leaf(
 {
     let mut bytes = page_head(alloc, page, generation, 0, pairs.len() as u16)?;
     put_entries(&mut bytes, pairs)?;
-    padded_page(bytes)
+    Ok(padded_page(&bytes))
 }
 
 /// The bytes of a branch.
@@ -100,7 +100,7 @@ fn branch_page(
     let mut bytes = page_head(alloc, page, generation, level, (others.len() + 1) as u16)?;
     put_child(&mut bytes, &[], page_number(first))?;
     put_others(&mut bytes, others)?;
-    padded_page(bytes)
+    Ok(padded_page(&bytes))
 }
 
 /// Whether all of these have the sizes of a pair.
