@@ -10,10 +10,13 @@ use Rattle.host_types.specs.Names.{is_visible, is_word}
 use Rattle.host_types.specs.declared.view.Kind.{Kind}
 use Rattle.host_types.specs.declared.view.Kind.TheVariants as kinds
 use Rattle.host_types.specs.declared.card.CardView.{CardView}
+use Rattle.host_types.specs.declared.front.CardFront.{CardFront}
+use Rattle.std.specs.Option.{option_map}
+use Rattle.site_records.specs.Fronts.{record_front}
 use Rattle.site_records.specs.Records.{short, long, view_head, tag_of, tail_bytes, until_number, until_bytes, rest_bytes, record_bytes, record_bytes_v1}
 use Rattle.site_records.specs.Limits.{is_stamp, is_summary, is_view_name, is_language, is_view, is_view_count, go_together, is_menu_size, is_form_size, is_cap, is_body, is_small, is_record, is_record_v1, fits_view, fits_body, fits_record}
 use Rattle.site_records.specs.Field.{Read, ◌>>=◌, number, byte, counted, passing, both, known, listed, IsBytes, Takes, IsFormat}
-use Rattle.site_records.specs.Reading.{stamp_at, is_expiry, until_of, until_at, never, moments_at, moments_at_v1, rest_at, record_by, record_at_v1, title_at, summary_at, selector_at, all_kinds, kind_of, head_at, name_at, language_at, view_fields, seen_view, view_at, views_at, views_body, menu_size_at, menu_body, board_at, board_body, form_size_at, form_body, search_body, moved_body, body_behind, record_at, Gives}
+use Rattle.site_records.specs.Reading.{stamp_at, is_expiry, until_of, until_at, never, moments_at, moments_at_v1, rest_at, record_by, record_at_v1, title_at, summary_at, selector_at, all_kinds, kind_of, head_at, name_at, language_at, view_fields, seen_view, view_at, views_at, views_body, menu_size_at, menu_body, board_at, board_body, form_size_at, form_body, search_body, moved_body, body_behind, record_at, Reads, Gives}
 use Rattle.site_records.specs.declared.record.RecordBody.{RecordBody}
 use Rattle.site_records.specs.declared.record.RecordBody.TheVariants.{Views, Menu, Board, Form, Search, Moved}
 use Rattle.site_records.specs.declared.record.Record.{Record}
@@ -345,6 +348,19 @@ unfolding record_bytes
 record_takes bytes r fits e =
     let t = taken_by MomentsFit moments_text moments_at moments_format bytes r fits e in
     (whole_of r t.0.0.0 t.0.0.1 t.0.1, t.1)
+
+some_record : (o : Option Record) (front : CardFront) → option_map record_front o ≡ Some front → (r : Record) × (o ≡ Some r) × (front ≡ record_front r)
+some_record None front h = absurd (cc h)
+some_record (Some r) front h = (r, refl, cc h)
+
+-- a front that was read is that of a record
+pub front_found : (bytes : List ℕ) (result : Result CardFront RecordFault) → IsBytes bytes → Reads (λ front. front) result (option_map record_front (record_at bytes))
+    → IfOk result (λ front. (r : Record) × IsTrue (is_record r) × (bytes ≡ record_bytes r) × (front ≡ record_front r))
+front_found bytes (Ok front) fits read =
+    let some = some_record (record_at bytes) front read in
+    let taken = record_takes bytes some.0 fits some.1 in
+    (some.0, taken.0, taken.1, some.2)
+front_found bytes (Err e) fits read = tt
 
 pub record_again : (r : Record) → IsTrue (is_record r) → record_at (record_bytes r) ≡ Some r
 unfolding record_bytes

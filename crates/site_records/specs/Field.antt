@@ -44,6 +44,12 @@ mapped f read bytes = do
   x ← read bytes
   Some (f x.0, x.1)
 
+-- what stands behind a field
+unfoldable pub behind : {A : Type 0} → Read A → List ℕ → Option (List ℕ)
+behind read bytes = do
+  x ← read bytes
+  Some x.1
+
 -- a letter that stands for something
 unfoldable pub known : {A : Type 0} → (ℕ → Option A) → Read A
 known meaning bytes = do

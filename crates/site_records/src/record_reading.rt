@@ -23,14 +23,14 @@ const LARGEST_MENU: u32 = 43_100;
 const LARGEST_FORM: u32 = 7_712;
 
 #[derive(Drop)]
-struct Head<'a> {
-    title: Title,
-    summary: &'a [u8],
+pub(crate) struct Head<'a> {
+    pub title: Title,
+    pub summary: &'a [u8],
 }
 
 /// Title and summary.
 #[tactic(auto, unfolding(crate::specs::Reading::head_at, crate::specs::Field::both))]
-fn head_of(bytes: &[u8]) -> Result<(Head<'_>, &[u8]), RecordFault>
+pub(crate) fn head_of(bytes: &[u8]) -> Result<(Head<'_>, &[u8]), RecordFault>
     ensures { Reads (λ x. ((x.0.title, x.0.summary.now), x.1.now)) result (head_at bytes.now) }
 {
     let (title, rest) = title_of(bytes)?;
@@ -39,7 +39,7 @@ fn head_of(bytes: &[u8]) -> Result<(Head<'_>, &[u8]), RecordFault>
 }
 
 /// When an item last changed.
-fn stamp_of(bytes: &[u8]) -> Result<(Stamp, &[u8]), RecordFault>
+pub(crate) fn stamp_of(bytes: &[u8]) -> Result<(Stamp, &[u8]), RecordFault>
     ensures { Reads (λ x. (x.0, x.1.now)) result (stamp_at bytes.now) }
 {
     let (seconds, rest) = seconds_of(bytes)?;
@@ -88,7 +88,7 @@ fn board_of(bytes: &[u8]) -> Result<((u16, u64), &[u8]), RecordFault>
 
 /// What stands behind tag and head.
 #[tactic(auto, unfolding(crate::specs::Reading::body_behind, crate::specs::Field::both, crate::specs::Field::mapped))]
-fn body_behind(tag: u8, bytes: &[u8]) -> Result<(LentBody<'_>, &[u8]), RecordFault>
+pub(crate) fn body_behind(tag: u8, bytes: &[u8]) -> Result<(LentBody<'_>, &[u8]), RecordFault>
     ensures { Reads (λ x. (lent_body x.0, x.1.now)) result (body_behind tag bytes.now) }
 {
     match tag {

@@ -91,7 +91,7 @@ fn language_of(bytes: &[u8]) -> Result<(&[u8], &[u8]), RecordFault>
 }
 
 #[tactic(auto, unfolding(crate::specs::Reading::view_at, crate::specs::Field::both, crate::specs::Field::mapped))]
-fn view_of(bytes: &[u8]) -> Result<(LentView<'_>, &[u8]), RecordFault>
+pub fn view_of(bytes: &[u8]) -> Result<(LentView<'_>, &[u8]), RecordFault>
     ensures { Reads (λ x. (x.0, x.1.now)) result (view_at bytes.now) }
 {
     let (name, rest) = name_of(bytes)?;
