@@ -6,6 +6,7 @@ use Rattle.std.proofs.lemmas.Nat.{be_bytes_8, mul-le}
 use Rattle.std.proofs.lemmas.List.{length-take-le, take-append-drop}
 use Rattle.std.proofs.lemmas.Bool.{ltb-true, ltb-false, eqb-true, eqb-false}
 use Rattle.std.specs.Ordering.{nat_cmp, ordering_then}
+use Rattle.std.specs.Cmp.{nat_cmp_is}
 use Rattle.std.specs.declared.cmp.Ordering.{Ordering}
 use Rattle.std.specs.declared.cmp.Ordering.TheVariants.{Less, Equal, Greater}
 use Rattle.common_types.specs.ByteOrder.{byte_cmp}
@@ -143,3 +144,15 @@ by_words one other small few long many = by (nat_lt a b) (nat_eq a b) refl refl
     by false false less same =
         let is = greater_is a b (omega (arith, ltb-false a b less, eqb-false a b same)) in
         words_decide one other small few long many (eqb-false a b same) ∙ is ∙ sym (ap (λ o. ordering_then o behind) is)
+
+-- ---- where one has ended, the lengths decide
+
+pub ended_first : (one other : List ℕ) → length one < 1 → nat_cmp (length one) (length other) ≡ byte_cmp one other
+ended_first [] [] ended = refl
+ended_first [] (y ∷ other) ended = sym (nat_cmp_is 0 (suc (length other)) Less (omega arith))
+ended_first (x ∷ one) other ended = absurd (omega (arith, ended))
+
+pub ended_second : (one other : List ℕ) → length other < 1 → nat_cmp (length one) (length other) ≡ byte_cmp one other
+ended_second [] [] ended = refl
+ended_second (x ∷ one) [] ended = sym (nat_cmp_is (suc (length one)) 0 Greater (omega arith))
+ended_second one (y ∷ other) ended = absurd (omega (arith, ended))

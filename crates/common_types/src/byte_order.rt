@@ -2,6 +2,7 @@
 ghost use Rattle.std.specs.Prelude.{◌≡◌, ◌≤◌, length, take, drop, IfSome, MatchOption};
 ghost use Rattle.std.specs.Ordering.{ordering_then};
 ghost use Rattle.std.specs.Int.{w64, from_be_bytes};
+ghost use Rattle.std.specs.Str.{bytes_eq};
 ghost use Rattle.common_types.specs.ByteOrder.{byte_cmp};
 
 use std::cmp::Ordering;
@@ -44,7 +45,7 @@ fn compare_each(one: &[u8], other: &[u8]) -> Ordering
         left = rest;
         right = others;
     }
-    left.cmp(right)
+    left.len().cmp(&right.len())
 }
 
 /// Which of two byte strings comes first: byte by byte, and a beginning before what goes on from it.
@@ -60,4 +61,11 @@ pub fn compare_bytes(one: &[u8], other: &[u8]) -> Ordering
         right = &right[WORD..];
     }
     compare_each(left, right)
+}
+
+/// Whether two byte strings are the same. Short ones are told sooner than by `==`.
+pub fn are_same(one: &[u8], other: &[u8]) -> bool
+    ensures { result ≡ bytes_eq one.now other.now }
+{
+    compare_bytes(one, other).is_eq()
 }

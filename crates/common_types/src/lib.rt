@@ -9,7 +9,7 @@ mod names;
 mod post_name;
 mod refused;
 
-pub use byte_order::compare_bytes;
+pub use byte_order::{are_same, compare_bytes};
 pub use bytes::Bytes;
 pub use digits::{is_number, number_of};
 pub use list::List;

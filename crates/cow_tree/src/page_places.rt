@@ -111,7 +111,7 @@ fn key_from(level: u16, bytes: &[u8; PAGE_SIZE], place: u16) -> Option<&[u8]>
 fn precedes(key: &[u8], other: &[u8]) -> bool
     ensures { result ≡ precedes key.now other.now }
 {
-    compare_bytes(key, other) == Ordering::Less
+    key.cmp(other) == Ordering::Less
 }
 
 /// How many entries of a page come before the first whose key is above a key, by halves.

@@ -8,7 +8,7 @@ ghost use Rattle.page_store.specs.Heads.{seen_head, seen_child};
 ghost use Rattle.page_store.specs.Pages.{Head, head_at, pair_at, child_at};
 
 use crate::{Banner, LEAST_PAGES, LONGEST_KEY, LONGEST_VALUE, MOST_PAGES, Root};
-use common_types::{Admin, Host};
+use common_types::{Admin, Host, are_same};
 use sector_device::SECTOR_SIZE;
 
 /// The first word of a root sector.
@@ -145,7 +145,7 @@ pub(crate) fn seal_at(number: u64, sector: &[u8; SECTOR_SIZE]) -> Option<u64>
     let seal = u64::from_be_bytes([
         seal[0], seal[1], seal[2], seal[3], seal[4], seal[5], seal[6], seal[7],
     ]);
-    if word == ROOT_WORD.as_slice() && own == number {
+    if are_same(word, &ROOT_WORD) && own == number {
         Some(seal)
     } else {
         None
@@ -175,7 +175,7 @@ pub fn head_at<'a>(word: &[u8; 8], bytes: &'a [u8]) -> Option<(PageHead, &'a [u8
     let (generation, rest) = u64_at(rest)?;
     let (level, rest) = u16_at(rest)?;
     let (count, rest) = u16_at(rest)?;
-    if own != word.as_slice() {
+    if !are_same(own, word) {
         return None;
     }
     Some((
