@@ -15,7 +15,7 @@ const PIECE: usize = 512;
 /// All bytes of a reader, which are at most 512,000,000 and take at most 1,000,000 reads. A reader that has more is too large.
 fn whole<R: Read>(alloc: Global, reader: &mut R) -> io::Result<Vec<u8>>
     ensures bytes { IfOk result (λ all. IfSome (R.remaining reader.old) (λ xs. all.items ≡ xs)) }
-    ensures size { IfOk result (λ all. length all.items ≤ 512 * 1_000_000) }
+    ensures size { IfOk result (λ all. length all.items ≤ PIECE * MOST_READS) }
 {
     let mut all = Vec::new(alloc);
     let mut piece = [0; PIECE];

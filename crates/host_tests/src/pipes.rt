@@ -15,7 +15,7 @@ const MOST_ROOM: usize = 512;
 const ROOMS: [usize; 5] = [0, 1, 2, 7, 512];
 
 fn room_at(room: usize, step: u64) -> usize
-    ensures { result ≤ 512 }
+    ensures { result ≤ MOST_ROOM }
 {
     if room == 0 && step % 2 == 1 {
         1

@@ -37,7 +37,7 @@ pub fn error_reply_of(alloc: Global, is_plus: bool, error: ErrorText) -> Result<
 /// The card of a post.
 #[tactic(auto, using(crate::proofs::Posted::is_short))]
 fn post_card(alloc: Global, title: &Title, text: &Bytes, now: Stamp) -> Result<Card, AllocError>
-    requires { length text.now ≤ 65536 }
+    requires { length text.now ≤ MOST_POST_BYTES }
     ensures { IfOk result (λ card. card ≡ card_of (text_item title.now now text.now)) }
 {
     let item = Item::text(alloc, title.clone()?, now, text.clone()?)?;
@@ -53,7 +53,7 @@ fn stored_as(
     post: Post,
     now: Stamp,
 ) -> Result<Option<Answered>, AllocError>
-    requires { length post.text ≤ 65536 }
+    requires { length post.text ≤ MOST_POST_BYTES }
     ensures { IfOk result (λ o. IfSome o (λ answered. answered ≡ whole (stored_as address.now now board.now number post.title post.text))) }
 {
     let Some(selector) = Selector::of_post(alloc, board, number)? else {
@@ -84,7 +84,7 @@ fn reply_by_card(
     post: Post,
     now: Stamp,
 ) -> Result<Answered, SiteFault>
-    requires { length post.text ≤ 65536 }
+    requires { length post.text ≤ MOST_POST_BYTES }
     ensures reply { IfOk result (λ answered. answered ≡ whole (reply_by_card address.now now board.now post.title post.text card)) }
     ensures fault { IfErr result (λ e. e ≡ OutOfMemory) }
 {

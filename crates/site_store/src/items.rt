@@ -16,7 +16,9 @@ use crate::SiteOpenFault;
 use crate::looking::ValueLookup;
 use crate::parts::{read_part, read_view};
 use crate::records::record_at;
-use host_types::{Body, CardView, EntryList, Item, QuestionList, Selector, ViewList};
+use host_types::{
+    Body, CardView, EntryList, Item, MOST_VIEW_BYTES, QuestionList, Selector, ViewList,
+};
 use page_store::LONGEST_VALUE;
 use site_records::{Record, RecordBody, RecordFault, item_key, read_entries, read_questions};
 use std::alloc::Global;
@@ -30,7 +32,7 @@ fn read_views<V: ValueLookup>(
     cards: &[CardView],
 ) -> Result<ViewList, SiteOpenFault>
     requires few { list.length cards.now ≤ 8 }
-    requires short { All (λ v. v.length ≤ 262144) cards.now }
+    requires short { All (λ v. v.length ≤ MOST_VIEW_BYTES) cards.now }
     ensures views { ReadsKnown V.store_state V.may_need V.crash_states from.old from.new result (λ h vs. HasViews h.pairs selector.now cards.now vs) (λ vs l. l ≡ vs) }
     ensures cards { IfOk result (λ l. map card_view l ≡ cards.now) }
 {
@@ -51,7 +53,7 @@ pub fn read_menu<V: ValueLookup>(
     selector: &Selector,
     size: u32,
 ) -> Result<EntryList, SiteOpenFault>
-    requires { size ≤ 262144 }
+    requires { size ≤ MOST_VIEW_BYTES }
     ensures entries { ReadsKnown V.store_state V.may_need V.crash_states from.old from.new result (λ h es. HasEntries h.pairs selector.now size es) (λ es l. l ≡ es) }
     ensures valid { IfOk result (λ l. IsTrue (are_entries l)) }
     ensures work { MakesLookUps (chunk_count size) (V.store_state from.old) (V.store_state from.new) }
@@ -74,7 +76,7 @@ pub fn read_form<V: ValueLookup>(
     selector: &Selector,
     size: u32,
 ) -> Result<QuestionList, SiteOpenFault>
-    requires { size ≤ 262144 }
+    requires { size ≤ MOST_VIEW_BYTES }
     ensures questions { ReadsKnown V.store_state V.may_need V.crash_states from.old from.new result (λ h qs. HasQuestions h.pairs selector.now size qs) (λ qs l. l ≡ qs) }
     ensures valid { IfOk result (λ l. IsTrue (are_questions l)) }
     ensures short { IfOk result (λ l. list_any is_long_question l ≡ false) }

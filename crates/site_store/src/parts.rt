@@ -9,7 +9,7 @@ ghost use Rattle.site_store.specs.Work.{MakesLookUps};
 
 use crate::SiteOpenFault;
 use crate::looking::ValueLookup;
-use host_types::{Bytes, CHUNK, CardView, Selector, View};
+use host_types::{Bytes, CHUNK, CardView, MOST_VIEW_BYTES, Selector, View};
 use page_store::LONGEST_VALUE;
 use site_records::chunk_key;
 use std::alloc::Global;
@@ -58,7 +58,7 @@ pub fn read_part<V: ValueLookup>(
     part: u8,
     size: usize,
 ) -> Result<Bytes, SiteOpenFault>
-    requires { size ≤ 262144 }
+    requires { size ≤ MOST_VIEW_BYTES }
     ensures bytes { ReadsKnown V.store_state V.may_need V.crash_states from.old from.new result (IsPartOf selector.now part size) (λ p b. b ≡ p) }
     ensures size { IfOk result (λ b. list.length b ≡ size) }
     ensures work { MakesLookUps (chunk_count size) (V.store_state from.old) (V.store_state from.new) }
@@ -81,7 +81,7 @@ pub fn read_view<V: ValueLookup>(
     part: u8,
     view: &CardView,
 ) -> Result<View, SiteOpenFault>
-    requires { view.now.length ≤ 262144 }
+    requires { view.now.length ≤ MOST_VIEW_BYTES }
     ensures view { ReadsKnown V.store_state V.may_need V.crash_states from.old from.new result (λ h v. (view.now ≡ card_view v) × HasPart h.pairs selector.now part v.bytes) (λ v w. w ≡ v) }
     ensures card { IfOk result (λ w. card_view w ≡ view.now) }
 {

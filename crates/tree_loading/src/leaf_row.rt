@@ -31,7 +31,7 @@ pub(crate) struct LeafRow {
 fn entry_size(pair: &Pair) -> usize
     requires { IsTrue (is_pair pair.now) }
     ensures size { result ≡ entry_size pair.now }
-    ensures fits { result ≤ 4072 }
+    ensures fits { result ≤ ENTRY_ROOM }
 {
     4 + pair.key().len() + pair.value().len()
 }
