@@ -5,6 +5,7 @@ ghost use Rattle.page_store.specs.Pages.{key_of};
 ghost use Rattle.site_store.specs.LikelyPlaces.{fnv_1a, beginning_of};
 ghost use Rattle.site_store.specs.Opening.{IsPlaceOf};
 
+use common_types::are_same;
 use page_store::Pair;
 use std::alloc::{AllocError, Global};
 
@@ -44,7 +45,7 @@ fn place_at(pairs: &[Pair], key: &[u8], likely: usize) -> Option<usize>
     requires { IsTrue (rises (map key_of pairs.now)) }
     ensures { IsPlaceOf pairs.now key.now result }
 {
-    if likely < pairs.len() && pairs[likely].key() == key {
+    if likely < pairs.len() && are_same(pairs[likely].key(), key) {
         return Some(likely);
     }
     match pairs.binary_search_by(|pair| pair.key().cmp(key)) {

@@ -14,7 +14,6 @@ ghost use Rattle.site_store.specs.declared.fault.SiteOpenFault.TheVariants.{BadR
 
 use crate::SiteOpenFault;
 use crate::looking::ValueLookup;
-use common_types::are_same;
 use host_types::{Bytes, Selector};
 use page_store::{Keeper, LONGEST_KEY, LONGEST_VALUE};
 use site_records::{LONGEST_WORD, word_key};
@@ -46,7 +45,7 @@ fn has_too<K: Keeper>(
     requires { list.length other.now ≤ LONGEST_WORD }
     ensures there { ReadsKnown K.store_state K.may_need K.crash_states keeper.old keeper.new result (spec.StandsWith selector.now word.now) (λ item there. there ≡ is_among (words_of item) other.now) }
 {
-    if are_same(other.as_slice(), word.as_slice()) {
+    if other == word {
         return Ok(true);
     }
     has_word(keeper, other, selector)
