@@ -1,4 +1,5 @@
-use Rattle.std.proofs.Common.{rules, ◌≡◌}
+use Rattle.std.proofs.Common.{rules, ◌≡◌, sym, ◌∙◌}
+use Rattle.std.proofs.lemmas.Slice.Eq.{bytes_eq-Decides}
 use Rattle.std.proofs.lemmas.Fn.{always_returns_same}
 use Rattle.host_types.specs.Site.{byte_cmp}
 use Rattle.site_store.proofs.PairsFound.{searched, found_place, no_place, likely_place}
@@ -18,8 +19,8 @@ returns-in-Err c =
     let by_key = c.binary_search_by.ensures.position (λ p. byte_cmp p.0 key) (always_returns_same _ _ _ (λ a r g called. search rules)) in
     no_place key pairs c.binary_search_by.result c.in-Err.field-0 c.in-Err.is (searched key pairs c.binary_search_by.result c.requires c.binary_search_by.ensures.bound by_key)
 
-pub returns-then-eq : goal.returns-then-eq
-returns-then-eq c =
+pub returns-then-are_same : goal.returns-then-are_same
+returns-then-are_same c =
     let pair = c.index-pairs-likely.result in
-    let same : pair.0 ≡ c.args.key.now = search rules in
+    let same : pair.0 ≡ c.args.key.now = sym c.key.ensures ∙ (bytes_eq-Decides c.key.result.now c.args.key.now).0 (sym c.are_same.ensures ∙ c.if-are_same.true) in
     likely_place c.args.key.now c.args.pairs.now c.args.likely pair c.requires c.if-likely-pairs.true c.index-pairs-likely.is same
