@@ -30,4 +30,4 @@ returns c =
     let whole : padded 4096 c.put_others.new.out.items ≡ branch_page c.args.page c.args.generation c.args.level (branch_entries tree others) =
     ap (padded 4096) (same ∙ append_assoc head first rest ∙ ap (λ (n : ℕ). head ++ (child_bytes (seen_child [] n) ++ rest)) c.page_number.ensures
     ∙ ap (λ (n : ℕ). head_bytes c.args.page c.args.generation c.args.level n ++ children_bytes (branch_entries tree others)) (entries_count tree c.args.others.now)) in
-    c.padded_page.ensures ∙ whole
+    c.padded_page.ensures ∙ ap (padded 4096) c.deref.ensures.value ∙ whole
