@@ -11,6 +11,7 @@ pub mod Steps
 pub mod DeviceEffects
 pub mod Switch
 pub mod Commit
+pub mod CommitPages
 pub mod Encoding
 pub mod Batch
 pub mod PairsInOrder
@@ -18,14 +19,17 @@ pub mod Counting
 pub mod Opening
 pub mod Work
 pub mod StoreState
+pub mod ReadCalls
 pub mod CommitCalls
 pub mod Compaction
+pub mod CompactCalls
 pub mod Pins
 pub mod ReadFaults
 pub mod FlatState
 pub mod FlatPlan
 pub mod FlatSeen
 pub mod FlatCommits
+pub mod FlatOpening
 pub mod CrashStatesRepresent
 pub mod Formatting
 pub mod ImageExamples

@@ -1,11 +1,11 @@
 // New pages, and a new root over them.
-ghost use Rattle.std.specs.Prelude.{length, ◌≡◌, ◌≤◌, ◌+◌, ◌*◌, ℕ, IsTrue, OnOk, All};
+ghost use Rattle.std.specs.Prelude.{length, ◌≤◌, ◌+◌, ◌*◌, IsTrue, All};
 ghost use Rattle.sector_device.specs.Effects.{WriteOutcome, MadeIfOk};
-ghost use Rattle.common_types.specs.CrashStates.{AddsOnly};
 ghost use Rattle.page_store.specs.Switch.{IsSlotPage};
 ghost use Rattle.page_store.specs.Steps.{crash_states_of, AllAre};
 ghost use Rattle.page_store.specs.DeviceEffects.{WritesDevice};
-ghost use Rattle.page_store.specs.Commit.{numbers, IsSameOutside, ArePatched, Commit, IsReady, MayBeCommitted, IsBetween, IsDone};
+ghost use Rattle.page_store.specs.Commit.{numbers, IsSameOutside, ArePatched, MayBeCommitted};
+ghost use Rattle.page_store.specs.CommitPages.{CommitsPages};
 
 use crate::Slot;
 use crate::pages::{switch_root, sync_all, write_page};
@@ -42,12 +42,7 @@ pub fn commit_pages<D: Device>(
     requires page { IsTrue (D.state device.old).honest → IsSlotPage (D.state device.old).size slot.now root.now }
     requires sure { IsTrue (D.state device.old).honest → AllAre (crash_states_of D.moment D.possible_since device.old) (D.state device.old).disk.view }
     requires ready { IsTrue (D.state device.old).honest → MayBeCommitted slot.now pages.now (D.state device.old).disk.view }
-    // Every crash leaves the content from before or the new one, and no page changed that wasn't free.
-    ensures at_crash { IsTrue (D.state device.old).honest → (commit : Commit) → commit.new ≡ slot.now → IsReady commit pages.now (D.state device.old).disk.view →
-        AddsOnly (crash_states_of D.moment D.possible_since device.old) (crash_states_of D.moment D.possible_since device.new) (IsBetween commit pages.now (D.state device.old).disk.view) }
-    // Once it is done, every image is the view, and that has the new content.
-    ensures done { IsTrue (D.state device.old).honest → (commit : Commit) → commit.new ≡ slot.now → IsReady commit pages.now (D.state device.old).disk.view →
-        OnOk result (IsDone commit pages.now (crash_states_of D.moment D.possible_since device.new) (D.state device.old).disk.view (D.state device.new).disk.view) }
+    ensures commits { CommitsPages D.state (crash_states_of D.moment D.possible_since) device.old device.new slot.now pages.now result }
     ensures outcome { WriteOutcome result (D.state device.old) (D.state device.new) }
     ensures work { MadeIfOk result 0 (8 * length pages.now + 8) 2 (D.state device.old) (D.state device.new) }
 {

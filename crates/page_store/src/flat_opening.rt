@@ -1,21 +1,18 @@
 // Opening an image of flat pages.
-ghost use Rattle.std.specs.Prelude.{◌≡◌, ◌⊎◌, ◌≤◌, ◌<◌, ◌*◌, ◌+◌, ◌==◌, ◌^◌, ℕ, List, Bool, true, false, Some, IfOk, OnOk, IfErr, IsTrue, length};
+ghost use Rattle.std.specs.Prelude.{◌≡◌, ◌≤◌, ◌*◌, ◌+◌, ◌==◌, IfOk, OnOk, IfErr};
 ghost use Rattle.std.specs.List.{list_all};
 ghost use Rattle.page_store.specs.Sizes.{most_pages};
-ghost use Rattle.sector_device.specs.Device.{State, NothingCounted};
 ghost use Rattle.sector_device.specs.Effects.{MadeExactly, MadeAtMost, MadeIfOk};
-ghost use Rattle.page_store.specs.Counting.{CountsStoreReads, CountsRefusal};
-ghost use Rattle.page_store.specs.declared.fault.KeeperFault.TheVariants.{Small};
+ghost use Rattle.page_store.specs.Counting.{CountsStoreReads};
 ghost use Rattle.page_store.specs.Batch.{is_map, is_pair, is_key, is_value};
 ghost use Rattle.page_store.specs.Flat.{half_size, is_half};
-ghost use Rattle.page_store.specs.Content.{HasContent};
 ghost use Rattle.page_store.specs.Steps.{crash_states_of};
 ghost use Rattle.page_store.specs.DeviceEffects.{IsReadCall};
-ghost use Rattle.page_store.specs.Opening.{ReadsToOpen, MadeToOpen};
-ghost use Rattle.page_store.specs.FlatState.{IsFitted, CrashStatesDoRepresent, IsFlatOpened, IsSlotFault, IsOpenFault, HasOpened, found_in_half};
-ghost use Rattle.page_store.specs.FlatSeen.{slot_of, pairs_of, banner_of, device_of, top_of, is_open};
-ghost use Rattle.page_store.specs.Roots.{IsFoundSlot, current, greatest_seal};
-ghost use Rattle.common_types.specs.CrashStates.{AddsNone};
+ghost use Rattle.page_store.specs.Opening.{ReadsToOpen, MadeToOpen, FindsSlot, RefusesToOpen};
+ghost use Rattle.page_store.specs.FlatOpening.{OpensFlat};
+ghost use Rattle.page_store.specs.FlatState.{IsFitted, IsFlatOpened, IsSlotFault, IsOpenFault, HasOpened};
+ghost use Rattle.page_store.specs.FlatSeen.{device_of};
+ghost use Rattle.page_store.specs.Roots.{IsFoundSlot};
 
 use crate::flat_reading::read_half;
 use crate::pages::sync_all;
@@ -37,10 +34,7 @@ fn is_half(root: &Root) -> bool
 /// Finds the current slot of a flat image, and the greatest seal.
 fn flat_slot<D: Device>(device: &mut D) -> Result<(Slot, u64), KeeperFault>
     requires { 128 ≤ (D.state device.old).size }
-    ensures slot { IsTrue (D.state device.old).honest → IfOk result (λ found. current (D.state device.old).disk.view ≡ Some found.0) }
-    ensures top { IsTrue (D.state device.old).honest → IfOk result (λ found. greatest_seal (D.state device.old).disk.view 16 ≡ found.1) }
-    ensures fits { IfOk result (λ found. IsFoundSlot (D.state device.old).size found.0) }
-    ensures version { IfOk result (λ found. found.0.root.banner.version ≡ 0) }
+    ensures found { IfOk result (λ found. FindsSlot (D.state device.old) (λ version. version ≡ 0) found.0 found.1) }
     ensures fault { IfErr result (IsSlotFault (D.state device.old)) }
     ensures device { IsReadCall D.state (crash_states_of D.moment D.possible_since) device.old device.new }
     ensures reads { CountsStoreReads result (D.state device.old).failed_reads (D.state device.new).failed_reads }
@@ -134,21 +128,8 @@ impl<D: Device> FlatKeeper<D> {
     ///
     /// Refusals in order: `Small` under 128 sectors; `Device` where a read or the sync failed; `NoImage` where no root slot is valid; `Version` where the current one isn't of flat pages; `Damaged` where what it names has no content. `Memory` may stand in place of `Damaged` and of success.
     pub fn open(alloc: Global, device: D) -> Result<FlatKeeper<D>, (KeeperFault, D)>
-        ensures content { IsTrue (D.state device).honest → IfOk result (λ k. HasContent (D.state device).disk.view (pairs_of k) (banner_of k)) }
-        ensures top { IsTrue (D.state device).honest → IfOk result (λ k. top_of k ≡ greatest_seal (D.state device).disk.view 16) }
-        ensures usable { IfOk result (λ k. is_open k ≡ true) }
-        ensures honest { IfOk result (λ k. (D.state (device_of k)).honest ≡ (D.state device).honest) }
-        ensures large { IfOk result (λ k. 128 ≤ (D.state device).size) }
-        ensures counts { IfOk result (λ k. NothingCounted (D.state device) (D.state (device_of k))) }
-        ensures work { IfOk result (λ k. MadeToOpen (16 + 8 * half_size (slot_of k).root.pages) (D.state device) (D.state (device_of k))) }
-        ensures work_on_fault { IfErr result (λ e. MadeAtMost (D.state device).size 0 1 (D.state device) (D.state e.1)) }
-        ensures fault { IfErr result (λ e. IsOpenFault (D.state device) (D.state e.1) e.0) }
-        ensures counts_fault { IfErr result (λ e. CountsRefusal e.0 (D.state device) (D.state e.1)) }
-        ensures small { IfErr result (λ e. e.0 ≡ Small → e.1 ≡ device) }
-        // Nothing is written: a crash within the call leaves what one before it might have left.
-        ensures at_crash { IsTrue (D.state device).honest → IfOk result (λ k. AddsNone (crash_states_of D.moment D.possible_since device) (crash_states_of D.moment D.possible_since (device_of k))) }
-        ensures at_crash_on_fault { IsTrue (D.state device).honest → IfErr result (λ e. AddsNone (crash_states_of D.moment D.possible_since device) (crash_states_of D.moment D.possible_since e.1)) }
-        ensures handed_back { IfErr result (λ e. ((D.state e.1).size ≡ (D.state device).size) × ((D.state e.1).honest ≡ (D.state device).honest)) }
+        ensures opened { IfOk result (OpensFlat D.state (crash_states_of D.moment D.possible_since) device) }
+        ensures refused { IfErr result (λ e. RefusesToOpen D.state (crash_states_of D.moment D.possible_since) device IsOpenFault e.1 e.0) }
     {
         let mut device = device;
         match open_parts(alloc, &mut device) {

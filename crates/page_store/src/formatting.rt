@@ -1,13 +1,10 @@
 // Making an image.
-ghost use Rattle.std.specs.Prelude.{◌+◌, ◌≡◌, ◌≢◌, ◌⊎◌, ◌≤◌, ◌<◌, ◌*◌, IsTrue, OnOk, IfErr, true, length};
-ghost use Rattle.page_store.specs.Sizes.{least_pages, most_pages};
-ghost use Rattle.sector_device.specs.Effects.{IsSameDevice};
+ghost use Rattle.std.specs.Prelude.{◌+◌, ◌≡◌, ◌≤◌, ◌<◌, ◌*◌, OnOk, IfErr, true};
+ghost use Rattle.sector_device.specs.Effects.{IsSameDevice, MadeExactly};
 ghost use Rattle.page_store.specs.Batch.{is_map};
 ghost use Rattle.page_store.specs.Encoding.{pages_needed};
-ghost use Rattle.page_store.specs.Steps.{crash_states_of, AllAre};
-ghost use Rattle.page_store.specs.Content.{HasContent};
-ghost use Rattle.page_store.specs.declared.fault.KeeperFault.TheVariants.{Failed};
-ghost use Rattle.page_store.specs.Formatting.{IsFirst, IsFormatFault, IsFormattedBy};
+ghost use Rattle.page_store.specs.Steps.{crash_states_of};
+ghost use Rattle.page_store.specs.Formatting.{MakesFirst, FailsToFormat};
 
 use crate::commit::write_pages;
 use crate::encoding::{flat_pages, slot_page};
@@ -30,13 +27,9 @@ pub fn format_flat<D: Device>(
     requires one_page { pages_needed pairs.now ≤ 1 }
     requires port { 0 < banner.port }
     requires version { banner.version ≡ 0 }
-    ensures content { IsTrue (D.state device.old).honest → OnOk result (HasContent (D.state device.new).disk.view pairs.now banner) }
-    ensures first { IsTrue (D.state device.old).honest → OnOk result (IsFirst pages (D.state device.new).disk.view) }
-    ensures sure { IsTrue (D.state device.old).honest → OnOk result (AllAre (crash_states_of D.moment D.possible_since device.new) (D.state device.new).disk.view) }
-    ensures fits { OnOk result ((least_pages ≤ pages) × (pages ≤ most_pages) × (8 * pages ≤ (D.state device.old).size)) }
-    ensures fault { IfErr result (IsFormatFault pages (D.state device.old) (D.state device.new)) }
-    ensures work { OnOk result (IsFormattedBy (16 + 8 * pages_needed pairs.now) (D.state device.old) (D.state device.new)) }
-    ensures unwritten { IfErr result (λ e. e ≢ Failed → device.new ≡ device.old) }
+    ensures made { OnOk result (MakesFirst D.state (crash_states_of D.moment D.possible_since) device.old device.new pages pairs.now banner) }
+    ensures work { OnOk result (MadeExactly 0 (16 + 8 * pages_needed pairs.now) 1 (D.state device.old) (D.state device.new)) }
+    ensures fault { IfErr result (FailsToFormat D.state device.old device.new pages) }
     ensures same { IsSameDevice (D.state device.old) (D.state device.new) }
 {
     if pages < LEAST_PAGES || pages > MOST_PAGES || 8 * u64::from(pages) > device.sectors() {

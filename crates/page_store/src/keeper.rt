@@ -1,15 +1,14 @@
 // A map of byte keys that is kept on a device.
-ghost use Rattle.std.specs.Prelude.{◌≡◌, ◌≤◌, ℕ, Bool, List, true, false, IfOk, OnOk, IfErr, IsErrOf, IfSome, IsTrue, length, take, option_map};
-ghost use Rattle.common_types.specs.CrashStates.{CrashStates, AddsNone, may_crash_to};
+ghost use Rattle.std.specs.Prelude.{◌≡◌, ◌≤◌, ℕ, Bool, List, true, OnOk, IfOk, IfErr, IsTrue, length};
+ghost use Rattle.common_types.specs.CrashStates.{CrashStates, may_crash_to};
 ghost use Rattle.page_store.specs.Pages.{Pair};
-ghost use Rattle.page_store.specs.Batch.{value_at, pair_after, is_batch, is_map};
+ghost use Rattle.page_store.specs.Batch.{is_batch, is_map};
+ghost use Rattle.page_store.specs.ReadCalls.{IsValueAt, IsPairAfter, FillsBuffer, FillsBuffers, StoreReadsOnly, FailsToLookUp};
 ghost use Rattle.page_store.specs.CommitCalls.{TakesBanner, CommitsBatch, FailsToCommit, CommitsNoMore, CountsCommit, CommitCrashes};
-ghost use Rattle.page_store.specs.Counting.{CountsStoreReads};
-ghost use Rattle.page_store.specs.StoreState.{StoreState, CommitNeed, IsFigures, StoreHasRead, NeedsTheSame, IsFilled, IsStoreReadFault, most_levels};
+ghost use Rattle.page_store.specs.StoreState.{StoreState, CommitNeed, IsFigures, most_levels};
 ghost use Rattle.page_store.specs.Work.{ReadsPages, pages_tried};
 ghost use Rattle.page_store.specs.declared.banner.Banner.{Banner as BannerValue};
 ghost use Rattle.page_store.specs.declared.edit.Edit.{Edit as EditValue};
-ghost use Rattle.page_store.specs.declared.fault.KeeperFault.TheVariants.{Failed};
 
 use crate::{Banner, Edit, Figures, KeeperFault, LONGEST_KEY, LONGEST_VALUE};
 
@@ -53,17 +52,11 @@ pub trait Keeper {
         key: &[u8],
         buffer: &mut [u8; LONGEST_VALUE],
     ) -> Result<Option<usize>, KeeperFault>
-        ensures within { IfOk result (λ found. IfSome found (λ n. n ≤ length buffer.new)) }
-        ensures value { IsTrue (store_state self.old).honest → IfOk result (λ found. option_map (λ n. take n buffer.new) found ≡ value_at (store_state self.old).pairs key.now) }
-        ensures buffer { IsFilled (λ n. n) result buffer.old buffer.new }
-        ensures kept { StoreHasRead (store_state self.old) (store_state self.new) }
-        ensures need { NeedsTheSame (may_need self.old) (may_need self.new) }
-        ensures reads { CountsStoreReads result (store_state self.old).failed_reads (store_state self.new).failed_reads }
-        ensures fault { IfErr result (IsStoreReadFault (store_state self.old) (store_state self.new)) }
-        ensures closed { (store_state self.old).usable ≡ false → IsErrOf result Failed }
-        ensures unchanged { (store_state self.old).usable ≡ false → store_state self.new ≡ store_state self.old }
-        ensures work { ReadsPages (store_state self.old).height (store_state self.old).made (store_state self.new).made }
-        ensures at_crash { IsTrue (store_state self.old).honest → AddsNone (crash_states self.old) (crash_states self.new) };
+        ensures value { IsTrue (store_state self.old).honest → IfOk result (λ found. IsValueAt key.now buffer.new found (store_state self.old).pairs) }
+        ensures fills { FillsBuffer result buffer.old buffer.new }
+        ensures only { StoreReadsOnly store_state may_need crash_states self.old self.new }
+        ensures fails { FailsToLookUp (store_state self.old) (store_state self.new) result }
+        ensures work { ReadsPages (store_state self.old).height (store_state self.old).made (store_state self.new).made };
 
     /// Puts the pair with the least key above this one into the fronts of the buffers, and answers its lengths, or none where no key is above. The empty key is below all. What stands behind key and value stays. It takes no memory.
     fn next(
@@ -72,18 +65,11 @@ pub trait Keeper {
         key: &mut [u8; LONGEST_KEY],
         value: &mut [u8; LONGEST_VALUE],
     ) -> Result<Option<(usize, usize)>, KeeperFault>
-        ensures within { IfOk result (λ found. IfSome found (λ n. (n.0 ≤ length key.new) × (n.1 ≤ length value.new))) }
-        ensures pair { IsTrue (store_state self.old).honest → IfOk result (λ found. option_map (λ n. (take n.0 key.new, take n.1 value.new)) found ≡ pair_after (store_state self.old).pairs after.now) }
-        ensures key { IsFilled (λ n. n.0) result key.old key.new }
-        ensures value { IsFilled (λ n. n.1) result value.old value.new }
-        ensures kept { StoreHasRead (store_state self.old) (store_state self.new) }
-        ensures need { NeedsTheSame (may_need self.old) (may_need self.new) }
-        ensures reads { CountsStoreReads result (store_state self.old).failed_reads (store_state self.new).failed_reads }
-        ensures fault { IfErr result (IsStoreReadFault (store_state self.old) (store_state self.new)) }
-        ensures closed { (store_state self.old).usable ≡ false → IsErrOf result Failed }
-        ensures unchanged { (store_state self.old).usable ≡ false → store_state self.new ≡ store_state self.old }
-        ensures work { ReadsPages (pages_tried (store_state self.old).height) (store_state self.old).made (store_state self.new).made }
-        ensures at_crash { IsTrue (store_state self.old).honest → AddsNone (crash_states self.old) (crash_states self.new) };
+        ensures pair { IsTrue (store_state self.old).honest → IfOk result (λ found. IsPairAfter after.now key.new value.new found (store_state self.old).pairs) }
+        ensures fills { FillsBuffers result key.old key.new value.old value.new }
+        ensures only { StoreReadsOnly store_state may_need crash_states self.old self.new }
+        ensures fails { FailsToLookUp (store_state self.old) (store_state self.new) result }
+        ensures work { ReadsPages (pages_tried (store_state self.old).height) (store_state self.old).made (store_state self.new).made };
 
     /// Makes all edits of a batch, whose keys rise, and sets the banner, in one step.
     ///

@@ -31,67 +31,73 @@ write_pages-requires g c = λ k n lt.
     let size = c.write_page.ensures.sectors.outcome.same.size in
     omega (arith, number, at.1, one, a, b, e, least, size)
 
-pub returns-clause-content : goal.returns-clause-content
-returns-clause-content g c = λ keeps.
-    let d = g.met.D.Device in
-    let pages = c.in_ok-tree.tree.items in
-    let pairs = c.args.pairs.now in
-    let keeps1 : IsTrue (g.D.Device.state c.write_page.new.device).honest = subst IsTrue (sym c.write_page.ensures.sectors.outcome.same.honest) keeps in
-    let keeps2 : IsTrue (g.D.Device.state c.write_pages.new.device).honest = subst IsTrue (sym c.write_pages.ensures.pages.outcome.same.honest) keeps1 in
-    let slot : SlotValue = record { number = 0; seal = 1; root = record { pages = c.args.pages; tree = 2; height = 0; keys = length pairs; banner = c.args.banner } } in
-    let size : (g.D.Device.state c.write_pages.new.device).size ≡ (g.D.Device.state c.args.device.now).size = c.write_pages.ensures.pages.outcome.same.size ∙ c.write_page.ensures.sectors.outcome.same.size in
-    let least : 16 ≤ c.args.pages = omega (arith, c.if-pages-lt-LEAST_PAGES.false) in
-    let most : c.args.pages ≤ 65536 = omega (arith, c.if-pages-gt-MOST_PAGES.false) in
-    let fits : 8 * c.args.pages ≤ (g.D.Device.state c.write_pages.new.device).size = let a = c.if-from-sectors.false in let b = c.from.ensures in let e = c.sectors.ensures in omega (arith, a, b, e, size) in
-    let page : IsSlotPage (g.D.Device.state c.write_pages.new.device).size slot c.in_ok-root.root = c.in_ok-root.ensures.valid (g.D.Device.state c.write_pages.new.device).size (omega arith) (least, most, fits) c.requires.port in
-    let keeps3 : IsTrue (g.D.Device.state c.write_page-2.new.device).honest = subst IsTrue (sym c.write_page-2.ensures.sectors.outcome.same.honest) keeps2 in
-    let long : length (g.D.Device.state c.write_pages.new.device).disk.view ≡ (g.D.Device.state c.write_pages.new.device).size = (d.view_is_image c.write_pages.new.device keeps2).size ∙ d.base_has_size c.write_pages.new.device keeps2 in
-    let root = on_ok c.write_page-2.result c.is_err-3.result _ c.is_err-3.ensures.value c.if-is_err-3.false (c.write_page-2.ensures.sectors.shows keeps2) in
-    let same = on_ok c.sync_all.result c.is_err-4.result _ c.is_err-4.ensures.value c.if-is_err-4.false (c.sync_all.ensures.shows keeps3) in
-    let sure = on_ok c.sync_all.result c.is_err-4.result _ c.is_err-4.ensures.value c.if-is_err-4.false (c.sync_all.ensures.sure keeps3) in
-    let done : IsSwitched slot (g.D.Device.state c.write_pages.new.device).disk.view (g.D.Device.state c.sync_all.new.device).disk.view =
-    first_root slot c.in_ok-root.root _ _ _ _ long page root same in
-    let view : g.row.D.Denot → Image = λ x. (g.D.Device.state x).disk.view in
-    let cleared : AreWritten (8 * 1) 8 (replicate 4096 0) (view c.args.device.now) (view c.write_page.new.device) = on_ok c.write_page.result c.is_err.result _ c.is_err.ensures.value c.if-is_err.false (c.write_page.ensures.sectors.shows keeps) in
-    let shown = on_ok c.write_pages.result c.is_err-2.result _ c.is_err-2.ensures.value c.if-is_err-2.false (c.write_pages.ensures.pages.shows keeps1) in
-    let patch : ArePatched pages (view c.write_page.new.device) (view c.write_pages.new.device) = subst (λ (p : List NewPage). ArePatched p (view c.write_page.new.device) (view c.write_pages.new.device)) c.deref.ensures.value shown in
-    let now = fresh_current slot (replicate 4096 0) (view c.args.device.now) (view c.write_page.new.device) (view c.write_pages.new.device) (view c.sync_all.new.device) pages pairs refl refl cleared c.in_ok-tree.ensures patch done in
-    fresh_content slot (view c.write_page.new.device) (view c.write_pages.new.device) (view c.sync_all.new.device) pages pairs refl refl refl refl refl c.requires.version least most c.requires.map c.requires.one_page now c.in_ok-tree.ensures patch done
-
-pub returns-clause-first : goal.returns-clause-first
-returns-clause-first g c = λ keeps.
-    let d = g.met.D.Device in
-    let pages = c.in_ok-tree.tree.items in
-    let pairs = c.args.pairs.now in
-    let keeps1 : IsTrue (g.D.Device.state c.write_page.new.device).honest = subst IsTrue (sym c.write_page.ensures.sectors.outcome.same.honest) keeps in
-    let keeps2 : IsTrue (g.D.Device.state c.write_pages.new.device).honest = subst IsTrue (sym c.write_pages.ensures.pages.outcome.same.honest) keeps1 in
-    let slot : SlotValue = record { number = 0; seal = 1; root = record { pages = c.args.pages; tree = 2; height = 0; keys = length pairs; banner = c.args.banner } } in
-    let size : (g.D.Device.state c.write_pages.new.device).size ≡ (g.D.Device.state c.args.device.now).size = c.write_pages.ensures.pages.outcome.same.size ∙ c.write_page.ensures.sectors.outcome.same.size in
-    let least : 16 ≤ c.args.pages = omega (arith, c.if-pages-lt-LEAST_PAGES.false) in
-    let most : c.args.pages ≤ 65536 = omega (arith, c.if-pages-gt-MOST_PAGES.false) in
-    let fits : 8 * c.args.pages ≤ (g.D.Device.state c.write_pages.new.device).size = let a = c.if-from-sectors.false in let b = c.from.ensures in let e = c.sectors.ensures in omega (arith, a, b, e, size) in
-    let page : IsSlotPage (g.D.Device.state c.write_pages.new.device).size slot c.in_ok-root.root = c.in_ok-root.ensures.valid (g.D.Device.state c.write_pages.new.device).size (omega arith) (least, most, fits) c.requires.port in
-    let keeps3 : IsTrue (g.D.Device.state c.write_page-2.new.device).honest = subst IsTrue (sym c.write_page-2.ensures.sectors.outcome.same.honest) keeps2 in
-    let long : length (g.D.Device.state c.write_pages.new.device).disk.view ≡ (g.D.Device.state c.write_pages.new.device).size = (d.view_is_image c.write_pages.new.device keeps2).size ∙ d.base_has_size c.write_pages.new.device keeps2 in
-    let root = on_ok c.write_page-2.result c.is_err-3.result _ c.is_err-3.ensures.value c.if-is_err-3.false (c.write_page-2.ensures.sectors.shows keeps2) in
-    let same = on_ok c.sync_all.result c.is_err-4.result _ c.is_err-4.ensures.value c.if-is_err-4.false (c.sync_all.ensures.shows keeps3) in
-    let sure = on_ok c.sync_all.result c.is_err-4.result _ c.is_err-4.ensures.value c.if-is_err-4.false (c.sync_all.ensures.sure keeps3) in
-    let done : IsSwitched slot (g.D.Device.state c.write_pages.new.device).disk.view (g.D.Device.state c.sync_all.new.device).disk.view =
-    first_root slot c.in_ok-root.root _ _ _ _ long page root same in
-    let view : g.row.D.Denot → Image = λ x. (g.D.Device.state x).disk.view in
-    let cleared : AreWritten (8 * 1) 8 (replicate 4096 0) (view c.args.device.now) (view c.write_page.new.device) = on_ok c.write_page.result c.is_err.result _ c.is_err.ensures.value c.if-is_err.false (c.write_page.ensures.sectors.shows keeps) in
-    let shown = on_ok c.write_pages.result c.is_err-2.result _ c.is_err-2.ensures.value c.if-is_err-2.false (c.write_pages.ensures.pages.shows keeps1) in
-    let patch : ArePatched pages (view c.write_page.new.device) (view c.write_pages.new.device) = subst (λ (p : List NewPage). ArePatched p (view c.write_page.new.device) (view c.write_pages.new.device)) c.deref.ensures.value shown in
-    let now = fresh_current slot (replicate 4096 0) (view c.args.device.now) (view c.write_page.new.device) (view c.write_pages.new.device) (view c.sync_all.new.device) pages pairs refl refl cleared c.in_ok-tree.ensures patch done in
-    let greatest = fresh_greatest slot (replicate 4096 0) (view c.args.device.now) (view c.write_page.new.device) (view c.write_pages.new.device) (view c.sync_all.new.device) pages pairs refl refl refl cleared c.in_ok-tree.ensures patch done in
-    record { slot = slot; current_is = now; number = refl; seal = refl; greatest = greatest; size = refl }
-
-pub returns-clause-sure : goal.returns-clause-sure
-returns-clause-sure g c = λ keeps.
-    let keeps1 : IsTrue (g.D.Device.state c.write_page.new.device).honest = subst IsTrue (sym c.write_page.ensures.sectors.outcome.same.honest) keeps in
-    let keeps2 : IsTrue (g.D.Device.state c.write_pages.new.device).honest = subst IsTrue (sym c.write_pages.ensures.pages.outcome.same.honest) keeps1 in
-    let keeps3 : IsTrue (g.D.Device.state c.write_page-2.new.device).honest = subst IsTrue (sym c.write_page-2.ensures.sectors.outcome.same.honest) keeps2 in
-    on_ok c.sync_all.result c.is_err-4.result _ c.is_err-4.ensures.value c.if-is_err-4.false (c.sync_all.ensures.sure keeps3)
+pub returns-clause-made : goal.returns-clause-made
+returns-clause-made g c = record {
+  content = λ keeps.
+      let d = g.met.D.Device in
+      let pages = c.in_ok-tree.tree.items in
+      let pairs = c.args.pairs.now in
+      let keeps1 : IsTrue (g.D.Device.state c.write_page.new.device).honest = subst IsTrue (sym c.write_page.ensures.sectors.outcome.same.honest) keeps in
+      let keeps2 : IsTrue (g.D.Device.state c.write_pages.new.device).honest = subst IsTrue (sym c.write_pages.ensures.pages.outcome.same.honest) keeps1 in
+      let slot : SlotValue = record { number = 0; seal = 1; root = record { pages = c.args.pages; tree = 2; height = 0; keys = length pairs; banner = c.args.banner } } in
+      let size : (g.D.Device.state c.write_pages.new.device).size ≡ (g.D.Device.state c.args.device.now).size = c.write_pages.ensures.pages.outcome.same.size ∙ c.write_page.ensures.sectors.outcome.same.size in
+      let least : 16 ≤ c.args.pages = omega (arith, c.if-pages-lt-LEAST_PAGES.false) in
+      let most : c.args.pages ≤ 65536 = omega (arith, c.if-pages-gt-MOST_PAGES.false) in
+      let fits : 8 * c.args.pages ≤ (g.D.Device.state c.write_pages.new.device).size = let a = c.if-from-sectors.false in let b = c.from.ensures in let e = c.sectors.ensures in omega (arith, a, b, e, size) in
+      let page : IsSlotPage (g.D.Device.state c.write_pages.new.device).size slot c.in_ok-root.root = c.in_ok-root.ensures.valid (g.D.Device.state c.write_pages.new.device).size (omega arith) (least, most, fits) c.requires.port in
+      let keeps3 : IsTrue (g.D.Device.state c.write_page-2.new.device).honest = subst IsTrue (sym c.write_page-2.ensures.sectors.outcome.same.honest) keeps2 in
+      let long : length (g.D.Device.state c.write_pages.new.device).disk.view ≡ (g.D.Device.state c.write_pages.new.device).size = (d.view_is_image c.write_pages.new.device keeps2).size ∙ d.base_has_size c.write_pages.new.device keeps2 in
+      let root = on_ok c.write_page-2.result c.is_err-3.result _ c.is_err-3.ensures.value c.if-is_err-3.false (c.write_page-2.ensures.sectors.shows keeps2) in
+      let same = on_ok c.sync_all.result c.is_err-4.result _ c.is_err-4.ensures.value c.if-is_err-4.false (c.sync_all.ensures.shows keeps3) in
+      let sure = on_ok c.sync_all.result c.is_err-4.result _ c.is_err-4.ensures.value c.if-is_err-4.false (c.sync_all.ensures.sure keeps3) in
+      let done : IsSwitched slot (g.D.Device.state c.write_pages.new.device).disk.view (g.D.Device.state c.sync_all.new.device).disk.view =
+      first_root slot c.in_ok-root.root _ _ _ _ long page root same in
+      let view : g.row.D.Denot → Image = λ x. (g.D.Device.state x).disk.view in
+      let cleared : AreWritten (8 * 1) 8 (replicate 4096 0) (view c.args.device.now) (view c.write_page.new.device) = on_ok c.write_page.result c.is_err.result _ c.is_err.ensures.value c.if-is_err.false (c.write_page.ensures.sectors.shows keeps) in
+      let shown = on_ok c.write_pages.result c.is_err-2.result _ c.is_err-2.ensures.value c.if-is_err-2.false (c.write_pages.ensures.pages.shows keeps1) in
+      let patch : ArePatched pages (view c.write_page.new.device) (view c.write_pages.new.device) = subst (λ (p : List NewPage). ArePatched p (view c.write_page.new.device) (view c.write_pages.new.device)) c.deref.ensures.value shown in
+      let now = fresh_current slot (replicate 4096 0) (view c.args.device.now) (view c.write_page.new.device) (view c.write_pages.new.device) (view c.sync_all.new.device) pages pairs refl refl cleared c.in_ok-tree.ensures patch done in
+      fresh_content slot (view c.write_page.new.device) (view c.write_pages.new.device) (view c.sync_all.new.device) pages pairs refl refl refl refl refl c.requires.version least most c.requires.map c.requires.one_page now c.in_ok-tree.ensures patch done;
+  first = λ keeps.
+      let d = g.met.D.Device in
+      let pages = c.in_ok-tree.tree.items in
+      let pairs = c.args.pairs.now in
+      let keeps1 : IsTrue (g.D.Device.state c.write_page.new.device).honest = subst IsTrue (sym c.write_page.ensures.sectors.outcome.same.honest) keeps in
+      let keeps2 : IsTrue (g.D.Device.state c.write_pages.new.device).honest = subst IsTrue (sym c.write_pages.ensures.pages.outcome.same.honest) keeps1 in
+      let slot : SlotValue = record { number = 0; seal = 1; root = record { pages = c.args.pages; tree = 2; height = 0; keys = length pairs; banner = c.args.banner } } in
+      let size : (g.D.Device.state c.write_pages.new.device).size ≡ (g.D.Device.state c.args.device.now).size = c.write_pages.ensures.pages.outcome.same.size ∙ c.write_page.ensures.sectors.outcome.same.size in
+      let least : 16 ≤ c.args.pages = omega (arith, c.if-pages-lt-LEAST_PAGES.false) in
+      let most : c.args.pages ≤ 65536 = omega (arith, c.if-pages-gt-MOST_PAGES.false) in
+      let fits : 8 * c.args.pages ≤ (g.D.Device.state c.write_pages.new.device).size = let a = c.if-from-sectors.false in let b = c.from.ensures in let e = c.sectors.ensures in omega (arith, a, b, e, size) in
+      let page : IsSlotPage (g.D.Device.state c.write_pages.new.device).size slot c.in_ok-root.root = c.in_ok-root.ensures.valid (g.D.Device.state c.write_pages.new.device).size (omega arith) (least, most, fits) c.requires.port in
+      let keeps3 : IsTrue (g.D.Device.state c.write_page-2.new.device).honest = subst IsTrue (sym c.write_page-2.ensures.sectors.outcome.same.honest) keeps2 in
+      let long : length (g.D.Device.state c.write_pages.new.device).disk.view ≡ (g.D.Device.state c.write_pages.new.device).size = (d.view_is_image c.write_pages.new.device keeps2).size ∙ d.base_has_size c.write_pages.new.device keeps2 in
+      let root = on_ok c.write_page-2.result c.is_err-3.result _ c.is_err-3.ensures.value c.if-is_err-3.false (c.write_page-2.ensures.sectors.shows keeps2) in
+      let same = on_ok c.sync_all.result c.is_err-4.result _ c.is_err-4.ensures.value c.if-is_err-4.false (c.sync_all.ensures.shows keeps3) in
+      let sure = on_ok c.sync_all.result c.is_err-4.result _ c.is_err-4.ensures.value c.if-is_err-4.false (c.sync_all.ensures.sure keeps3) in
+      let done : IsSwitched slot (g.D.Device.state c.write_pages.new.device).disk.view (g.D.Device.state c.sync_all.new.device).disk.view =
+      first_root slot c.in_ok-root.root _ _ _ _ long page root same in
+      let view : g.row.D.Denot → Image = λ x. (g.D.Device.state x).disk.view in
+      let cleared : AreWritten (8 * 1) 8 (replicate 4096 0) (view c.args.device.now) (view c.write_page.new.device) = on_ok c.write_page.result c.is_err.result _ c.is_err.ensures.value c.if-is_err.false (c.write_page.ensures.sectors.shows keeps) in
+      let shown = on_ok c.write_pages.result c.is_err-2.result _ c.is_err-2.ensures.value c.if-is_err-2.false (c.write_pages.ensures.pages.shows keeps1) in
+      let patch : ArePatched pages (view c.write_page.new.device) (view c.write_pages.new.device) = subst (λ (p : List NewPage). ArePatched p (view c.write_page.new.device) (view c.write_pages.new.device)) c.deref.ensures.value shown in
+      let now = fresh_current slot (replicate 4096 0) (view c.args.device.now) (view c.write_page.new.device) (view c.write_pages.new.device) (view c.sync_all.new.device) pages pairs refl refl cleared c.in_ok-tree.ensures patch done in
+      let greatest = fresh_greatest slot (replicate 4096 0) (view c.args.device.now) (view c.write_page.new.device) (view c.write_pages.new.device) (view c.sync_all.new.device) pages pairs refl refl refl cleared c.in_ok-tree.ensures patch done in
+      record { slot = slot; current_is = now; number = refl; seal = refl; greatest = greatest; size = refl };
+  sure = λ keeps.
+      let keeps1 : IsTrue (g.D.Device.state c.write_page.new.device).honest = subst IsTrue (sym c.write_page.ensures.sectors.outcome.same.honest) keeps in
+      let keeps2 : IsTrue (g.D.Device.state c.write_pages.new.device).honest = subst IsTrue (sym c.write_pages.ensures.pages.outcome.same.honest) keeps1 in
+      let keeps3 : IsTrue (g.D.Device.state c.write_page-2.new.device).honest = subst IsTrue (sym c.write_page-2.ensures.sectors.outcome.same.honest) keeps2 in
+      on_ok c.sync_all.result c.is_err-4.result _ c.is_err-4.ensures.value c.if-is_err-4.false (c.sync_all.ensures.sure keeps3);
+  fits = let a = c.if-from-sectors.false in let b = c.from.ensures in let e = c.sectors.ensures in (omega (arith, c.if-pages-lt-LEAST_PAGES.false), omega (arith, c.if-pages-gt-MOST_PAGES.false), omega (arith, a, b, e));
+  counts = record {
+    reads = c.sync_all.ensures.outcome.reads ∙ c.write_page-2.ensures.sectors.outcome.reads ∙ c.write_pages.ensures.pages.outcome.reads ∙ c.write_page.ensures.sectors.outcome.reads;
+    writes = counts_ok c.sync_all.result c.is_err-4.result _ _ c.is_err-4.ensures.value c.if-is_err-4.false c.sync_all.ensures.outcome.writes
+        ∙ counts_ok c.write_page-2.result c.is_err-3.result _ _ c.is_err-3.ensures.value c.if-is_err-3.false c.write_page-2.ensures.sectors.outcome.writes
+        ∙ counts_ok c.write_pages.result c.is_err-2.result _ _ c.is_err-2.ensures.value c.if-is_err-2.false c.write_pages.ensures.pages.outcome.writes
+        ∙ counts_ok c.write_page.result c.is_err.result _ _ c.is_err.ensures.value c.if-is_err.false c.write_page.ensures.sectors.outcome.writes;
+  };
+}
 
 pub returns-clause-work : goal.returns-clause-work
 returns-clause-work g c =
@@ -100,13 +106,4 @@ returns-clause-work g c =
     let tree = made_ok c.write_pages.result c.is_err-2.result c.is_err-2.ensures.value c.if-is_err-2.false c.write_pages.ensures.work in
     let root = made_ok c.write_page-2.result c.is_err-3.result c.is_err-3.ensures.value c.if-is_err-3.false c.write_page-2.ensures.work in
     let all = exactly_then (exactly_then (exactly_then cleared tree) root) c.sync_all.ensures.work in
-    record {
-      counts = record {
-        reads = c.sync_all.ensures.outcome.reads ∙ c.write_page-2.ensures.sectors.outcome.reads ∙ c.write_pages.ensures.pages.outcome.reads ∙ c.write_page.ensures.sectors.outcome.reads;
-        writes = counts_ok c.sync_all.result c.is_err-4.result _ _ c.is_err-4.ensures.value c.if-is_err-4.false c.sync_all.ensures.outcome.writes
-            ∙ counts_ok c.write_page-2.result c.is_err-3.result _ _ c.is_err-3.ensures.value c.if-is_err-3.false c.write_page-2.ensures.sectors.outcome.writes
-            ∙ counts_ok c.write_pages.result c.is_err-2.result _ _ c.is_err-2.ensures.value c.if-is_err-2.false c.write_pages.ensures.pages.outcome.writes
-            ∙ counts_ok c.write_page.result c.is_err.result _ _ c.is_err.ensures.value c.if-is_err.false c.write_page.ensures.sectors.outcome.writes;
-      };
-      made = record { reads = all.reads; writes = omega (arith, all.writes, count); syncs = all.syncs };
-    }
+    record { reads = all.reads; writes = omega (arith, all.writes, count); syncs = all.syncs }

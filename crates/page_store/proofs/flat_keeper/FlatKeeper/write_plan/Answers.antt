@@ -35,7 +35,7 @@ returns-in_err-commit_pages-clause-at_crash g c = λ keeps.
     let commit = flat_commit k.slot k.pairs.items (k.top + 1) c.args.plan.pairs.items banner in
     let now = crash_states_of g.D.Device.moment g.D.Device.possible_since in
     let rd : IsReady commit c.deref.result.now view = ready_now view (g.D.Device.state k.device).size k.slot k.pairs.items c.args.plan.pairs.items k.top banner c.deref.result.now k.fitted s.content s.seals small c.requires.may.map c.requires.may.version plan.room (c.deref.ensures.value ∙ plan.pages_are) in
-    subst (λ (p : List NewPage). AddsOnly (now k.device) (now c.commit_pages.new.device) (IsBetween commit p view)) c.deref.ensures.value (c.commit_pages.ensures.at_crash keeps commit (sym plan.slot_is) rd)
+    subst (λ (p : List NewPage). AddsOnly (now k.device) (now c.commit_pages.new.device) (IsBetween commit p view)) c.deref.ensures.value (c.commit_pages.ensures.commits.at_crash keeps commit (sym plan.slot_is) rd)
 
 pub returns-clause-at_crash : goal.returns-clause-at_crash
 returns-clause-at_crash g c = λ keeps.
@@ -48,7 +48,7 @@ returns-clause-at_crash g c = λ keeps.
     let commit = flat_commit k.slot k.pairs.items (k.top + 1) c.args.plan.pairs.items banner in
     let now = crash_states_of g.D.Device.moment g.D.Device.possible_since in
     let rd : IsReady commit c.deref.result.now view = ready_now view (g.D.Device.state k.device).size k.slot k.pairs.items c.args.plan.pairs.items k.top banner c.deref.result.now k.fitted s.content s.seals small c.requires.may.map c.requires.may.version plan.room (c.deref.ensures.value ∙ plan.pages_are) in
-    subst (λ (p : List NewPage). AddsOnly (now k.device) (now c.commit_pages.new.device) (IsBetween commit p view)) c.deref.ensures.value (c.commit_pages.ensures.at_crash keeps commit (sym plan.slot_is) rd)
+    subst (λ (p : List NewPage). AddsOnly (now k.device) (now c.commit_pages.new.device) (IsBetween commit p view)) c.deref.ensures.value (c.commit_pages.ensures.commits.at_crash keeps commit (sym plan.slot_is) rd)
 
 pub invariant_of-self-2 : goal.invariant_of-self-2
 invariant_of-self-2 g c =
@@ -69,5 +69,5 @@ invariant_of-self-2 g c =
           let s = k.crash_states_represent keeps c.requires.may.usable in
           let rd : IsReady commit c.deref.result.now view = ready_now view (g.D.Device.state k.device).size k.slot k.pairs.items pairs k.top banner c.deref.result.now k.fitted s.content s.seals small c.requires.may.map c.requires.may.version plan.room (c.deref.ensures.value ∙ plan.pages_are) in
           subst (λ (s : SlotValue). CrashStatesDoRepresent (g.D.Device.state after).disk s pairs (k.top + 1)) (sym plan.slot_is)
-          (crash_states_represent_now k.slot k.pairs.items pairs k.top banner c.deref.result.now view (g.D.Device.state after).disk (now after) s.seals (c.in_ok-commit_pages.ensures.done keeps commit (sym plan.slot_is) rd) (λ i image. d.each_image_is_a_crash_state after i keeps1 image));
+          (crash_states_represent_now k.slot k.pairs.items pairs k.top banner c.deref.result.now view (g.D.Device.state after).disk (now after) s.seals (c.in_ok-commit_pages.ensures.commits.done keeps commit (sym plan.slot_is) rd) (λ i image. d.each_image_is_a_crash_state after i keeps1 image));
     }
