@@ -14,6 +14,7 @@ use Rattle.tree_nodes.proofs.WalksWithinBounds.{some_is}
 use Rattle.page_store.specs.Content.{Found, tree_of, tree_found, are_distinct}
 use Rattle.page_store.specs.StoreState.{NeedsTheSame, StoreHasRead, IsStoreReadFault}
 use Rattle.page_store.specs.Compaction.{CompactsTheSame}
+use Rattle.page_store.specs.Counting.{CountsStoreReads}
 use Rattle.page_store.specs.declared.slot.Slot.{Slot}
 use Rattle.cow_tree.specs.Walks.{CountsPages}
 use Rattle.cow_tree.specs.Ways.{AnswersBy}
@@ -75,3 +76,8 @@ fills_again old new slot only = record {
 pub counts_rise : (T : Type 0) (e : PageFault) (before now : ℕ) → CountsPages {T = T} (Err e) before now → before ≤ now
 counts_rise T Device before now h = subst (λ (n : ℕ). before ≤ n) (sym h) (counted_rises before)
 counts_rise T (Damaged page) before now h = omega (arith, h)
+
+-- a read that failed is counted by the keeper as by its pages
+pub counts_as : (T : Type 0) (e : PageFault) (before now : ℕ) → CountsPages {T = T} (Err e) before now → CountsStoreReads {T = T} (Err (fault_of e)) before now
+counts_as T Device before now h = h
+counts_as T (Damaged page) before now h = h

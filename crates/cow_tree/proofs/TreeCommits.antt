@@ -111,6 +111,20 @@ plan_writes_none true free N faults.Memory old new fault same = same
 plan_writes_none true free N faults.Deep old new fault same = same
 plan_writes_none false free N e old new fault same = same
 
+-- the same of a compaction
+pub fill_writes_none : (usable : Bool) (free : ℕ) (N : ℕ → Type 0) (e : KeeperFault) (old new : ℕ) → IsFillFault free N e → new ≡ old → new ≡ writes_after usable e old
+fill_writes_none true free N faults.Device old new fault same = same
+fill_writes_none true free N faults.NoImage old new fault same = absurd fault
+fill_writes_none true free N faults.Version old new fault same = absurd fault
+fill_writes_none true free N (faults.Damaged page) old new fault same = same
+fill_writes_none true free N faults.Small old new fault same = absurd fault
+fill_writes_none true free N faults.Spent old new fault same = absurd fault
+fill_writes_none true free N (faults.Full n left) old new fault same = same
+fill_writes_none true free N faults.Failed old new fault same = absurd fault
+fill_writes_none true free N faults.Memory old new fault same = same
+fill_writes_none true free N faults.Deep old new fault same = absurd fault
+fill_writes_none false free N e old new fault same = same
+
 -- a compaction that is refused
 pub compact_fault : {T : Type 0} (old new : StoreState) (may : ℕ → Type 0) (P : T → Type 0) (N : ℕ → Type 0) (e : KeeperFault) → HasStayed old new → CountsStoreReads {T = T} (Err e) old.failed_reads new.failed_reads
     → (IsTrue old.honest → TellsDraft {T = T} ⊥ (Err e) P) → IsFillFault old.free N e → ((n : ℕ) → N n → IsTrue old.honest → may n) → IsCompactFault old new may e

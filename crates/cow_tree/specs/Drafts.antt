@@ -1,5 +1,5 @@
 -- A tree that a commit changes, before anything is written.
-use Rattle.std.specs.Prelude.{◌≡◌, ◌≤◌, ◌<◌, ◌+◌, ◌-◌, ◌*◌, ◌^◌, ◌==◌, min, ℕ, Bool, true, false, List, length, take, Result, Ok, Err, IsTrue, IfSome, IfErr, if◌then◌else◌}
+use Rattle.std.specs.Prelude.{◌≡◌, ◌≤◌, ◌<◌, ◌+◌, ◌-◌, ◌*◌, ◌^◌, ◌==◌, min, ℕ, Bool, true, false, List, length, take, Some, Result, Ok, Err, IsTrue, IfSome, IfErr, if◌then◌else◌}
 use Rattle.sector_device.specs.Sizes.{page_size}
 use Rattle.common_types.specs.CrashStates.{CrashStates}
 use Rattle.sector_device.specs.Device.{State}
@@ -91,6 +91,16 @@ IsDraftFault (faults.Damaged page) = Unit {0}
 IsDraftFault faults.Deep = Unit {0}
 IsDraftFault faults.Memory = Unit {0}
 IsDraftFault other = ⊥
+
+-- The device has the image of a slot, and the ledger its pages.
+pub record HasImageOf (sectors : ℕ) (slot : Slot) (ledger : LedgerState) : Type 0 where
+  pub fits : 8 * slot.root.pages ≤ sectors
+  pub pages : length ledger.lives ≡ slot.root.pages
+
+-- A page that a key needs was read into a tree: the next one that it needs stands on a lower level, and there are as many levels.
+pub record GoesDown (key : List ℕ) (old new : RootState) : Type 0 where
+  pub down : (n : ℕ) → needed_under key new.root ≡ Some n → needed_level key new < needed_level key old
+  pub height : new.height ≡ old.height
 
 -- A call that reads pages for a draft: of the device only reads are made, of the ledger only pages are given up, and only these faults come.
 pub record ReadsToDraft {T D : Type 0} (state : D → State) (crash_states : D → CrashStates Image) (old new : D) (before after : LedgerState) (result : Result T KeeperFault) : Type 0 where

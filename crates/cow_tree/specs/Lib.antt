@@ -18,6 +18,9 @@ pub mod Drafts
 pub mod Taken
 pub mod Committed
 pub mod TreeCommitCalls
+pub mod TreeReadCalls
+pub mod TreeOpening
+pub mod PlanCalls
 pub mod KeysCounted
 pub mod KeeperLaws
 pub mod Formatting

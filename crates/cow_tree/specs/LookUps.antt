@@ -21,6 +21,12 @@ pub record LooksUpValue {D : Type 0} (state : D → State) (crash_states : D →
   pub buffer : IsFilled (λ n. n) result before after
   pub reads : ReadsTreePages state crash_states old new result
 
+-- A key and a value that a page may have are put into the fronts of two buffers. What stands behind them stays.
+pub record FillsFronts {E : Type 0} (result : Result (Option (ℕ × ℕ)) E) (key_old key_new value_old value_new : List ℕ) : Type 0 where
+  pub within : IfOk result (λ found. IfSome found (λ n. (n.0 ≤ longest_key) × (n.1 ≤ longest_value)))
+  pub key : IsFilled (λ n. n.0) result key_old key_new
+  pub value : IsFilled (λ n. n.1) result value_old value_new
+
 -- A call that looks up the pair after a key: it only reads pages, an honest device's tree has the pair that it answers, and it fills the buffers with its key and its value from the front.
 pub record LooksUpNext {D : Type 0} (state : D → State) (crash_states : D → CrashStates Image) (is_tree : (ℕ → List ℕ) → Found → Type 0) (after : List ℕ) (old new : D) (key_old key_new value_old value_new : List ℕ) (result : Result (Option (ℕ × ℕ)) PageFault) : Type 0 where
   pub within : IfOk result (λ found. IfSome found (λ n. (n.0 ≤ longest_key) × (n.1 ≤ longest_value)))

@@ -9,6 +9,7 @@ use Rattle.page_store.specs.Steps.{crash_states_of}
 use Rattle.page_store.specs.StoreState.{StoreState, CommitNeed}
 use Rattle.page_store.specs.declared.edit.Edit.{Edit}
 use Rattle.page_store.specs.declared.slot.Slot.{Slot}
+use Rattle.cow_tree.specs.Compacting.{MayNeedFilled}
 use Rattle.cow_tree.specs.Needs.{MayNeed}
 use Rattle.cow_tree.specs.TreeState.{tree_holding}
 use Rattle.cow_tree.specs.declared.tree_root.TreeRoot.{TreeRoot}
@@ -47,6 +48,10 @@ kept_by k = k.kept
 -- what a batch may need
 abbrev pub needs : {D : Type 0} {dict : _} → (D → State) → TreeKeeper D dict → List Edit → CommitNeed → Type 0
 needs state k batch need = MayNeed k.slot (state k.device) batch need
+
+-- how many pages writing all pairs anew may take
+abbrev pub takes : {D : Type 0} {dict : _} → (D → State) → TreeKeeper D dict → ℕ → Type 0
+takes state k need = MayNeedFilled k.slot (state k.device) need
 
 -- what its trait tells that a crash may leave
 abbrev pub crashes_of : {D : Type 0} {dict : _} → (D → ℕ) → (D → ℕ → Image → Type 0) → TreeKeeper D dict → CrashStates Image

@@ -14,6 +14,11 @@ use Rattle.cow_tree.specs.Reached.{are_fresh, holding_all}
 use Rattle.cow_tree.specs.declared.page_fault.PageFault.{PageFault}
 use Rattle.cow_tree.specs.declared.page_fault.PageFault.TheVariants.{Device, Damaged}
 
+-- A page of an image of so many pages, which a device of so many sectors has.
+pub record IsPageInside (sectors pages page : ℕ) : Type 0 where
+  pub below : page < pages
+  pub fits : 8 * pages ≤ sectors
+
 -- The pages that were reached were free, and are held now. No page has more than 65,535 pairs.
 pub record IsWalked (what : Option Found) (old new : LedgerState) (count : ℕ) : Type 0 where
   pub found : Found

@@ -2,14 +2,14 @@
 ghost use Rattle.std.specs.Prelude.{◌≡◌, ◌≤◌, ◌<◌, ◌+◌, ℕ, true, false, IsTrue, OnErr, IfOk, IfErr, length};
 ghost use Rattle.page_alloc.specs.LedgerState.{free_count, is_alive, is_taken, mark_of};
 ghost use Rattle.page_store.specs.Sectors.{Image};
-ghost use Rattle.page_store.specs.Batch.{is_map};
 ghost use Rattle.page_store.specs.Steps.{crash_states_of};
 ghost use Rattle.tree_nodes.specs.Growth.{owned_under};
 ghost use Rattle.tree_loading.specs.Filled.{filled};
-ghost use Rattle.cow_tree.specs.TreeState.{FitsTree, IsFittedSlot, IsThere};
+ghost use Rattle.cow_tree.specs.PlanCalls.{HasMarksOf, MayBeFilled, PlansPairs, PlansWithin, MarksOrStays};
+ghost use Rattle.cow_tree.specs.TreeState.{FitsTree, IsThere};
 ghost use Rattle.cow_tree.specs.Drafts.{IsCountedRead, OnlyMarks, OnlyRetires, TellsDraft};
-ghost use Rattle.cow_tree.specs.Plans.{IsHeld, IsPlanned, IsMade, IsRoomFault};
-ghost use Rattle.cow_tree.specs.Compacting.{most_pairs, NeedsFilled, IsFillPlan, IsFillFault};
+ghost use Rattle.cow_tree.specs.Plans.{IsHeld, IsPlanned, IsRoomFault};
+ghost use Rattle.cow_tree.specs.Compacting.{NeedsFilled, IsFillPlan, IsFillFault};
 
 use crate::all_pairs::all_pairs;
 use crate::drafts::Draft;
@@ -43,18 +43,10 @@ fn plan_pairs(
     pairs: Vec<Pair>,
     seal: u64,
 ) -> Result<Plan, KeeperFault>
-    requires fitted { IsFittedSlot slot.now }
-    requires lives { length ledger.old.lives ≡ slot.now.root.pages }
-    requires marked { length ledger.old.marks ≡ slot.now.root.pages }
-    requires map { is_map pairs.items ≡ true }
-    requires few { length pairs.items ≤ most_pairs }
+    requires ledger { HasMarksOf slot.now ledger.old }
+    requires pairs { MayBeFilled pairs.items }
     requires later { slot.now.seal < seal }
-    ensures made { IfOk result (IsMade slot.now seal slot.now.root.banner) }
-    ensures fits { IfOk result (λ plan. owned_under (filled pairs.items).root ≤ free_count ledger.old) }
-    ensures room { IfOk result (λ plan. length plan.pages.items ≤ free_count ledger.old) }
-    ensures count { IfOk result (λ plan. length plan.pages.items ≡ owned_under (filled pairs.items).root) }
-    ensures levels { IfOk result (λ plan. plan.slot.root.height ≡ (filled pairs.items).height) }
-    ensures keys { IfOk result (λ plan. plan.slot.root.keys ≡ length pairs.items) }
+    ensures made { IfOk result (PlansPairs slot.now seal pairs.items (free_count ledger.old)) }
     ensures none { (n : ℕ) → IfOk result (λ plan. is_alive ledger.new n ≡ false) }
     ensures planned { (view : Image) (top : ℕ) → IsHeld view slot.now top ledger.old → ((n : ℕ) → is_taken (mark_of ledger.old n) ≡ false) → seal ≡ top + 1 →
         TellsDraft ⊥ result (IsPlanned view slot.now top pairs.items ledger.new) }
@@ -79,13 +71,11 @@ pub(crate) fn plan_compaction<D: Device>(
 ) -> Result<Plan, KeeperFault>
     requires fitted { FitsTree (D.state device.old).size slot.now ledger.old }
     requires later { slot.now.seal < seal }
-    ensures made { IfOk result (IsMade slot.now seal slot.now.root.banner) }
+    ensures made { IfOk result (PlansWithin slot.now seal slot.now.root.banner (free_count ledger.old)) }
     ensures keys { IfOk result (λ plan. plan.slot.root.keys ≡ slot.now.root.keys) }
-    ensures room { IfOk result (λ plan. length plan.pages.items ≤ free_count ledger.old) }
     ensures planned { IsTrue (D.state device.old).honest → (top : ℕ) → IsHeld (D.state device.old).disk.view slot.now top ledger.old → IsThere (D.state device.old).disk.view slot.now ledger.old → seal ≡ top + 1 →
         TellsDraft ⊥ result (λ plan. IsFillPlan (D.state device.old).disk.view slot.now top ledger.new plan × NeedsFilled slot.now (D.state device.old).disk.view (length plan.pages.items)) }
-    ensures marks { OnlyMarks ledger.old ledger.new }
-    ensures refused { OnErr result (ledger.new ≡ ledger.old) }
+    ensures ledger { MarksOrStays ledger.old ledger.new result }
     ensures fault { IfErr result (IsFillFault (free_count ledger.old) (λ need. IsTrue (D.state device.old).honest → IsThere (D.state device.old).disk.view slot.now ledger.old → NeedsFilled slot.now (D.state device.old).disk.view need)) }
     ensures reads { IsCountedRead D.state (crash_states_of D.moment D.possible_since) device.old device.new result }
 {

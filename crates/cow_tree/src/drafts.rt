@@ -14,7 +14,7 @@ ghost use Rattle.tree_nodes.specs.Needs.{needed_level};
 ghost use Rattle.tree_nodes.specs.OwnedTrees.{state_of};
 ghost use Rattle.cow_tree.specs.Opening.{IsRooted};
 ghost use Rattle.cow_tree.specs.Needs.{path_read, edit_made, drafted, StaysLow, GetsTooDeep};
-ghost use Rattle.cow_tree.specs.Drafts.{old_under, IsDraft, IsCounted, ReadsToDraft, TellsDraft, IsPutFault, IsDraftFault, OnlyRetires, MayBeTooDeep, keys_with, keys_without, root_under};
+ghost use Rattle.cow_tree.specs.Drafts.{old_under, IsDraft, IsCounted, ReadsToDraft, TellsDraft, IsPutFault, IsDraftFault, OnlyRetires, HasImageOf, GoesDown, MayBeTooDeep, keys_with, keys_without, root_under};
 
 use crate::opening_walk::load_page;
 use crate::page_bounds::bounds_of;
@@ -50,8 +50,7 @@ fn take_needed(
     ensures draft { (view : Image) → page_of view page ≡ bytes.now → (edits read : ℕ) (pairs : List Pair) → IsDraft slot.now view edits read pairs ledger.old (state_of tree.old) →
         TellsDraft ⊥ result (λ done. IsDraft slot.now view edits (read + 1) pairs ledger.new (state_of tree.new)) }
     ensures read { (view : Image) → page_of view page ≡ bytes.now → OnOk result (state_of tree.new ≡ stepped (old_under slot.now view) (state_of tree.old) (supply_step key.now)) }
-    ensures down { OnOk result ((n : ℕ) → needed_under key.now (state_of tree.new).root ≡ Some n → needed_level key.now (state_of tree.new) < needed_level key.now (state_of tree.old)) }
-    ensures height { OnOk result ((state_of tree.new).height ≡ (state_of tree.old).height) }
+    ensures goes { OnOk result (GoesDown key.now (state_of tree.old) (state_of tree.new)) }
     ensures ledger { OnlyRetires ledger.old ledger.new }
     ensures fault { IfErr result (λ e. IsDraftFault e × (e ≢ NoRead)) }
 {
@@ -77,13 +76,11 @@ fn load_needed<D: Device>(
 ) -> Result<(), KeeperFault>
     requires alive { is_alive ledger.old page ≡ true }
     requires needed { needed_under key.now (state_of tree.old).root ≡ Some page }
-    requires fits { 8 * slot.now.root.pages ≤ (D.state device.old).size }
-    requires pages { length ledger.old.lives ≡ slot.now.root.pages }
+    requires image { HasImageOf (D.state device.old).size slot.now ledger.old }
     ensures draft { IsTrue (D.state device.old).honest → (edits read : ℕ) (pairs : List Pair) → IsDraft slot.now (D.state device.old).disk.view edits read pairs ledger.old (state_of tree.old) →
         TellsDraft ⊥ result (λ done. IsDraft slot.now (D.state device.old).disk.view edits (read + 1) pairs ledger.new (state_of tree.new)) }
     ensures read { IsTrue (D.state device.old).honest → OnOk result (state_of tree.new ≡ stepped (old_under slot.now (D.state device.old).disk.view) (state_of tree.old) (supply_step key.now)) }
-    ensures down { OnOk result ((n : ℕ) → needed_under key.now (state_of tree.new).root ≡ Some n → needed_level key.now (state_of tree.new) < needed_level key.now (state_of tree.old)) }
-    ensures height { OnOk result ((state_of tree.new).height ≡ (state_of tree.old).height) }
+    ensures goes { OnOk result (GoesDown key.now (state_of tree.old) (state_of tree.new)) }
     ensures reads { ReadsToDraft D.state (crash_states_of D.moment D.possible_since) device.old device.new ledger.old ledger.new result }
     ensures work { MadeAtMost 8 0 0 (D.state device.old) (D.state device.new) }
 {
@@ -105,13 +102,11 @@ fn read_needed<D: Device>(
     page: u32,
 ) -> Result<(), KeeperFault>
     requires needed { needed_under key.now (state_of tree.old).root ≡ Some page }
-    requires fits { 8 * slot.now.root.pages ≤ (D.state device.old).size }
-    requires pages { length ledger.old.lives ≡ slot.now.root.pages }
+    requires image { HasImageOf (D.state device.old).size slot.now ledger.old }
     ensures draft { IsTrue (D.state device.old).honest → (edits read : ℕ) (pairs : List Pair) → IsDraft slot.now (D.state device.old).disk.view edits read pairs ledger.old (state_of tree.old) →
         TellsDraft ⊥ result (λ done. IsDraft slot.now (D.state device.old).disk.view edits (read + 1) pairs ledger.new (state_of tree.new)) }
     ensures read { IsTrue (D.state device.old).honest → OnOk result (state_of tree.new ≡ stepped (old_under slot.now (D.state device.old).disk.view) (state_of tree.old) (supply_step key.now)) }
-    ensures down { OnOk result ((n : ℕ) → needed_under key.now (state_of tree.new).root ≡ Some n → needed_level key.now (state_of tree.new) < needed_level key.now (state_of tree.old)) }
-    ensures height { OnOk result ((state_of tree.new).height ≡ (state_of tree.old).height) }
+    ensures goes { OnOk result (GoesDown key.now (state_of tree.old) (state_of tree.new)) }
     ensures reads { ReadsToDraft D.state (crash_states_of D.moment D.possible_since) device.old device.new ledger.old ledger.new result }
     ensures work { MadeAtMost 8 0 0 (D.state device.old) (D.state device.new) }
 {
@@ -133,8 +128,7 @@ fn own_path<D: Device>(
     tree: &mut OwnedTree,
     key: &[u8],
 ) -> Result<(), KeeperFault>
-    requires fits { 8 * slot.now.root.pages ≤ (D.state device.old).size }
-    requires pages { length ledger.old.lives ≡ slot.now.root.pages }
+    requires image { HasImageOf (D.state device.old).size slot.now ledger.old }
     requires low { (state_of tree.old).height ≤ most_levels }
     ensures draft { IsTrue (D.state device.old).honest → (edits : ℕ) (pairs : List Pair) → IsDraft slot.now (D.state device.old).disk.view edits 0 pairs ledger.old (state_of tree.old) →
         TellsDraft ⊥ result (λ done. IsDraft slot.now (D.state device.old).disk.view edits slot.now.root.height pairs ledger.new (state_of tree.new)) }
@@ -226,8 +220,7 @@ impl Draft {
         slot: &Slot,
         edit: &Edit,
     ) -> Result<Draft, KeeperFault>
-        requires fits { 8 * slot.now.root.pages ≤ (D.state device.old).size }
-        requires pages { length ledger.old.lives ≡ slot.now.root.pages }
+        requires image { HasImageOf (D.state device.old).size slot.now ledger.old }
         requires low { (state_of self.tree).height ≤ most_levels }
         requires sizes { IsTrue (is_edit edit.now) }
         ensures draft { IsTrue (D.state device.old).honest → (edits : ℕ) (pairs : List Pair) → IsCounted slot.now (D.state device.old).disk.view edits pairs ledger.old self →
@@ -259,8 +252,7 @@ pub(crate) fn draft_batch<D: Device>(
     slot: &Slot,
     batch: &[Edit],
 ) -> Result<Draft, KeeperFault>
-    requires fits { 8 * slot.now.root.pages ≤ (D.state device.old).size }
-    requires pages { length ledger.old.lives ≡ slot.now.root.pages }
+    requires image { HasImageOf (D.state device.old).size slot.now ledger.old }
     requires rooted { IsRooted slot.now.root }
     requires batch { IsTrue (is_batch batch.now) }
     ensures draft { IsTrue (D.state device.old).honest → (pairs : List Pair) → IsDraft slot.now (D.state device.old).disk.view 0 0 pairs ledger.old (root_under slot.now) → slot.now.root.keys ≡ length pairs → is_map pairs ≡ true →

@@ -1,14 +1,12 @@
 // Making an image of a tree.
-ghost use Rattle.std.specs.Prelude.{◌≡◌, ◌≢◌, ◌≤◌, ◌<◌, ◌+◌, ◌*◌, All, IsTrue, IfOk, OnOk, IfErr, true, length};
+ghost use Rattle.std.specs.Prelude.{◌≡◌, ◌≤◌, ◌+◌, ◌*◌, All, IsTrue, IfOk, OnOk, IfErr, true, length};
 ghost use Rattle.std.specs.List.{list_all};
-ghost use Rattle.page_store.specs.Sizes.{least_pages, most_pages};
-ghost use Rattle.sector_device.specs.Device.{NothingCounted};
 ghost use Rattle.sector_device.specs.Effects.{IsSameDevice, WriteOutcome, MadeIfOk};
 ghost use Rattle.page_store.specs.Batch.{is_map, is_pair};
+ghost use Rattle.page_store.specs.CommitCalls.{TakesBanner};
 ghost use Rattle.page_store.specs.Steps.{crash_states_of, AllAre};
-ghost use Rattle.page_store.specs.Content.{is_tree_version, HasContent};
-ghost use Rattle.page_store.specs.Formatting.{IsFirst, IsFormatFault};
-ghost use Rattle.page_store.specs.declared.fault.KeeperFault.TheVariants.{Failed};
+ghost use Rattle.page_store.specs.Content.{is_tree_version};
+ghost use Rattle.page_store.specs.Formatting.{MakesFirst, FailsToFormat};
 ghost use Rattle.tree_nodes.specs.Tree.{entry_room, leaf_bytes};
 ghost use Rattle.cow_tree.specs.Formatting.{first_pages, first_slot, IsFirstTree, IsFirstWritten, FirstLeafExample};
 
@@ -85,17 +83,11 @@ pub fn format<D: Device>(
 ) -> Result<(), KeeperFault>
     requires map { is_map pairs.now ≡ true }
     requires one_page { leaf_bytes pairs.now ≤ entry_room }
-    requires port { 0 < banner.port }
-    requires version { IsTrue (is_tree_version banner.version) }
-    ensures content { IsTrue (D.state device.old).honest → OnOk result (HasContent (D.state device.new).disk.view pairs.now banner) }
-    ensures first { IsTrue (D.state device.old).honest → OnOk result (IsFirst pages (D.state device.new).disk.view) }
+    requires banner { TakesBanner is_tree_version banner }
+    ensures made { OnOk result (MakesFirst D.state (crash_states_of D.moment D.possible_since) device.old device.new pages pairs.now banner) }
     ensures tree { IsTrue (D.state device.old).honest → OnOk result (IsFirstTree pages banner pairs.now (D.state device.new).disk.view) }
-    ensures sure { IsTrue (D.state device.old).honest → OnOk result (AllAre (crash_states_of D.moment D.possible_since device.new) (D.state device.new).disk.view) }
-    ensures fits { OnOk result ((least_pages ≤ pages) × (pages ≤ most_pages) × (8 * pages ≤ (D.state device.old).size)) }
-    ensures fault { IfErr result (IsFormatFault pages (D.state device.old) (D.state device.new)) }
-    ensures counts { OnOk result (NothingCounted (D.state device.old) (D.state device.new)) }
+    ensures fault { IfErr result (FailsToFormat D.state device.old device.new pages) }
     ensures work { MadeIfOk result 0 (16 + 8 * length (first_pages pairs.now)) 1 (D.state device.old) (D.state device.new) }
-    ensures unwritten { IfErr result (λ e. e ≢ Failed → device.new ≡ device.old) }
     ensures same { IsSameDevice (D.state device.old) (D.state device.new) }
 {
     if pages < LEAST_PAGES || pages > MOST_PAGES || 8 * u64::from(pages) > device.sectors() {

@@ -10,7 +10,7 @@ ghost use Rattle.page_store.specs.Content.{Found, place_in, walk};
 ghost use Rattle.tree_nodes.specs.PageViews.{bounds_of, children_in, has_head};
 ghost use Rattle.cow_tree.specs.LookUps.{LooksUpValue};
 ghost use Rattle.cow_tree.specs.KeptPlaces.{ArePlaces, AreKeptOf};
-ghost use Rattle.cow_tree.specs.Walks.{ReadsTreePages};
+ghost use Rattle.cow_tree.specs.Walks.{IsPageInside, ReadsTreePages};
 ghost use Rattle.cow_tree.specs.Ways.{AnswersBy, IsOnWay};
 ghost use Rattle.cow_tree.specs.declared.page_fault.PageFault.TheVariants.{Damaged};
 
@@ -119,8 +119,7 @@ fn page_around<D: Device>(
     key: &[u8],
 ) -> Result<(u32, Option<u32>), PageFault>
     requires level { 0 < level }
-    requires fits { 8 * bounds.pages ≤ (D.state device.old).size }
-    requires most { page < bounds.pages }
+    requires inside { IsPageInside (D.state device.old).size bounds.pages page }
     requires kept { IsTrue (D.state device.old).honest → AreKeptOf (page_of (D.state device.old).disk.view) places.old.pages.items }
     ensures way { IsTrue (D.state device.old).honest → (found : Found) → walk (page_of (D.state device.old).disk.view) (bounds_of bounds) level page [] None ≡ Some found →
         AnswersBy result (IsOnWay (page_of (D.state device.old).disk.view) (bounds_of bounds) (level - 1) key.now found) }

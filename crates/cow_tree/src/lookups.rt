@@ -1,14 +1,12 @@
 // Looking pairs up in a tree: the pages on the way to them are read, and no others.
-ghost use Rattle.std.specs.Prelude.{◌≡◌, ◌≤◌, ◌<◌, ◌*◌, [], IsTrue, OnOk, IfOk, IfSome, Some, option_map, take};
-ghost use Rattle.page_store.specs.Sizes.{longest_key, longest_value};
+ghost use Rattle.std.specs.Prelude.{◌≡◌, ◌≤◌, ◌<◌, ◌*◌, [], IsTrue, OnOk, IfOk, Some, option_map, take};
 ghost use Rattle.sector_device.specs.Effects.{MadeAtMost};
 ghost use Rattle.page_store.specs.Sectors.{page_of};
 ghost use Rattle.page_store.specs.Steps.{crash_states_of};
 ghost use Rattle.page_store.specs.Content.{tree_found};
 ghost use Rattle.page_store.specs.Batch.{pair_after};
-ghost use Rattle.page_store.specs.StoreState.{IsFilled};
 ghost use Rattle.page_store.specs.Work.{pages_tried};
-ghost use Rattle.cow_tree.specs.LookUps.{LooksUpValue, KeepsNext};
+ghost use Rattle.cow_tree.specs.LookUps.{LooksUpValue, FillsFronts, KeepsNext};
 ghost use Rattle.cow_tree.specs.KeptPlaces.{AreKeptOf};
 ghost use Rattle.cow_tree.specs.KeptLeaves.{IsKeptLeaf, has_next};
 ghost use Rattle.cow_tree.specs.Opening.{IsRooted, bounds_under};
@@ -96,13 +94,11 @@ pub(crate) fn find_next<D: Device>(
 ) -> Result<Option<(usize, usize)>, PageFault>
     requires fits { 8 * slot.now.root.pages ≤ (D.state device.old).size }
     requires rooted { IsRooted slot.now.root }
-    ensures within { IfOk result (λ found. IfSome found (λ n. (n.0 ≤ longest_key) × (n.1 ≤ longest_value))) }
+    ensures fills { FillsFronts result key.old key.new value.old value.new }
     ensures next { KeepsNext D.state (crash_states_of D.moment D.possible_since) (λ pages found. (tree_found slot.now pages ≡ Some found) × IsKeptLeaf pages (bounds_under slot.now) found kept.old)
         (bounds_under slot.now) after.now device.old device.new kept.new (λ sizes. option_map (λ n. (take n.0 key.new, take n.1 value.new)) sizes) result }
     ensures from_kept { IfOk result (λ sizes. option_map (λ n. (take n.0 key.new, take n.1 value.new)) sizes ≡ pair_after kept.new after.now) }
     ensures some { OnOk result (0 < slot.now.root.height → kept.new ≡ [] → ⊥) }
-    ensures key { IsFilled (λ n. n.0) result key.old key.new }
-    ensures value { IsFilled (λ n. n.1) result value.old value.new }
     ensures work { MadeAtMost (8 * pages_tried slot.now.root.height) 0 0 (D.state device.old) (D.state device.new) }
     // Where the kept leaf tells the pair, nothing is read.
     ensures unread { IsTrue (has_next kept.old after.now) → (device.new ≡ device.old) × (kept.new ≡ kept.old) }

@@ -1,24 +1,21 @@
 // Opening an image of a tree.
-ghost use Rattle.std.specs.Prelude.{◌≡◌, ◌≤◌, ◌<◌, ◌*◌, ℕ, true, [], Some, None, IsTrue, IfOk, OnOk, IfErr, length, replicate, ◌+◌, ◌-◌};
+ghost use Rattle.std.specs.Prelude.{◌≡◌, ◌≤◌, ◌<◌, ◌*◌, ◌+◌, ◌-◌, [], IsTrue, IfOk, OnOk, IfErr, length};
 ghost use Rattle.page_store.specs.Sizes.{most_pages};
 ghost use Rattle.sector_device.specs.Effects.{MadeExactly, MadeAtMost, MadeIfOk};
-ghost use Rattle.common_types.specs.CrashStates.{AddsNone};
-ghost use Rattle.sector_device.specs.Device.{State, NothingCounted};
 ghost use Rattle.page_alloc.specs.Calls.{fresh};
-ghost use Rattle.page_store.specs.Counting.{CountsStoreReads, CountsRefusal};
+ghost use Rattle.page_store.specs.Counting.{CountsStoreReads};
 ghost use Rattle.page_store.specs.Sectors.{page_of};
-ghost use Rattle.page_store.specs.Roots.{IsFoundSlot, current, greatest_seal};
 ghost use Rattle.page_store.specs.Steps.{crash_states_of};
 ghost use Rattle.page_store.specs.DeviceEffects.{IsReadCall};
-ghost use Rattle.page_store.specs.Opening.{ReadsToOpen, MadeToOpen};
-ghost use Rattle.page_store.specs.Content.{is_tree_version, tree_of, tree_found, HasContent};
-ghost use Rattle.page_store.specs.declared.fault.KeeperFault.TheVariants.{Small, Memory};
-ghost use Rattle.cow_tree.specs.NamedWalks.{root_or_name, tree_or_name};
+ghost use Rattle.page_store.specs.Opening.{ReadsToOpen, MadeToOpen, FindsSlot, RefusesToOpen};
+ghost use Rattle.page_store.specs.Content.{is_tree_version, tree_of};
+ghost use Rattle.page_store.specs.declared.fault.KeeperFault.TheVariants.{Memory};
+ghost use Rattle.cow_tree.specs.NamedWalks.{root_or_name};
 ghost use Rattle.cow_tree.specs.Walks.{TellsWalk, Names, WalksPages};
-ghost use Rattle.cow_tree.specs.Opening.{bounds_under, IsRooted, MayName, IsNamed, Finds, LivePagesAreWhole, IsImageOfSlot, IsSlotOpened, IsOpenedTree, IsTreeSlotFault, IsTreeOpenFault, LeavesSynced};
+ghost use Rattle.cow_tree.specs.Opening.{bounds_under, IsRooted, MayName, IsSlotOpened, IsOpenedTree, IsTreeSlotFault, IsTreeOpenFault, LeavesSynced};
+ghost use Rattle.cow_tree.specs.TreeOpening.{MayBeTreeSlot, FitsOpened, FindsSlotTree, OpensTree};
 ghost use Rattle.cow_tree.specs.Work.{ReadsEachOnce};
-ghost use Rattle.cow_tree.specs.TreeState.{IsAtRest, FitsTree};
-ghost use Rattle.cow_tree.specs.TreeSeen.{device_of, slot_of, ledger_of, top_of, is_open, held};
+ghost use Rattle.cow_tree.specs.TreeSeen.{device_of, held};
 
 use crate::TreeKeeper;
 use crate::kept_leaf::KeptLeaf;
@@ -41,10 +38,7 @@ fn is_tree_version(version: u16) -> bool
 /// Finds the current slot of an image of a tree, and the greatest seal.
 fn tree_slot<D: Device>(device: &mut D) -> Result<(Slot, u64), KeeperFault>
     requires { 128 ≤ (D.state device.old).size }
-    ensures slot { IsTrue (D.state device.old).honest → IfOk result (λ found. current (D.state device.old).disk.view ≡ Some found.0) }
-    ensures top { IsTrue (D.state device.old).honest → IfOk result (λ found. greatest_seal (D.state device.old).disk.view 16 ≡ found.1) }
-    ensures fits { IfOk result (λ found. IsFoundSlot (D.state device.old).size found.0) }
-    ensures version { IfOk result (λ found. IsTrue (is_tree_version found.0.root.banner.version)) }
+    ensures found { IfOk result (λ found. FindsSlot (D.state device.old) (λ version. IsTrue (is_tree_version version)) found.0 found.1) }
     ensures sealed { IfOk result (λ found. found.0.seal ≤ found.1) }
     ensures fault { IfErr result (IsTreeSlotFault (D.state device.old)) }
     ensures device { IsReadCall D.state (crash_states_of D.moment D.possible_since) device.old device.new }
@@ -72,10 +66,7 @@ fn tree_slot<D: Device>(device: &mut D) -> Result<(Slot, u64), KeeperFault>
 /// Makes sure of what is there, and finds the current slot of an image of a tree and the greatest seal.
 fn open_slot<D: Device>(device: &mut D) -> Result<(Slot, u64), KeeperFault>
     ensures opened { IfOk result (λ found. IsSlotOpened (D.state device.old) (D.state device.new) (crash_states_of D.moment D.possible_since device.new) found.0 found.1) }
-    ensures fits { IfOk result (λ found. IsFoundSlot (D.state device.old).size found.0) }
-    ensures version { IfOk result (λ found. IsTrue (is_tree_version found.0.root.banner.version)) }
-    ensures sealed { IfOk result (λ found. found.0.seal ≤ found.1) }
-    ensures large { IfOk result (λ found. 128 ≤ (D.state device.old).size) }
+    ensures slot { IfOk result (λ found. MayBeTreeSlot (D.state device.old).size found.0 found.1) }
     ensures opens { ReadsToOpen D.state (crash_states_of D.moment D.possible_since) device.old device.new IsTreeOpenFault result }
     ensures synced { IfErr result (LeavesSynced (D.state device.old) (D.state device.new) (crash_states_of D.moment D.possible_since device.new)) }
     ensures work { OnOk result (MadeExactly 16 0 1 (D.state device.old) (D.state device.new)) }
@@ -131,12 +122,7 @@ fn walk_slot<D: Device>(device: &mut D, ledger: &mut Ledger, slot: &Slot) -> Res
     requires fresh { ledger.old ≡ fresh slot.now.root.pages slot.now.seal }
     requires small { slot.now.root.pages ≤ most_pages }
     requires fits { 8 * slot.now.root.pages ≤ (D.state device.old).size }
-    ensures found { IsTrue (D.state device.old).honest → Finds (tree_found slot.now (page_of (D.state device.old).disk.view)) slot.now ledger.new result }
-    ensures named { IsTrue (D.state device.old).honest → IfErr result (IsNamed (tree_or_name slot.now (page_of (D.state device.old).disk.view))) }
-    ensures rooted { OnOk result (IsRooted slot.now.root) }
-    ensures whole { IsTrue (D.state device.old).honest → OnOk result (LivePagesAreWhole (D.state device.old).disk.view ledger.new) }
-    ensures rest { IsAtRest slot.now ledger.new }
-    ensures unpinned { ledger.new.pins ≡ replicate 32 None }
+    ensures found { FindsSlotTree (D.state device.old) slot.now ledger.new result }
     ensures walks { WalksPages D.state (crash_states_of D.moment D.possible_since) device.old device.new ledger.old ledger.new (MayName slot.now) result }
     ensures work { ReadsEachOnce (D.state device.old) (D.state device.new) ledger.old ledger.new }
 {
@@ -162,10 +148,7 @@ fn new_ledger(alloc: Global, slot: &Slot) -> Result<Ledger, KeeperFault>
 /// Finds the current slot of an image of a tree, which of its pages are held and the greatest seal, and tests everything.
 fn open_parts<D: Device>(alloc: Global, device: &mut D) -> Result<(Slot, Ledger, u64), KeeperFault>
     ensures opened { IfOk result (λ parts. IsOpenedTree (D.state device.old) (D.state device.new) (crash_states_of D.moment D.possible_since device.new) parts.0 parts.1 parts.2) }
-    ensures fitted { IfOk result (λ parts. FitsTree (D.state device.old).size parts.0 parts.1) }
-    ensures unpinned { IfOk result (λ parts. parts.1.pins ≡ replicate 32 None) }
-    ensures sealed { IfOk result (λ parts. parts.0.seal ≤ parts.2) }
-    ensures large { IfOk result (λ parts. 128 ≤ (D.state device.old).size) }
+    ensures fits { IfOk result (λ parts. FitsOpened (D.state device.old).size parts.0 parts.1 parts.2) }
     ensures opens { ReadsToOpen D.state (crash_states_of D.moment D.possible_since) device.old device.new IsTreeOpenFault result }
     ensures synced { IfErr result (LeavesSynced (D.state device.old) (D.state device.new) (crash_states_of D.moment D.possible_since device.new)) }
     ensures work { IfOk result (λ parts. MadeToOpen (16 + 8 * (parts.0.root.pages - 2)) (D.state device.old) (D.state device.new)) }
@@ -185,28 +168,10 @@ impl<D: Device> TreeKeeper<D> {
     /// Refusals in order: `Small` under 128 sectors; `Device` where a read or the sync failed; `NoImage` where no root slot is valid; `Version` where the current one isn't of a
     /// tree; `Damaged` where the image has no content. `Memory` may stand in place of `Damaged` and of success.
     pub fn open(alloc: Global, device: D) -> Result<TreeKeeper<D>, (KeeperFault, D)>
-        ensures content { IsTrue (D.state device).honest → IfOk result (λ k. HasContent (D.state device).disk.view (held D.state k).pairs (held D.state k).banner) }
-        // The slot is the current one, the ledger has exactly the pages of its tree, each of them whole, and there are as many pairs as the slot says.
-        ensures holds { IsTrue (D.state device).honest → IfOk result (λ k. IsImageOfSlot (D.state device).disk.view (slot_of k) (ledger_of k)) }
-        ensures top { IsTrue (D.state device).honest → IfOk result (λ k. top_of k ≡ greatest_seal (D.state device).disk.view 16) }
-        ensures usable { IfOk result (λ k. is_open k ≡ true) }
-        ensures unpinned { IfOk result (λ k. (held D.state k).pins ≡ []) }
-        ensures honest { IfOk result (λ k. (D.state (device_of k)).honest ≡ (D.state device).honest) }
-        ensures large { IfOk result (λ k. 128 ≤ (D.state device).size) }
-        ensures fits { IfOk result (λ k. 8 * (slot_of k).root.pages ≤ (D.state device).size) }
-        ensures counts { IfOk result (λ k. NothingCounted (D.state device) (D.state (device_of k))) }
-        // One sync, and each page of the image is read once at most.
-        ensures work { IfOk result (λ k. MadeToOpen (16 + 8 * ((slot_of k).root.pages - 2)) (D.state device) (D.state (device_of k))) }
-        ensures work_on_fault { IfErr result (λ e. MadeAtMost (D.state device).size 0 1 (D.state device) (D.state e.1)) }
-        ensures fault { IfErr result (λ e. IsTreeOpenFault (D.state device) (D.state e.1) e.0) }
-        ensures counts_fault { IfErr result (λ e. CountsRefusal e.0 (D.state device) (D.state e.1)) }
-        ensures small { IfErr result (λ e. e.0 ≡ Small → e.1 ≡ device) }
-        // Nothing is written: a crash within the call leaves what one before it might have left.
-        ensures at_crash { IsTrue (D.state device).honest → IfOk result (λ k. AddsNone (crash_states_of D.moment D.possible_since device) (crash_states_of D.moment D.possible_since (device_of k))) }
-        ensures at_crash_on_fault { IsTrue (D.state device).honest → IfErr result (λ e. AddsNone (crash_states_of D.moment D.possible_since device) (crash_states_of D.moment D.possible_since e.1)) }
+        ensures opened { IfOk result (OpensTree D.state (crash_states_of D.moment D.possible_since) device) }
+        ensures refused { IfErr result (λ e. RefusesToOpen D.state (crash_states_of D.moment D.possible_since) device IsTreeOpenFault e.1 e.0) }
         // But for `Small`, what was there is made sure of before anything is read.
         ensures synced { IfErr result (λ e. LeavesSynced (D.state device) (D.state e.1) (crash_states_of D.moment D.possible_since e.1) e.0) }
-        ensures handed_back { IfErr result (λ e. ((D.state e.1).size ≡ (D.state device).size) × ((D.state e.1).honest ≡ (D.state device).honest)) }
     {
         let mut device = device;
         match open_parts(alloc, &mut device) {

@@ -1,18 +1,13 @@
 // Pins of a keeper of a tree.
 ghost use Rattle.std.specs.List.{list_all};
-ghost use Rattle.std.specs.Prelude.{◌≡◌, Some, None, is_none, IsTrue, slice_index_or, ◌≤◌, ◌*◌, false, IfOk, IfErr, IsErrOf, IfSome, length, take, option_map};
+ghost use Rattle.std.specs.Prelude.{◌≡◌, Some, None, is_none, IsTrue, slice_index_or, ◌*◌, IfOk, IfSome};
 ghost use Rattle.page_store.specs.Work.{ReadsPages, pages_tried};
-ghost use Rattle.cow_tree.specs.Needs.{MayNeed};
-ghost use Rattle.page_store.specs.Steps.{crash_states_of};
-ghost use Rattle.page_store.specs.declared.fault.KeeperFault.TheVariants.{Failed};
-ghost use Rattle.page_store.specs.StoreState.{StoreHasRead, NeedsTheSame, IsFilled, IsStoreReadFault, most_levels};
-ghost use Rattle.page_store.specs.Counting.{CountsStoreReads};
-ghost use Rattle.page_store.specs.Batch.{value_at, pair_after};
-ghost use Rattle.common_types.specs.CrashStates.{AddsNone};
+ghost use Rattle.page_store.specs.ReadCalls.{IsValueAt, IsPairAfter, FillsBuffer, FillsBuffers, StoreReadsOnly, FailsToLookUp};
+ghost use Rattle.page_store.specs.StoreState.{most_levels};
 ghost use Rattle.sector_device.specs.Effects.{MadeAtMost};
 ghost use Rattle.page_store.specs.Pins.{is_out, pairs_at};
 ghost use Rattle.cow_tree.specs.KeeperLaws.{few_out};
-ghost use Rattle.cow_tree.specs.TreeSeen.{held, pinned_by, device_of, slot_of};
+ghost use Rattle.cow_tree.specs.TreeSeen.{held, pinned_by, device_of, needs, crashes_of};
 
 use crate::TreeKeeper;
 use crate::lookups::find_value;
@@ -78,17 +73,10 @@ impl<D: Device> PinKeeper for TreeKeeper<D> {
         buffer: &mut [u8; LONGEST_VALUE],
     ) -> Result<Option<usize>, KeeperFault>
         requires out { IsTrue (is_out (held D.state self.old) pin.now) }
-        ensures within { IfOk result (λ found. IfSome found (λ n. n ≤ length buffer.new)) }
-        ensures value { IsTrue (held D.state self.old).honest → IfOk result (λ found. IfSome (pairs_at (held D.state self.old) pin.now) (λ pairs. option_map (λ n. take n buffer.new) found ≡ value_at pairs key.now)) }
-        ensures buffer { IsFilled (λ n. n) result buffer.old buffer.new }
-        ensures kept { StoreHasRead (held D.state self.old) (held D.state self.new) }
-        ensures need { NeedsTheSame (MayNeed (slot_of self.old) (D.state (device_of self.old))) (MayNeed (slot_of self.new) (D.state (device_of self.new))) }
-        ensures reads { CountsStoreReads result (held D.state self.old).failed_reads (held D.state self.new).failed_reads }
-        ensures fault { IfErr result (IsStoreReadFault (held D.state self.old) (held D.state self.new)) }
-        ensures closed { (held D.state self.old).usable ≡ false → IsErrOf result Failed }
-        ensures unchanged { (held D.state self.old).usable ≡ false → held D.state self.new ≡ held D.state self.old }
-        ensures at_crash { IsTrue (held D.state self.old).honest → AddsNone (crash_states_of D.moment D.possible_since (device_of self.old)) (crash_states_of D.moment D.possible_since (device_of self.new)) }
-
+        ensures value { IsTrue (held D.state self.old).honest → IfOk result (λ found. IfSome (pairs_at (held D.state self.old) pin.now) (IsValueAt key.now buffer.new found)) }
+        ensures fills { FillsBuffer result buffer.old buffer.new }
+        ensures only { StoreReadsOnly (held D.state) (needs D.state) (crashes_of D.moment D.possible_since) self.old self.new }
+        ensures fails { FailsToLookUp (held D.state self.old) (held D.state self.new) result }
         ensures work { ReadsPages most_levels (held D.state self.old).made (held D.state self.new).made }
 
         // At most one page of each level of the pinned tree is read.
@@ -112,18 +100,10 @@ impl<D: Device> PinKeeper for TreeKeeper<D> {
         value: &mut [u8; LONGEST_VALUE],
     ) -> Result<Option<(usize, usize)>, KeeperFault>
         requires out { IsTrue (is_out (held D.state self.old) pin.now) }
-        ensures within { IfOk result (λ found. IfSome found (λ n. (n.0 ≤ length key.new) × (n.1 ≤ length value.new))) }
-        ensures pair { IsTrue (held D.state self.old).honest → IfOk result (λ found. IfSome (pairs_at (held D.state self.old) pin.now) (λ pairs. option_map (λ n. (take n.0 key.new, take n.1 value.new)) found ≡ pair_after pairs after.now)) }
-        ensures key { IsFilled (λ n. n.0) result key.old key.new }
-        ensures value { IsFilled (λ n. n.1) result value.old value.new }
-        ensures kept { StoreHasRead (held D.state self.old) (held D.state self.new) }
-        ensures need { NeedsTheSame (MayNeed (slot_of self.old) (D.state (device_of self.old))) (MayNeed (slot_of self.new) (D.state (device_of self.new))) }
-        ensures reads { CountsStoreReads result (held D.state self.old).failed_reads (held D.state self.new).failed_reads }
-        ensures fault { IfErr result (IsStoreReadFault (held D.state self.old) (held D.state self.new)) }
-        ensures closed { (held D.state self.old).usable ≡ false → IsErrOf result Failed }
-        ensures unchanged { (held D.state self.old).usable ≡ false → held D.state self.new ≡ held D.state self.old }
-        ensures at_crash { IsTrue (held D.state self.old).honest → AddsNone (crash_states_of D.moment D.possible_since (device_of self.old)) (crash_states_of D.moment D.possible_since (device_of self.new)) }
-
+        ensures pair { IsTrue (held D.state self.old).honest → IfOk result (λ found. IfSome (pairs_at (held D.state self.old) pin.now) (IsPairAfter after.now key.new value.new found)) }
+        ensures fills { FillsBuffers result key.old key.new value.old value.new }
+        ensures only { StoreReadsOnly (held D.state) (needs D.state) (crashes_of D.moment D.possible_since) self.old self.new }
+        ensures fails { FailsToLookUp (held D.state self.old) (held D.state self.new) result }
         ensures work { ReadsPages (pages_tried most_levels) (held D.state self.old).made (held D.state self.new).made }
 
         // By the levels of the pinned tree.

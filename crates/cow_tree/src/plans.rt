@@ -14,10 +14,10 @@ ghost use Rattle.tree_nodes.specs.Steps.{IsValidRoot};
 ghost use Rattle.tree_nodes.specs.OwnedTrees.{state_of};
 ghost use Rattle.tree_nodes.specs.Growth.{owned_under};
 ghost use Rattle.tree_pages.specs.Written.{IsTreePage};
-ghost use Rattle.cow_tree.specs.TreeState.{FitsTree, IsFittedSlot};
 ghost use Rattle.cow_tree.specs.Drafts.{IsCountedRead, IsCounted, OnlyMarks, TellsDraft, MayBeTooDeep};
 ghost use Rattle.cow_tree.specs.Needs.{NeedsTreePages, GetsTooDeep};
-ghost use Rattle.cow_tree.specs.Plans.{levels_of, IsHeld, Starts, IsPlanned, IsMade, IsTreePlanFault, IsRoomFault, IsTreeFault, IsRootWritten, IsRootInside};
+ghost use Rattle.cow_tree.specs.PlanCalls.{HasLedgerOf, IsNextRoot, MayPlan, PlansDraft, PlansWithin, MarksOrStays};
+ghost use Rattle.cow_tree.specs.Plans.{IsHeld, Starts, IsPlanned, IsTreePlanFault, IsRoomFault, IsTreeFault, IsRootWritten, IsRootInside};
 
 use crate::drafts::{Draft, draft_batch};
 use crate::taking::take_pages;
@@ -75,17 +75,10 @@ pub(crate) fn plan_draft(
     seal: u64,
     banner: Banner,
 ) -> Result<Plan, KeeperFault>
-    requires fitted { IsFittedSlot slot.now }
-    requires lives { length ledger.old.lives ≡ slot.now.root.pages }
+    requires fitted { HasLedgerOf slot.now ledger.old }
     requires low { (state_of draft.now.tree).height ≤ most_levels }
-    requires later { slot.now.seal < seal }
-    requires port { 0 < banner.port }
-    ensures made { IfOk result (IsMade slot.now seal banner) }
-    ensures room { IfOk result (λ plan. length plan.pages.items ≤ free_count ledger.old) }
-    ensures enough { IfOk result (λ plan. min (owned_under (state_of draft.now.tree).root) (2 ^ 64 - 1) ≤ free_count ledger.old) }
-    ensures used { IfOk result (λ plan. length plan.pages.items ≡ owned_under (state_of draft.now.tree).root) }
-    ensures levels { IfOk result (λ plan. plan.slot.root.height ≡ levels_of (state_of draft.now.tree)) }
-    ensures keys { IfOk result (λ plan. plan.slot.root.keys ≡ draft.now.keys) }
+    requires next { IsNextRoot slot.now seal banner }
+    ensures made { IfOk result (PlansDraft slot.now seal banner draft.now (free_count ledger.old)) }
     ensures alive { (n : ℕ) → length ledger.old.marks ≡ length ledger.old.lives → IfOk result (λ plan. is_alive ledger.new n ≡ is_alive ledger.old n) }
     ensures planned { (view : Image) (top edits : ℕ) (pairs : List Pair) → IsHeld view slot.now top ledger.old → IsCounted slot.now view edits pairs ledger.old draft.now → seal ≡ top + 1 → IsTrue (is_tree_version banner.version) →
         TellsDraft (Unit {0}) result (IsPlanned view slot.now top pairs ledger.new) }
@@ -126,17 +119,13 @@ pub(crate) fn plan_commit<D: Device>(
     batch: &[Edit],
     banner: Banner,
 ) -> Result<Plan, KeeperFault>
-    requires fitted { FitsTree (D.state device.old).size slot.now ledger.old }
+    requires may { MayPlan (D.state device.old).size slot.now ledger.old seal banner }
     requires batch { IsTrue (is_batch batch.now) }
-    requires later { slot.now.seal < seal }
-    requires port { 0 < banner.port }
-    ensures made { IfOk result (IsMade slot.now seal banner) }
-    ensures room { IfOk result (λ plan. length plan.pages.items ≤ free_count ledger.old) }
+    ensures made { IfOk result (PlansWithin slot.now seal banner (free_count ledger.old)) }
     ensures planned { IsTrue (D.state device.old).honest → (top : ℕ) (pairs : List Pair) → IsHeld (D.state device.old).disk.view slot.now top ledger.old → Starts slot.now (D.state device.old).disk.view pairs ledger.old → seal ≡ top + 1 → IsTrue (is_tree_version banner.version) →
         TellsDraft (MayBeTooDeep slot.now (length batch.now) × GetsTooDeep slot.now (D.state device.old).disk.view batch.now) result
         (λ plan. IsPlanned (D.state device.old).disk.view slot.now top (updated pairs batch.now) ledger.new plan × NeedsTreePages slot.now (D.state device.old).disk.view batch.now (length plan.pages.items)) }
-    ensures marks { OnlyMarks ledger.old ledger.new }
-    ensures refused { OnErr result (ledger.new ≡ ledger.old) }
+    ensures ledger { MarksOrStays ledger.old ledger.new result }
     ensures fault { IfErr result (IsTreePlanFault (free_count ledger.old) (λ need. IsTrue (D.state device.old).honest → (pairs : List Pair) → Starts slot.now (D.state device.old).disk.view pairs ledger.old → NeedsTreePages slot.now (D.state device.old).disk.view batch.now need)) }
     ensures reads { IsCountedRead D.state (crash_states_of D.moment D.possible_since) device.old device.new result }
     // For each edit a page of each level is read at most.

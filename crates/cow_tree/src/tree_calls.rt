@@ -1,19 +1,16 @@
 // The calls of a keeper of a tree.
-ghost use Rattle.std.specs.Prelude.{◌≡◌, ◌≤◌, ◌<◌, [], false, IsTrue, OnOk, IfOk, IfErr, IfSome, IsErrOf, length, option_map, take};
+ghost use Rattle.std.specs.Prelude.{◌≡◌, ◌≤◌, ◌<◌, IsTrue, OnOk, IfOk, IfErr, length};
 ghost use Rattle.page_store.specs.Work.{ReadsPages, pages_tried};
-ghost use Rattle.common_types.specs.CrashStates.{AddsNone};
 ghost use Rattle.page_store.specs.Sectors.{Image, page_of};
-ghost use Rattle.page_store.specs.Batch.{is_batch, value_at, pair_after};
+ghost use Rattle.page_store.specs.Batch.{is_batch};
+ghost use Rattle.page_store.specs.ReadCalls.{IsValueAt, IsPairAfter, FillsBuffer, FillsBuffers, StoreReadsOnly, FailsToLookUp};
 ghost use Rattle.page_store.specs.CommitCalls.{TakesBanner, CommitsBatch, FailsToCommit, CommitsNoMore, CountsCommit, CommitCrashes};
-ghost use Rattle.page_store.specs.Counting.{CountsStoreReads};
-ghost use Rattle.page_store.specs.StoreState.{StoreHasRead, NeedsTheSame, IsFilled, IsStoreReadFault};
-ghost use Rattle.page_store.specs.declared.fault.KeeperFault.TheVariants.{Failed};
 ghost use Rattle.page_store.specs.Steps.{crash_states_of};
 ghost use Rattle.cow_tree.specs.Needs.{MayNeed};
 ghost use Rattle.cow_tree.specs.Committed.{is_tree_version, TreeHas};
 ghost use Rattle.cow_tree.specs.TreeSeen.{held, device_of, slot_of, kept_by, needs, crashes_of};
+ghost use Rattle.cow_tree.specs.TreeReadCalls.{WalksByLeaf};
 ghost use Rattle.cow_tree.specs.TreeCommitCalls.{WritesTree};
-ghost use Rattle.cow_tree.specs.KeptLeaves.{has_next};
 ghost use Rattle.cow_tree.specs.TreeState.{found_under};
 ghost use Rattle.cow_tree.specs.KeysCounted.{keys_told};
 ghost use Rattle.cow_tree.specs.KeeperLaws.{opens_trees, few_levels, needs_one, crash_states_have_the_tree};
@@ -72,17 +69,10 @@ impl<D: Device> Keeper for TreeKeeper<D> {
         key: &[u8],
         buffer: &mut [u8; LONGEST_VALUE],
     ) -> Result<Option<usize>, KeeperFault>
-        ensures within { IfOk result (λ found. IfSome found (λ n. n ≤ length buffer.new)) }
-        ensures value { IsTrue (held D.state self.old).honest → IfOk result (λ found. option_map (λ n. take n buffer.new) found ≡ value_at (held D.state self.old).pairs key.now) }
-        ensures buffer { IsFilled (λ n. n) result buffer.old buffer.new }
-        ensures kept { StoreHasRead (held D.state self.old) (held D.state self.new) }
-        ensures need { NeedsTheSame (MayNeed (slot_of self.old) (D.state (device_of self.old))) (MayNeed (slot_of self.new) (D.state (device_of self.new))) }
-        ensures reads { CountsStoreReads result (held D.state self.old).failed_reads (held D.state self.new).failed_reads }
-        ensures fault { IfErr result (IsStoreReadFault (held D.state self.old) (held D.state self.new)) }
-        ensures closed { (held D.state self.old).usable ≡ false → IsErrOf result Failed }
-        ensures unchanged { (held D.state self.old).usable ≡ false → held D.state self.new ≡ held D.state self.old }
-        ensures at_crash { IsTrue (held D.state self.old).honest → AddsNone (crash_states_of D.moment D.possible_since (device_of self.old)) (crash_states_of D.moment D.possible_since (device_of self.new)) }
-
+        ensures value { IsTrue (held D.state self.old).honest → IfOk result (λ found. IsValueAt key.now buffer.new found (held D.state self.old).pairs) }
+        ensures fills { FillsBuffer result buffer.old buffer.new }
+        ensures only { StoreReadsOnly (held D.state) (needs D.state) (crashes_of D.moment D.possible_since) self.old self.new }
+        ensures fails { FailsToLookUp (held D.state self.old) (held D.state self.new) result }
         ensures work { ReadsPages (held D.state self.old).height (held D.state self.old).made (held D.state self.new).made }
 
         // The leaf that a walk has kept stays, so that the walk goes on from it.
@@ -109,24 +99,12 @@ impl<D: Device> Keeper for TreeKeeper<D> {
         key: &mut [u8; LONGEST_KEY],
         value: &mut [u8; LONGEST_VALUE],
     ) -> Result<Option<(usize, usize)>, KeeperFault>
-        ensures within { IfOk result (λ found. IfSome found (λ n. (n.0 ≤ length key.new) × (n.1 ≤ length value.new))) }
-        ensures pair { IsTrue (held D.state self.old).honest → IfOk result (λ found. option_map (λ n. (take n.0 key.new, take n.1 value.new)) found ≡ pair_after (held D.state self.old).pairs after.now) }
-        ensures key { IsFilled (λ n. n.0) result key.old key.new }
-        ensures value { IsFilled (λ n. n.1) result value.old value.new }
-        ensures kept { StoreHasRead (held D.state self.old) (held D.state self.new) }
-        ensures need { NeedsTheSame (MayNeed (slot_of self.old) (D.state (device_of self.old))) (MayNeed (slot_of self.new) (D.state (device_of self.new))) }
-        ensures reads { CountsStoreReads result (held D.state self.old).failed_reads (held D.state self.new).failed_reads }
-        ensures fault { IfErr result (IsStoreReadFault (held D.state self.old) (held D.state self.new)) }
-        ensures closed { (held D.state self.old).usable ≡ false → IsErrOf result Failed }
-        ensures unchanged { (held D.state self.old).usable ≡ false → held D.state self.new ≡ held D.state self.old }
-        ensures at_crash { IsTrue (held D.state self.old).honest → AddsNone (crash_states_of D.moment D.possible_since (device_of self.old)) (crash_states_of D.moment D.possible_since (device_of self.new)) }
-
-        // The pair stands in the leaf that is kept afterwards, and where the one that was kept tells it the device isn't asked.
-        ensures from_kept { IfOk result (λ found. option_map (λ n. (take n.0 key.new, take n.1 value.new)) found ≡ pair_after (kept_by self.new) after.now) }
-        // Where the tree has a level, that leaf has a pair: a walk doesn't end because a page gives none.
-        ensures some { OnOk result (0 < (slot_of self.new).root.height → kept_by self.new ≡ [] → ⊥) }
+        ensures pair { IsTrue (held D.state self.old).honest → IfOk result (λ found. IsPairAfter after.now key.new value.new found (held D.state self.old).pairs) }
+        ensures fills { FillsBuffers result key.old key.new value.old value.new }
+        ensures only { StoreReadsOnly (held D.state) (needs D.state) (crashes_of D.moment D.possible_since) self.old self.new }
+        ensures fails { FailsToLookUp (held D.state self.old) (held D.state self.new) result }
         ensures work { ReadsPages (pages_tried (held D.state self.old).height) (held D.state self.old).made (held D.state self.new).made }
-        ensures unread { IsTrue (has_next (kept_by self.old) after.now) → (device_of self.new ≡ device_of self.old) × (kept_by self.new ≡ kept_by self.old) }
+        ensures walks { WalksByLeaf self.old self.new after.now key.new value.new result }
     {
         if !self.usable {
             return Err(KeeperFault::Failed);

@@ -43,12 +43,12 @@ loop-page-preserved g c =
           let answered = more.draft (subst IsTrue (sym inv.device.only.same.honest) keeps) edits p.0 pairs here in (
             p.0 + 1,
             subst (λ (v : Image). IsDraft slot v edits (p.0 + 1) pairs c.read_needed.new.ledger (state_of c.read_needed.new.tree)) same answered,
-            path_goes_on slot (state c.args.device.now).disk.view edits pairs c.args.key.now p.0 c.in-Some.page (state_of c.loop-page.tree) (state_of c.read_needed.new.tree) p.2 (sym c.needed.ensures ∙ c.in-Some.is) more.down,
+            path_goes_on slot (state c.args.device.now).disk.view edits pairs c.args.key.now p.0 c.in-Some.page (state_of c.loop-page.tree) (state_of c.read_needed.new.tree) p.2 (sym c.needed.ensures ∙ c.in-Some.is) more.goes.down,
             subst (λ (v : Image). state_of c.read_needed.new.tree ≡ stepped (old_under slot v) (state_of c.loop-page.tree) (supply_step c.args.key.now)) same (more.read (subst IsTrue (sym inv.device.only.same.honest) keeps))
                 ∙ ap (λ (s : RootState). stepped (old_under slot (state c.args.device.now).disk.view) s (supply_step c.args.key.now)) p.3
                 ∙ sym (read_more (old_under slot (state c.args.device.now).disk.view) c.args.key.now p.0 (state_of c.args.tree.now)),
           );
-      height = more.height ∙ inv.height;
+      height = more.goes.height ∙ inv.height;
       ledger = retires_again c.args.ledger.now c.loop-page.ledger c.read_needed.new.ledger inv.ledger c.read_needed.ensures.reads.ledger;
       device = reads_again inv.device c.read_needed.ensures.reads.counted.device;
       reads = more.reads.counted.reads ∙ inv.reads;
@@ -56,7 +56,7 @@ loop-page-preserved g c =
           let key = c.args.key.now in
           let tree = state_of c.loop-page.tree in
           let now = state_of c.read_needed.new.tree in
-          let less = left_less (needed_under key tree.root) (needed_under key now.root) c.in-Some.page (needed_level key tree) (needed_level key now) (sym c.needed.ensures ∙ c.in-Some.is) more.down in
+          let less = left_less (needed_under key tree.root) (needed_under key now.root) c.in-Some.page (needed_level key tree) (needed_level key now) (sym c.needed.ensures ∙ c.in-Some.is) more.goes.down in
           reads_on _ _ most_levels less inv.work c.read_needed.ensures.work;
     }
 

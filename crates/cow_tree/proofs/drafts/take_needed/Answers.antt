@@ -41,15 +41,15 @@ returns-in-Ok-clause-read c = λ view is_there.
     let shows = shows_needed (bytes_in view) key tree bytes c.args.page c.requires.needed here in
     c.in-Ok.ensures.tree (bytes_in view) shows ∙ ap (λ (b : Bounds). stepped (old_of (bytes_in view) b) tree (supply_step key)) c.bounds_of.ensures.bounds
 
-pub returns-in-Ok-clause-down : goal.returns-in-Ok-clause-down
-returns-in-Ok-clause-down c =
-    let bytes = c.args.bytes.now in
-    reads_down (bounds_of c.bounds_of.result) bytes (state_of c.args.tree.now) (state_of c.supply.new.self) c.args.key.now c.args.page c.requires.needed (c.in-Ok.ensures.tree (λ k. bytes) (λ page is. refl)) c.in-Ok.ensures.read
-
-pub returns-in-Ok-clause-height : goal.returns-in-Ok-clause-height
-returns-in-Ok-clause-height c =
-    let bytes = c.args.bytes.now in
-    ap (λ (s : RootState). s.height) (c.in-Ok.ensures.tree (λ k. bytes) (λ page is. refl)) ∙ supply_height (old_of (λ k. bytes) (bounds_of c.bounds_of.result)) (state_of c.args.tree.now) c.args.key.now
+pub returns-in-Ok-clause-goes : goal.returns-in-Ok-clause-goes
+returns-in-Ok-clause-goes c = record {
+  down =
+      let bytes = c.args.bytes.now in
+      reads_down (bounds_of c.bounds_of.result) bytes (state_of c.args.tree.now) (state_of c.supply.new.self) c.args.key.now c.args.page c.requires.needed (c.in-Ok.ensures.tree (λ k. bytes) (λ page is. refl)) c.in-Ok.ensures.read;
+  height =
+      let bytes = c.args.bytes.now in
+      ap (λ (s : RootState). s.height) (c.in-Ok.ensures.tree (λ k. bytes) (λ page is. refl)) ∙ supply_height (old_of (λ k. bytes) (bounds_of c.bounds_of.result)) (state_of c.args.tree.now) c.args.key.now;
+}
 
 pub returns-in-Err-Damaged-clause-draft : goal.returns-in-Err-Damaged-clause-draft
 returns-in-Err-Damaged-clause-draft c = λ view is_there edits read pairs d.

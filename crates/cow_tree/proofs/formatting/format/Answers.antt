@@ -3,7 +3,7 @@ use Rattle.page_store.specs.Roots.{FitsDevice}
 use Rattle.page_store.specs.Switch.{IsSlotPage}
 use Rattle.page_store.specs.declared.commit.NewPage.{NewPage}
 use Rattle.page_store.specs.declared.slot.Slot.{Slot}
-use Rattle.page_store.proofs.Outcomes.{on_ok}
+use Rattle.page_store.proofs.Outcomes.{on_ok, counts_ok}
 use Rattle.cow_tree.specs.Formatting.{first_pages, first_slot, IsFirstWritten}
 use Rattle.cow_tree.proofs.FirstImages.{is_first, is_first_tree, has_content}
 use Rattle.cow_tree.proofs.formatting.format.Goals as goal
@@ -26,7 +26,7 @@ page_is g c keeps =
     let size : length state.disk.view ≡ state.size = (d.view_is_image c.args.device.now keeps).size ∙ d.base_has_size c.args.device.now keeps in
     let most : c.args.pages ≤ 65536 = omega (arith, c.if-pages-gt-MOST_PAGES.false) in
     let fits : 8 * c.args.pages ≤ state.size = omega (arith, c.if-from-sectors.false, c.from.ensures, c.sectors.ensures) in
-    slot_page_is (first_slot c.args.pages c.args.banner c.args.pairs.now) c.first_slot.result c.in_ok-root.root state.size (length state.disk.view) c.first_slot.ensures size c.in_ok-root.ensures.valid (omega arith) (least g c, most, fits) c.requires.port
+    slot_page_is (first_slot c.args.pages c.args.banner c.args.pairs.now) c.first_slot.result c.in_ok-root.root state.size (length state.disk.view) c.first_slot.ensures size c.in_ok-root.ensures.valid (omega arith) (least g c, most, fits) c.requires.banner.port
 
 written_is : (g : _) (c : goal.After-drop-tree-2 g) → IsTrue (g.D.Device.state c.args.device.now).honest → IsFirstWritten (first_pages c.args.pairs.now) c.in_ok-root.root (g.D.Device.state c.args.device.now).disk.view (g.D.Device.state c.write_first.new.device).disk.view
 written_is g c keeps =
@@ -35,12 +35,17 @@ written_is g c keeps =
     let written = on_ok c.write_first.result c.is_err.result _ c.is_err.ensures.value c.if-is_err.false (c.write_first.ensures.written keeps) in
     subst (λ (p : List NewPage). IsFirstWritten p c.in_ok-root.root old new) (c.deref.ensures.value ∙ c.in_ok-tree.ensures) written.0
 
-pub returns-clause-content : goal.returns-clause-content
-returns-clause-content g c = λ keeps.
-    has_content c.args.pages c.args.banner c.args.pairs.now c.in_ok-root.root _ _ (page_is g c keeps) (written_is g c keeps) c.requires.version (least g c) c.requires.map c.requires.one_page
-
-pub returns-clause-first : goal.returns-clause-first
-returns-clause-first g c = λ keeps. is_first c.args.pages c.args.banner c.args.pairs.now c.in_ok-root.root _ _ (page_is g c keeps) (written_is g c keeps)
+pub returns-clause-made : goal.returns-clause-made
+returns-clause-made g c = record {
+  content = λ keeps.
+      has_content c.args.pages c.args.banner c.args.pairs.now c.in_ok-root.root _ _ (page_is g c keeps) (written_is g c keeps) c.requires.banner.version (least g c) c.requires.map c.requires.one_page;
+  first = λ keeps. is_first c.args.pages c.args.banner c.args.pairs.now c.in_ok-root.root _ _ (page_is g c keeps) (written_is g c keeps);
+  sure = λ keeps. (on_ok c.write_first.result c.is_err.result _ c.is_err.ensures.value c.if-is_err.false (c.write_first.ensures.written keeps)).1;
+  fits = (least g c, omega (arith, c.if-pages-gt-MOST_PAGES.false), omega (arith, c.if-from-sectors.false, c.from.ensures, c.sectors.ensures));
+  counts =
+      let outcome = c.write_first.ensures.outcome in
+      record { reads = outcome.reads; writes = counts_ok c.write_first.result c.is_err.result _ _ c.is_err.ensures.value c.if-is_err.false outcome.writes };
+}
 
 pub returns-clause-tree : goal.returns-clause-tree
 returns-clause-tree g c = λ keeps. is_first_tree c.args.pages c.args.banner c.args.pairs.now c.in_ok-root.root _ _ (page_is g c keeps) (written_is g c keeps)

@@ -21,9 +21,9 @@ returns-in-Ok-clause-opened g c =
     record {
       all = λ keeps i left. opened.all keeps i ((only.no_new_crash_state (keeps1 keeps)).now i left) ∙ sym (ap (λ (x : Disk). x.view) (only.only.disk (keeps1 keeps)));
       view = λ keeps. ap (λ (x : Disk). x.view) (only.only.disk (keeps1 keeps)) ∙ opened.view keeps;
-      holds = λ keeps. holds_now (d.state c.args.device.now).disk.view slot c.walk_slot.new.ledger (opened.slot_is keeps) c.in_ok-slot.ensures.version
-          (subst (λ (i : Image). IsReached (tree_found slot (page_of i)) slot c.walk_slot.new.ledger) (opened.view keeps) (c.in-Ok.ensures.found (keeps1 keeps)))
-          (subst (λ (i : Image). LivePagesAreWhole i c.walk_slot.new.ledger) (opened.view keeps) (c.in-Ok.ensures.whole (keeps1 keeps)));
+      holds = λ keeps. holds_now (d.state c.args.device.now).disk.view slot c.walk_slot.new.ledger (opened.slot_is keeps) c.in_ok-slot.ensures.slot.version
+          (subst (λ (i : Image). IsReached (tree_found slot (page_of i)) slot c.walk_slot.new.ledger) (opened.view keeps) (c.in-Ok.ensures.found.found (keeps1 keeps)))
+          (subst (λ (i : Image). LivePagesAreWhole i c.walk_slot.new.ledger) (opened.view keeps) (c.in-Ok.ensures.found.whole (keeps1 keeps)));
       top_is = λ keeps. opened.top_is keeps;
     }
 
@@ -44,7 +44,7 @@ returns-in-Err-clause-opens g c =
       small = λ is. absurd (walk_not_small c.in-Err.fault (sym c.from.ensures ∙ is));
       fault =
           subst (λ (e : KeeperFault). IsTreeOpenFault old new e) (sym c.from.ensures)
-          (walk_fault (Unit {0}) old mid new c.in_ok-slot.slot c.walk_slot.new.ledger c.in-Err.fault c.in_ok-slot.ensures.large (still_honest old mid opens.device.same) opened.view opened.slot_is c.in_ok-slot.ensures.version opens.counts walks.reads.reads reads.only.writes walks.named c.in-Err.ensures.found c.in-Err.ensures.named);
+          (walk_fault (Unit {0}) old mid new c.in_ok-slot.slot c.walk_slot.new.ledger c.in-Err.fault c.in_ok-slot.ensures.slot.large (still_honest old mid opens.device.same) opened.view opened.slot_is c.in_ok-slot.ensures.slot.version opens.counts walks.reads.reads reads.only.writes walks.named c.in-Err.ensures.found.found c.in-Err.ensures.found.named);
     }
 
 pub returns-in-Ok-clause-work : goal.returns-in-Ok-clause-work
@@ -52,5 +52,5 @@ returns-in-Ok-clause-work g c = opened_once _ _ _ c.in_ok-ledger.ledger c.walk_s
 
 pub returns-in-Err-clause-work_on_fault : goal.returns-in-Err-clause-work_on_fault
 returns-in-Err-clause-work_on_fault g c =
-    let fits = c.in_ok-slot.ensures.fits.2 in
+    let fits = c.in_ok-slot.ensures.slot.fits.2 in
     no_more_than (opened_once _ _ _ c.in_ok-ledger.ledger c.walk_slot.new.ledger c.in_ok-slot.slot.root.pages c.in_ok-slot.slot.seal c.in_ok-slot.ensures.work c.walk_slot.ensures.work c.in_ok-ledger.ensures.fresh).most (omega (arith, fits.0, fits.2)) (omega arith) (omega arith)

@@ -14,8 +14,8 @@ returns-clause-opened g c =
     record {
       all = λ keeps i left. sure keeps i ((c.tree_slot.ensures.device.no_new_crash_state (keeps1 keeps)).now i left) ∙ sym (ap (λ (d : Disk). d.view) (c.tree_slot.ensures.device.only.disk (keeps1 keeps)));
       view = λ keeps. ap (λ (d : Disk). d.view) (c.tree_slot.ensures.device.only.disk (keeps1 keeps)) ∙ synced keeps;
-      slot_is = λ keeps. ap current (sym (synced keeps)) ∙ c.in_ok-found.ensures.slot (keeps1 keeps);
-      top_is = λ keeps. ap (λ (i : Image). greatest_seal i 16) (sym (synced keeps)) ∙ c.in_ok-found.ensures.top (keeps1 keeps);
+      slot_is = λ keeps. ap current (sym (synced keeps)) ∙ c.in_ok-found.ensures.found.slot_is (keeps1 keeps);
+      top_is = λ keeps. ap (λ (i : Image). greatest_seal i 16) (sym (synced keeps)) ∙ c.in_ok-found.ensures.found.top_is (keeps1 keeps);
     }
 
 pub returns-then-is_err-clause-opens : goal.returns-then-is_err-clause-opens

@@ -12,61 +12,55 @@ use Rattle.cow_tree.proofs.DamageNamed.{root_names, count_names}
 use Rattle.cow_tree.proofs.opening.walk_slot.Goals as goal
 
 pub returns-in_err-count-clause-found : goal.returns-in_err-count-clause-found
-returns-in_err-count-clause-found g c = λ keeps.
-    let a = page_of (g.D.Device.state c.args.device.now).disk.view in
-    let slot = c.args.slot.now in
-    let p = err_from_is_err_and c.from_residual.result c.from_residual.ensures.1 in
-    let answered = subst (λ (s : LedgerState). TellsWalk (tree_of a (bounds_under slot) slot.root.height slot.root.tree) s c.count_tree.new.ledger (Err c.in_err-count.field-0.0)) c.requires.fresh (c.in_err-count.ensures.answered keeps) in
-    rw (p.1, p.2) (finds_fault slot a c.count_tree.new.ledger (Unit {0}) c.in_err-count.field-0.0 answered)
+returns-in_err-count-clause-found g c = record {
+  found = λ keeps.
+      let a = page_of (g.D.Device.state c.args.device.now).disk.view in
+      let slot = c.args.slot.now in
+      let p = err_from_is_err_and c.from_residual.result c.from_residual.ensures.1 in
+      let answered = subst (λ (s : LedgerState). TellsWalk (tree_of a (bounds_under slot) slot.root.height slot.root.tree) s c.count_tree.new.ledger (Err c.in_err-count.field-0.0)) c.requires.fresh (c.in_err-count.ensures.answered keeps) in
+      rw (p.1, p.2) (finds_fault slot a c.count_tree.new.ledger (Unit {0}) c.in_err-count.field-0.0 answered);
+  named = λ keeps.
+      let old = g.D.Device.state c.args.device.now in
+      let slot = c.args.slot.now in
+      let p = err_from_is_err_and c.from_residual.result c.from_residual.ensures.1 in
+      let names = subst (λ (s : LedgerState). Names old (λ bytes. root_or_name slot.number bytes (bounds_under slot) slot.root.height slot.root.tree) s c.in_err-count.field-0.0) c.requires.fresh c.in_err-count.ensures.named in
+      rw (p.1, p.2) (root_names slot (page_of old.disk.view) old c.in_err-count.field-0.0 keeps refl names);
+  whole = λ keeps. let p = err_from_is_err_and c.from_residual.result c.from_residual.ensures.1 in rw p.1 tt;
+  rooted = let p = err_from_is_err_and c.from_residual.result c.from_residual.ensures.1 in rw p.1 tt;
+  rest = at_rest c.args.slot.now c.args.ledger.now c.count_tree.new.ledger c.requires.fresh c.count_tree.ensures.walks.ledger;
+  unpinned = no_pins c.args.slot.now c.args.ledger.now c.count_tree.new.ledger c.requires.fresh c.count_tree.ensures.walks.ledger;
+}
 
 pub returns-then-count-slot-clause-found : goal.returns-then-count-slot-clause-found
-returns-then-count-slot-clause-found g c = λ keeps.
-    let a = page_of (g.D.Device.state c.args.device.now).disk.view in
-    let slot = c.args.slot.now in
-    let w = subst (λ (s : LedgerState). IsWalked (tree_of a (bounds_under slot) slot.root.height slot.root.tree) s c.count_tree.new.ledger c.in_ok-count.count) c.requires.fresh (c.in_ok-count.ensures.answered keeps) in
-    keys_differ slot a c.count_tree.new.ledger c.in_ok-count.count c.requires.small w c.if-count-slot.true
+returns-then-count-slot-clause-found g c = record {
+  found = λ keeps.
+      let a = page_of (g.D.Device.state c.args.device.now).disk.view in
+      let slot = c.args.slot.now in
+      let w = subst (λ (s : LedgerState). IsWalked (tree_of a (bounds_under slot) slot.root.height slot.root.tree) s c.count_tree.new.ledger c.in_ok-count.count) c.requires.fresh (c.in_ok-count.ensures.answered keeps) in
+      keys_differ slot a c.count_tree.new.ledger c.in_ok-count.count c.requires.small w c.if-count-slot.true;
+  named = λ keeps.
+      let a = page_of (g.D.Device.state c.args.device.now).disk.view in
+      let slot = c.args.slot.now in
+      let w = subst (λ (s : LedgerState). IsWalked (tree_of a (bounds_under slot) slot.root.height slot.root.tree) s c.count_tree.new.ledger c.in_ok-count.count) c.requires.fresh (c.in_ok-count.ensures.answered keeps) in
+      count_names slot a c.count_tree.new.ledger c.in_ok-count.count w (λ e. c.if-count-slot.true (exact slot a c.count_tree.new.ledger c.in_ok-count.count c.requires.small w ∙ e));
+  whole = λ keeps. tt;
+  rooted = tt;
+  rest = at_rest c.args.slot.now c.args.ledger.now c.count_tree.new.ledger c.requires.fresh c.count_tree.ensures.walks.ledger;
+  unpinned = no_pins c.args.slot.now c.args.ledger.now c.count_tree.new.ledger c.requires.fresh c.count_tree.ensures.walks.ledger;
+}
 
 pub returns-clause-found : goal.returns-clause-found
-returns-clause-found g c = λ keeps.
-    let a = page_of (g.D.Device.state c.args.device.now).disk.view in
-    let slot = c.args.slot.now in
-    let w = subst (λ (s : LedgerState). IsWalked (tree_of a (bounds_under slot) slot.root.height slot.root.tree) s c.count_tree.new.ledger c.in_ok-count.count) c.requires.fresh (c.in_ok-count.ensures.answered keeps) in
-    is_reached slot a c.count_tree.new.ledger c.in_ok-count.count c.requires.small w c.if-count-slot.false
-
-pub returns-in_err-count-clause-named : goal.returns-in_err-count-clause-named
-returns-in_err-count-clause-named g c = λ keeps.
-    let old = g.D.Device.state c.args.device.now in
-    let slot = c.args.slot.now in
-    let p = err_from_is_err_and c.from_residual.result c.from_residual.ensures.1 in
-    let names = subst (λ (s : LedgerState). Names old (λ bytes. root_or_name slot.number bytes (bounds_under slot) slot.root.height slot.root.tree) s c.in_err-count.field-0.0) c.requires.fresh c.in_err-count.ensures.named in
-    rw (p.1, p.2) (root_names slot (page_of old.disk.view) old c.in_err-count.field-0.0 keeps refl names)
-
-pub returns-then-count-slot-clause-named : goal.returns-then-count-slot-clause-named
-returns-then-count-slot-clause-named g c = λ keeps.
-    let a = page_of (g.D.Device.state c.args.device.now).disk.view in
-    let slot = c.args.slot.now in
-    let w = subst (λ (s : LedgerState). IsWalked (tree_of a (bounds_under slot) slot.root.height slot.root.tree) s c.count_tree.new.ledger c.in_ok-count.count) c.requires.fresh (c.in_ok-count.ensures.answered keeps) in
-    count_names slot a c.count_tree.new.ledger c.in_ok-count.count w (λ e. c.if-count-slot.true (exact slot a c.count_tree.new.ledger c.in_ok-count.count c.requires.small w ∙ e))
-
-pub returns-clause-whole : goal.returns-clause-whole
-returns-clause-whole g c = λ keeps.
-    let slot = c.args.slot.now in
-    all_whole (g.D.Device.state c.args.device.now).disk.view slot.root.pages slot.seal c.args.ledger.now c.count_tree.new.ledger c.requires.fresh (c.in_ok-count.ensures.walks.whole keeps)
-
-pub returns-clause-rest : goal.returns-clause-rest
-returns-clause-rest g c = at_rest c.args.slot.now c.args.ledger.now c.count_tree.new.ledger c.requires.fresh c.count_tree.ensures.walks.ledger
-
-pub returns-then-count-slot-clause-rest : goal.returns-then-count-slot-clause-rest
-returns-then-count-slot-clause-rest g c = at_rest c.args.slot.now c.args.ledger.now c.count_tree.new.ledger c.requires.fresh c.count_tree.ensures.walks.ledger
-
-pub returns-in_err-count-clause-rest : goal.returns-in_err-count-clause-rest
-returns-in_err-count-clause-rest g c = at_rest c.args.slot.now c.args.ledger.now c.count_tree.new.ledger c.requires.fresh c.count_tree.ensures.walks.ledger
-
-pub returns-clause-unpinned : goal.returns-clause-unpinned
-returns-clause-unpinned g c = no_pins c.args.slot.now c.args.ledger.now c.count_tree.new.ledger c.requires.fresh c.count_tree.ensures.walks.ledger
-
-pub returns-then-count-slot-clause-unpinned : goal.returns-then-count-slot-clause-unpinned
-returns-then-count-slot-clause-unpinned g c = no_pins c.args.slot.now c.args.ledger.now c.count_tree.new.ledger c.requires.fresh c.count_tree.ensures.walks.ledger
-
-pub returns-in_err-count-clause-unpinned : goal.returns-in_err-count-clause-unpinned
-returns-in_err-count-clause-unpinned g c = no_pins c.args.slot.now c.args.ledger.now c.count_tree.new.ledger c.requires.fresh c.count_tree.ensures.walks.ledger
+returns-clause-found g c = record {
+  found = λ keeps.
+      let a = page_of (g.D.Device.state c.args.device.now).disk.view in
+      let slot = c.args.slot.now in
+      let w = subst (λ (s : LedgerState). IsWalked (tree_of a (bounds_under slot) slot.root.height slot.root.tree) s c.count_tree.new.ledger c.in_ok-count.count) c.requires.fresh (c.in_ok-count.ensures.answered keeps) in
+      is_reached slot a c.count_tree.new.ledger c.in_ok-count.count c.requires.small w c.if-count-slot.false;
+  named = λ keeps. tt;
+  whole = λ keeps.
+      let slot = c.args.slot.now in
+      all_whole (g.D.Device.state c.args.device.now).disk.view slot.root.pages slot.seal c.args.ledger.now c.count_tree.new.ledger c.requires.fresh (c.in_ok-count.ensures.walks.whole keeps);
+  rooted = c.in_ok-count.ensures.rooted;
+  rest = at_rest c.args.slot.now c.args.ledger.now c.count_tree.new.ledger c.requires.fresh c.count_tree.ensures.walks.ledger;
+  unpinned = no_pins c.args.slot.now c.args.ledger.now c.count_tree.new.ledger c.requires.fresh c.count_tree.ensures.walks.ledger;
+}

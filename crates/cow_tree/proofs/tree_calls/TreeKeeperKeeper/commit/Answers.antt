@@ -71,7 +71,7 @@ returns-in-Err-clause-fault g c =
     let held_by = λ (keeps : IsTrue old.honest). is_held old.size k.slot old.disk k.ledger k.top k.fitted (k.there keeps) (k.durable keeps up) k.sealed in
     let first = λ (keeps : IsTrue old.honest). starts old.size k.slot old.disk.view k.ledger k.fitted (k.there keeps) in
     let rise = reads_rise c.in-Err.fault old.failed_reads mid.failed_reads c.in-Err.ensures.reads.reads in
-    let stayed = subst (λ (l : LedgerState). HasStayed (tree_holding old k.slot k.ledger k.top k.usable k.pinned) (tree_holding mid k.slot l k.top k.usable k.pinned)) (sym c.in-Err.ensures.refused) (has_read old mid k.slot k.ledger k.top k.usable k.pinned only rise).same in
+    let stayed = subst (λ (l : LedgerState). HasStayed (tree_holding old k.slot k.ledger k.top k.usable k.pinned) (tree_holding mid k.slot l k.top k.usable k.pinned)) (sym c.in-Err.ensures.ledger.refused) (has_read old mid k.slot k.ledger k.top k.usable k.pinned only rise).same in
     record {
       cause = commit_fault (tree_holding old k.slot k.ledger k.top k.usable k.pinned) (tree_holding mid k.slot c.plan_commit.new.ledger k.top k.usable k.pinned) (length batch) (MayNeed k.slot old batch) k.slot (MayBeTooDeep k.slot (length batch) × GetsTooDeep k.slot old.disk.view batch) _ _ c.in-Err.fault stayed c.in-Err.ensures.reads.reads
           (λ keeps. c.in-Err.ensures.planned keeps k.top pairs (held_by keeps) (first keeps) refl version) (λ deep. ((not_flat k.slot.root.banner.version k.fitted.version, deep.0), λ again. deep.1)) c.in-Err.ensures.fault (λ n f keeps again. f keeps pairs (first keeps));
@@ -153,7 +153,7 @@ write_plan-requires-clause-planned g c = λ keeps2.
     let sure = λ (keeps : IsTrue old.honest) (i : Image) (left : may_crash_to (states c.plan_commit.new.device) i).
     let e : i ≡ mid.disk.view = (k.durable keeps up).images i (d.crash_states_are_images k.device i keeps ((c.plan_commit.ensures.reads.device.no_new_crash_state keeps).now i left)) ∙ sym (same keeps) in e in
     let ready = λ (keeps : IsTrue old.honest).
-    may_be_written old.disk.view mid.disk.view (states c.plan_commit.new.device) k.slot k.ledger c.plan_commit.new.ledger k.top c.in-Ok.plan (updated pairs batch) (held_by keeps) c.plan_commit.ensures.marks
+    may_be_written old.disk.view mid.disk.view (states c.plan_commit.new.device) k.slot k.ledger c.plan_commit.new.ledger k.top c.in-Ok.plan (updated pairs batch) (held_by keeps) c.plan_commit.ensures.ledger.marks
     (c.in-Ok.ensures.planned keeps k.top pairs (held_by keeps) (first keeps) refl version).0 k.fitted.version (same keeps) (sure keeps) in
     ready (subst IsTrue only.same.honest keeps2)
 
@@ -176,25 +176,25 @@ invariant_of-self-in-Ok-write_plan g c =
     let sure = λ (keeps : IsTrue old.honest) (i : Image) (left : may_crash_to (states c.plan_commit.new.device) i).
     let e : i ≡ mid.disk.view = (k.durable keeps up).images i (d.crash_states_are_images k.device i keeps ((c.plan_commit.ensures.reads.device.no_new_crash_state keeps).now i left)) ∙ sym (same keeps) in e in
     let ready = λ (keeps : IsTrue old.honest).
-    may_be_written old.disk.view mid.disk.view (states c.plan_commit.new.device) k.slot k.ledger c.plan_commit.new.ledger k.top c.in-Ok.plan (updated pairs batch) (held_by keeps) c.plan_commit.ensures.marks
+    may_be_written old.disk.view mid.disk.view (states c.plan_commit.new.device) k.slot k.ledger c.plan_commit.new.ledger k.top c.in-Ok.plan (updated pairs batch) (held_by keeps) c.plan_commit.ensures.ledger.marks
     (c.in-Ok.ensures.planned keeps k.top pairs (held_by keeps) (first keeps) refl version).0 k.fitted.version (same keeps) (sure keeps) in
     let new = state c.write_plan.new.device in
     let wrote = c.write_plan.ensures.outcome in
     let keeps1 = λ (keeps : IsTrue old.honest). let h : IsTrue mid.honest = subst IsTrue (sym only.same.honest) keeps in h in
     let back = λ (keeps2 : IsTrue new.honest). let h : IsTrue old.honest = subst IsTrue (wrote.same.honest ∙ only.same.honest) keeps2 in h in
-    let done = λ (keeps : IsTrue old.honest). c.in-Ok-write_plan.ensures.done (keeps1 keeps) (ready keeps) in
-    let seal = c.in-Ok.ensures.made.seal_is in
+    let done = λ (keeps : IsTrue old.honest). c.in-Ok-write_plan.ensures.writes.done (keeps1 keeps) (ready keeps) in
+    let seal = c.in-Ok.ensures.made.made.seal_is in
     record {
-      fitted = subst (λ (l : LedgerState). FitsTree new.size c.in-Ok.plan.slot l) (sym c.in-Ok-write_plan.ensures.advanced)
-          (fitted_now old.size new.size k.slot k.ledger c.plan_commit.new.ledger _ c.args.banner c.in-Ok.plan k.fitted c.plan_commit.ensures.marks c.in-Ok.ensures.made version c.requires.banner.port (wrote.same.size ∙ only.same.size));
+      fitted = subst (λ (l : LedgerState). FitsTree new.size c.in-Ok.plan.slot l) (sym c.in-Ok-write_plan.ensures.ledger.advanced_is)
+          (fitted_now old.size new.size k.slot k.ledger c.plan_commit.new.ledger _ c.args.banner c.in-Ok.plan k.fitted c.plan_commit.ensures.ledger.marks c.in-Ok.ensures.made.made version c.requires.banner.port (wrote.same.size ∙ only.same.size));
       sealed = omega (arith, seal);
-      pins = subst (λ (l : LedgerState). ArePinned c.in-Ok.plan.slot.root.pages l k.pinned) (sym c.in-Ok-write_plan.ensures.advanced)
-          (pins_done k.slot.root.pages c.in-Ok.plan.slot.root.pages c.in-Ok.plan.slot.seal k.ledger c.plan_commit.new.ledger k.pinned c.plan_commit.ensures.marks c.in-Ok.ensures.made.size k.pins);
+      pins = subst (λ (l : LedgerState). ArePinned c.in-Ok.plan.slot.root.pages l k.pinned) (sym c.in-Ok-write_plan.ensures.ledger.advanced_is)
+          (pins_done k.slot.root.pages c.in-Ok.plan.slot.root.pages c.in-Ok.plan.slot.seal k.ledger c.plan_commit.new.ledger k.pinned c.plan_commit.ensures.ledger.marks c.in-Ok.ensures.made.made.size k.pins);
       pins_there = λ keeps2.
           let keeps = back keeps2 in
-          subst (λ (l : LedgerState). PinnedTreesAreKept new.disk.view l k.pinned) (sym c.in-Ok-write_plan.ensures.advanced)
-          (kept_done old.disk.view mid.disk.view new.disk.view k.slot.root.pages k.ledger c.plan_commit.new.ledger k.pinned k.pins c.plan_commit.ensures.marks (same keeps) (c.write_plan.ensures.held (keeps1 keeps) (ready keeps)) (k.pins_there keeps) c.in-Ok.plan.slot.seal
-          (subst (λ (l : LedgerState). PinnedStay c.plan_commit.new.ledger l) c.in-Ok-write_plan.ensures.advanced c.in-Ok-write_plan.ensures.pinned));
+          subst (λ (l : LedgerState). PinnedTreesAreKept new.disk.view l k.pinned) (sym c.in-Ok-write_plan.ensures.ledger.advanced_is)
+          (kept_done old.disk.view mid.disk.view new.disk.view k.slot.root.pages k.ledger c.plan_commit.new.ledger k.pinned k.pins c.plan_commit.ensures.ledger.marks (same keeps) (c.write_plan.ensures.writes.held (keeps1 keeps) (ready keeps)) (k.pins_there keeps) c.in-Ok.plan.slot.seal
+          (subst (λ (l : LedgerState). PinnedStay c.plan_commit.new.ledger l) c.in-Ok-write_plan.ensures.ledger.advanced_is c.in-Ok-write_plan.ensures.ledger.pinned));
       leaf = λ keeps2. ∣ inl c.clear.ensures ∣₁;
       places_kept = λ keeps2. c.clear-2.ensures (page_of (g.D.Device.state c.write_plan.new.device).disk.view);
       there = λ keeps2. (done (back keeps2)).there;
@@ -224,13 +224,13 @@ invariant_of-self-in-Err-write_plan g c =
     let sure = λ (keeps : IsTrue old.honest) (i : Image) (left : may_crash_to (states c.plan_commit.new.device) i).
     let e : i ≡ mid.disk.view = (k.durable keeps up).images i (d.crash_states_are_images k.device i keeps ((c.plan_commit.ensures.reads.device.no_new_crash_state keeps).now i left)) ∙ sym (same keeps) in e in
     let ready = λ (keeps : IsTrue old.honest).
-    may_be_written old.disk.view mid.disk.view (states c.plan_commit.new.device) k.slot k.ledger c.plan_commit.new.ledger k.top c.in-Ok.plan (updated pairs batch) (held_by keeps) c.plan_commit.ensures.marks
+    may_be_written old.disk.view mid.disk.view (states c.plan_commit.new.device) k.slot k.ledger c.plan_commit.new.ledger k.top c.in-Ok.plan (updated pairs batch) (held_by keeps) c.plan_commit.ensures.ledger.marks
     (c.in-Ok.ensures.planned keeps k.top pairs (held_by keeps) (first keeps) refl version).0 k.fitted.version (same keeps) (sure keeps) in
     let new = state c.write_plan.new.device in
     let wrote = c.write_plan.ensures.outcome in
     let keeps1 = λ (keeps : IsTrue old.honest). let h : IsTrue mid.honest = subst IsTrue (sym only.same.honest) keeps in h in
     let back = λ (keeps2 : IsTrue new.honest). let h : IsTrue old.honest = subst IsTrue (wrote.same.honest ∙ only.same.honest) keeps2 in h in
-    let as_before : c.write_plan.new.ledger ≡ k.ledger = c.in-Err-write_plan.ensures.abandoned ∙ abandoned_again k.ledger c.plan_commit.new.ledger c.plan_commit.ensures.marks k.fitted.rest.unmarked in
+    let as_before : c.write_plan.new.ledger ≡ k.ledger = c.in-Err-write_plan.ensures.ledger.abandoned_is ∙ abandoned_again k.ledger c.plan_commit.new.ledger c.plan_commit.ensures.ledger.marks k.fitted.rest.unmarked in
     record {
       fitted = subst (λ (l : LedgerState). FitsTree new.size k.slot l) (sym as_before) (subst (λ (n : ℕ). FitsTree n k.slot k.ledger) (sym (wrote.same.size ∙ only.same.size)) k.fitted);
       sealed = let s = k.sealed in omega (arith, s);
@@ -238,13 +238,13 @@ invariant_of-self-in-Err-write_plan g c =
       pins_there = λ keeps2.
           let keeps = back keeps2 in
           subst (λ (l : LedgerState). PinnedTreesAreKept new.disk.view l k.pinned) (sym as_before)
-          (kept_still old.disk.view mid.disk.view new.disk.view k.slot.root.pages k.ledger c.plan_commit.new.ledger k.pinned k.pins c.plan_commit.ensures.marks (same keeps) (c.write_plan.ensures.held (keeps1 keeps) (ready keeps)) (k.pins_there keeps));
+          (kept_still old.disk.view mid.disk.view new.disk.view k.slot.root.pages k.ledger c.plan_commit.new.ledger k.pinned k.pins c.plan_commit.ensures.ledger.marks (same keeps) (c.write_plan.ensures.writes.held (keeps1 keeps) (ready keeps)) (k.pins_there keeps));
       leaf = λ keeps2. ∣ inl c.clear.ensures ∣₁;
       places_kept = λ keeps2. c.clear-2.ensures (page_of (g.D.Device.state c.write_plan.new.device).disk.view);
       there = λ keeps2.
           let keeps = back keeps2 in
           let here = subst (λ (v : Image). IsThere v k.slot k.ledger) (sym (same keeps)) (k.there keeps) in
-          subst (λ (l : LedgerState). IsThere new.disk.view k.slot l) (sym as_before) (still_there k.slot mid.disk.view new.disk.view k.ledger k.fitted.version here (c.in-Err-write_plan.ensures.kept (keeps1 keeps) (ready keeps)));
+          subst (λ (l : LedgerState). IsThere new.disk.view k.slot l) (sym as_before) (still_there k.slot mid.disk.view new.disk.view k.ledger k.fitted.version here (c.in-Err-write_plan.ensures.writes.kept (keeps1 keeps) (ready keeps)));
       durable = λ keeps2 usable. absurd (cc usable);
     }
 
@@ -267,19 +267,19 @@ returns-in-Ok-write_plan-clause-done g c =
     let sure = λ (keeps : IsTrue old.honest) (i : Image) (left : may_crash_to (states c.plan_commit.new.device) i).
     let e : i ≡ mid.disk.view = (k.durable keeps up).images i (d.crash_states_are_images k.device i keeps ((c.plan_commit.ensures.reads.device.no_new_crash_state keeps).now i left)) ∙ sym (same keeps) in e in
     let ready = λ (keeps : IsTrue old.honest).
-    may_be_written old.disk.view mid.disk.view (states c.plan_commit.new.device) k.slot k.ledger c.plan_commit.new.ledger k.top c.in-Ok.plan (updated pairs batch) (held_by keeps) c.plan_commit.ensures.marks
+    may_be_written old.disk.view mid.disk.view (states c.plan_commit.new.device) k.slot k.ledger c.plan_commit.new.ledger k.top c.in-Ok.plan (updated pairs batch) (held_by keeps) c.plan_commit.ensures.ledger.marks
     (c.in-Ok.ensures.planned keeps k.top pairs (held_by keeps) (first keeps) refl version).0 k.fitted.version (same keeps) (sure keeps) in
     let keeps1 = λ (keeps : IsTrue old.honest). let h : IsTrue mid.honest = subst IsTrue (sym only.same.honest) keeps in h in
-    let seal = c.in-Ok.ensures.made.seal_is in
+    let seal = c.in-Ok.ensures.made.made.seal_is in
     record {
-      done = λ keeps. ap (λ (x : Found). x.pairs) (c.in-Ok-write_plan.ensures.done (keeps1 keeps) (ready keeps)).found_is ∙ (ready keeps).planned.pairs_are;
-      banner = c.in-Ok.ensures.made.banner_is;
+      done = λ keeps. ap (λ (x : Found). x.pairs) (c.in-Ok-write_plan.ensures.writes.done (keeps1 keeps) (ready keeps)).found_is ∙ (ready keeps).planned.pairs_are;
+      banner = c.in-Ok.ensures.made.made.banner_is;
       still_usable = refl;
       rises = omega arith;
       generation = omega (arith, seal);
       out = same_numbers (state c.write_plan.new.device).disk.view old.disk.view 0 k.pinned;
-      pins = λ keeps. pins_stay old.disk.view mid.disk.view (state c.write_plan.new.device).disk.view k.slot.root.pages k.ledger c.plan_commit.new.ledger k.pinned k.pins c.plan_commit.ensures.marks (same keeps) (c.write_plan.ensures.held (keeps1 keeps) (ready keeps)) (k.pins_there keeps);
-      fits = λ keeps. (length c.in-Ok.plan.pages.items, λ again. (c.in-Ok.ensures.planned keeps k.top pairs (held_by keeps) (first keeps) refl version).1, c.in-Ok.ensures.room);
+      pins = λ keeps. pins_stay old.disk.view mid.disk.view (state c.write_plan.new.device).disk.view k.slot.root.pages k.ledger c.plan_commit.new.ledger k.pinned k.pins c.plan_commit.ensures.ledger.marks (same keeps) (c.write_plan.ensures.writes.held (keeps1 keeps) (ready keeps)) (k.pins_there keeps);
+      fits = λ keeps. (length c.in-Ok.plan.pages.items, λ again. (c.in-Ok.ensures.planned keeps k.top pairs (held_by keeps) (first keeps) refl version).1, c.in-Ok.ensures.made.room);
     }
 
 pub returns-in-Ok-write_plan-clause-counts : goal.returns-in-Ok-write_plan-clause-counts
@@ -296,7 +296,7 @@ returns-in-Ok-write_plan-clause-counts g c =
       };
       reads = wrote.reads ∙ c.in-Ok.ensures.reads.reads;
       writes = wrote.writes ∙ only.writes;
-      work = written_less (most_levels * length c.args.batch.now) (length c.in-Ok.plan.pages.items) _ c.in-Ok.ensures.room c.plan_commit.ensures.work (at_most c.in-Ok-write_plan.ensures.work);
+      work = written_less (most_levels * length c.args.batch.now) (length c.in-Ok.plan.pages.items) _ c.in-Ok.ensures.made.room c.plan_commit.ensures.work (at_most c.in-Ok-write_plan.ensures.work);
     }
 
 pub returns-in-Ok-write_plan-clause-at_crash : goal.returns-in-Ok-write_plan-clause-at_crash
@@ -318,14 +318,14 @@ returns-in-Ok-write_plan-clause-at_crash g c =
     let sure = λ (keeps : IsTrue old.honest) (i : Image) (left : may_crash_to (states c.plan_commit.new.device) i).
     let e : i ≡ mid.disk.view = (k.durable keeps up).images i (d.crash_states_are_images k.device i keeps ((c.plan_commit.ensures.reads.device.no_new_crash_state keeps).now i left)) ∙ sym (same keeps) in e in
     let ready = λ (keeps : IsTrue old.honest).
-    may_be_written old.disk.view mid.disk.view (states c.plan_commit.new.device) k.slot k.ledger c.plan_commit.new.ledger k.top c.in-Ok.plan (updated pairs batch) (held_by keeps) c.plan_commit.ensures.marks
+    may_be_written old.disk.view mid.disk.view (states c.plan_commit.new.device) k.slot k.ledger c.plan_commit.new.ledger k.top c.in-Ok.plan (updated pairs batch) (held_by keeps) c.plan_commit.ensures.ledger.marks
     (c.in-Ok.ensures.planned keeps k.top pairs (held_by keeps) (first keeps) refl version).0 k.fitted.version (same keeps) (sure keeps) in
     let keeps1 = λ (keeps : IsTrue old.honest). let h : IsTrue mid.honest = subst IsTrue (sym only.same.honest) keeps in h in
     record {
       at_crash = λ keeps usable. adds_both (states k.device) (states c.plan_commit.new.device) (states c.write_plan.new.device) (may_crash_to (states k.device)) (IsBetween (tree_commit k.slot mid.disk.view c.in-Ok.plan.slot (ready keeps).planned.found) c.in-Ok.plan.pages.items mid.disk.view) (λ (i : Image). TreeHas i pairs k.slot.root.banner ⊎ TreeHas i (updated pairs batch) c.args.banner)
-          (c.plan_commit.ensures.reads.device.no_new_crash_state keeps) (c.write_plan.ensures.at_crash (keeps1 keeps) (ready keeps))
+          (c.plan_commit.ensures.reads.device.no_new_crash_state keeps) (c.write_plan.ensures.writes.at_crash (keeps1 keeps) (ready keeps))
           (λ i left. inl (crash_states_have_the_tree old.disk k.slot k.ledger k.top k.fitted.version (k.there keeps) (k.durable keeps up) i (d.crash_states_are_images k.device i keeps left)))
-          (λ i h. old_or_new old.disk.view k.slot c.in-Ok.plan.slot (ready keeps).planned.found c.in-Ok.plan.pages.items (updated pairs batch) c.args.banner i k.fitted.version (ready keeps).planned.plan_is.version c.in-Ok.ensures.made.banner_is (ready keeps).planned.pairs_are (way_again old.disk.view mid.disk.view k.slot c.in-Ok.plan.slot (ready keeps).planned.found c.in-Ok.plan.pages.items i (same keeps) h));
+          (λ i h. old_or_new old.disk.view k.slot c.in-Ok.plan.slot (ready keeps).planned.found c.in-Ok.plan.pages.items (updated pairs batch) c.args.banner i k.fitted.version (ready keeps).planned.plan_is.version c.in-Ok.ensures.made.made.banner_is (ready keeps).planned.pairs_are (way_again old.disk.view mid.disk.view k.slot c.in-Ok.plan.slot (ready keeps).planned.found c.in-Ok.plan.pages.items i (same keeps) h));
       no_new_crash_state = λ keeps. tt;
       no_new_crash_state_when_closed = λ keeps shut. both_flags k.usable up shut;
     }
@@ -349,21 +349,21 @@ returns-in-Ok-write_plan-clause-writes g c =
     let sure = λ (keeps : IsTrue old.honest) (i : Image) (left : may_crash_to (states c.plan_commit.new.device) i).
     let e : i ≡ mid.disk.view = (k.durable keeps up).images i (d.crash_states_are_images k.device i keeps ((c.plan_commit.ensures.reads.device.no_new_crash_state keeps).now i left)) ∙ sym (same keeps) in e in
     let ready = λ (keeps : IsTrue old.honest).
-    may_be_written old.disk.view mid.disk.view (states c.plan_commit.new.device) k.slot k.ledger c.plan_commit.new.ledger k.top c.in-Ok.plan (updated pairs batch) (held_by keeps) c.plan_commit.ensures.marks
+    may_be_written old.disk.view mid.disk.view (states c.plan_commit.new.device) k.slot k.ledger c.plan_commit.new.ledger k.top c.in-Ok.plan (updated pairs batch) (held_by keeps) c.plan_commit.ensures.ledger.marks
     (c.in-Ok.ensures.planned keeps k.top pairs (held_by keeps) (first keeps) refl version).0 k.fitted.version (same keeps) (sure keeps) in
     let keeps1 = λ (keeps : IsTrue old.honest). let h : IsTrue mid.honest = subst IsTrue (sym only.same.honest) keeps in h in
     let stay = λ (keeps : IsTrue old.honest) (now : Image) (h : HeldPagesStay c.plan_commit.new.ledger (page_of mid.disk.view) (page_of now)).
-    pinned_stay old.disk.view k.slot k.ledger k.pinned k.fitted.rest k.pins.seals (k.pins_there keeps) (k.there keeps) now (stay_now old.disk.view mid.disk.view now k.slot.root.pages k.ledger c.plan_commit.new.ledger k.pinned k.pins c.plan_commit.ensures.marks (same keeps) h (k.pins_there keeps)) in
+    pinned_stay old.disk.view k.slot k.ledger k.pinned k.fitted.rest k.pins.seals (k.pins_there keeps) (k.there keeps) now (stay_now old.disk.view mid.disk.view now k.slot.root.pages k.ledger c.plan_commit.new.ledger k.pinned k.pins c.plan_commit.ensures.ledger.marks (same keeps) h (k.pins_there keeps)) in
     record {
       between = λ keeps usable.
           let planned = (c.in-Ok.ensures.planned keeps k.top pairs (held_by keeps) (first keeps) refl version) in
-          let plan = tree_plan old.disk.view k.slot k.ledger k.pinned k.fitted.rest k.pins.seals (k.pins_there keeps) (k.there keeps) c.plan_commit.new.ledger k.top (λ n. MayNeed k.slot old batch (SoManyPages n)) (updated pairs batch) c.args.banner c.in-Ok.plan c.plan_commit.ensures.marks (held_by keeps) planned.0 c.in-Ok.ensures.made.banner_is (λ again. planned.1) in
+          let plan = tree_plan old.disk.view k.slot k.ledger k.pinned k.fitted.rest k.pins.seals (k.pins_there keeps) (k.there keeps) c.plan_commit.new.ledger k.top (λ n. MayNeed k.slot old batch (SoManyPages n)) (updated pairs batch) c.args.banner c.in-Ok.plan c.plan_commit.ensures.ledger.marks (held_by keeps) planned.0 c.in-Ok.ensures.made.made.banner_is (λ again. planned.1) in
           one_plan old.disk.view mid.disk.view (states k.device) (states c.plan_commit.new.device) (states c.write_plan.new.device) k.slot k.top k.pinned (λ n. MayNeed k.slot old batch (SoManyPages n)) (updated pairs batch) c.args.banner plan (same keeps)
-          (c.plan_commit.ensures.reads.device.no_new_crash_state keeps) (c.write_plan.ensures.at_crash (keeps1 keeps) (ready keeps));
+          (c.plan_commit.ensures.reads.device.no_new_crash_state keeps) (c.write_plan.ensures.writes.at_crash (keeps1 keeps) (ready keeps));
       unheld = λ keeps usable. (
-        stay keeps (state c.write_plan.new.device).disk.view (c.write_plan.ensures.held (keeps1 keeps) (ready keeps)),
+        stay keeps (state c.write_plan.new.device).disk.view (c.write_plan.ensures.writes.held (keeps1 keeps) (ready keeps)),
         adds_both (states k.device) (states c.plan_commit.new.device) (states c.write_plan.new.device) (may_crash_to (states k.device)) (IsBetween (tree_commit k.slot mid.disk.view c.in-Ok.plan.slot (ready keeps).planned.found) c.in-Ok.plan.pages.items mid.disk.view) (PinnedPagesStay k.pinned old.disk.view)
-            (c.plan_commit.ensures.reads.device.no_new_crash_state keeps) (c.write_plan.ensures.at_crash (keeps1 keeps) (ready keeps))
+            (c.plan_commit.ensures.reads.device.no_new_crash_state keeps) (c.write_plan.ensures.writes.at_crash (keeps1 keeps) (ready keeps))
             (λ i left n keep. ap (λ (v : Image). page_of v n) ((k.durable keeps up).images i (d.crash_states_are_images k.device i keeps left)))
             (λ i h. stay keeps i (held_pages_stay mid.disk.view (states c.plan_commit.new.device) k.slot c.plan_commit.new.ledger c.in-Ok.plan (ready keeps) i h)),
       );
@@ -389,7 +389,7 @@ returns-clause-fault g c =
     let sure = λ (keeps : IsTrue old.honest) (i : Image) (left : may_crash_to (states c.plan_commit.new.device) i).
     let e : i ≡ mid.disk.view = (k.durable keeps up).images i (d.crash_states_are_images k.device i keeps ((c.plan_commit.ensures.reads.device.no_new_crash_state keeps).now i left)) ∙ sym (same keeps) in e in
     let ready = λ (keeps : IsTrue old.honest).
-    may_be_written old.disk.view mid.disk.view (states c.plan_commit.new.device) k.slot k.ledger c.plan_commit.new.ledger k.top c.in-Ok.plan (updated pairs batch) (held_by keeps) c.plan_commit.ensures.marks
+    may_be_written old.disk.view mid.disk.view (states c.plan_commit.new.device) k.slot k.ledger c.plan_commit.new.ledger k.top c.in-Ok.plan (updated pairs batch) (held_by keeps) c.plan_commit.ensures.ledger.marks
     (c.in-Ok.ensures.planned keeps k.top pairs (held_by keeps) (first keeps) refl version).0 k.fitted.version (same keeps) (sure keeps) in
     let keeps1 = λ (keeps : IsTrue old.honest). let h : IsTrue mid.honest = subst IsTrue (sym only.same.honest) keeps in h in
     let new = state c.write_plan.new.device in
@@ -397,20 +397,20 @@ returns-clause-fault g c =
       cause = record {
         pairs = λ keeps.
             let here = subst (λ (v : Image). IsThere v k.slot k.ledger) (sym (same keeps)) (k.there keeps) in
-            ap (λ (x : Found). x.pairs) (still_under k.slot mid.disk.view new.disk.view k.ledger k.fitted.version here (c.in-Err-write_plan.ensures.kept (keeps1 keeps) (ready keeps))) ∙ ap (λ (v : Image). (found_under k.slot v).pairs) (same keeps);
+            ap (λ (x : Found). x.pairs) (still_under k.slot mid.disk.view new.disk.view k.ledger k.fitted.version here (c.in-Err-write_plan.ensures.writes.kept (keeps1 keeps) (ready keeps))) ∙ ap (λ (v : Image). (found_under k.slot v).pairs) (same keeps);
         banner = refl;
         shut = refl;
         generation = refl;
-        free = ap free_count (c.in-Err-write_plan.ensures.abandoned ∙ abandoned_again k.ledger c.plan_commit.new.ledger c.plan_commit.ensures.marks k.fitted.rest.unmarked);
+        free = ap free_count (c.in-Err-write_plan.ensures.ledger.abandoned_is ∙ abandoned_again k.ledger c.plan_commit.new.ledger c.plan_commit.ensures.ledger.marks k.fitted.rest.unmarked);
         height = refl;
         keys = refl;
         out = same_numbers (state c.write_plan.new.device).disk.view old.disk.view 0 k.pinned;
-        pins = λ keeps. pins_stay old.disk.view mid.disk.view (state c.write_plan.new.device).disk.view k.slot.root.pages k.ledger c.plan_commit.new.ledger k.pinned k.pins c.plan_commit.ensures.marks (same keeps) (c.write_plan.ensures.held (keeps1 keeps) (ready keeps)) (k.pins_there keeps);
+        pins = λ keeps. pins_stay old.disk.view mid.disk.view (state c.write_plan.new.device).disk.view k.slot.root.pages k.ledger c.plan_commit.new.ledger k.pinned k.pins c.plan_commit.ensures.ledger.marks (same keeps) (c.write_plan.ensures.writes.held (keeps1 keeps) (ready keeps)) (k.pins_there keeps);
         cause = λ usable. c.in-Err-write_plan.ensures.outcome.writes ∙ ap counted only.writes;
         top = inr refl;
       };
       need = λ usable. both_flags k.usable up (sym usable);
-      tight = λ keeps usable shut. (length c.in-Ok.plan.pages.items, λ again. (c.in-Ok.ensures.planned keeps k.top pairs (held_by keeps) (first keeps) refl version).1, c.in-Ok.ensures.room);
+      tight = λ keeps usable shut. (length c.in-Ok.plan.pages.items, λ again. (c.in-Ok.ensures.planned keeps k.top pairs (held_by keeps) (first keeps) refl version).1, c.in-Ok.ensures.made.room);
     }
 
 pub returns-clause-counts : goal.returns-clause-counts
@@ -430,7 +430,7 @@ returns-clause-counts g c =
       };
       reads = wrote.reads ∙ c.in-Ok.ensures.reads.reads;
       writes = subst (λ (u : Bool). new.failed_writes ≡ writes_after u Failed old.failed_writes) (sym c.if-not-self.false) (wrote.writes ∙ ap counted only.writes);
-      work = written_less (most_levels * length c.args.batch.now) (length c.in-Ok.plan.pages.items) _ c.in-Ok.ensures.room c.plan_commit.ensures.work (most_of c.write_plan.result c.write_plan.ensures.work);
+      work = written_less (most_levels * length c.args.batch.now) (length c.in-Ok.plan.pages.items) _ c.in-Ok.ensures.made.room c.plan_commit.ensures.work (most_of c.write_plan.result c.write_plan.ensures.work);
     }
 
 pub returns-clause-at_crash : goal.returns-clause-at_crash
@@ -452,14 +452,14 @@ returns-clause-at_crash g c =
     let sure = λ (keeps : IsTrue old.honest) (i : Image) (left : may_crash_to (states c.plan_commit.new.device) i).
     let e : i ≡ mid.disk.view = (k.durable keeps up).images i (d.crash_states_are_images k.device i keeps ((c.plan_commit.ensures.reads.device.no_new_crash_state keeps).now i left)) ∙ sym (same keeps) in e in
     let ready = λ (keeps : IsTrue old.honest).
-    may_be_written old.disk.view mid.disk.view (states c.plan_commit.new.device) k.slot k.ledger c.plan_commit.new.ledger k.top c.in-Ok.plan (updated pairs batch) (held_by keeps) c.plan_commit.ensures.marks
+    may_be_written old.disk.view mid.disk.view (states c.plan_commit.new.device) k.slot k.ledger c.plan_commit.new.ledger k.top c.in-Ok.plan (updated pairs batch) (held_by keeps) c.plan_commit.ensures.ledger.marks
     (c.in-Ok.ensures.planned keeps k.top pairs (held_by keeps) (first keeps) refl version).0 k.fitted.version (same keeps) (sure keeps) in
     let keeps1 = λ (keeps : IsTrue old.honest). let h : IsTrue mid.honest = subst IsTrue (sym only.same.honest) keeps in h in
     record {
       at_crash = λ keeps usable. adds_both (states k.device) (states c.plan_commit.new.device) (states c.write_plan.new.device) (may_crash_to (states k.device)) (IsBetween (tree_commit k.slot mid.disk.view c.in-Ok.plan.slot (ready keeps).planned.found) c.in-Ok.plan.pages.items mid.disk.view) (λ (i : Image). TreeHas i pairs k.slot.root.banner ⊎ TreeHas i (updated pairs batch) c.args.banner)
-          (c.plan_commit.ensures.reads.device.no_new_crash_state keeps) (c.write_plan.ensures.at_crash (keeps1 keeps) (ready keeps))
+          (c.plan_commit.ensures.reads.device.no_new_crash_state keeps) (c.write_plan.ensures.writes.at_crash (keeps1 keeps) (ready keeps))
           (λ i left. inl (crash_states_have_the_tree old.disk k.slot k.ledger k.top k.fitted.version (k.there keeps) (k.durable keeps up) i (d.crash_states_are_images k.device i keeps left)))
-          (λ i h. old_or_new old.disk.view k.slot c.in-Ok.plan.slot (ready keeps).planned.found c.in-Ok.plan.pages.items (updated pairs batch) c.args.banner i k.fitted.version (ready keeps).planned.plan_is.version c.in-Ok.ensures.made.banner_is (ready keeps).planned.pairs_are (way_again old.disk.view mid.disk.view k.slot c.in-Ok.plan.slot (ready keeps).planned.found c.in-Ok.plan.pages.items i (same keeps) h));
+          (λ i h. old_or_new old.disk.view k.slot c.in-Ok.plan.slot (ready keeps).planned.found c.in-Ok.plan.pages.items (updated pairs batch) c.args.banner i k.fitted.version (ready keeps).planned.plan_is.version c.in-Ok.ensures.made.made.banner_is (ready keeps).planned.pairs_are (way_again old.disk.view mid.disk.view k.slot c.in-Ok.plan.slot (ready keeps).planned.found c.in-Ok.plan.pages.items i (same keeps) h));
       no_new_crash_state = λ keeps usable. both_flags false usable refl;
       no_new_crash_state_when_closed = λ keeps shut. both_flags k.usable up shut;
     }
@@ -483,21 +483,21 @@ returns-clause-writes g c =
     let sure = λ (keeps : IsTrue old.honest) (i : Image) (left : may_crash_to (states c.plan_commit.new.device) i).
     let e : i ≡ mid.disk.view = (k.durable keeps up).images i (d.crash_states_are_images k.device i keeps ((c.plan_commit.ensures.reads.device.no_new_crash_state keeps).now i left)) ∙ sym (same keeps) in e in
     let ready = λ (keeps : IsTrue old.honest).
-    may_be_written old.disk.view mid.disk.view (states c.plan_commit.new.device) k.slot k.ledger c.plan_commit.new.ledger k.top c.in-Ok.plan (updated pairs batch) (held_by keeps) c.plan_commit.ensures.marks
+    may_be_written old.disk.view mid.disk.view (states c.plan_commit.new.device) k.slot k.ledger c.plan_commit.new.ledger k.top c.in-Ok.plan (updated pairs batch) (held_by keeps) c.plan_commit.ensures.ledger.marks
     (c.in-Ok.ensures.planned keeps k.top pairs (held_by keeps) (first keeps) refl version).0 k.fitted.version (same keeps) (sure keeps) in
     let keeps1 = λ (keeps : IsTrue old.honest). let h : IsTrue mid.honest = subst IsTrue (sym only.same.honest) keeps in h in
     let stay = λ (keeps : IsTrue old.honest) (now : Image) (h : HeldPagesStay c.plan_commit.new.ledger (page_of mid.disk.view) (page_of now)).
-    pinned_stay old.disk.view k.slot k.ledger k.pinned k.fitted.rest k.pins.seals (k.pins_there keeps) (k.there keeps) now (stay_now old.disk.view mid.disk.view now k.slot.root.pages k.ledger c.plan_commit.new.ledger k.pinned k.pins c.plan_commit.ensures.marks (same keeps) h (k.pins_there keeps)) in
+    pinned_stay old.disk.view k.slot k.ledger k.pinned k.fitted.rest k.pins.seals (k.pins_there keeps) (k.there keeps) now (stay_now old.disk.view mid.disk.view now k.slot.root.pages k.ledger c.plan_commit.new.ledger k.pinned k.pins c.plan_commit.ensures.ledger.marks (same keeps) h (k.pins_there keeps)) in
     record {
       between = λ keeps usable.
           let planned = (c.in-Ok.ensures.planned keeps k.top pairs (held_by keeps) (first keeps) refl version) in
-          let plan = tree_plan old.disk.view k.slot k.ledger k.pinned k.fitted.rest k.pins.seals (k.pins_there keeps) (k.there keeps) c.plan_commit.new.ledger k.top (λ n. MayNeed k.slot old batch (SoManyPages n)) (updated pairs batch) c.args.banner c.in-Ok.plan c.plan_commit.ensures.marks (held_by keeps) planned.0 c.in-Ok.ensures.made.banner_is (λ again. planned.1) in
+          let plan = tree_plan old.disk.view k.slot k.ledger k.pinned k.fitted.rest k.pins.seals (k.pins_there keeps) (k.there keeps) c.plan_commit.new.ledger k.top (λ n. MayNeed k.slot old batch (SoManyPages n)) (updated pairs batch) c.args.banner c.in-Ok.plan c.plan_commit.ensures.ledger.marks (held_by keeps) planned.0 c.in-Ok.ensures.made.made.banner_is (λ again. planned.1) in
           one_plan old.disk.view mid.disk.view (states k.device) (states c.plan_commit.new.device) (states c.write_plan.new.device) k.slot k.top k.pinned (λ n. MayNeed k.slot old batch (SoManyPages n)) (updated pairs batch) c.args.banner plan (same keeps)
-          (c.plan_commit.ensures.reads.device.no_new_crash_state keeps) (c.write_plan.ensures.at_crash (keeps1 keeps) (ready keeps));
+          (c.plan_commit.ensures.reads.device.no_new_crash_state keeps) (c.write_plan.ensures.writes.at_crash (keeps1 keeps) (ready keeps));
       unheld = λ keeps usable. (
-        stay keeps (state c.write_plan.new.device).disk.view (c.write_plan.ensures.held (keeps1 keeps) (ready keeps)),
+        stay keeps (state c.write_plan.new.device).disk.view (c.write_plan.ensures.writes.held (keeps1 keeps) (ready keeps)),
         adds_both (states k.device) (states c.plan_commit.new.device) (states c.write_plan.new.device) (may_crash_to (states k.device)) (IsBetween (tree_commit k.slot mid.disk.view c.in-Ok.plan.slot (ready keeps).planned.found) c.in-Ok.plan.pages.items mid.disk.view) (PinnedPagesStay k.pinned old.disk.view)
-            (c.plan_commit.ensures.reads.device.no_new_crash_state keeps) (c.write_plan.ensures.at_crash (keeps1 keeps) (ready keeps))
+            (c.plan_commit.ensures.reads.device.no_new_crash_state keeps) (c.write_plan.ensures.writes.at_crash (keeps1 keeps) (ready keeps))
             (λ i left n keep. ap (λ (v : Image). page_of v n) ((k.durable keeps up).images i (d.crash_states_are_images k.device i keeps left)))
             (λ i h. stay keeps i (held_pages_stay mid.disk.view (states c.plan_commit.new.device) k.slot c.plan_commit.new.ledger c.in-Ok.plan (ready keeps) i h)),
       );
