@@ -1,6 +1,6 @@
 -- An image that was made represents its site and no other.
 use Rattle.std.proofs.Common.{◌≡◌, ℕ, ◌<◌, ◌≤◌, ◌^◌, List, length, Result, Ok, Err, refl}
-use Rattle.std.specs.Prelude.{IsTrue, OnOk}
+use Rattle.std.specs.Prelude.{IsTrue, OnOk, IfErr}
 use Rattle.common_types.specs.Names.{is_field, is_word}
 use Rattle.host_types.specs.Site.{Site, fresh_site}
 use Rattle.host_types.proofs.FreshSite.{fresh_keeps}
@@ -35,3 +35,12 @@ is_formatted (Ok x) image pages pairs banner s content first version shows =
     let stands = kept_stands image pairs banner s content version shows in
     record { stands = stands; alone = λ t other. one_site image t s other stands; first = first }
 is_formatted (Err e) image pages pairs banner s content first version shows = tt
+
+-- more of what holds of an answer, or of a fault
+pub done_more : {T E P Q : Type 0} (r : Result T E) → OnOk r P → (P → Q) → OnOk r Q
+done_more (Ok x) p more = more p
+done_more (Err e) p more = tt
+
+pub failed_more : {T E : Type 0} {P Q : E → Type 0} (r : Result T E) → IfErr r P → ((e : E) → P e → Q e) → IfErr r Q
+failed_more (Ok x) p more = tt
+failed_more (Err e) p more = more e p

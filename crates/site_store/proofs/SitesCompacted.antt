@@ -4,8 +4,10 @@ use Rattle.std.specs.Prelude.{Result, Ok, Err, OnOk, IfErr}
 use Rattle.common_types.specs.CrashStates.{CrashStates, AddsOnly}
 use Rattle.host_types.specs.Site.{Site}
 use Rattle.page_store.specs.Pages.{Pair}
-use Rattle.page_store.specs.StoreState.{StoreState, HasStayed}
-use Rattle.page_store.specs.Compaction.{IsCompacted, IsCompactFault}
+use Rattle.page_store.specs.StoreState.{StoreState, CommitNeed, HasStayed}
+use Rattle.page_store.specs.Compaction.{IsCompactFault}
+use Rattle.page_store.specs.CompactCalls.{WritesAnew, FailsToCompact}
+use Rattle.page_store.specs.declared.edit.Edit.{Edit}
 use Rattle.page_store.specs.declared.banner.Banner.{Banner}
 use Rattle.page_store.specs.declared.fault.KeeperFault.{KeeperFault}
 use Rattle.page_store.specs.declared.fault.KeeperFault.TheVariants as faults
@@ -33,9 +35,10 @@ fault_stays old new may (faults.Full need free) f = stayed old new f.0
 fault_stays old new may faults.Failed f = record { pairs = f.pairs; banner = f.banner; pins = record { out = f.out; pins = f.pins } }
 fault_stays old new may faults.Memory f = stayed old new f
 
-pub stays : (result : Result (Unit {0}) KeeperFault) (old new : StoreState) (may : ℕ → Type 0) → OnOk result (IsCompacted old new) → IfErr result (IsCompactFault old new may) → Stays old new
-stays (Ok x) old new may done fault = record { pairs = done.pairs; banner = done.banner; pins = record { out = done.out; pins = done.pins } }
-stays (Err e) old new may done fault = fault_stays old new may e fault
+pub stays : {K : Type 0} (store_state : K → StoreState) (takes : K → ℕ → Type 0) (may_need : K → List Edit → CommitNeed → Type 0) (filled : Type 0) (result : Result (Unit {0}) KeeperFault) (old new : K) → OnOk result (WritesAnew (store_state old) (store_state new) filled (takes old)) → IfErr result (FailsToCompact store_state takes may_need old new)
+    → Stays (store_state old) (store_state new)
+stays store_state takes may_need filled (Ok x) old new anew fault = record { pairs = anew.done.pairs; banner = anew.done.banner; pins = record { out = anew.done.out; pins = anew.done.pins } }
+stays store_state takes may_need filled (Err e) old new anew fault = fault_stays (store_state old) (store_state new) (takes old) e fault.cause
 
 shown_still : (old new : StoreState) (s : Site) → IsTrue old.honest → Stays old new → RepresentedBy old s → RepresentedBy new s
 shown_still old new s honest same shown = record {

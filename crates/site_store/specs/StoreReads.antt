@@ -2,7 +2,6 @@
 use Rattle.std.specs.Prelude.{◌≡◌, ℕ, ◌<◌, ◌≤◌, ◌-◌, ◌*◌, ◌^◌, nat_lt, if◌then◌else◌, Bool, true, false, List, Option, Some, None, IsTrue, slice_get, map, length}
 use Rattle.host_types.specs.Site.{Site, item_at}
 use Rattle.host_types.specs.Card.{card_view}
-use Rattle.host_types.specs.CrashStates.{CrashStates, AddsNone}
 use Rattle.host_types.specs.declared.view.View.{View}
 use Rattle.host_types.specs.declared.card.CardView.{CardView}
 use Rattle.host_types.specs.declared.menu.Entry.{Entry}
@@ -12,9 +11,9 @@ use Rattle.host_types.specs.declared.item.Body.{Body}
 use Rattle.host_types.specs.declared.item.Body.TheVariants.{Views, Menu, Board, Form, Search, Moved}
 use Rattle.page_store.specs.Pages.{Pair}
 use Rattle.page_store.specs.Batch.{value_at}
-use Rattle.page_store.specs.StoreState.{StoreState, CommitNeed, StoreHasRead, NeedsTheSame, IsStoreReadFault}
+pub use Rattle.page_store.specs.ReadCalls.{StoreReadsOnly}
+use Rattle.page_store.specs.StoreState.{StoreState, IsStoreReadFault}
 use Rattle.page_store.specs.Counting.{reads_after}
-use Rattle.page_store.specs.declared.edit.Edit.{Edit}
 use Rattle.page_store.specs.declared.fault.KeeperFault.{KeeperFault}
 use Rattle.site_records.specs.Keys.{chunk_key}
 use Rattle.site_records.specs.Layout.{chunk_in}
@@ -24,12 +23,6 @@ use Rattle.site_records.specs.declared.record.RecordBody.{RecordBody}
 use Rattle.site_store.specs.Represented.{RepresentedBy}
 use Rattle.site_store.specs.declared.fault.SiteOpenFault.{SiteOpenFault}
 use Rattle.site_store.specs.declared.fault.SiteOpenFault.TheVariants.{BadRecord, Keeper, Memory}
-
--- What a call that reads leaves: what is held stays, a batch may need as much as before, and nothing was written.
-pub record StoreReadsOnly {K L : Type 0} (store_state : K → StoreState) (may_need : K → List Edit → CommitNeed → Type 0) (crash_states : K → CrashStates L) (old new : K) : Type 0 where
-  pub read : StoreHasRead (store_state old) (store_state new)
-  pub need : NeedsTheSame (may_need old) (may_need new)
-  pub no_new_crash_state : IsTrue (store_state old).honest → AddsNone (crash_states old) (crash_states new)
 
 -- no read failed
 abbrev pub NoneFailed : StoreState → StoreState → Type 0

@@ -13,14 +13,14 @@ returns-in-Err-clause-refused g c =
     let device = c.args.device in
     record {
       caused = rw c.of_keeper.ensures
-          (keeper_refused (g.D.Device.state device) (g.D.Device.state c.in-Err.device) (λ honest. (d.view_is_image device honest).size ∙ d.base_has_size device honest) c.in-Err.fault c.in-Err.ensures.fault c.in-Err.ensures.counts_fault);
-      honest = c.in-Err.ensures.handed_back.1;
-      no_new_crash_state = c.in-Err.ensures.at_crash_on_fault;
+          (keeper_refused (g.D.Device.state device) (g.D.Device.state c.in-Err.device) (λ honest. (d.view_is_image device honest).size ∙ d.base_has_size device honest) c.in-Err.fault c.in-Err.ensures.refused.cause c.in-Err.ensures.refused.counts);
+      honest = c.in-Err.ensures.refused.handed_back.1;
+      no_new_crash_state = c.in-Err.ensures.refused.at_crash;
     }
 
 pub returns-in-Err-clause-small : goal.returns-in-Err-clause-small
 returns-in-Err-clause-small g c = λ small.
-    let is = small_refused g.D.Device.state c.args.device c.in-Err.device c.in-Err.fault c.in-Err.ensures.fault c.in-Err.ensures.small small in
+    let is = small_refused g.D.Device.state c.args.device c.in-Err.device c.in-Err.fault c.in-Err.ensures.refused.cause c.in-Err.ensures.refused.small small in
     (c.of_keeper.ensures ∙ is.0, is.1)
 
 pub returns-in-Err-open-clause-refused : goal.returns-in-Err-open-clause-refused
@@ -28,7 +28,7 @@ returns-in-Err-open-clause-refused g c =
     let state = g.D.Device.state in
     let k = c.in-Ok.keeper in
     let back = c.in-Err-open.keeper in
-    let opened = c.in-Ok.ensures in
+    let opened = c.in-Ok.ensures.opened in
     let refused = site_refused (state c.args.device) (state back.device) (held state k) (held state back) (record {
       large = opened.large;
       honest = λ honest. opened.honest ∙ honest;
@@ -47,25 +47,25 @@ returns-in-Err-open-clause-refused g c =
 pub returns-in-Ok-open-clause-site : goal.returns-in-Ok-open-clause-site
 returns-in-Ok-open-clause-site g c =
     let k = c.in-Ok.keeper in
-    λ honest. kept_stands (g.D.Device.state c.args.device).disk.view (held g.D.Device.state k).pairs k.slot.root.banner _ (c.in-Ok.ensures.content honest) k.fitted.version (c.in-Ok-open.ensures.site (subst IsTrue (sym c.in-Ok.ensures.honest) honest))
+    λ honest. kept_stands (g.D.Device.state c.args.device).disk.view (held g.D.Device.state k).pairs k.slot.root.banner _ (c.in-Ok.ensures.opened.content honest) k.fitted.version (c.in-Ok-open.ensures.site (subst IsTrue (sym c.in-Ok.ensures.opened.honest) honest))
 
 pub returns-in-Ok-open-clause-unpinned : goal.returns-in-Ok-open-clause-unpinned
-returns-in-Ok-open-clause-unpinned g c = none_out (held g.D.Device.state c.in-Ok.keeper) (held g.D.Device.state c.in-Ok-open.site.keeper) c.in-Ok-open.ensures.reads_only.read.same.out c.in-Ok.ensures.unpinned
+returns-in-Ok-open-clause-unpinned g c = none_out (held g.D.Device.state c.in-Ok.keeper) (held g.D.Device.state c.in-Ok-open.site.keeper) c.in-Ok-open.ensures.reads_only.read.same.out c.in-Ok.ensures.opened.unpinned
 
 pub returns-in-Ok-open-clause-none_pinned : goal.returns-in-Ok-open-clause-none_pinned
-returns-in-Ok-open-clause-none_pinned g c = no_site_pins (held g.D.Device.state c.in-Ok-open.site.keeper) c.in-Ok-open.site.kept (none_out (held g.D.Device.state c.in-Ok.keeper) (held g.D.Device.state c.in-Ok-open.site.keeper) c.in-Ok-open.ensures.reads_only.read.same.out c.in-Ok.ensures.unpinned)
+returns-in-Ok-open-clause-none_pinned g c = no_site_pins (held g.D.Device.state c.in-Ok-open.site.keeper) c.in-Ok-open.site.kept (none_out (held g.D.Device.state c.in-Ok.keeper) (held g.D.Device.state c.in-Ok-open.site.keeper) c.in-Ok-open.ensures.reads_only.read.same.out c.in-Ok.ensures.opened.unpinned)
 
 pub returns-in-Ok-open-clause-alone : goal.returns-in-Ok-open-clause-alone
 returns-in-Ok-open-clause-alone g c =
     let k = c.in-Ok.keeper in
     let view = (g.D.Device.state c.args.device).disk.view in
-    λ honest s stands. one_site view s _ stands (kept_stands view (held g.D.Device.state k).pairs k.slot.root.banner _ (c.in-Ok.ensures.content honest) k.fitted.version (c.in-Ok-open.ensures.site (subst IsTrue (sym c.in-Ok.ensures.honest) honest)))
+    λ honest s stands. one_site view s _ stands (kept_stands view (held g.D.Device.state k).pairs k.slot.root.banner _ (c.in-Ok.ensures.opened.content honest) k.fitted.version (c.in-Ok-open.ensures.site (subst IsTrue (sym c.in-Ok.ensures.opened.honest) honest)))
 
 pub returns-in-Ok-open-clause-top : goal.returns-in-Ok-open-clause-top
-returns-in-Ok-open-clause-top g c = λ honest. c.in-Ok-open.ensures.reads_only.read.same.top ∙ c.in-Ok.ensures.top honest
+returns-in-Ok-open-clause-top g c = λ honest. c.in-Ok-open.ensures.reads_only.read.same.top ∙ c.in-Ok.ensures.opened.top honest
 
 pub into_device-requires : goal.into_device-requires
-into_device-requires g c = record { unpinned = none_out (held g.D.Device.state c.in-Ok.keeper) (held g.D.Device.state c.in-Err-open.keeper) c.in-Err-open.ensures.handed_back.read.same.out c.in-Ok.ensures.unpinned }
+into_device-requires g c = record { unpinned = none_out (held g.D.Device.state c.in-Ok.keeper) (held g.D.Device.state c.in-Err-open.keeper) c.in-Err-open.ensures.handed_back.read.same.out c.in-Ok.ensures.opened.unpinned }
 
 pub returns-in-Ok-open-clause-work : goal.returns-in-Ok-open-clause-work
 returns-in-Ok-open-clause-work g c =
@@ -73,14 +73,14 @@ returns-in-Ok-open-clause-work g c =
     let k = c.in-Ok.keeper in
     let site = c.in-Ok-open.site in
     let stayed = c.in-Ok-open.ensures.reads_only.read.same in
-    opened_once (state c.args.device) (state k.device) (state site.keeper.device) k.slot.root.pages (held state k) (held state site.keeper) k.fitted.least c.in-Ok.ensures.fits c.in-Ok.ensures.work c.in-Ok-open.ensures.work stayed.keys stayed.height
+    opened_once (state c.args.device) (state k.device) (state site.keeper.device) k.slot.root.pages (held state k) (held state site.keeper) k.fitted.least c.in-Ok.ensures.opened.fits c.in-Ok.ensures.opened.work c.in-Ok-open.ensures.work stayed.keys stayed.height
 
 pub returns-in-Err-clause-work_on_fault : goal.returns-in-Err-clause-work_on_fault
 returns-in-Err-clause-work_on_fault g c =
-    let made = c.in-Err.ensures.work_on_fault in
+    let made = c.in-Err.ensures.refused.work in
     record { reads = made.reads.0; writes = omega (arith, made.writes.0, made.writes.1); syncs = made.syncs }
 
 pub returns-in-Err-open-clause-work_on_fault : goal.returns-in-Err-open-clause-work_on_fault
 returns-in-Err-open-clause-work_on_fault g c =
     let state = g.D.Device.state in
-    rw c.into_device.ensures (refused_once _ (state c.args.device) (state c.in-Ok.keeper.device) (state c.in-Err-open.keeper.device) c.in-Ok.ensures.work c.in-Err-open.ensures.handed_back.read.same.calls)
+    rw c.into_device.ensures (refused_once _ (state c.args.device) (state c.in-Ok.keeper.device) (state c.in-Err-open.keeper.device) c.in-Ok.ensures.opened.work c.in-Err-open.ensures.handed_back.read.same.calls)

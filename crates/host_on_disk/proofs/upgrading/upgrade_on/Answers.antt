@@ -20,13 +20,13 @@ returns-in-Err-clause-refused g c =
     let device = c.args.device in
     inl (
       rw c.of_keeper.ensures
-          (keeper_refused (g.D.Device.state device) (g.D.Device.state c.in-Err.device) (λ honest. (d.view_is_image device honest).size ∙ d.base_has_size device honest) c.in-Err.fault c.in-Err.ensures.fault c.in-Err.ensures.counts_fault),
-      (c.in-Err.fault, c.of_keeper.ensures, c.in-Err.ensures.fault),
+          (keeper_refused (g.D.Device.state device) (g.D.Device.state c.in-Err.device) (λ honest. (d.view_is_image device honest).size ∙ d.base_has_size device honest) c.in-Err.fault c.in-Err.ensures.refused.cause c.in-Err.ensures.refused.counts),
+      (c.in-Err.fault, c.of_keeper.ensures, c.in-Err.ensures.refused.cause),
     )
 
 pub returns-in-Err-clause-small : goal.returns-in-Err-clause-small
 returns-in-Err-clause-small g c = λ small.
-    let is = small_refused g.D.Device.state c.args.device c.in-Err.device c.in-Err.fault c.in-Err.ensures.fault c.in-Err.ensures.small small in
+    let is = small_refused g.D.Device.state c.args.device c.in-Err.device c.in-Err.fault c.in-Err.ensures.refused.cause c.in-Err.ensures.refused.small small in
     (c.of_keeper.ensures ∙ is.0, is.1)
 
 pub returns-in-Ok-upgrade-clause-upgraded : goal.returns-in-Ok-upgrade-clause-upgraded
@@ -34,7 +34,7 @@ returns-in-Ok-upgrade-clause-upgraded g c = λ honest.
     let state = g.D.Device.state in
     let states = crash_states_of g.D.Device.moment g.D.Device.possible_since in
     let device = c.args.device in
-    let opened = c.in-Ok.ensures in
+    let opened = c.in-Ok.ensures.opened in
     let given = c.in-Ok-upgrade.ensures in
     let k = c.in-Ok.keeper in
     let now = c.in-Ok-upgrade.keeper in
@@ -73,7 +73,7 @@ returns-in-Err-upgrade-clause-kept g c = λ honest.
     let state = g.D.Device.state in
     let states = crash_states_of g.D.Device.moment g.D.Device.possible_since in
     let device = c.args.device in
-    let opened = c.in-Ok.ensures in
+    let opened = c.in-Ok.ensures.opened in
     let given = c.in-Err-upgrade.ensures in
     let k = c.in-Ok.keeper in
     let now = c.in-Err-upgrade.keeper in
@@ -89,7 +89,7 @@ returns-in-Err-upgrade-clause-no_new_crash_state g c = λ honest.
     let state = g.D.Device.state in
     let states = crash_states_of g.D.Device.moment g.D.Device.possible_since in
     let device = c.args.device in
-    let opened = c.in-Ok.ensures in
+    let opened = c.in-Ok.ensures.opened in
     let given = c.in-Err-upgrade.ensures in
     let k = c.in-Ok.keeper in
     let now = c.in-Err-upgrade.keeper in
@@ -103,7 +103,7 @@ pub returns-in-Err-upgrade-clause-refused : goal.returns-in-Err-upgrade-clause-r
 returns-in-Err-upgrade-clause-refused g c =
     let state = g.D.Device.state in
     let device = c.args.device in
-    let opened = c.in-Ok.ensures in
+    let opened = c.in-Ok.ensures.opened in
     let k = c.in-Ok.keeper in
     let now = c.in-Err-upgrade.keeper in
     rw (c.of_site.ensures, c.into_device-in-Err-upgrade.ensures)
@@ -125,7 +125,7 @@ returns-in-Err-upgrade-clause-refused g c =
     refl refl c.in-Err-upgrade.fault c.in-Err-upgrade.ensures.fault)
 
 pub into_device-requires : goal.into_device-requires
-into_device-requires g c = record { unpinned = none_out (held g.D.Device.state c.in-Ok.keeper) (held g.D.Device.state c.in-Ok-upgrade.keeper) c.in-Ok-upgrade.ensures.out c.in-Ok.ensures.unpinned }
+into_device-requires g c = record { unpinned = none_out (held g.D.Device.state c.in-Ok.keeper) (held g.D.Device.state c.in-Ok-upgrade.keeper) c.in-Ok-upgrade.ensures.out c.in-Ok.ensures.opened.unpinned }
 
 pub into_device-requires-in-Err-upgrade : goal.into_device-requires-in-Err-upgrade
-into_device-requires-in-Err-upgrade g c = record { unpinned = none_out (held g.D.Device.state c.in-Ok.keeper) (held g.D.Device.state c.in-Err-upgrade.keeper) c.in-Err-upgrade.ensures.out c.in-Ok.ensures.unpinned }
+into_device-requires-in-Err-upgrade g c = record { unpinned = none_out (held g.D.Device.state c.in-Ok.keeper) (held g.D.Device.state c.in-Err-upgrade.keeper) c.in-Err-upgrade.ensures.out c.in-Ok.ensures.opened.unpinned }

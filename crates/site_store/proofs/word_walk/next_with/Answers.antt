@@ -16,11 +16,11 @@ returns-in-Ok-Some g c =
       next = record {
         reads = record {
           gives = λ honest. ok_more c.selector_in.result c.selector_in.ensures.selector (λ found named s kept within. named ∙ walked_on h s c.args.scope.now c.args.word.now c.args.after.now c.as_bytes.result.now p kept within is (sym (ap (option_map (λ n. (take n.0 c.next.new.key, take n.1 c.next.new.value))) c.in-Ok-Some.field-0-is) ∙ next.pair honest));
-          only = record { read = next.kept; need = next.need; no_new_crash_state = next.at_crash };
-          none = on_any c.selector_in.result next.reads;
-          fault = bad_faults c.selector_in.result h (g.K.Keeper.store_state c.next.new.self) next.reads c.selector_in.ensures.fault (λ honest s kept bad. walked_well h s c.args.scope.now c.args.word.now c.args.after.now c.as_bytes.result.now p kept is (sym (ap (option_map (λ n. (take n.0 c.next.new.key, take n.1 c.next.new.value))) c.in-Ok-Some.field-0-is) ∙ next.pair honest) bad);
+          only = next.only;
+          none = on_any c.selector_in.result next.fails.reads;
+          fault = bad_faults c.selector_in.result h (g.K.Keeper.store_state c.next.new.self) next.fails.reads c.selector_in.ensures.fault (λ honest s kept bad. walked_well h s c.args.scope.now c.args.word.now c.args.after.now c.as_bytes.result.now p kept is (sym (ap (option_map (λ n. (take n.0 c.next.new.key, take n.1 c.next.new.value))) c.in-Ok-Some.field-0-is) ∙ next.pair honest) bad);
         };
-        closed = λ shut. let clash = next.closed shut in absurd (cc clash);
+        closed = λ shut. let clash = next.fails.closed shut in absurd (cc clash);
       };
     }
 
@@ -30,8 +30,8 @@ returns-in-Ok-None g c =
     let next = c.in-Ok-None.ensures in
     record {
       next = record {
-        reads = done (record { read = next.kept; need = next.need; no_new_crash_state = next.at_crash }) next.reads (λ honest s kept _.
+        reads = done next.only next.fails.reads (λ honest s kept _.
             walked_off h s c.args.scope.now c.args.word.now c.args.after.now c.as_bytes.result.now kept (c.as_bytes.ensures.key ∙ c.word_key.ensures ∙ ap (λ (w : List ℕ). word_key w c.args.after.now) c.as_slice.ensures) (sym (ap (option_map (λ n. (take n.0 c.next.new.key, take n.1 c.next.new.value))) c.in-Ok-None.field-0-is) ∙ next.pair honest));
-        closed = λ shut. let clash = next.closed shut in absurd (cc clash);
+        closed = λ shut. let clash = next.fails.closed shut in absurd (cc clash);
       };
     }
