@@ -1,7 +1,8 @@
 -- A reply that is drawn from a view of a pinned site.
-use Rattle.std.specs.Prelude.{◌≡◌, ◌≤◌, ℕ, Bool, List, IsTrue, length, take, drop}
+use Rattle.std.specs.Prelude.{◌≡◌, ◌≤◌, ℕ, Bool, List, Result, IsTrue, IfOk, length, take, drop}
 use Rattle.host_types.specs.SiteState.{SiteState, IsUnchangedBehind}
 use Rattle.host_types.specs.Pins.{Pinned}
+use Rattle.host_types.specs.declared.site_fault.SiteFault.{SiteFault}
 use Rattle.view_draws.specs.Progress.{left_of}
 use Rattle.view_draws.specs.Source.{IsViewOf, IsSameView, viewed_by}
 use Rattle.view_draws.specs.declared.view_draw.ViewDraw.{ViewDraw}
@@ -34,3 +35,14 @@ pub record HasBegun (honest : Bool) (body : List ℕ) (d : ViewDraw) (old new : 
   pub within : count ≤ length new
   pub behind : IsUnchangedBehind count old new
   pub next : IsTrue honest → IsViewOf body d.source → take count new ≡ take count (rest_of d body)
+
+-- What a draw gives of its reply. It stays the reply that it is, of which an honest site gives the next bytes.
+pub record DrawsView (h : SiteState) (pin : Pinned) (old new : ViewDraw) (out_old out_new : List ℕ) (result : Result ℕ SiteFault) : Type 0 where
+  pub same : IsSameReply old new
+  pub still_of : IsTrue h.honest → IsOf (body_at h pin old) old → IsOf (body_at h pin old) new
+  pub drawn : IsTrue h.honest → IsOf (body_at h pin old) old → IfOk result (λ n. HasDrawn (body_at h pin old) old new n out_old out_new)
+
+-- All is still to be drawn, and the front of the buffer may have the next bytes.
+pub record LosesNone (honest : Bool) (body : List ℕ) (old new : ViewDraw) (out_old out_new : List ℕ) : Type 0 where
+  pub none_lost : (bytes : List ℕ) → rest_of new bytes ≡ rest_of old bytes
+  pub begun : HasBegun honest body old out_old out_new

@@ -1,12 +1,9 @@
 // The bytes of a view, drawn from a place of a buffer on.
-ghost use Rattle.std.specs.Prelude.{◌≡◌, ◌<◌, ◌≤◌, ◌++◌, ◌⊎◌, [], false, IsTrue, IfOk, OnErr, IfErr, length, take};
-ghost use Rattle.host_types.specs.SiteState.{IsUnchangedBehind, IsReadFault};
+ghost use Rattle.std.specs.Prelude.{◌≡◌, ◌<◌, ◌≤◌, ◌⊎◌, IsTrue, IfOk, OnErr, length};
 ghost use Rattle.host_types.specs.Pins.{is_out};
-ghost use Rattle.view_draws.specs.Counting.{CountsViewReads};
-ghost use Rattle.view_draws.specs.Reading.{ReadsOnly};
-ghost use Rattle.view_draws.specs.Source.{viewed_by, IsViewOf, IsSameView};
-ghost use Rattle.view_draws.specs.Progress.{body_left};
-ghost use Rattle.view_draws.specs.Drawing.{HasPassedOn, PartlyDrawn};
+ghost use Rattle.view_draws.specs.Counting.{ReadsView};
+ghost use Rattle.view_draws.specs.Source.{viewed_by};
+ghost use Rattle.view_draws.specs.Drawing.{GivesView, EndsOrFills, PartlyDrawn};
 
 use crate::progress::DrawProgress;
 use crate::source::ViewSource;
@@ -24,14 +21,10 @@ fn draw_chunk<S: SiteKeeper>(
     requires out { IsTrue (is_out (S.site_state site.old) (S.pinned pin.now)) }
     requires more { progress.old.taken < source.old.size }
     requires room { at < length out.old }
-    ensures passed { IfOk result (λ n. HasPassedOn source.old progress.old progress.new out.old out.new at n) }
-    ensures given { let body = viewed_by (S.site_state site.old) (S.pinned pin.now) source.old in IsTrue (S.site_state site.old).honest → IsViewOf body source.old → IsViewOf body source.new × IfOk result (λ n. take n out.new ++ body_left progress.new body ≡ take at out.old ++ body_left progress.old body) }
+    ensures gives { GivesView (S.site_state site.old) (S.pinned pin.now) source.old source.new progress.old progress.new out.old out.new at result }
     ensures onward { IfOk result (λ n. (progress.old.taken < progress.new.taken) ⊎ (at < n)) }
     ensures untouched { OnErr result ((out.new ≡ out.old) × (progress.new ≡ progress.old)) }
-    ensures same { IsSameView source.old source.new }
-    ensures only { ReadsOnly S.site_state S.lacks S.crash_states site.old site.new }
-    ensures fault { (IsTrue (S.site_state site.old).honest → length (viewed_by (S.site_state site.old) (S.pinned pin.now) source.old) ≡ source.old.size) → IfErr result (IsReadFault false (S.site_state site.old) (S.site_state site.new)) }
-    ensures reads { CountsViewReads (S.pinned pin.now) source.old result (S.site_state site.old) (S.site_state site.new) }
+    ensures reads { ReadsView S.site_state S.lacks S.crash_states (S.pinned pin.now) source.old site.old site.new result }
 {
     source.load(site, pin, progress.taken / CHUNK)?;
     Ok(progress.pass(source.from_place(progress.taken), out, at))
@@ -49,14 +42,10 @@ pub fn draw_body<S: SiteKeeper>(
     requires out { IsTrue (is_out (S.site_state site.old) (S.pinned pin.now)) }
     requires within { progress.old.taken ≤ source.old.size }
     requires room { at ≤ length out.old }
-    ensures passed { IfOk result (λ n. HasPassedOn source.old progress.old progress.new out.old out.new at n) }
-    ensures given { let body = viewed_by (S.site_state site.old) (S.pinned pin.now) source.old in IsTrue (S.site_state site.old).honest → IsViewOf body source.old → IsViewOf body source.new × IfOk result (λ n. take n out.new ++ body_left progress.new body ≡ take at out.old ++ body_left progress.old body) }
-    ensures progress { let body = viewed_by (S.site_state site.old) (S.pinned pin.now) source.old in length body ≡ source.old.size → IfOk result (λ n. (body_left progress.new body ≡ []) ⊎ (n ≡ length out.new)) }
+    ensures gives { GivesView (S.site_state site.old) (S.pinned pin.now) source.old source.new progress.old progress.new out.old out.new at result }
+    ensures ended { EndsOrFills (S.site_state site.old) (S.pinned pin.now) source.old progress.new out.new result }
     ensures begun { OnErr result (PartlyDrawn (S.site_state site.old).honest (viewed_by (S.site_state site.old) (S.pinned pin.now) source.old) source.old progress.old at out.old out.new) }
-    ensures same { IsSameView source.old source.new }
-    ensures only { ReadsOnly S.site_state S.lacks S.crash_states site.old site.new }
-    ensures fault { (IsTrue (S.site_state site.old).honest → length (viewed_by (S.site_state site.old) (S.pinned pin.now) source.old) ≡ source.old.size) → IfErr result (IsReadFault false (S.site_state site.old) (S.site_state site.new)) }
-    ensures reads { CountsViewReads (S.pinned pin.now) source.old result (S.site_state site.old) (S.site_state site.new) }
+    ensures reads { ReadsView S.site_state S.lacks S.crash_states (S.pinned pin.now) source.old site.old site.new result }
 {
     let mut end = at;
     while progress.taken < source.size && end < out.len() {

@@ -18,7 +18,7 @@ pub struct DrawProgress {
 
 impl DrawProgress {
     ghost use Rattle.text_writer.specs.Text.{sent_as};
-    ghost use Rattle.view_draws.specs.Progress.{body_left, left_of};
+    ghost use Rattle.view_draws.specs.Progress.{body_left, left_of, FillsUpTo, IsNextOf};
 
     /// Before the first byte.
     pub fn new(is_text: bool) -> Self
@@ -75,12 +75,10 @@ impl DrawProgress {
     pub fn pass(&mut self, chunk: &[u8], out: &mut [u8], at: usize) -> usize
         requires room { at ≤ length out.old }
         requires fits { self.old.taken + length chunk.now < 2 ^ 64 }
-        ensures onward { at ≤ result }
-        ensures within { result ≤ length out.new }
+        ensures filled { FillsUpTo out.old out.new at result }
         ensures taken { (self.old.taken ≤ self.new.taken) × (self.new.taken ≤ self.old.taken + length chunk.now) }
-        ensures given { (body more : List ℕ) → drop self.old.taken body ≡ chunk.now ++ more → take result out.new ++ body_left self.new body ≡ take at out.old ++ body_left self.old body }
+        ensures given { (body more : List ℕ) → drop self.old.taken body ≡ chunk.now ++ more → IsNextOf body self.old self.new out.old out.new at result }
         ensures same { self.new.head_drawn ≡ self.old.head_drawn }
-        ensures behind { IsUnchangedBehind result out.old out.new }
         ensures progress { (self.new.taken ≡ self.old.taken + length chunk.now) ⊎ (result ≡ length out.new) }
     {
         match &mut self.pipe {
@@ -100,11 +98,9 @@ impl DrawProgress {
     /// Gives what the end of a view of so many bytes gives, from the place `at` on, once all of them are taken, and says how far.
     pub fn finish(&mut self, size: usize, out: &mut [u8], at: usize) -> usize
         requires room { at ≤ length out.old }
-        ensures onward { at ≤ result }
-        ensures within { result ≤ length out.new }
-        ensures given { (body : List ℕ) → length body ≡ size → take result out.new ++ body_left self.new body ≡ take at out.old ++ body_left self.old body }
+        ensures filled { FillsUpTo out.old out.new at result }
+        ensures given { (body : List ℕ) → length body ≡ size → IsNextOf body self.old self.new out.old out.new at result }
         ensures same { (self.new.head_drawn ≡ self.old.head_drawn) × (self.new.taken ≡ self.old.taken) }
-        ensures behind { IsUnchangedBehind result out.old out.new }
         ensures progress { (body : List ℕ) → length body ≡ size → size ≤ self.old.taken → (body_left self.new body ≡ []) ⊎ (result ≡ length out.new) }
     {
         if self.taken < size {

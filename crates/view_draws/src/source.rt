@@ -1,9 +1,7 @@
 // A view of a pinned site, by chunks.
-ghost use Rattle.std.specs.Prelude.{◌≡◌, ◌<◌, ◌≤◌, ◌+◌, ◌*◌, ◌^◌, ◌++◌, ◌⊎◌, ◌/◌, ℕ, List, Some, IsTrue, false, OnOk, IfErr, length, take, drop};
-ghost use Rattle.host_types.specs.SiteState.{IsReadFault};
+ghost use Rattle.std.specs.Prelude.{◌≡◌, ◌<◌, ◌≤◌, ◌+◌, ◌*◌, ◌^◌, ◌++◌, ◌⊎◌, ◌/◌, ℕ, List, Some, IsTrue, OnOk, length, take, drop};
 ghost use Rattle.host_types.specs.Pins.{is_out};
 ghost use Rattle.host_types.specs.Card.{chunk_of};
-ghost use Rattle.view_draws.specs.Reading.{ReadsOnly};
 
 use host_types::{CHUNK, Selector, SiteFault, SiteKeeper};
 
@@ -42,7 +40,7 @@ fn part(bytes: &[u8], start: usize, end: usize) -> &[u8]
 
 impl ViewSource {
     ghost use Rattle.view_draws.specs.Source.{viewed_by, HasChunk, IsSameView};
-    ghost use Rattle.view_draws.specs.Counting.{CountsViewReads};
+    ghost use Rattle.view_draws.specs.Counting.{ReadsView};
 
     /// Makes sure that the buffer holds chunk k.
     pub fn load<S: SiteKeeper>(
@@ -56,9 +54,7 @@ impl ViewSource {
         ensures loaded { OnOk result (self.new.place ≡ Some k) }
         ensures chunk { let body = viewed_by (S.site_state site.old) (S.pinned pin.now) self.old in IsTrue (S.site_state site.old).honest → length body ≡ self.old.size → HasChunk body self.old → HasChunk body self.new }
         ensures same { IsSameView self.old self.new }
-        ensures only { ReadsOnly S.site_state S.lacks S.crash_states site.old site.new }
-        ensures fault { (IsTrue (S.site_state site.old).honest → length (viewed_by (S.site_state site.old) (S.pinned pin.now) self.old) ≡ self.old.size) → IfErr result (IsReadFault false (S.site_state site.old) (S.site_state site.new)) }
-        ensures reads { CountsViewReads (S.pinned pin.now) self.old result (S.site_state site.old) (S.site_state site.new) }
+        ensures reads { ReadsView S.site_state S.lacks S.crash_states (S.pinned pin.now) self.old site.old site.new result }
     {
         if self.place == Some(k) {
             return Ok(());

@@ -1,8 +1,7 @@
 // A reply that is drawn from a view of a pinned site.
-ghost use Rattle.std.specs.Prelude.{◌≡◌, ◌≤◌, ◌↔◌, ◌++◌, ℕ, List, [], false, IsTrue, IfOk, OnErr, IfErr, length};
-ghost use Rattle.host_types.specs.SiteState.{IsUnchangedBehind, IsReadFault};
+ghost use Rattle.std.specs.Prelude.{◌≡◌, ◌≤◌, ◌↔◌, ◌++◌, ℕ, List, [], IsTrue, IfOk, OnErr, length};
+ghost use Rattle.host_types.specs.SiteState.{IsUnchangedBehind};
 ghost use Rattle.host_types.specs.Pins.{is_out};
-ghost use Rattle.view_draws.specs.Reading.{ReadsOnly};
 
 use crate::drawing::draw_body;
 use crate::progress::DrawProgress;
@@ -21,8 +20,8 @@ pub struct ViewDraw {
 
 impl ViewDraw {
     ghost use Rattle.text_writer.specs.Text.{sent_as};
-    ghost use Rattle.view_draws.specs.Counting.{CountsViewReads};
-    ghost use Rattle.view_draws.specs.ViewDraw.{rest_of, IsOf, body_at, IsSameReply, HasDrawn, HasBegun};
+    ghost use Rattle.view_draws.specs.Counting.{ReadsView};
+    ghost use Rattle.view_draws.specs.ViewDraw.{rest_of, IsOf, body_at, DrawsView, LosesNone};
 
     /// The whole reply: a view of so many bytes, behind a head. It takes no memory.
     #[tactic(auto, unfolding(crate::specs::ViewDraw::rest_of))]
@@ -70,17 +69,12 @@ impl ViewDraw {
         ensures behind { IfOk result (λ n. IsUnchangedBehind n out.old out.new) }
 
         // What an honest site gives, where this draws the view as it is there.
-        ensures drawn { let body = body_at (S.site_state site.old) (S.pinned pin.now) self.old in IsTrue (S.site_state site.old).honest → IsOf body self.old → IfOk result (λ n. HasDrawn body self.old self.new n out.old out.new) }
-        ensures still_of { let body = body_at (S.site_state site.old) (S.pinned pin.now) self.old in IsTrue (S.site_state site.old).honest → IsOf body self.old → IsOf body self.new }
+        ensures draws { DrawsView (S.site_state site.old) (S.pinned pin.now) self.old self.new out.old out.new result }
 
         // After a fault all is still to be drawn, and the front of the buffer may have the next bytes.
-        ensures none_lost { OnErr result ((body : List ℕ) → rest_of self.new body ≡ rest_of self.old body) }
-        ensures begun { OnErr result (HasBegun (S.site_state site.old).honest (body_at (S.site_state site.old) (S.pinned pin.now) self.old) self.old out.old out.new) }
-        ensures fault { (IsTrue (S.site_state site.old).honest → IsOf (body_at (S.site_state site.old) (S.pinned pin.now) self.old) self.old) → IfErr result (IsReadFault false (S.site_state site.old) (S.site_state site.new)) }
-        ensures reads { CountsViewReads (S.pinned pin.now) self.old.source result (S.site_state site.old) (S.site_state site.new) }
+        ensures lost { OnErr result (LosesNone (S.site_state site.old).honest (body_at (S.site_state site.old) (S.pinned pin.now) self.old) self.old self.new out.old out.new) }
 
-        ensures same { IsSameReply self.old self.new }
-        ensures only { ReadsOnly S.site_state S.lacks S.crash_states site.old site.new }
+        ensures reads { ReadsView S.site_state S.lacks S.crash_states (S.pinned pin.now) self.old.source site.old site.new result }
     {
         let mut progress = self.progress.copied();
         let head_end = progress.give_head(self.head.as_slice(), out);

@@ -9,8 +9,8 @@ returns-in-Err-clause-draws g c =
     let a = s.site_state c.args.site.now in
     let b = s.site_state c.draw.new.site in
     let drawing = c.args.drawing.now in
-    let kept = c.draw.ensures.only.kept in
-    let reads = drawn_counted a.honest (HasKnownSize a (s.pinned drawing.pin) drawing.view.source) c.in-Err.fault a.failed_reads b.failed_reads (λ honest. (c.requires.sound honest).0.size) c.in-Err.ensures.reads in
+    let kept = c.draw.ensures.reads.only.kept in
+    let reads = drawn_counted a.honest (HasKnownSize a (s.pinned drawing.pin) drawing.view.source) c.in-Err.fault a.failed_reads b.failed_reads (λ honest. (c.requires.sound honest).0.size) c.in-Err.ensures.reads.counts in
     record {
       gives = search rules;
       phase = search rules;
@@ -18,7 +18,7 @@ returns-in-Err-clause-draws g c =
       waits = search rules;
       kept = record { site = kept.site; honest = kept.honest; usable = kept.usable; reads = kept.reads; writes = kept.writes; free = omega (arith, kept.free) };
       fault = search rules;
-      counts = read_fault_counts false c.in-Err.fault c.of_site.result a b c.requires.usable c.of_site.ensures c.draw.ensures.only.kept (c.in-Err.ensures.fault (λ honest. (c.requires.sound honest).0)) reads;
+      counts = read_fault_counts false c.in-Err.fault c.of_site.result a b c.requires.usable c.of_site.ensures kept (c.in-Err.ensures.reads.fault (λ honest. (c.requires.sound honest).0.size)) reads;
       at_crash = search rules;
       within = search rules;
       behind = search rules;

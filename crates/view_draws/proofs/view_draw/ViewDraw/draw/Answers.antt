@@ -1,4 +1,4 @@
-use Rattle.std.proofs.Common.{◌≡◌, ◌≤◌, ◌++◌, ◌⊎◌, ℕ, List, [], take, length, sym, ap, subst, ◌∙◌, arith}
+use Rattle.std.proofs.Common.{◌≡◌, ◌≤◌, ◌++◌, ◌⊎◌, ℕ, List, [], take, length, refl, sym, ap, subst, ◌∙◌, arith, rules}
 use Rattle.std.proofs.lemmas.List.{length-take}
 use Rattle.view_draws.specs.Progress.{left_of}
 use Rattle.view_draws.specs.ViewDraw.{rest_of, body_at}
@@ -15,9 +15,9 @@ of_same head slice start copy now given body same_head same_start is =
 head_or_full : (head slice mid : List ℕ) (now : DrawProgress) (half : ℕ) → slice ≡ head → (now.head_drawn ≡ length slice) ⊎ (half ≡ length mid) → (now.head_drawn ≡ length head) ⊎ (half ≡ length mid)
 head_or_full head slice mid now half same is = subst (λ l. (now.head_drawn ≡ length l) ⊎ (half ≡ length mid)) same is
 
-pub returns-in_err-end-clause-begun : goal.returns-in_err-end-clause-begun
+pub returns-in_err-end-clause-lost : goal.returns-in_err-end-clause-lost
 unfolding rest_of
-returns-in_err-end-clause-begun g c =
+returns-in_err-end-clause-lost g c =
     let part = c.in_err-end.ensures.begun in
     let start = c.args.self.now in
     let body = body_at (g.S.SiteKeeper.site_state c.args.site.now) (g.S.SiteKeeper.pinned c.args.pin.now) start in
@@ -29,22 +29,25 @@ returns-in_err-end-clause-begun g c =
     let first : take half mid ++ left_of start.head head.new.self body ≡ left_of start.head start.progress body =
     of_same start.head c.as_slice.result.now start.progress c.copied-progress.result head.new.self (take half mid) body c.as_slice.ensures c.copied-progress.ensures (head.ensures.given body) in
     after_fault c.from_residual.result (record {
-      count = part.end;
-      within = part.within;
-      behind = part.behind ∙ unchanged_on half part.end mid c.args.out.now part.onward head.ensures.behind;
-      next = λ honest of. front_begun start.head body mid new start.progress head.new.self half part.end head.ensures.within part.within size part.onward
-          (head_or_full start.head c.as_slice.result.now mid head.new.self half c.as_slice.ensures head.ensures.progress) first (part.next honest of);
+      none_lost = λ bytes. refl;
+      begun = record {
+        count = part.end;
+        within = part.within;
+        behind = part.behind ∙ unchanged_on half part.end mid c.args.out.now part.onward head.ensures.behind;
+        next = λ honest of. front_begun start.head body mid new start.progress head.new.self half part.end head.ensures.within part.within size part.onward
+            (head_or_full start.head c.as_slice.result.now mid head.new.self half c.as_slice.ensures head.ensures.progress) first (part.next honest of);
+      };
     })
 
 pub returns-clause-behind : goal.returns-clause-behind
 returns-clause-behind g c =
-    let drawn = c.in_ok-end.ensures.passed in
+    let drawn = c.in_ok-end.ensures.gives.passed in
     let head = c.give_head-head_end in
     drawn.behind ∙ unchanged_on head.result c.in_ok-end.end head.new.out c.args.out.now drawn.onward head.ensures.behind
 
-pub returns-clause-drawn : goal.returns-clause-drawn
+pub returns-clause-draws : goal.returns-clause-draws
 unfolding rest_of
-returns-clause-drawn g c honest of =
+returns-clause-draws g c =
     let start = c.args.self.now in
     let body = body_at (g.S.SiteKeeper.site_state c.args.site.now) (g.S.SiteKeeper.pinned c.args.pin.now) start in
     let head = c.give_head-head_end in
@@ -52,7 +55,7 @@ returns-clause-drawn g c honest of =
     let half = head.result in
     let new = c.draw_body.new.out in
     let end = c.in_ok-end.end in
-    let drawn = c.in_ok-end.ensures.passed in
+    let drawn = c.in_ok-end.ensures.gives.passed in
     let later = c.draw_body.new.progress in
     let n = length c.args.out.now in
     let size : length new ≡ length mid = omega arith in
@@ -61,13 +64,18 @@ returns-clause-drawn g c honest of =
     let first : take half mid ++ left_of start.head head.new.self body ≡ left_of start.head start.progress body =
     of_same start.head c.as_slice.result.now start.progress c.copied-progress.result head.new.self (take half mid) body c.as_slice.ensures c.copied-progress.ensures (head.ensures.given body) in
     let all = head_or_full start.head c.as_slice.result.now mid head.new.self half c.as_slice.ensures head.ensures.progress in
-    let joined : take end new ++ left_of start.head later body ≡ left_of start.head start.progress body =
-    whole_given start.head body mid new start.progress head.new.self later half end head.ensures.within drawn.within size drawn.onward drawn.head all first (c.in_ok-end.ensures.given honest of).1 in
-    let ended : (left_of start.head later body ≡ []) ⊎ (end ≡ n) =
-    subst (λ m. (left_of start.head later body ≡ []) ⊎ (end ≡ m)) room
-    (none_or_full start.head body mid new head.new.self later half end drawn.within size drawn.onward drawn.head all (c.in_ok-end.ensures.progress of.size)) in
-    let many : length (take end new) ≡ end = omega (arith, length-take end new, drawn.within) in
     record {
-      given = given_to_end n end (take end new) (left_of start.head later body) (left_of start.head start.progress body) many within joined ended;
-      rest = left_at_end n end (take end new) (left_of start.head later body) (left_of start.head start.progress body) many within joined ended;
+      same = search rules;
+      still_of = search rules;
+      drawn = λ honest of.
+          let joined : take end new ++ left_of start.head later body ≡ left_of start.head start.progress body =
+          whole_given start.head body mid new start.progress head.new.self later half end head.ensures.within drawn.within size drawn.onward drawn.head all first (c.in_ok-end.ensures.gives.given honest of) in
+          let ended : (left_of start.head later body ≡ []) ⊎ (end ≡ n) =
+          subst (λ m. (left_of start.head later body ≡ []) ⊎ (end ≡ m)) room
+          (none_or_full start.head body mid new head.new.self later half end drawn.within size drawn.onward drawn.head all (c.in_ok-end.ensures.ended of.size)) in
+          let many : length (take end new) ≡ end = omega (arith, length-take end new, drawn.within) in
+          record {
+            given = given_to_end n end (take end new) (left_of start.head later body) (left_of start.head start.progress body) many within joined ended;
+            rest = left_at_end n end (take end new) (left_of start.head later body) (left_of start.head start.progress body) many within joined ended;
+          };
     }
