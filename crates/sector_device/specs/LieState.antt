@@ -1,7 +1,8 @@
 -- What callers see of a device that lies about one sector.
-use Rattle.std.specs.Prelude.{◌≡◌, ℕ, List}
+use Rattle.std.specs.Prelude.{◌≡◌, ℕ, List, Some, slice_get, Result, OnOk, IsTrue}
 use Rattle.sector_device.specs.Device.{State}
 use Rattle.sector_device.specs.Lying.{lying}
+use Rattle.sector_device.specs.declared.device.DeviceFault.{DeviceFault}
 use Rattle.sector_device.specs.declared.lie_disk.LieDisk.{LieDisk}
 
 -- the device inside
@@ -32,3 +33,8 @@ pub record SameLie {D : Type 0} (old new : LieDisk D) : Type 0 where
 -- the device inside, but not honest; its calls are those that were made of this one
 abbrev pub lie_state : {D : Type 0} → (D → State) → LieDisk D → State
 lie_state state lie = lying (state lie.inner) lie.made.made
+
+-- What a read gives: the lie, where this is what it lies about, and else what the device inside has.
+pub record TellsLie {D T : Type 0} (state : D → State) (lie : LieDisk D) (n : ℕ) (bytes : List ℕ) (result : Result T DeviceFault) : Type 0 where
+  pub lies : Lies lie n → OnOk result (bytes ≡ told lie)
+  pub passes : (Lies lie n → ⊥) → IsTrue (state (inside lie)).honest → OnOk result (slice_get (state (inside lie)).disk.view n ≡ Some bytes)

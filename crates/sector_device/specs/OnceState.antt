@@ -1,8 +1,10 @@
 -- What callers see of a device of which one call fails.
-use Rattle.std.specs.Prelude.{◌≡◌, ℕ, Option}
+use Rattle.std.specs.Prelude.{◌≡◌, ℕ, Option, Result, IsErr}
 use Rattle.common_types.specs.Counts.{counted}
 use Rattle.sector_device.specs.Device.{State}
 use Rattle.sector_device.specs.Fuse.{with_failures}
+use Rattle.sector_device.specs.Once.{Fails, after_call}
+use Rattle.sector_device.specs.declared.device.DeviceFault.{DeviceFault}
 use Rattle.sector_device.specs.declared.once_disk.OnceDisk.{OnceDisk}
 
 -- the device inside
@@ -39,3 +41,9 @@ pub record RefusesRead {D : Type 0} (old new : OnceDisk D) : Type 0 where
 pub record RefusesWrite {D : Type 0} (old new : OnceDisk D) : Type 0 where
   pub reads : refused_reads new ≡ refused_reads old
   pub writes : refused_writes new ≡ counted (refused_writes old)
+
+-- What a call does, by whether it is the one that fails: it is refused, and the device inside stays, or it goes as inside.
+pub record FailsOnce {D T : Type 0} (Refuses Passes : Type 0) (old new : OnceDisk D) (result : Result T DeviceFault) : Type 0 where
+  pub next : calls_before new ≡ after_call (calls_before old)
+  pub fails : Fails (calls_before old) → IsErr result × (inside new ≡ inside old) × Refuses
+  pub passes : (Fails (calls_before old) → ⊥) → Passes × RefusesNone old new

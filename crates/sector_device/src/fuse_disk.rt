@@ -1,7 +1,6 @@
 // A device that passes so many calls on, and then fails each.
-ghost use Rattle.std.specs.Prelude.{◌≡◌, ◌≤◌, ◌<◌, ◌-◌, ◌+◌, ◌^◌, ◌↔◌, ℕ, IfOk, OnOk, OnErr, IfErr, IsErr, IsTrue, length, slice_get, Some};
+ghost use Rattle.std.specs.Prelude.{◌≡◌, ◌≤◌, ◌<◌, ◌-◌, ◌+◌, ◌^◌, ◌↔◌, ℕ, IfOk, OnOk, OnErr, IfErr, IsTrue, length, slice_get, Some};
 ghost use Rattle.sector_device.specs.Disk.{Sectors, Disk, IsImage, written, synced, WriteFailed, SyncFailed};
-ghost use Rattle.common_types.specs.Counts.{counted, Counts};
 ghost use Rattle.sector_device.specs.Device.{State, Elapses};
 ghost use Rattle.sector_device.specs.Effects.{ReadOutcome, WriteOutcome, MadeExactly};
 
@@ -79,7 +78,7 @@ impl<D: Device> FuseDisk<D> {
 }
 
 impl<D: Device> Device for FuseDisk<D> {
-    ghost use Rattle.sector_device.specs.FuseState.{inside, calls_left, refused_reads, refused_writes, fuse_state};
+    ghost use Rattle.sector_device.specs.FuseState.{inside, refused_reads, refused_writes, fuse_state, Fuses};
 
     ghost state = { λ d. fuse_state D.state d };
 
@@ -106,12 +105,7 @@ impl<D: Device> Device for FuseDisk<D> {
         ensures outcome { ReadOutcome result (fuse_state D.state self.old) (fuse_state D.state self.new) }
         ensures time { IsTrue (fuse_state D.state self.old).honest → Elapses (D.moment (inside self.old)) (D.moment (inside self.new)) (D.possible_since (inside self.old)) (D.possible_since (inside self.new)) }
         ensures work { MadeExactly 1 0 0 (fuse_state D.state self.old) (fuse_state D.state self.new) }
-        ensures burns { calls_left self.new ≡ calls_left self.old - 1 }
-        ensures blown { calls_left self.old ≡ 0 → IsErr result × (inside self.new ≡ inside self.old) }
-        ensures refuses { calls_left self.old ≡ 0 → refused_reads self.new ≡ counted (refused_reads self.old) }
-        ensures refuses_no_other { refused_writes self.new ≡ refused_writes self.old }
-        ensures refuses_none { 0 < calls_left self.old → refused_reads self.new ≡ refused_reads self.old }
-        ensures passes { 0 < calls_left self.old → Counts result (D.state (inside self.old)).failed_reads (D.state (inside self.new)).failed_reads }
+        ensures fuses { Fuses D.state refused_reads refused_writes (λ s. s.failed_reads) self.old self.new result }
     {
         self.made.note(CallKind::Read);
         if !burns(&mut self.calls_left) {
@@ -127,12 +121,7 @@ impl<D: Device> Device for FuseDisk<D> {
         ensures outcome { WriteOutcome result (fuse_state D.state self.old) (fuse_state D.state self.new) }
         ensures time { IsTrue (fuse_state D.state self.old).honest → Elapses (D.moment (inside self.old)) (D.moment (inside self.new)) (D.possible_since (inside self.old)) (D.possible_since (inside self.new)) }
         ensures work { MadeExactly 0 1 0 (fuse_state D.state self.old) (fuse_state D.state self.new) }
-        ensures burns { calls_left self.new ≡ calls_left self.old - 1 }
-        ensures blown { calls_left self.old ≡ 0 → IsErr result × (inside self.new ≡ inside self.old) }
-        ensures refuses { calls_left self.old ≡ 0 → refused_writes self.new ≡ counted (refused_writes self.old) }
-        ensures refuses_no_other { refused_reads self.new ≡ refused_reads self.old }
-        ensures refuses_none { 0 < calls_left self.old → refused_writes self.new ≡ refused_writes self.old }
-        ensures passes { 0 < calls_left self.old → Counts result (D.state (inside self.old)).failed_writes (D.state (inside self.new)).failed_writes }
+        ensures fuses { Fuses D.state refused_writes refused_reads (λ s. s.failed_writes) self.old self.new result }
     {
         self.made.note(CallKind::Write);
         if !burns(&mut self.calls_left) {
@@ -147,12 +136,7 @@ impl<D: Device> Device for FuseDisk<D> {
         ensures outcome { WriteOutcome result (fuse_state D.state self.old) (fuse_state D.state self.new) }
         ensures time { IsTrue (fuse_state D.state self.old).honest → Elapses (D.moment (inside self.old)) (D.moment (inside self.new)) (D.possible_since (inside self.old)) (D.possible_since (inside self.new)) }
         ensures work { MadeExactly 0 0 1 (fuse_state D.state self.old) (fuse_state D.state self.new) }
-        ensures burns { calls_left self.new ≡ calls_left self.old - 1 }
-        ensures blown { calls_left self.old ≡ 0 → IsErr result × (inside self.new ≡ inside self.old) }
-        ensures refuses { calls_left self.old ≡ 0 → refused_writes self.new ≡ counted (refused_writes self.old) }
-        ensures refuses_no_other { refused_reads self.new ≡ refused_reads self.old }
-        ensures refuses_none { 0 < calls_left self.old → refused_writes self.new ≡ refused_writes self.old }
-        ensures passes { 0 < calls_left self.old → Counts result (D.state (inside self.old)).failed_writes (D.state (inside self.new)).failed_writes }
+        ensures fuses { Fuses D.state refused_writes refused_reads (λ s. s.failed_writes) self.old self.new result }
     {
         self.made.note(CallKind::Sync);
         if !burns(&mut self.calls_left) {

@@ -1,5 +1,5 @@
 // A device that lies about one sector.
-ghost use Rattle.std.specs.Prelude.{◌≡◌, ◌≤◌, ◌<◌, ◌-◌, ◌+◌, ℕ, OnOk, OnErr, IfErr, IsTrue, length, slice_get, Some};
+ghost use Rattle.std.specs.Prelude.{◌≡◌, ◌≤◌, ◌<◌, ◌-◌, ◌+◌, ℕ, OnOk, OnErr, IfErr, IsTrue, length};
 ghost use Rattle.sector_device.specs.Disk.{IsImage, written, synced, WriteFailed, SyncFailed};
 ghost use Rattle.sector_device.specs.Device.{State, Elapses};
 ghost use Rattle.sector_device.specs.Effects.{ReadOutcome, WriteOutcome, MadeExactly};
@@ -55,7 +55,7 @@ impl<D: Device> LieDisk<D> {
 }
 
 impl<D: Device> Device for LieDisk<D> {
-    ghost use Rattle.sector_device.specs.LieState.{inside, calls_left, sector, told, Lies, SameLie, lie_state};
+    ghost use Rattle.sector_device.specs.LieState.{inside, calls_left, SameLie, TellsLie, lie_state};
 
     ghost state = { λ d. lie_state D.state d };
 
@@ -83,8 +83,7 @@ impl<D: Device> Device for LieDisk<D> {
         ensures work { MadeExactly 1 0 0 (lie_state D.state self.old) (lie_state D.state self.new) }
         ensures burns { calls_left self.new ≡ calls_left self.old - 1 }
         ensures same_lie { SameLie self.old self.new }
-        ensures lies { Lies self.old n → OnOk result (buffer.new ≡ told self.old) }
-        ensures passes { (Lies self.old n → ⊥) → IsTrue (D.state (inside self.old)).honest → OnOk result (slice_get (D.state (inside self.old)).disk.view n ≡ Some buffer.new) }
+        ensures tells { TellsLie D.state self.old n buffer.new result }
     {
         self.made.note(CallKind::Read);
         let passes = burns(&mut self.calls_left);

@@ -1,5 +1,5 @@
 // A device of which one call fails.
-ghost use Rattle.std.specs.Prelude.{◌≡◌, ◌≤◌, ◌<◌, ◌+◌, ◌^◌, ◌↔◌, ℕ, OnOk, OnErr, IfErr, IsErr, IsTrue, length, slice_get, Some};
+ghost use Rattle.std.specs.Prelude.{◌≡◌, ◌≤◌, ◌<◌, ◌+◌, ◌^◌, ◌↔◌, ℕ, OnOk, OnErr, IfErr, IsTrue, length, slice_get, Some};
 ghost use Rattle.sector_device.specs.Disk.{IsImage, written, synced, WriteFailed, SyncFailed};
 ghost use Rattle.sector_device.specs.Device.{State, Elapses};
 ghost use Rattle.sector_device.specs.Effects.{ReadOutcome, WriteOutcome, MadeExactly};
@@ -86,7 +86,7 @@ impl<D: Device> OnceDisk<D> {
 }
 
 impl<D: Device> Device for OnceDisk<D> {
-    ghost use Rattle.sector_device.specs.OnceState.{inside, calls_before, once_state, RefusesNone, RefusesRead, RefusesWrite};
+    ghost use Rattle.sector_device.specs.OnceState.{inside, once_state, RefusesRead, RefusesWrite, FailsOnce};
 
     ghost state = { λ d. once_state D.state d };
 
@@ -113,9 +113,7 @@ impl<D: Device> Device for OnceDisk<D> {
         ensures outcome { ReadOutcome result (once_state D.state self.old) (once_state D.state self.new) }
         ensures time { IsTrue (once_state D.state self.old).honest → Elapses (D.moment (inside self.old)) (D.moment (inside self.new)) (D.possible_since (inside self.old)) (D.possible_since (inside self.new)) }
         ensures work { MadeExactly 1 0 0 (once_state D.state self.old) (once_state D.state self.new) }
-        ensures next { calls_before self.new ≡ after_call (calls_before self.old) }
-        ensures fails { Fails (calls_before self.old) → IsErr result × (inside self.new ≡ inside self.old) × RefusesRead self.old self.new }
-        ensures passes { (Fails (calls_before self.old) → ⊥) → ReadOutcome result (D.state (inside self.old)) (D.state (inside self.new)) × RefusesNone self.old self.new }
+        ensures once { FailsOnce (RefusesRead self.old self.new) (ReadOutcome result (D.state (inside self.old)) (D.state (inside self.new))) self.old self.new result }
     {
         self.made.note(CallKind::Read);
         if is_the_one(&mut self.calls_before) {
@@ -131,9 +129,7 @@ impl<D: Device> Device for OnceDisk<D> {
         ensures outcome { WriteOutcome result (once_state D.state self.old) (once_state D.state self.new) }
         ensures time { IsTrue (once_state D.state self.old).honest → Elapses (D.moment (inside self.old)) (D.moment (inside self.new)) (D.possible_since (inside self.old)) (D.possible_since (inside self.new)) }
         ensures work { MadeExactly 0 1 0 (once_state D.state self.old) (once_state D.state self.new) }
-        ensures next { calls_before self.new ≡ after_call (calls_before self.old) }
-        ensures fails { Fails (calls_before self.old) → IsErr result × (inside self.new ≡ inside self.old) × RefusesWrite self.old self.new }
-        ensures passes { (Fails (calls_before self.old) → ⊥) → WriteOutcome result (D.state (inside self.old)) (D.state (inside self.new)) × RefusesNone self.old self.new }
+        ensures once { FailsOnce (RefusesWrite self.old self.new) (WriteOutcome result (D.state (inside self.old)) (D.state (inside self.new))) self.old self.new result }
     {
         self.made.note(CallKind::Write);
         if is_the_one(&mut self.calls_before) {
@@ -148,9 +144,7 @@ impl<D: Device> Device for OnceDisk<D> {
         ensures outcome { WriteOutcome result (once_state D.state self.old) (once_state D.state self.new) }
         ensures time { IsTrue (once_state D.state self.old).honest → Elapses (D.moment (inside self.old)) (D.moment (inside self.new)) (D.possible_since (inside self.old)) (D.possible_since (inside self.new)) }
         ensures work { MadeExactly 0 0 1 (once_state D.state self.old) (once_state D.state self.new) }
-        ensures next { calls_before self.new ≡ after_call (calls_before self.old) }
-        ensures fails { Fails (calls_before self.old) → IsErr result × (inside self.new ≡ inside self.old) × RefusesWrite self.old self.new }
-        ensures passes { (Fails (calls_before self.old) → ⊥) → WriteOutcome result (D.state (inside self.old)) (D.state (inside self.new)) × RefusesNone self.old self.new }
+        ensures once { FailsOnce (RefusesWrite self.old self.new) (WriteOutcome result (D.state (inside self.old)) (D.state (inside self.new))) self.old self.new result }
     {
         self.made.note(CallKind::Sync);
         if is_the_one(&mut self.calls_before) {
