@@ -15,6 +15,7 @@ pub mod SiteState
 pub mod ChangesFaults
 pub mod Counting
 pub mod Pins
+pub mod SiteCalls
 pub mod Lines
 pub mod SiteExamples
 pub mod Sizes

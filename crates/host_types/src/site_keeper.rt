@@ -1,15 +1,16 @@
 // A site that is kept somewhere.
-ghost use Rattle.std.specs.Prelude.{◌≡◌, ◌⊎◌, ◌≤◌, ◌∷◌, [], ℕ, Bool, true, false, Ok, Err, IfOk, OnOk, IfErr, IsErrOf, IsTrue, length, take};
+ghost use Rattle.std.specs.Prelude.{◌≡◌, ◌∷◌, [], Bool, true, false, IfOk, IfErr, IsErrOf, IsTrue};
 ghost use Rattle.host_types.specs.Site.{Site};
 ghost use Rattle.host_types.specs.Change.{apply};
 ghost use Rattle.host_types.specs.AllChanges.{Changes, all_applied};
 ghost use Rattle.host_types.specs.ChangesFaults.{as_one, IsChangesFault};
-ghost use Rattle.host_types.specs.Card.{card_at, chunk_of};
+ghost use Rattle.host_types.specs.Card.{card_at};
 ghost use Rattle.host_types.specs.Fronts.{front_at};
-ghost use Rattle.common_types.specs.CrashStates.{CrashStates, AddsOnly, AddsNone, may_crash_to};
-ghost use Rattle.host_types.specs.Counting.{CountsReads, CountsWrites};
-ghost use Rattle.host_types.specs.SiteState.{SiteState, HasRead, LacksTheSame, IsUnchangedBehind, HasTried, HasNotChanged, SpentFirst, IsReadFault, IsChangeFault};
-ghost use Rattle.host_types.specs.Pins.{Pinned, is_out, pinned_items, viewed_among, IsPinned, IsPinFault, IsUnpinned};
+ghost use Rattle.common_types.specs.CrashStates.{CrashStates, AddsNone, may_crash_to};
+ghost use Rattle.host_types.specs.Counting.{CountsReads};
+ghost use Rattle.host_types.specs.SiteState.{SiteState, HasRead, LacksTheSame, IsReadFault, IsChangeFault};
+ghost use Rattle.host_types.specs.SiteCalls.{pinned_view, GivesChunk, GivesKnownChunk, ReadsOnly, ReadsOrFails, ChangesSite, ChangesNoMore, CountsChange, ChangeCrashes};
+ghost use Rattle.host_types.specs.Pins.{Pinned, is_out, IsPinned, IsPinFault, IsUnpinned};
 ghost use Rattle.host_types.specs.Address.{address};
 ghost use Rattle.host_types.specs.declared.site_fault.SiteFault.{SiteFault as SiteFaultValue};
 ghost use Rattle.host_types.specs.declared.site_fault.SiteFault.TheVariants.{Failed};
@@ -119,16 +120,9 @@ pub trait SiteKeeper {
         buffer: &mut [u8; 1000],
     ) -> Result<usize, SiteFault>
         requires out { IsTrue (is_out (site_state self.old) (pinned pin.now)) }
-        ensures within { IfOk result (λ n. n ≤ length buffer.new) }
-        ensures chunk { IsTrue (site_state self.old).honest → IfOk result (λ n. take n buffer.new ≡ chunk_of (viewed_among (pinned_items (site_state self.old) (pinned pin.now)) selector.now view) k) }
-        ensures behind { IfOk result (λ n. IsUnchangedBehind n buffer.old buffer.new) }
-        ensures untouched { IfErr result (λ e. buffer.new ≡ buffer.old) }
-        ensures kept { HasRead (site_state self.old) (site_state self.new) }
-        ensures fault { IfErr result (IsReadFault false (site_state self.old) (site_state self.new)) }
-        ensures reads { CountsReads result (site_state self.old) (site_state self.new) }
-        ensures closed { (site_state self.old).usable ≡ false → IsErrOf result Failed }
-        ensures lacking { LacksTheSame (lacks self.old) (lacks self.new) }
-        ensures at_crash { IsTrue (site_state self.old).honest → AddsNone (crash_states self.old) (crash_states self.new) };
+        ensures gives { GivesChunk (IsTrue (site_state self.old).honest) (pinned_view (site_state self.old) (pinned pin.now) selector.now view) k buffer.old buffer.new result }
+        ensures only { ReadsOnly site_state lacks crash_states self.old self.new }
+        ensures reads { ReadsOrFails false (site_state self.old) (site_state self.new) result };
 
     /// The same of a view that is known to have bytes, so that nothing else is looked up. Of one that has none it says nothing.
     fn known_chunk(
@@ -140,56 +134,27 @@ pub trait SiteKeeper {
         buffer: &mut [u8; 1000],
     ) -> Result<usize, SiteFault>
         requires out { IsTrue (is_out (site_state self.old) (pinned pin.now)) }
-        ensures within { IfOk result (λ n. n ≤ length buffer.new) }
-        ensures chunk { let bytes = viewed_among (pinned_items (site_state self.old) (pinned pin.now)) selector.now view in IsTrue (site_state self.old).honest → (bytes ≡ [] → ⊥) → IfOk result (λ n. take n buffer.new ≡ chunk_of bytes k) }
-        ensures behind { IfOk result (λ n. IsUnchangedBehind n buffer.old buffer.new) }
-        ensures untouched { IfErr result (λ e. buffer.new ≡ buffer.old) }
-        ensures kept { HasRead (site_state self.old) (site_state self.new) }
-        ensures fault { IfErr result (IsReadFault false (site_state self.old) (site_state self.new)) }
-        ensures reads { CountsReads result (site_state self.old) (site_state self.new) }
-        ensures closed { (site_state self.old).usable ≡ false → IsErrOf result Failed }
-        ensures lacking { LacksTheSame (lacks self.old) (lacks self.new) }
-        ensures at_crash { IsTrue (site_state self.old).honest → AddsNone (crash_states self.old) (crash_states self.new) };
+        ensures gives { GivesKnownChunk (site_state self.old).honest (pinned_view (site_state self.old) (pinned pin.now) selector.now view) k buffer.old buffer.new result }
+        ensures only { ReadsOnly site_state lacks crash_states self.old self.new }
+        ensures reads { ReadsOrFails false (site_state self.old) (site_state self.new) result };
 
     /// Makes a change, or answers its first refusal.
     fn change(&mut self, change: Change, now: Stamp) -> Result<(), SiteFault>
-        ensures done { IsTrue (site_state self.old).honest → OnOk result (apply (site_state self.old).site change now ≡ Ok (site_state self.new).site) }
-        ensures still_usable { OnOk result ((site_state self.new).usable ≡ true) }
+        ensures done { ChangesSite (site_state self.old) (site_state self.new) (apply (site_state self.old).site change now) result }
         ensures fault { IfErr result (IsChangeFault (lacks self.old ((change, now) ∷ [])) (site_state self.old) (site_state self.new) (apply (site_state self.old).site change now)) }
-        ensures spent { (site_state self.old).usable ≡ true → SpentFirst (lacks self.old ((change, now) ∷ [])) result }
         ensures lacking { IfErr result (λ e. (site_state self.new).usable ≡ (site_state self.old).usable → LacksTheSame (lacks self.old) (lacks self.new)) }
-        ensures closed { (site_state self.old).usable ≡ false → IsErrOf result Failed }
-        ensures tried { HasTried (site_state self.old) (site_state self.new) }
-        ensures reads { CountsReads result (site_state self.old) (site_state self.new) }
-        ensures writes { CountsWrites result (site_state self.old) (site_state self.new) }
-
-        // A crash within the call leaves what represents the site before it, or the changed one.
-        ensures at_crash { IsTrue (site_state self.old).honest → (site_state self.old).usable ≡ true →
-            AddsOnly (crash_states self.old) (crash_states self.new) (λ c. represents c (site_state self.old).site ⊎ ((s : Site) × (apply (site_state self.old).site change now ≡ Ok s) × represents c s)) }
-
-        // Where nothing failed and nothing was changed, nothing was written.
-        ensures no_new_crash_state { IsTrue (site_state self.old).honest → IfErr result (λ e. (site_state self.new).usable ≡ true → AddsNone (crash_states self.old) (crash_states self.new)) }
-        ensures no_new_crash_state_when_closed { IsTrue (site_state self.old).honest → (site_state self.old).usable ≡ false → AddsNone (crash_states self.old) (crash_states self.new) };
+        ensures ended { ChangesNoMore (lacks self.old ((change, now) ∷ [])) Failed (site_state self.old).usable result result }
+        ensures counts { CountsChange (site_state self.old) (site_state self.new) result }
+        ensures at_crash { ChangeCrashes site_state crash_states represents self.old self.new (apply (site_state self.old).site change now) result };
 
     /// Makes all of these changes in one step, each at its own moment on the site with those before it. Where one is refused, or the step can't be made, none is.
     fn change_all(&mut self, changes: Vec<(Change, Stamp)>) -> Result<(), ChangesFault>
-        ensures done { IsTrue (site_state self.old).honest → OnOk result (all_applied (site_state self.old).site changes.items ≡ Ok (site_state self.new).site) }
-        ensures still_usable { OnOk result ((site_state self.new).usable ≡ true) }
+        ensures done { ChangesSite (site_state self.old) (site_state self.new) (all_applied (site_state self.old).site changes.items) result }
         ensures fault { IfErr result (IsChangesFault (lacks self.old changes.items) (site_state self.old) (site_state self.new) (all_applied (site_state self.old).site changes.items)) }
-        ensures spent { (site_state self.old).usable ≡ true → SpentFirst (lacks self.old changes.items) (as_one result) }
         ensures lacking { IfErr result (λ e. (site_state self.new).usable ≡ (site_state self.old).usable → LacksTheSame (lacks self.old) (lacks self.new)) }
-        ensures closed { (site_state self.old).usable ≡ false → IsErrOf result AllFailed }
-        ensures tried { HasTried (site_state self.old) (site_state self.new) }
-        ensures reads { CountsReads (as_one result) (site_state self.old) (site_state self.new) }
-        ensures writes { CountsWrites (as_one result) (site_state self.old) (site_state self.new) }
-
-        // A crash within the call leaves what represents the site before it, or the one with all changes.
-        ensures at_crash { IsTrue (site_state self.old).honest → (site_state self.old).usable ≡ true →
-            AddsOnly (crash_states self.old) (crash_states self.new) (λ c. represents c (site_state self.old).site ⊎ ((s : Site) × (all_applied (site_state self.old).site changes.items ≡ Ok s) × represents c s)) }
-
-        // Where nothing failed and nothing was changed, nothing was written.
-        ensures no_new_crash_state { IsTrue (site_state self.old).honest → IfErr result (λ e. (site_state self.new).usable ≡ true → AddsNone (crash_states self.old) (crash_states self.new)) }
-        ensures no_new_crash_state_when_closed { IsTrue (site_state self.old).honest → (site_state self.old).usable ≡ false → AddsNone (crash_states self.old) (crash_states self.new) };
+        ensures ended { ChangesNoMore (lacks self.old changes.items) AllFailed (site_state self.old).usable (as_one result) result }
+        ensures counts { CountsChange (site_state self.old) (site_state self.new) (as_one result) }
+        ensures at_crash { ChangeCrashes site_state crash_states represents self.old self.new (all_applied (site_state self.old).site changes.items) result };
 
     /// Between two calls each crash state represents the site.
     ghost crash_states_represent: { (k : Self) (c : CrashState) → IsTrue (site_state k).honest → (site_state k).usable ≡ true → may_crash_to (crash_states k) c → represents c (site_state k).site };

@@ -1,4 +1,5 @@
 -- A site over a keeper as its callers see it.
+use Rattle.common_types.specs.CrashStates.{CrashStates}
 use Rattle.host_types.specs.Site.{Site}
 use Rattle.host_types.specs.AllChanges.{Changes}
 use Rattle.host_types.specs.SiteState.{SiteState}
@@ -21,3 +22,7 @@ lacks_of {dict = dict} d = IsLacking dict.store_state dict.may_need d.keeper (si
 -- the site that it holds
 abbrev pub seen_site : {K : Type 0} {dict : _} → DiskSite K dict → Site
 seen_site {dict = dict} d = site_of (dict.store_state d.keeper) d.kept
+
+-- what a crash may leave of it
+abbrev pub crashes_of : {K L : Type 0} {dict : _} → (K → CrashStates L) → DiskSite K dict → CrashStates L
+crashes_of crash_states d = crash_states d.keeper

@@ -1,15 +1,15 @@
 // The calls of a site over a key-value store.
-ghost use Rattle.std.specs.Prelude.{◌≡◌, ◌⊎◌, ◌≤◌, ◌+◌, ◌*◌, ◌∷◌, [], true, false, Ok, IsTrue, IfOk, OnOk, IfErr, IsErrOf, length, take};
-ghost use Rattle.common_types.specs.CrashStates.{AddsOnly, AddsNone};
+ghost use Rattle.std.specs.Prelude.{◌≡◌, ◌+◌, ◌*◌, ◌∷◌, [], false, true, IsTrue, IfOk, IfErr, IsErrOf};
+ghost use Rattle.common_types.specs.CrashStates.{AddsNone};
 ghost use Rattle.host_types.specs.AllChanges.{all_applied};
-ghost use Rattle.host_types.specs.Card.{card_at, chunk_of};
+ghost use Rattle.host_types.specs.Card.{card_at};
 ghost use Rattle.host_types.specs.Change.{apply};
 ghost use Rattle.host_types.specs.Fronts.{front_at};
 ghost use Rattle.host_types.specs.ChangesFaults.{as_one, IsChangesFault};
-ghost use Rattle.host_types.specs.Counting.{CountsReads, CountsWrites};
-ghost use Rattle.host_types.specs.Pins.{Numbered, is_out, pinned_items, viewed_among, IsPinned, IsPinFault};
-ghost use Rattle.host_types.specs.Site.{Site};
-ghost use Rattle.host_types.specs.SiteState.{HasRead, LacksTheSame, IsUnchangedBehind, HasTried, SpentFirst, IsReadFault, IsChangeFault};
+ghost use Rattle.host_types.specs.Counting.{CountsReads};
+ghost use Rattle.host_types.specs.Pins.{Numbered, is_out, IsPinned, IsPinFault};
+ghost use Rattle.host_types.specs.SiteCalls.{pinned_view, GivesChunk, GivesKnownChunk, ReadsOnly, ReadsOrFails, ChangesSite, ChangesNoMore, CountsChange, ChangeCrashes};
+ghost use Rattle.host_types.specs.SiteState.{HasRead, LacksTheSame, IsReadFault, IsChangeFault};
 ghost use Rattle.host_types.specs.declared.changes_fault.ChangesFault.TheVariants.{Failed as AllFailed};
 ghost use Rattle.host_types.specs.declared.pin_fault.SitePinFault.TheVariants.{Failed as PinFailed, Memory as PinMemory};
 ghost use Rattle.host_types.specs.declared.site_fault.SiteFault.TheVariants.{Failed};
@@ -18,7 +18,7 @@ ghost use Rattle.page_store.specs.Work.{ReadsPages, WritesAtMost};
 ghost use Rattle.site_store.specs.Represented.{site_state_of, site_of, Represents};
 ghost use Rattle.site_store.specs.Lacking.{IsLacking};
 ghost use Rattle.site_store.specs.CrashStatesRepresent.{crash_states_represent_site};
-ghost use Rattle.site_store.specs.Seen.{seen, lacks_of};
+ghost use Rattle.site_store.specs.Seen.{seen, lacks_of, crashes_of};
 ghost use Rattle.site_store.specs.Work.{MakesLookUps, most_menu_chunks};
 
 use crate::DiskSite;
@@ -139,16 +139,9 @@ impl<K: PinKeeper> SiteKeeper for DiskSite<K> {
         buffer: &mut [u8; 1000],
     ) -> Result<usize, SiteFault>
         requires out { IsTrue (is_out (seen self.old) (Numbered (K.number pin.now))) }
-        ensures within { IfOk result (λ n. n ≤ length buffer.new) }
-        ensures chunk { IsTrue (seen self.old).honest → IfOk result (λ n. take n buffer.new ≡ chunk_of (viewed_among (pinned_items (seen self.old) (Numbered (K.number pin.now))) selector.now view) k) }
-        ensures behind { IfOk result (λ n. IsUnchangedBehind n buffer.old buffer.new) }
-        ensures untouched { IfErr result (λ e. buffer.new ≡ buffer.old) }
-        ensures kept { HasRead (seen self.old) (seen self.new) }
-        ensures fault { IfErr result (IsReadFault false (seen self.old) (seen self.new)) }
-        ensures reads { CountsReads result (seen self.old) (seen self.new) }
-        ensures closed { (seen self.old).usable ≡ false → IsErrOf result Failed }
-        ensures lacking { LacksTheSame (lacks_of self.old) (lacks_of self.new) }
-        ensures at_crash { IsTrue (seen self.old).honest → AddsNone (K.crash_states self.old.keeper) (K.crash_states self.new.keeper) }
+        ensures gives { GivesChunk (IsTrue (seen self.old).honest) (pinned_view (seen self.old) (Numbered (K.number pin.now)) selector.now view) k buffer.old buffer.new result }
+        ensures only { ReadsOnly seen lacks_of (crashes_of K.crash_states) self.old self.new }
+        ensures reads { ReadsOrFails false (seen self.old) (seen self.new) result }
 
         // Two values are looked up in the tree that was pinned: the document's, and the chunk.
         ensures work { ReadsPages (2 * most_levels) (K.store_state self.old.keeper).made (K.store_state self.new.keeper).made }
@@ -168,16 +161,9 @@ impl<K: PinKeeper> SiteKeeper for DiskSite<K> {
         buffer: &mut [u8; 1000],
     ) -> Result<usize, SiteFault>
         requires out { IsTrue (is_out (seen self.old) (Numbered (K.number pin.now))) }
-        ensures within { IfOk result (λ n. n ≤ length buffer.new) }
-        ensures chunk { let bytes = viewed_among (pinned_items (seen self.old) (Numbered (K.number pin.now))) selector.now view in IsTrue (seen self.old).honest → (bytes ≡ [] → ⊥) → IfOk result (λ n. take n buffer.new ≡ chunk_of bytes k) }
-        ensures behind { IfOk result (λ n. IsUnchangedBehind n buffer.old buffer.new) }
-        ensures untouched { IfErr result (λ e. buffer.new ≡ buffer.old) }
-        ensures kept { HasRead (seen self.old) (seen self.new) }
-        ensures fault { IfErr result (IsReadFault false (seen self.old) (seen self.new)) }
-        ensures reads { CountsReads result (seen self.old) (seen self.new) }
-        ensures closed { (seen self.old).usable ≡ false → IsErrOf result Failed }
-        ensures lacking { LacksTheSame (lacks_of self.old) (lacks_of self.new) }
-        ensures at_crash { IsTrue (seen self.old).honest → AddsNone (K.crash_states self.old.keeper) (K.crash_states self.new.keeper) }
+        ensures gives { GivesKnownChunk (seen self.old).honest (pinned_view (seen self.old) (Numbered (K.number pin.now)) selector.now view) k buffer.old buffer.new result }
+        ensures only { ReadsOnly seen lacks_of (crashes_of K.crash_states) self.old self.new }
+        ensures reads { ReadsOrFails false (seen self.old) (seen self.new) result }
 
         // One value is looked up in the tree that was pinned.
         ensures work { ReadsPages most_levels (K.store_state self.old.keeper).made (K.store_state self.new.keeper).made }
@@ -189,19 +175,12 @@ impl<K: PinKeeper> SiteKeeper for DiskSite<K> {
     }
 
     fn change(&mut self, change: Change, now: Stamp) -> Result<(), SiteFault>
-        ensures done { IsTrue (seen self.old).honest → OnOk result (apply (seen self.old).site change now ≡ Ok (seen self.new).site) }
-        ensures still_usable { OnOk result ((seen self.new).usable ≡ true) }
+        ensures done { ChangesSite (seen self.old) (seen self.new) (apply (seen self.old).site change now) result }
         ensures fault { IfErr result (IsChangeFault (lacks_of self.old ((change, now) ∷ [])) (seen self.old) (seen self.new) (apply (seen self.old).site change now)) }
-        ensures spent { (seen self.old).usable ≡ true → SpentFirst (lacks_of self.old ((change, now) ∷ [])) result }
         ensures lacking { IfErr result (λ e. (seen self.new).usable ≡ (seen self.old).usable → LacksTheSame (lacks_of self.old) (lacks_of self.new)) }
-        ensures closed { (seen self.old).usable ≡ false → IsErrOf result Failed }
-        ensures tried { HasTried (seen self.old) (seen self.new) }
-        ensures reads { CountsReads result (seen self.old) (seen self.new) }
-        ensures writes { CountsWrites result (seen self.old) (seen self.new) }
-        ensures at_crash { IsTrue (seen self.old).honest → (seen self.old).usable ≡ true →
-            AddsOnly (K.crash_states self.old.keeper) (K.crash_states self.new.keeper) (λ c. Represents K.has_content c (seen self.old).site ⊎ ((s : Site) × (apply (seen self.old).site change now ≡ Ok s) × Represents K.has_content c s)) }
-        ensures no_new_crash_state { IsTrue (seen self.old).honest → IfErr result (λ e. (seen self.new).usable ≡ true → AddsNone (K.crash_states self.old.keeper) (K.crash_states self.new.keeper)) }
-        ensures no_new_crash_state_when_closed { IsTrue (seen self.old).honest → (seen self.old).usable ≡ false → AddsNone (K.crash_states self.old.keeper) (K.crash_states self.new.keeper) }
+        ensures ended { ChangesNoMore (lacks_of self.old ((change, now) ∷ [])) Failed (seen self.old).usable result result }
+        ensures counts { CountsChange (seen self.old) (seen self.new) result }
+        ensures at_crash { ChangeCrashes seen (crashes_of K.crash_states) (Represents K.has_content) self.old self.new (apply (seen self.old).site change now) result }
 
         // At most all free pages and the page of a root are written, with two syncs.
         ensures work { WritesAtMost (K.store_state self.old.keeper).free (K.store_state self.old.keeper).made (K.store_state self.new.keeper).made }
@@ -217,19 +196,12 @@ impl<K: PinKeeper> SiteKeeper for DiskSite<K> {
     }
 
     fn change_all(&mut self, changes: Vec<(Change, Stamp)>) -> Result<(), ChangesFault>
-        ensures done { IsTrue (seen self.old).honest → OnOk result (all_applied (seen self.old).site changes.items ≡ Ok (seen self.new).site) }
-        ensures still_usable { OnOk result ((seen self.new).usable ≡ true) }
+        ensures done { ChangesSite (seen self.old) (seen self.new) (all_applied (seen self.old).site changes.items) result }
         ensures fault { IfErr result (IsChangesFault (lacks_of self.old changes.items) (seen self.old) (seen self.new) (all_applied (seen self.old).site changes.items)) }
-        ensures spent { (seen self.old).usable ≡ true → SpentFirst (lacks_of self.old changes.items) (as_one result) }
         ensures lacking { IfErr result (λ e. (seen self.new).usable ≡ (seen self.old).usable → LacksTheSame (lacks_of self.old) (lacks_of self.new)) }
-        ensures closed { (seen self.old).usable ≡ false → IsErrOf result AllFailed }
-        ensures tried { HasTried (seen self.old) (seen self.new) }
-        ensures reads { CountsReads (as_one result) (seen self.old) (seen self.new) }
-        ensures writes { CountsWrites (as_one result) (seen self.old) (seen self.new) }
-        ensures at_crash { IsTrue (seen self.old).honest → (seen self.old).usable ≡ true →
-            AddsOnly (K.crash_states self.old.keeper) (K.crash_states self.new.keeper) (λ c. Represents K.has_content c (seen self.old).site ⊎ ((s : Site) × (all_applied (seen self.old).site changes.items ≡ Ok s) × Represents K.has_content c s)) }
-        ensures no_new_crash_state { IsTrue (seen self.old).honest → IfErr result (λ e. (seen self.new).usable ≡ true → AddsNone (K.crash_states self.old.keeper) (K.crash_states self.new.keeper)) }
-        ensures no_new_crash_state_when_closed { IsTrue (seen self.old).honest → (seen self.old).usable ≡ false → AddsNone (K.crash_states self.old.keeper) (K.crash_states self.new.keeper) }
+        ensures ended { ChangesNoMore (lacks_of self.old changes.items) AllFailed (seen self.old).usable (as_one result) result }
+        ensures counts { CountsChange (seen self.old) (seen self.new) (as_one result) }
+        ensures at_crash { ChangeCrashes seen (crashes_of K.crash_states) (Represents K.has_content) self.old self.new (all_applied (seen self.old).site changes.items) result }
 
         // At most all free pages and the page of a root are written, with two syncs.
         ensures work { WritesAtMost (K.store_state self.old.keeper).free (K.store_state self.old.keeper).made (K.store_state self.new.keeper).made }

@@ -10,7 +10,7 @@ use Rattle.host_types.specs.Pins.{Pinned, Copied, Numbered, is_out, is_among, pi
 use Rattle.host_types.specs.declared.change.Change.{Change}
 use Rattle.host_types.specs.declared.site_fault.SiteFault.{SiteFault}
 use Rattle.host_types.specs.declared.site_fault.SiteFault.TheVariants as faults
-use Rattle.view_draws.specs.Reading.{ReadsOnly}
+use Rattle.host_types.specs.SiteCalls.{ReadsOnly}
 
 pub still_honest : (a b : SiteState) → HasRead a b → IsTrue a.honest → IsTrue b.honest
 still_honest a b kept honest = subst IsTrue (sym kept.honest) honest

@@ -3,11 +3,11 @@ use Rattle.std.specs.Prelude.{◌≡◌, ◌⊎◌, ℕ, Bool, false, Result, Ok
 use Rattle.common_types.specs.CrashStates.{CrashStates}
 use Rattle.host_types.specs.AllChanges.{Changes}
 use Rattle.host_types.specs.Counting.{counted}
+use Rattle.host_types.specs.SiteCalls.{ReadsOnly}
 use Rattle.host_types.specs.SiteState.{SiteState, IsReadFault}
 use Rattle.host_types.specs.Pins.{Pinned}
 use Rattle.host_types.specs.declared.site_fault.SiteFault.{SiteFault}
 use Rattle.host_types.specs.declared.site_fault.SiteFault.TheVariants as faults
-use Rattle.view_draws.specs.Reading.{ReadsOnly}
 use Rattle.view_draws.specs.Source.{viewed_by}
 use Rattle.view_draws.specs.declared.source.ViewSource.{ViewSource}
 

@@ -1,4 +1,3 @@
-pub mod Reading
 pub mod Progress
 pub mod Source
 pub mod Counting

@@ -16,16 +16,16 @@ returns-in-Ok g c =
     let e = c.in-Ok.ensures in
     let typed : ChangesAreTyped all = subst ChangesAreTyped c.deref.ensures.value c.valid_changes.ensures in
     record {
-      whole = λ honest is. same_site site (s.site_state l).site all (c.requires.right honest) (e.done honest);
+      whole = λ honest is. same_site site (s.site_state l).site all (c.requires.right honest) (e.done.done honest);
       still_usable = search rules;
       too_large = search rules;
       fault = search rules;
       tried = search rules;
       counts = search rules;
-      at_crash = λ honest. crashes s.represents (s.crash_states k) (s.crash_states l) site all (c.requires.right honest) (e.at_crash honest c.requires.usable);
+      at_crash = λ honest. crashes s.represents (s.crash_states k) (s.crash_states l) site all (c.requires.right honest) (e.at_crash.at_crash honest c.requires.usable);
       unchanged = search rules;
       too_large_adds_none = search rules;
-      valid = λ honest. still_valid c.changes_keep_sites_valid.ensures.changed site (s.site_state l).site all typed (e.done honest);
+      valid = λ honest. still_valid c.changes_keep_sites_valid.ensures.changed site (s.site_state l).site all typed (e.done.done honest);
     }
 
 pub returns-in-Err-Failed : goal.returns-in-Err-Failed
@@ -45,7 +45,7 @@ returns-in-Err-Failed g c =
       fault = failed_now (s.site_state k) (s.site_state l) all c.requires.usable some failed;
       tried = search rules;
       counts = grind (arith, common_steps);
-      at_crash = λ honest. crashes s.represents (s.crash_states k) (s.crash_states l) site all (c.requires.right honest) (e.at_crash honest c.requires.usable);
+      at_crash = λ honest. crashes s.represents (s.crash_states k) (s.crash_states l) site all (c.requires.right honest) (e.at_crash.at_crash honest c.requires.usable);
       unchanged = search rules;
       too_large_adds_none = search rules;
       valid = λ honest valid. subst (λ (x : Site). ∥ IsSite x ∥₁) (sym (failed.site honest)) valid;

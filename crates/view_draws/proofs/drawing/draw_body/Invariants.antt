@@ -1,6 +1,6 @@
 use Rattle.std.proofs.Common.{◌≡◌, ◌+◌, ◌-◌, ◌++◌, length, take}
 use Rattle.std.specs.Prelude.{IsTrue}
-use Rattle.view_draws.specs.Reading.{ReadsOnly}
+use Rattle.host_types.specs.SiteCalls.{ReadsOnly}
 use Rattle.view_draws.specs.Source.{viewed_by, IsViewOf, IsSameView}
 use Rattle.view_draws.specs.Progress.{body_left}
 use Rattle.view_draws.specs.Drawing.{HasPassedOn}

@@ -30,8 +30,8 @@ invariant_of-self g c =
     let hub = c.args.self.now in
     let k = s.site_state hub.site in
     let l = s.site_state c.change.new.self in
-    let stayed = sessions_stay s.pinned k l hub.sessions.items c.change.ensures.tried.pins hub.held in
-    let was = λ (honest : IsTrue l.honest). subst IsTrue c.change.ensures.tried.honest honest in
+    let stayed = sessions_stay s.pinned k l hub.sessions.items c.change.ensures.counts.tried.pins hub.held in
+    let was = λ (honest : IsTrue l.honest). subst IsTrue c.change.ensures.counts.tried.honest honest in
     record {
       room = hub.room;
       few = hub.few;
@@ -39,7 +39,7 @@ invariant_of-self g c =
       sound = λ honest. stayed.sound (hub.sound (was honest));
       valid = λ groups honest.
           let early : c.args.now ≤ 253402300799 = omega (arith, c.seconds.ensures.value, c.seconds.ensures.range) in
-          keeps_valid c.changes_keep_sites_valid.ensures.changed k l c.args.change c.args.now (s.lacks hub.site ((c.args.change, c.args.now) ∷ [])) c.change.result (was honest) c.valid_names.ensures early (c.change.ensures.done (was honest)) c.change.ensures.fault (hub.valid groups (was honest));
+          keeps_valid c.changes_keep_sites_valid.ensures.changed k l c.args.change c.args.now (s.lacks hub.site ((c.args.change, c.args.now) ∷ [])) c.change.result (was honest) c.valid_names.ensures early (c.change.ensures.done.done (was honest)) c.change.ensures.fault (hub.valid groups (was honest));
       alone = λ single honest. ap count_waiting stayed.seen ∙ hub.alone single (was honest);
     }
 
@@ -49,10 +49,10 @@ returns-in-Ok g c =
     let hub = c.args.self.now in
     let made = c.change.new.self in
     let usable : (s.site_state hub.site).usable ≡ true = search rules in
-    let stayed = sessions_stay s.pinned (s.site_state hub.site) (s.site_state made) hub.sessions.items c.change.ensures.tried.pins hub.held in
+    let stayed = sessions_stay s.pinned (s.site_state hub.site) (s.site_state made) hub.sessions.items c.change.ensures.counts.tried.pins hub.held in
     subst (λ (sessions : List (ℕ × Phase)). CallOverKeeper s.site_state s.lacks s.crash_states s.represents (world_of s.site_state hub) hub.site (Admin c.args.change c.args.now) Done (world_at (s.site_state made) hub.next hub.grouped sessions) made) (sym stayed.seen)
     (made_call s.site_state s.lacks s.crash_states s.represents hub.site made hub.next hub.grouped (sessions_of s.pinned (s.site_state hub.site) hub.sessions.items) c.args.change c.args.now
-    (record { reads = c.in-Ok.ensures.reads; writes = c.in-Ok.ensures.writes }) usable c.in-Ok.ensures.still_usable c.change.ensures.tried.honest c.in-Ok.ensures.done (g.met.S.SiteKeeper.crash_states_represent made) (λ honest. c.change.ensures.at_crash honest usable))
+    (record { reads = c.in-Ok.ensures.counts.reads; writes = c.in-Ok.ensures.counts.writes }) usable c.in-Ok.ensures.done.still_usable c.change.ensures.counts.tried.honest c.in-Ok.ensures.done.done (g.met.S.SiteKeeper.crash_states_represent made) (λ honest. c.change.ensures.at_crash.at_crash honest usable))
 
 pub returns-in-Err : goal.returns-in-Err
 returns-in-Err g c =
@@ -61,9 +61,9 @@ returns-in-Err g c =
     let made = c.change.new.self in
     let usable : (s.site_state hub.site).usable ≡ true = search rules in
     let seats = sessions_of s.pinned (s.site_state hub.site) hub.sessions.items in
-    let stayed = sessions_stay s.pinned (s.site_state hub.site) (s.site_state made) hub.sessions.items c.change.ensures.tried.pins hub.held in
+    let stayed = sessions_stay s.pinned (s.site_state hub.site) (s.site_state made) hub.sessions.items c.change.ensures.counts.tried.pins hub.held in
     subst (λ (sessions : List (ℕ × Phase)). CallOverKeeper s.site_state s.lacks s.crash_states s.represents (world_of s.site_state hub) hub.site (Admin c.args.change c.args.now) (Fault c.of_site.result) (world_at (s.site_state made) hub.next hub.grouped sessions) made) (sym stayed.seen)
     (subst (λ (fault : HubFault). CallOverKeeper s.site_state s.lacks s.crash_states s.represents (world_of s.site_state hub) hub.site (Admin c.args.change c.args.now) (Fault fault) (world_at (s.site_state made) hub.next hub.grouped seats) made) (sym c.of_site.ensures)
     (not_made_call s.site_state s.lacks s.crash_states s.represents hub.site made hub.next hub.grouped seats c.args.change c.args.now c.in-Err.fault
-    (change_fault_counts {T = Outcome} c.in-Err.fault (fault_of c.in-Err.fault) (s.site_state hub.site) (s.site_state made) refl c.in-Err.ensures.reads c.in-Err.ensures.writes) usable c.change.ensures.tried.honest
-    (g.met.S.SiteKeeper.crash_states_represent hub.site) (λ honest. c.change.ensures.at_crash honest usable) (λ honest. c.in-Err.ensures.no_new_crash_state honest) c.in-Err.ensures.fault (c.in-Err.ensures.spent usable)))
+    (change_fault_counts {T = Outcome} c.in-Err.fault (fault_of c.in-Err.fault) (s.site_state hub.site) (s.site_state made) refl c.in-Err.ensures.counts.reads c.in-Err.ensures.counts.writes) usable c.change.ensures.counts.tried.honest
+    (g.met.S.SiteKeeper.crash_states_represent hub.site) (λ honest. c.change.ensures.at_crash.at_crash honest usable) (λ honest. c.in-Err.ensures.at_crash.no_new_crash_state honest) c.in-Err.ensures.fault (c.in-Err.ensures.ended.spent usable)))

@@ -1,4 +1,4 @@
-use Rattle.std.proofs.Common.{take}
+use Rattle.std.proofs.Common.{take, rules}
 use Rattle.site_store.proofs.PinsMade.{out_there, pinned_chunk, pinned_fault_comes, pinned_counted}
 use Rattle.site_store.proofs.StoreAsSite.{has_read, lacks_same}
 use Rattle.site_store.proofs.site_calls.DiskSiteSiteKeeper.chunk.Goals as goal
@@ -6,32 +6,39 @@ use Rattle.site_store.proofs.site_calls.DiskSiteSiteKeeper.chunk.Goals as goal
 pub chunk_in_at-requires : goal.chunk_in_at-requires
 chunk_in_at-requires g c = record { out = out_there (g.K.Keeper.store_state c.args.self.now.keeper) c.args.self.now.kept (g.K.PinKeeper.number c.args.pin.now) c.requires.out }
 
-pub returns-in-Ok-clause-chunk : goal.returns-in-Ok-clause-chunk
-returns-in-Ok-clause-chunk g c = λ honest.
+pub returns-in-Ok-clause-gives : goal.returns-in-Ok-clause-gives
+returns-in-Ok-clause-gives g c =
     let h = g.K.Keeper.store_state c.args.self.now.keeper in
     let number = g.K.PinKeeper.number c.args.pin.now in
-    pinned_chunk h c.args.self.now.kept number (take c.in-Ok.length c.chunk_in_at.new.buffer) c.args.selector.now c.args.view c.args.k honest (out_there h c.args.self.now.kept number c.requires.out) (c.in-Ok.ensures.chunk.reads.gives honest)
+    record {
+      within = search rules;
+      chunk = λ honest. pinned_chunk h c.args.self.now.kept number (take c.in-Ok.length c.chunk_in_at.new.buffer) c.args.selector.now c.args.view c.args.k honest (out_there h c.args.self.now.kept number c.requires.out) (c.in-Ok.ensures.chunk.reads.gives honest);
+      behind = search rules;
+      untouched = search rules;
+    }
 
-pub returns-in-Ok-clause-kept : goal.returns-in-Ok-clause-kept
-returns-in-Ok-clause-kept g c = has_read (g.K.Keeper.store_state c.args.self.now.keeper) (g.K.Keeper.store_state c.chunk_in_at.new.keeper) c.args.self.now.kept c.self-1.given.0 c.chunk_in_at.ensures.chunk.reads.only.read
+pub returns-in-Ok-clause-only : goal.returns-in-Ok-clause-only
+returns-in-Ok-clause-only g c =
+    record {
+      kept = has_read (g.K.Keeper.store_state c.args.self.now.keeper) (g.K.Keeper.store_state c.chunk_in_at.new.keeper) c.args.self.now.kept c.self-1.given.0 c.chunk_in_at.ensures.chunk.reads.only.read;
+      lacking = lacks_same g.K.Keeper.store_state g.K.Keeper.may_need g.K.Keeper.crash_states c.args.self.now.keeper c.chunk_in_at.new.keeper c.args.self.now.kept c.self-1.given.0 c.chunk_in_at.ensures.chunk.reads.only;
+      no_new_crash_state = search rules;
+    }
 
-pub returns-in-Ok-clause-lacking : goal.returns-in-Ok-clause-lacking
-returns-in-Ok-clause-lacking g c = lacks_same g.K.Keeper.store_state g.K.Keeper.may_need g.K.Keeper.crash_states c.args.self.now.keeper c.chunk_in_at.new.keeper c.args.self.now.kept c.self-1.given.0 c.chunk_in_at.ensures.chunk.reads.only
-
-pub returns-in-Err-clause-kept : goal.returns-in-Err-clause-kept
-returns-in-Err-clause-kept g c = has_read (g.K.Keeper.store_state c.args.self.now.keeper) (g.K.Keeper.store_state c.chunk_in_at.new.keeper) c.args.self.now.kept c.self-1.given.0 c.chunk_in_at.ensures.chunk.reads.only.read
-
-pub returns-in-Err-clause-lacking : goal.returns-in-Err-clause-lacking
-returns-in-Err-clause-lacking g c = lacks_same g.K.Keeper.store_state g.K.Keeper.may_need g.K.Keeper.crash_states c.args.self.now.keeper c.chunk_in_at.new.keeper c.args.self.now.kept c.self-1.given.0 c.chunk_in_at.ensures.chunk.reads.only
-
-pub returns-in-Err-clause-fault : goal.returns-in-Err-clause-fault
-returns-in-Err-clause-fault g c =
-    let h = g.K.Keeper.store_state c.args.self.now.keeper in
-    let number = g.K.PinKeeper.number c.args.pin.now in
-    pinned_fault_comes h (g.K.Keeper.store_state c.chunk_in_at.new.keeper) c.args.self.now.kept c.self-1.given.0 number c.in-Err.fault c.to_site_fault.result (out_there h c.args.self.now.kept number c.requires.out) c.to_site_fault.ensures c.in-Err.ensures.chunk.reads.fault
+pub returns-in-Err-clause-only : goal.returns-in-Err-clause-only
+returns-in-Err-clause-only g c =
+    record {
+      kept = has_read (g.K.Keeper.store_state c.args.self.now.keeper) (g.K.Keeper.store_state c.chunk_in_at.new.keeper) c.args.self.now.kept c.self-1.given.0 c.chunk_in_at.ensures.chunk.reads.only.read;
+      lacking = lacks_same g.K.Keeper.store_state g.K.Keeper.may_need g.K.Keeper.crash_states c.args.self.now.keeper c.chunk_in_at.new.keeper c.args.self.now.kept c.self-1.given.0 c.chunk_in_at.ensures.chunk.reads.only;
+      no_new_crash_state = search rules;
+    }
 
 pub returns-in-Err-clause-reads : goal.returns-in-Err-clause-reads
 returns-in-Err-clause-reads g c =
     let h = g.K.Keeper.store_state c.args.self.now.keeper in
     let number = g.K.PinKeeper.number c.args.pin.now in
-    pinned_counted h (g.K.Keeper.store_state c.chunk_in_at.new.keeper) c.args.self.now.kept number c.in-Err.fault c.to_site_fault.result (out_there h c.args.self.now.kept number c.requires.out) c.to_site_fault.ensures c.in-Err.ensures.chunk.reads.fault
+    record {
+      fault = pinned_fault_comes h (g.K.Keeper.store_state c.chunk_in_at.new.keeper) c.args.self.now.kept c.self-1.given.0 number c.in-Err.fault c.to_site_fault.result (out_there h c.args.self.now.kept number c.requires.out) c.to_site_fault.ensures c.in-Err.ensures.chunk.reads.fault;
+      reads = pinned_counted h (g.K.Keeper.store_state c.chunk_in_at.new.keeper) c.args.self.now.kept number c.in-Err.fault c.to_site_fault.result (out_there h c.args.self.now.kept number c.requires.out) c.to_site_fault.ensures c.in-Err.ensures.chunk.reads.fault;
+      closed = search rules;
+    }
