@@ -1,14 +1,16 @@
 -- The changes of a file, made on a site one after another.
-use Rattle.std.specs.Prelude.{◌≡◌, ◌⊎◌, ℕ, zero, suc, ◌+◌, false, List, [], ◌∷◌, ◌++◌, length, Result, Ok, Err, IsTrue}
-use Rattle.common_types.specs.CrashStates.{CrashStates, AddsNone}
+use Rattle.std.specs.Prelude.{◌≡◌, ◌⊎◌, ℕ, zero, suc, ◌+◌, ◌-◌, true, false, List, [], ◌∷◌, ◌++◌, length, take, Result, Ok, Err, IfOk, OnOk, IfErr, IsTrue}
+use Rattle.common_types.specs.CrashStates.{CrashStates, AddsOnly, AddsNone}
 use Rattle.common_types.specs.declared.refused.Refused.{Refused as Refusal}
 use Rattle.host_types.specs.AllChanges.{Changes}
 use Rattle.host_types.specs.Site.{Site}
 use Rattle.host_types.specs.Change.{apply}
+use Rattle.host_types.specs.Counting.{CountsFault, CountsNothing}
 use Rattle.host_types.specs.SiteState.{SiteState, HasTried, IsChangeFault}
 use Rattle.host_types.specs.declared.change.Change.{Change as SiteChange}
 use Rattle.host_types.specs.declared.site_fault.SiteFault.{SiteFault}
 use Rattle.host_types.specs.declared.site_fault.SiteFault.TheVariants as faults
+use Rattle.change_file.specs.declared.fault.ApplyFault.{ApplyFault}
 use Rattle.change_file.specs.declared.fault.FileChange.{FileChange}
 use Rattle.change_file.specs.declared.fault.FileChange.TheVariants.{Change, Refused}
 
@@ -67,3 +69,26 @@ pub record IsStopped {S : Type 0} (state : S → SiteState) (lacks : S → Chang
   pub tried : HasTried (state old) (state made)
   pub none_before : front ≡ [] → made ≡ old
   pub stop : IsStop state lacks change now made new fault
+
+-- All of the changes are made, and so many they are; then nothing has failed.
+pub record MakesAll {S : Type 0} (state : S → SiteState) (old new : S) (changes : List FileChange) (now : ℕ) (result : Result ℕ ApplyFault) : Type 0 where
+  pub done : IsTrue (state old).honest → OnOk result (apply_all (state old).site changes now ≡ Ok (state new).site)
+  pub count : IfOk result (λ n. n ≡ length changes)
+  pub usable : OnOk result ((state new).usable ≡ (state old).usable)
+  pub counts : OnOk result (CountsNothing (state old) (state new))
+
+-- Or one is not, and its fault is counted; those before it stay.
+pub record StopsAt {S : Type 0} (state : S → SiteState) (lacks : S → Changes → SiteFault → Type 0) (old new : S) (changes : List FileChange) (now : ℕ) (result : Result ℕ ApplyFault) : Type 0 where
+  pub stopped : IfErr result (λ e. IsStopped state lacks old new changes now e.number e.fault)
+  pub kept : IsTrue (state old).honest → IfErr result (λ e. apply_all (state old).site (take (e.number - 1) changes) now ≡ Ok (state new).site)
+  pub counts : IfErr result (λ e. CountsFault e.fault (state old) (state new))
+
+-- The progress saw each change that was made, in order, and no other.
+pub record HasSeen {P : Type 0} (seen : P → List (ℕ × ℕ)) (changes : List FileChange) (old new : P) (result : Result ℕ ApplyFault) : Type 0 where
+  pub all : OnOk result (seen new ≡ seen old ++ numbered (length changes) (length changes))
+  pub before : IfErr result (λ e. seen new ≡ seen old ++ numbered (e.number - 1) (length changes))
+
+-- A crash at any moment leaves what represents the site after some of the changes, from the front. Where no write failed, what ended them wrote nothing: a crash leaves what the changes before it may leave.
+pub record CrashesOnFront {S L : Type 0} (state : S → SiteState) (crash_states : S → CrashStates L) (represents : L → Site → Type 0) (old new : S) (changes : List FileChange) (now : ℕ) (result : Result ℕ ApplyFault) : Type 0 where
+  pub at_crash : IsTrue (state old).honest → (state old).usable ≡ true → AddsOnly (crash_states old) (crash_states new) (RepresentsFront represents (state old).site changes now)
+  pub at_crash_when_refused : IsTrue (state old).honest → (state old).usable ≡ true → IfErr result (λ e. (state new).usable ≡ true → AddsOnly (crash_states old) (crash_states new) (RepresentsFront represents (state old).site (take (e.number - 1) changes) now))

@@ -1,5 +1,5 @@
 -- Changes that are made on a site and on the site of an image, and what a crash leaves of them.
-use Rattle.std.specs.Prelude.{◌≡◌, ◌≢◌, ℕ, ◌-◌, true, List, ◌++◌, take, Result, Ok, Err, OnOk, IfErr, IsTrue, length}
+use Rattle.std.specs.Prelude.{◌≡◌, ◌≢◌, ℕ, ◌-◌, true, List, take, Result, Ok, Err, OnOk, IfErr, IsTrue}
 use Rattle.host_types.specs.AllChanges.{Changes}
 use Rattle.host_types.specs.Site.{Site}
 use Rattle.host_types.specs.SiteState.{SiteState}
@@ -10,7 +10,7 @@ use Rattle.host_types.specs.declared.site_fault.SiteFault.TheVariants.{Failed}
 use Rattle.host_types.specs.CrashStates.{CrashStates, AddsOnly, AddsNone, may_crash_to}
 use Rattle.sector_device.specs.Device.{State, NothingCounted}
 use Rattle.page_store.specs.Sectors.{Image}
-use Rattle.change_file.specs.Applied.{apply_all, numbered, IsStopped, RepresentsFront}
+use Rattle.change_file.specs.Applied.{apply_all, IsStopped, RepresentsFront}
 use Rattle.change_file.specs.declared.fault.FileChange.{FileChange}
 use Rattle.change_file.specs.declared.fault.ApplyFault.{ApplyFault}
 use Rattle.host_on_disk.specs.ImageSites.{ImageRepresents}
@@ -51,7 +51,8 @@ pub record StopsOnImage {D S : Type 0} (state : D → State) (device : S → D) 
   pub stops : IsStopped site_state lacks opened closed changes now stopped.number stopped.fault
   pub handed : new ≡ device closed
 
--- The progress saw each change that was made, in order, and no other.
-pub record HasSeen {P : Type 0} (seen : P → List (ℕ × ℕ)) (changes : List FileChange) (old new : P) (result : Result ℕ ApplyFault) : Type 0 where
-  pub all : OnOk result (seen new ≡ seen old ++ numbered (length changes) (length changes))
-  pub before : IfErr result (λ e. seen new ≡ seen old ++ numbered (e.number - 1) (length changes))
+-- What changes on the site of an image count on its device, by their answer. It stays as honest as it is.
+pub record CountsChangesOn {D : Type 0} (state : D → State) (old new : D) (result : Result ℕ ApplyFault) : Type 0 where
+  pub counts : OnOk result (NothingCounted (state old) (state new))
+  pub counts_fault : IfErr result (λ e. CountsOnDevice e.fault (state old) (state new))
+  pub honest : (state new).honest ≡ (state old).honest

@@ -1,13 +1,11 @@
 // Makes changes on a site that is handed in, and on the site of an image.
-ghost use Rattle.std.specs.Prelude.{◌≡◌, true, IfOk, IfErr, OnOk, OnErr, IsTrue, length};
-ghost use Rattle.host_types.specs.Counting.{CountsFault, CountsNothing};
-ghost use Rattle.sector_device.specs.Device.{NothingCounted};
+ghost use Rattle.std.specs.Prelude.{◌≡◌, true, IfOk, IfErr, OnErr, IsTrue, length};
 ghost use Rattle.page_store.specs.Steps.{crash_states_of};
 ghost use Rattle.cow_tree.specs.TreeSeen.{device_of};
 ghost use Rattle.site_store.specs.Seen.{keeper_of};
-ghost use Rattle.change_file.specs.Applied.{IsStopped};
+ghost use Rattle.change_file.specs.Applied.{MakesAll, StopsAt, HasSeen};
 ghost use Rattle.host_on_disk.specs.OpenFaults.{IsOpeningFault, HandsBack};
-ghost use Rattle.image_changes.specs.ImageChanges.{AppliesTo, AppliesToImage, CountsOnDevice, HasSeen, StopsOnImage};
+ghost use Rattle.image_changes.specs.ImageChanges.{AppliesTo, AppliesToImage, CountsChangesOn, StopsOnImage};
 
 use change_file::{ApplyFault, FileChange, Progress, apply_changes};
 use cow_tree::TreeKeeper;
@@ -26,10 +24,8 @@ pub fn apply_over<S: SiteKeeper, P: Progress>(
 ) -> (Result<u64, ApplyFault>, S)
     requires { (S.site_state site).usable ≡ true }
     ensures applied { IsTrue (S.site_state site).honest → AppliesTo S.site_state S.crash_states S.represents site result.1 changes.items now result.0 }
-    ensures stopped { IfErr result.0 (λ e. IsStopped S.site_state S.lacks site result.1 changes.items now e.number e.fault) }
-    ensures count { IfOk result.0 (λ n. n ≡ length changes.items) }
-    ensures counts { OnOk result.0 (CountsNothing (S.site_state site) (S.site_state result.1)) }
-    ensures counts_fault { IfErr result.0 (λ e. CountsFault e.fault (S.site_state site) (S.site_state result.1)) }
+    ensures made { MakesAll S.site_state site result.1 changes.items now result.0 }
+    ensures stopped { StopsAt S.site_state S.lacks site result.1 changes.items now result.0 }
     ensures honest { (S.site_state result.1).honest ≡ (S.site_state site).honest }
     ensures pins { (S.site_state result.1).pins ≡ (S.site_state site).pins }
     ensures seen { HasSeen P.seen changes.items progress.old progress.new result.0 }
@@ -53,9 +49,7 @@ pub fn apply_on<D: Device, P: Progress>(
     ensures applied { IsTrue (D.state device).honest → IfOk result (λ r. AppliesToImage D.state (crash_states_of D.moment D.possible_since) device r.1 changes.items now r.0) }
     ensures stopped { IfOk result (λ r. IfErr r.0 (StopsOnImage D.state (λ d. device_of (keeper_of d)) ⟦<DiskSite<TreeKeeper<D>> as SiteKeeper>⟧.site_state ⟦<DiskSite<TreeKeeper<D>> as SiteKeeper>⟧.lacks device r.1 changes.items now)) }
     ensures count { IfOk result (λ r. IfOk r.0 (λ n. n ≡ length changes.items)) }
-    ensures counts { IfOk result (λ r. OnOk r.0 (NothingCounted (D.state device) (D.state r.1))) }
-    ensures counts_fault { IfOk result (λ r. IfErr r.0 (λ e. CountsOnDevice e.fault (D.state device) (D.state r.1))) }
-    ensures honest { IfOk result (λ r. (D.state r.1).honest ≡ (D.state device).honest) }
+    ensures counts { IfOk result (λ r. CountsChangesOn D.state device r.1 r.0) }
     ensures seen { IfOk result (λ r. HasSeen P.seen changes.items progress.old progress.new r.0) }
     ensures unseen { OnErr result (progress.new ≡ progress.old) }
     ensures refused { IfErr result (λ e. HandsBack IsOpeningFault D.state (crash_states_of D.moment D.possible_since) device e.1 e.0) }

@@ -20,28 +20,29 @@ parts g c =
 
 pub returns-in-Err-clause-stopped : goal.returns-in-Err-clause-stopped
 returns-in-Err-clause-stopped g c =
+    let is =
     stopped g.S.SiteKeeper.site_state g.S.SiteKeeper.lacks g.S.SiteKeeper.crash_states g.S.SiteKeeper.represents c.args.site.now c.loop-change.site c.apply_one.new.site c.args.changes.items c.loop-change.yielded c.in-Some.change
-    (drop (length c.loop-change.yielded + 1) c.args.changes.items) c.args.now (c.loop-change.number + 1) c.in-Err.fault (parts g c) (omega (arith, c.loop-change.invariant.counted)) c.loop-change.invariant.so_far c.in-Err.ensures.stop
-
-pub returns-in-Err-clause-kept : goal.returns-in-Err-clause-kept
-returns-in-Err-clause-kept g c = earlier_stay g.S.SiteKeeper.site_state g.S.SiteKeeper.lacks g.S.SiteKeeper.crash_states g.S.SiteKeeper.represents c.args.site.now c.apply_one.new.site c.args.changes.items c.args.now (c.loop-change.number + 1) c.in-Err.fault (returns-in-Err-clause-stopped g c)
+    (drop (length c.loop-change.yielded + 1) c.args.changes.items) c.args.now (c.loop-change.number + 1) c.in-Err.fault (parts g c) (omega (arith, c.loop-change.invariant.counted)) c.loop-change.invariant.so_far c.in-Err.ensures.stop in
+    record {
+      stopped = is;
+      kept = earlier_stay g.S.SiteKeeper.site_state g.S.SiteKeeper.lacks g.S.SiteKeeper.crash_states g.S.SiteKeeper.represents c.args.site.now c.apply_one.new.site c.args.changes.items c.args.now (c.loop-change.number + 1) c.in-Err.fault is;
+      counts = counts_stop g.S.SiteKeeper.site_state g.S.SiteKeeper.lacks g.S.SiteKeeper.crash_states g.S.SiteKeeper.represents c.args.site.now c.loop-change.site c.apply_one.new.site c.loop-change.yielded c.args.now c.in-Err.fault c.loop-change.invariant.so_far c.in-Err.ensures.counts_fault;
+    }
 
 pub returns-in-Err-clause-at_crash : goal.returns-in-Err-clause-at_crash
-returns-in-Err-clause-at_crash g c = λ honest usable.
-    subst (λ (l : List FileChange). AddsOnly (g.S.SiteKeeper.crash_states c.args.site.now) (g.S.SiteKeeper.crash_states c.apply_one.new.site) (RepresentsFront g.S.SiteKeeper.represents (g.S.SiteKeeper.site_state c.args.site.now).site l c.args.now)) (sym (parts g c))
-    (crash_more g.S.SiteKeeper.site_state g.S.SiteKeeper.lacks g.S.SiteKeeper.crash_states g.S.SiteKeeper.represents c.args.site.now c.loop-change.site c.apply_one.new.site c.loop-change.yielded c.in-Some.change
-    (drop (length c.loop-change.yielded + 1) c.args.changes.items) c.args.now c.loop-change.invariant.so_far c.in-Err.ensures.at_crash honest usable)
-
-pub returns-in-Err-clause-at_crash_when_refused : goal.returns-in-Err-clause-at_crash_when_refused
-returns-in-Err-clause-at_crash_when_refused g c = λ honest usable still.
-    let place : c.loop-change.number + 1 - 1 ≡ length c.loop-change.yielded = omega (arith, c.loop-change.invariant.counted) in
-    let front : take (c.loop-change.number + 1 - 1) c.args.changes.items ≡ c.loop-change.yielded = ap (take (c.loop-change.number + 1 - 1)) (parts g c) ∙ take_front c.loop-change.yielded _ (c.loop-change.number + 1 - 1) place in
-    subst (λ (l : List FileChange). AddsOnly (g.S.SiteKeeper.crash_states c.args.site.now) (g.S.SiteKeeper.crash_states c.apply_one.new.site) (RepresentsFront g.S.SiteKeeper.represents (g.S.SiteKeeper.site_state c.args.site.now).site l c.args.now)) (sym front)
-    (crash_refused g.S.SiteKeeper.site_state g.S.SiteKeeper.lacks g.S.SiteKeeper.crash_states g.S.SiteKeeper.represents c.args.site.now c.loop-change.site c.apply_one.new.site c.loop-change.yielded c.args.now c.loop-change.invariant.so_far
-    (λ h. c.in-Err.ensures.no_new_crash_state h still) honest usable)
-
-pub returns-in-Err-clause-counts_fault : goal.returns-in-Err-clause-counts_fault
-returns-in-Err-clause-counts_fault g c = counts_stop g.S.SiteKeeper.site_state g.S.SiteKeeper.lacks g.S.SiteKeeper.crash_states g.S.SiteKeeper.represents c.args.site.now c.loop-change.site c.apply_one.new.site c.loop-change.yielded c.args.now c.in-Err.fault c.loop-change.invariant.so_far c.in-Err.ensures.counts_fault
+returns-in-Err-clause-at_crash g c =
+    record {
+      at_crash = λ honest usable.
+          subst (λ (l : List FileChange). AddsOnly (g.S.SiteKeeper.crash_states c.args.site.now) (g.S.SiteKeeper.crash_states c.apply_one.new.site) (RepresentsFront g.S.SiteKeeper.represents (g.S.SiteKeeper.site_state c.args.site.now).site l c.args.now)) (sym (parts g c))
+          (crash_more g.S.SiteKeeper.site_state g.S.SiteKeeper.lacks g.S.SiteKeeper.crash_states g.S.SiteKeeper.represents c.args.site.now c.loop-change.site c.apply_one.new.site c.loop-change.yielded c.in-Some.change
+          (drop (length c.loop-change.yielded + 1) c.args.changes.items) c.args.now c.loop-change.invariant.so_far c.in-Err.ensures.at_crash honest usable);
+      at_crash_when_refused = λ honest usable still.
+          let place : c.loop-change.number + 1 - 1 ≡ length c.loop-change.yielded = omega (arith, c.loop-change.invariant.counted) in
+          let front : take (c.loop-change.number + 1 - 1) c.args.changes.items ≡ c.loop-change.yielded = ap (take (c.loop-change.number + 1 - 1)) (parts g c) ∙ take_front c.loop-change.yielded _ (c.loop-change.number + 1 - 1) place in
+          subst (λ (l : List FileChange). AddsOnly (g.S.SiteKeeper.crash_states c.args.site.now) (g.S.SiteKeeper.crash_states c.apply_one.new.site) (RepresentsFront g.S.SiteKeeper.represents (g.S.SiteKeeper.site_state c.args.site.now).site l c.args.now)) (sym front)
+          (crash_refused g.S.SiteKeeper.site_state g.S.SiteKeeper.lacks g.S.SiteKeeper.crash_states g.S.SiteKeeper.represents c.args.site.now c.loop-change.site c.apply_one.new.site c.loop-change.yielded c.args.now c.loop-change.invariant.so_far
+          (λ h. c.in-Err.ensures.no_new_crash_state h still) honest usable);
+    }
 
 pub loop-change-preserved : goal.loop-change-preserved
 loop-change-preserved g c = record {

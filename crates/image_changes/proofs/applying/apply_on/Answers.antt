@@ -1,4 +1,4 @@
-use Rattle.std.proofs.Common.{true, sym, subst, ap, ◌∙◌, ◌-◌, take}
+use Rattle.std.proofs.Common.{true, sym, subst, ap, ◌∙◌, ◌-◌, take, rules}
 use Rattle.std.specs.Prelude.{IsTrue, OnOk}
 use Rattle.host_types.specs.CrashStates.{AddsOnly}
 use Rattle.host_types.specs.Counting.{writes_after}
@@ -42,31 +42,28 @@ returns-clause-stopped g c = err_too c.apply_over-applied.result.0
       stops = is;
       handed = c.into_device.ensures ∙ ap (λ k. device_of k) c.into_keeper.ensures.keeper;
     })
-    c.apply_over-applied.ensures.stopped
+    c.apply_over-applied.ensures.stopped.stopped
 
 pub returns-clause-counts : goal.returns-clause-counts
 returns-clause-counts g c =
     let state = g.D.Device.state in
-    let opened = c.in-Ok.ensures.counts in
-    let back = c.into_device.ensures ∙ ap (λ k. device_of k) c.into_keeper.ensures.keeper in
-    on_ok_too c.apply_over-applied.result.0
-    (λ is. record {
-      reads = ap (λ d. (state d).failed_reads) back ∙ is.reads ∙ opened.reads;
-      writes = ap (λ d. (state d).failed_writes) back ∙ is.writes ∙ opened.writes;
-    })
-    c.apply_over-applied.ensures.counts
-
-pub returns-clause-counts_fault : goal.returns-clause-counts_fault
-returns-clause-counts_fault g c =
-    let state = g.D.Device.state in
     let opened = c.in-Ok.ensures in
     let back = c.into_device.ensures ∙ ap (λ k. device_of k) c.into_keeper.ensures.keeper in
-    err_too c.apply_over-applied.result.0
-    (λ e is. record {
-      reads = reads_on_device _ _ e.fault _ _ _ _ opened.honest opened.counts.reads (ap (λ d. (state d).failed_reads) back) is.reads;
-      writes = ap (λ d. (state d).failed_writes) back ∙ is.writes ∙ ap (λ usable. writes_after usable e.fault (state c.in-Ok.site.keeper.device).failed_writes) opened.usable ∙ ap (λ count. writes_after true e.fault count) opened.counts.writes;
-    })
-    c.apply_over-applied.ensures.counts_fault
+    record {
+      counts = on_ok_too c.apply_over-applied.result.0
+          (λ is. record {
+            reads = ap (λ d. (state d).failed_reads) back ∙ is.reads ∙ opened.counts.reads;
+            writes = ap (λ d. (state d).failed_writes) back ∙ is.writes ∙ opened.counts.writes;
+          })
+          c.apply_over-applied.ensures.made.counts;
+      counts_fault = err_too c.apply_over-applied.result.0
+          (λ e is. record {
+            reads = reads_on_device _ _ e.fault _ _ _ _ opened.honest opened.counts.reads (ap (λ d. (state d).failed_reads) back) is.reads;
+            writes = ap (λ d. (state d).failed_writes) back ∙ is.writes ∙ ap (λ usable. writes_after usable e.fault (state c.in-Ok.site.keeper.device).failed_writes) opened.usable ∙ ap (λ count. writes_after true e.fault count) opened.counts.writes;
+          })
+          c.apply_over-applied.ensures.stopped.counts;
+      honest = search rules;
+    }
 
 pub into_keeper-requires : goal.into_keeper-requires
 into_keeper-requires g c = record { unpinned = c.apply_over-applied.ensures.pins ∙ c.in-Ok.ensures.none_pinned }
