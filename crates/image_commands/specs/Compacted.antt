@@ -1,5 +1,5 @@
 -- What `compact` does to an image, and what it prints, without the LF.
-use Rattle.std.specs.Prelude.{◌≡◌, ◌⊎◌, ◌≤◌, ◌<◌, ⊤, ℕ, List, [], ◌++◌, Some, codes, decimal, IsTrue}
+use Rattle.std.specs.Prelude.{◌≡◌, ◌⊎◌, ◌≤◌, ◌<◌, ⊤, ℕ, List, [], ◌++◌, Some, Result, codes, decimal, IfOk, IfErr, IsTrue}
 use Rattle.common_types.specs.Counts.{counted}
 use Rattle.common_types.specs.CrashStates.{CrashStates, AddsOnly, AddsNone}
 use Rattle.host_types.specs.Site.{Site}
@@ -73,3 +73,9 @@ MayHaveWritten Memory = ⊤
 -- When a fault may come of writing an image anew.
 abbrev pub IsCompactingFault : State → State → ImageFault → Type 0
 IsCompactingFault old new fault = IsNotOpened old new fault ⊎ ((128 ≤ old.size) × IsNotWrittenAnew old new fault)
+
+-- The device that is handed back is as honest as before, and where all went well it counts nothing.
+pub record LeavesDevice {D T F : Type 0} (state : D → State) (old : D) (result : Result (T × D) (F × D)) : Type 0 where
+  pub counts : IfOk result (λ r. NothingCounted (state old) (state r.1))
+  pub honest : IfOk result (λ r. (state r.1).honest ≡ (state old).honest)
+  pub honest_on_fault : IfErr result (λ e. (state e.1).honest ≡ (state old).honest)

@@ -2,11 +2,10 @@
 ghost use Rattle.std.specs.Prelude.{◌≡◌, ◌⊎◌, ◌<◌, IfOk, IfErr, IsErrAnd, IsTrue};
 ghost use Rattle.std.specs.String.{string_bytes};
 ghost use Rattle.host_types.specs.CrashStates.{AddsNone};
-ghost use Rattle.sector_device.specs.Device.{NothingCounted};
 ghost use Rattle.page_store.specs.Steps.{crash_states_of};
 ghost use Rattle.page_store.specs.declared.fault.KeeperFault.TheVariants.{Small};
 ghost use Rattle.image_commands.specs.Compacted as spec;
-ghost use Rattle.image_commands.specs.Compacted.{KeepsOneSite, ShowsSite, IsWrittenAnew, MayHaveWritten, IsCompactingFault};
+ghost use Rattle.image_commands.specs.Compacted.{KeepsOneSite, ShowsSite, IsWrittenAnew, MayHaveWritten, IsCompactingFault, LeavesDevice};
 ghost use Rattle.image_commands.specs.declared.fault.ImageFault.TheVariants.{Store};
 
 use crate::ImageFault;
@@ -29,13 +28,11 @@ pub fn compact_image<D: Device>(alloc: Global, device: D) -> Result<(String, D),
     ensures kept { IsTrue (D.state device).honest → IfOk result (λ r. KeepsOneSite D.state (crash_states_of D.moment D.possible_since) device r.1) }
     ensures shows { IsTrue (D.state device).honest → IfOk result (λ r. ShowsSite D.state device r.1) }
     ensures anew { IsTrue (D.state device).honest → IfOk result (λ r. IsWrittenAnew (D.state r.1).disk.view (string_bytes r.0)) }
-    ensures counts { IfOk result (λ r. NothingCounted (D.state device) (D.state r.1)) }
+    ensures device { LeavesDevice D.state device result }
     ensures refused { IfErr result (λ e. IsCompactingFault (D.state device) (D.state e.1) e.0) }
     ensures kept_on_fault { IsTrue (D.state device).honest → IfErr result (λ e. AddsNone (crash_states_of D.moment D.possible_since device) (crash_states_of D.moment D.possible_since e.1) ⊎ KeepsOneSite D.state (crash_states_of D.moment D.possible_since) device e.1) }
     ensures no_new_crash_state { IsTrue (D.state device).honest → IfErr result (λ e. MayHaveWritten e.0 ⊎ AddsNone (crash_states_of D.moment D.possible_since device) (crash_states_of D.moment D.possible_since e.1)) }
     ensures small { (D.state device).size < 128 → IsErrAnd result (λ e. (e.0 ≡ Store Small) × (e.1 ≡ device)) }
-    ensures honest { IfOk result (λ r. (D.state r.1).honest ≡ (D.state device).honest) }
-    ensures honest_on_fault { IfErr result (λ e. (D.state e.1).honest ≡ (D.state device).honest) }
 {
     let mut site = match open_site(alloc, device) {
         Ok(site) => site,
