@@ -1,14 +1,12 @@
 // All pairs of a keeper of a tree.
-ghost use Rattle.std.specs.Prelude.{◌↔◌, ◌≡◌, ◌≤◌, true, IsTrue, IfOk, OnOk, IfErr, IfSome, length};
+ghost use Rattle.std.specs.Prelude.{◌↔◌, ◌≡◌, ◌≤◌, true, IsTrue, IfOk, IfSome, length};
 ghost use Rattle.page_store.specs.Sizes.{longest_key, longest_value};
-ghost use Rattle.common_types.specs.CrashStates.{AddsNone};
 ghost use Rattle.page_store.specs.Batch.{is_map, pair_after};
 ghost use Rattle.page_store.specs.PairsInOrder.{last_key};
 ghost use Rattle.page_store.specs.Steps.{crash_states_of};
-ghost use Rattle.page_store.specs.StoreState.{StoreHasRead};
 ghost use Rattle.cow_tree.specs.Compacting.{most_pairs};
 ghost use Rattle.cow_tree.specs.TreeSeen.{held, device_of, is_open, kept_by};
-ghost use Rattle.image_copies.specs.SitesRead.{IsSiteNotRead};
+ghost use Rattle.image_copies.specs.SitesRead.{ReadsAllPairs};
 
 use cow_tree::TreeKeeper;
 use image_commands::ImageFault;
@@ -43,10 +41,7 @@ fn pair_behind<D: Device>(
     ensures tells { IfOk result (λ next. next ≡ pair_after (kept_by keeper.new) (last_key pairs.now)) }
     ensures short { IfOk result (λ next. IfSome next (λ p. length p.0 ≤ longest_key)) }
     ensures few { IfOk result (λ next. IfSome next (λ p. length p.1 ≤ longest_value)) }
-    ensures kept { StoreHasRead (held D.state keeper.old) (held D.state keeper.new) }
-    ensures counts { OnOk result ((held D.state keeper.new).failed_reads ≡ (held D.state keeper.old).failed_reads) }
-    ensures fault { IfErr result (IsSiteNotRead (held D.state keeper.old) (held D.state keeper.new)) }
-    ensures at_crash { IsTrue (held D.state keeper.old).honest → AddsNone (crash_states_of D.moment D.possible_since (device_of keeper.old)) (crash_states_of D.moment D.possible_since (device_of keeper.new)) }
+    ensures reads { ReadsAllPairs (held D.state) (λ k. crash_states_of D.moment D.possible_since (device_of k)) keeper.old keeper.new result }
 {
     let (mut key, mut value) = ([0; LONGEST_KEY], [0; LONGEST_VALUE]);
     match keeper.next(last_key(pairs), &mut key, &mut value) {
@@ -76,10 +71,7 @@ pub(crate) fn all_pairs<D: Device>(
     ensures map { IfOk result (λ pairs. is_map pairs.items ≡ true) }
     ensures few { IfOk result (λ pairs. length pairs.items ≤ most_pairs) }
     ensures counted { IfOk result (λ pairs. length pairs.items ≡ (held D.state keeper.old).keys) }
-    ensures kept { StoreHasRead (held D.state keeper.old) (held D.state keeper.new) }
-    ensures counts { OnOk result ((held D.state keeper.new).failed_reads ≡ (held D.state keeper.old).failed_reads) }
-    ensures fault { IfErr result (IsSiteNotRead (held D.state keeper.old) (held D.state keeper.new)) }
-    ensures at_crash { IsTrue (held D.state keeper.old).honest → AddsNone (crash_states_of D.moment D.possible_since (device_of keeper.old)) (crash_states_of D.moment D.possible_since (device_of keeper.new)) }
+    ensures reads { ReadsAllPairs (held D.state) (λ k. crash_states_of D.moment D.possible_since (device_of k)) keeper.old keeper.new result }
 {
     let mut pairs = Vec::new(alloc);
     for _ in 0..MOST_PAIRS + 1 {

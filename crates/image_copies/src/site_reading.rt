@@ -1,10 +1,9 @@
 // All of a site, read from its image.
-ghost use Rattle.std.specs.Prelude.{◌≡◌, ◌≤◌, ◌<◌, [], true, IsTrue, IfOk, OnOk, IfErr, IsErrAnd, length};
+ghost use Rattle.std.specs.Prelude.{◌≡◌, ◌≤◌, ◌<◌, [], true, IsTrue, IfOk, IfErr, IsErrAnd, length};
 ghost use Rattle.std.specs.Option.{is_some};
 ghost use Rattle.common_types.specs.CrashStates.{AddsNone};
 ghost use Rattle.sector_device.specs.Device.{NothingCounted};
 ghost use Rattle.page_store.specs.Roots.{current};
-ghost use Rattle.page_store.specs.StoreState.{StoreHasRead};
 ghost use Rattle.page_store.specs.Steps.{crash_states_of};
 ghost use Rattle.page_store.specs.declared.fault.KeeperFault.TheVariants.{Small};
 ghost use Rattle.cow_tree.specs.TreeSeen.{held, device_of, is_open};
@@ -12,8 +11,7 @@ ghost use Rattle.site_store.specs.Seen.{keeper_of, seen_site};
 ghost use Rattle.host_on_disk.specs.OpenFaults.{HandsBack};
 ghost use Rattle.image_commands.specs.Faults.{IsNotRead, IsReadingFault};
 ghost use Rattle.image_commands.specs.declared.fault.ImageFault.TheVariants.{Store};
-ghost use Rattle.image_copies.specs.SitesRead as pairs;
-ghost use Rattle.image_copies.specs.SitesRead.{IsReadOf, IsSiteRead};
+ghost use Rattle.image_copies.specs.SitesRead.{IsReadOf, IsSiteRead, ReadsAllPairs, HandsOver};
 
 use crate::all_pairs::all_pairs;
 use crate::site_read::SiteRead;
@@ -37,10 +35,7 @@ fn read_keeper<D: Device>(
     ensures counted { IfOk result (λ read. length read.pairs.items ≡ (held D.state keeper.old).keys) }
     ensures banner { IfOk result (λ read. read.banner ≡ (held D.state keeper.old).banner) }
     ensures items { IfOk result (λ read. read.items ≡ items) }
-    ensures kept { StoreHasRead (held D.state keeper.old) (held D.state keeper.new) }
-    ensures counts { OnOk result ((held D.state keeper.new).failed_reads ≡ (held D.state keeper.old).failed_reads) }
-    ensures fault { IfErr result (pairs.IsSiteNotRead (held D.state keeper.old) (held D.state keeper.new)) }
-    ensures at_crash { IsTrue (held D.state keeper.old).honest → AddsNone (crash_states_of D.moment D.possible_since (device_of keeper.old)) (crash_states_of D.moment D.possible_since (device_of keeper.new)) }
+    ensures reads { ReadsAllPairs (held D.state) (λ k. crash_states_of D.moment D.possible_since (device_of k)) keeper.old keeper.new result }
 {
     let banner = match keeper.banner().clone() {
         Ok(banner) => banner,
@@ -66,10 +61,7 @@ fn read_open<D: Device>(
     requires unpinned { (⟦<DiskSite<TreeKeeper<D>> as SiteKeeper>⟧.site_state site).pins ≡ [] }
     ensures read { IsTrue (D.state (device_of (keeper_of site))).honest → IfOk result (λ r. IsReadOf (seen_site site) r.0) }
     ensures rooted { IsTrue (D.state (device_of (keeper_of site))).honest → IfOk result (λ r. is_some (current (D.state r.1).disk.view) ≡ true) }
-    ensures counts { IfOk result (λ r. NothingCounted (D.state (device_of (keeper_of site))) (D.state r.1)) }
-    ensures honest { IfOk result (λ r. (D.state r.1).honest ≡ (D.state (device_of (keeper_of site))).honest) }
-    ensures at_crash { IsTrue (D.state (device_of (keeper_of site))).honest → IfOk result (λ r. AddsNone (crash_states_of D.moment D.possible_since (device_of (keeper_of site))) (crash_states_of D.moment D.possible_since r.1)) }
-    ensures large { IfOk result (λ r. 128 ≤ (D.state r.1).size) }
+    ensures back { IfOk result (λ r. HandsOver D.state (crash_states_of D.moment D.possible_since) (device_of (keeper_of site)) r.1) }
     ensures refused { IfErr result (λ e. HandsBack IsNotRead D.state (crash_states_of D.moment D.possible_since) (device_of (keeper_of site)) e.1 e.0) }
 {
     let mut site = site;

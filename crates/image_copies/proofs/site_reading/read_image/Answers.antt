@@ -22,16 +22,16 @@ pub returns-in-Ok-read_open-clause-rooted : goal.returns-in-Ok-read_open-clause-
 returns-in-Ok-read_open-clause-rooted g c = λ honest. c.in-Ok-read_open.ensures.rooted (c.in-Ok.ensures.honest ∙ honest)
 
 pub returns-in-Ok-read_open-clause-counts : goal.returns-in-Ok-read_open-clause-counts
-returns-in-Ok-read_open-clause-counts g c = counted_since _ _ _ c.in-Ok.ensures.counts c.in-Ok-read_open.ensures.counts
+returns-in-Ok-read_open-clause-counts g c = counted_since _ _ _ c.in-Ok.ensures.counts c.in-Ok-read_open.ensures.back.counts
 
 pub returns-in-Ok-read_open-clause-honest : goal.returns-in-Ok-read_open-clause-honest
-returns-in-Ok-read_open-clause-honest g c = c.in-Ok-read_open.ensures.honest ∙ c.in-Ok.ensures.honest
+returns-in-Ok-read_open-clause-honest g c = c.in-Ok-read_open.ensures.back.honest ∙ c.in-Ok.ensures.honest
 
 pub returns-in-Ok-read_open-clause-at_crash : goal.returns-in-Ok-read_open-clause-at_crash
-returns-in-Ok-read_open-clause-at_crash g c = λ honest. adds_none_again _ _ _ (c.in-Ok.ensures.at_crash honest) (c.in-Ok-read_open.ensures.at_crash (c.in-Ok.ensures.honest ∙ honest))
+returns-in-Ok-read_open-clause-at_crash g c = λ honest. adds_none_again _ _ _ (c.in-Ok.ensures.at_crash honest) (c.in-Ok-read_open.ensures.back.at_crash (c.in-Ok.ensures.honest ∙ honest))
 
 pub returns-in-Ok-read_open-clause-large : goal.returns-in-Ok-read_open-clause-large
-returns-in-Ok-read_open-clause-large g c = (c.in-Ok.ensures.large, c.in-Ok-read_open.ensures.large)
+returns-in-Ok-read_open-clause-large g c = (c.in-Ok.ensures.large, c.in-Ok-read_open.ensures.back.large)
 
 pub returns-in-Err-read_open-clause-refused : goal.returns-in-Err-read_open-clause-refused
 returns-in-Err-read_open-clause-refused g c =

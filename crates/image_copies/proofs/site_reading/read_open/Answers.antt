@@ -52,37 +52,40 @@ returns-in-Ok-read_keeper-clause-rooted g c = λ honest.
     let same = c.into_keeper-keeper.ensures.keeper in
     let k = c.read_keeper.new.keeper in
     let read = c.in-Ok-read_keeper.ensures in
-    let still : IsTrue (held state k).honest = read.kept.honest ∙ ap (λ x. (held state x).honest) same ∙ kept.honest ∙ honest in
-    let up : k.usable ≡ true = read.kept.same.usable ∙ ap (λ x. is_open x) same ∙ kept.usable ∙ c.requires.usable in
+    let still : IsTrue (held state k).honest = read.reads.kept.honest ∙ ap (λ x. (held state x).honest) same ∙ kept.honest ∙ honest in
+    let up : k.usable ≡ true = read.reads.kept.same.usable ∙ ap (λ x. is_open x) same ∙ kept.usable ∙ c.requires.usable in
     subst (λ d. is_some (current (state d).disk.view) ≡ true) (sym c.into_device-in-Ok-read_keeper.ensures) (ap (λ o. is_some o) (k.durable still up).current_is)
 
-pub returns-in-Ok-read_keeper-clause-counts : goal.returns-in-Ok-read_keeper-clause-counts
-returns-in-Ok-read_keeper-clause-counts g c =
-    let state = g.D.Device.state in
-    let same = c.into_keeper-keeper.ensures.keeper in
-    let read = c.in-Ok-read_keeper.ensures in
-    let old = c.args.site.keeper in
-    let counted : NothingCounted (state old.device) (state c.read_keeper.new.keeper.device) = record {
-      reads = read.counts ∙ ap (λ x. (held state x).failed_reads) same ∙ c.in-Ok.ensures.reads;
-      writes = read.kept.writes ∙ ap (λ x. (held state x).failed_writes) same ∙ c.figures.ensures.kept.writes;
-    } in
-    subst (λ d. NothingCounted (state old.device) (state d)) (sym c.into_device-in-Ok-read_keeper.ensures) counted
-
-pub returns-in-Ok-read_keeper-clause-honest : goal.returns-in-Ok-read_keeper-clause-honest
-returns-in-Ok-read_keeper-clause-honest g c =
-    let state = g.D.Device.state in
-    ap (λ d. (state d).honest) c.into_device-in-Ok-read_keeper.ensures ∙ c.in-Ok-read_keeper.ensures.kept.honest ∙ ap (λ x. (held state x).honest) c.into_keeper-keeper.ensures.keeper ∙ c.figures.ensures.kept.honest
-
-pub returns-in-Ok-read_keeper-clause-at_crash : goal.returns-in-Ok-read_keeper-clause-at_crash
-returns-in-Ok-read_keeper-clause-at_crash g c = λ honest.
-    let state = g.D.Device.state in
-    let states = crash_states_of g.D.Device.moment g.D.Device.possible_since in
-    let old = c.args.site.keeper in
-    let now = c.figures.new.self.keeper in
-    let same = c.into_keeper-keeper.ensures.keeper in
-    let first : AddsNone (states old.device) (states c.into_keeper-keeper.result.device) = subst (λ k. AddsNone (states old.device) (states (device_of k))) (sym same) (c.figures.ensures.at_crash honest) in
-    let still : IsTrue (held state c.into_keeper-keeper.result).honest = ap (λ x. (held state x).honest) same ∙ c.figures.ensures.kept.honest ∙ honest in
-    subst (λ d. AddsNone (states old.device) (states d)) (sym c.into_device-in-Ok-read_keeper.ensures) (adds_none_again _ _ _ first (c.in-Ok-read_keeper.ensures.at_crash still))
+pub returns-in-Ok-read_keeper-clause-back : goal.returns-in-Ok-read_keeper-clause-back
+returns-in-Ok-read_keeper-clause-back g c =
+    record {
+      counts =
+          let state = g.D.Device.state in
+          let same = c.into_keeper-keeper.ensures.keeper in
+          let read = c.in-Ok-read_keeper.ensures in
+          let old = c.args.site.keeper in
+          let counted : NothingCounted (state old.device) (state c.read_keeper.new.keeper.device) = record {
+            reads = read.reads.counts ∙ ap (λ x. (held state x).failed_reads) same ∙ c.in-Ok.ensures.reads;
+            writes = read.reads.kept.writes ∙ ap (λ x. (held state x).failed_writes) same ∙ c.figures.ensures.kept.writes;
+          } in
+          subst (λ d. NothingCounted (state old.device) (state d)) (sym c.into_device-in-Ok-read_keeper.ensures) counted;
+      honest =
+          let state = g.D.Device.state in
+          ap (λ d. (state d).honest) c.into_device-in-Ok-read_keeper.ensures ∙ c.in-Ok-read_keeper.ensures.reads.kept.honest ∙ ap (λ x. (held state x).honest) c.into_keeper-keeper.ensures.keeper ∙ c.figures.ensures.kept.honest;
+      at_crash = λ honest.
+          let state = g.D.Device.state in
+          let states = crash_states_of g.D.Device.moment g.D.Device.possible_since in
+          let old = c.args.site.keeper in
+          let now = c.figures.new.self.keeper in
+          let same = c.into_keeper-keeper.ensures.keeper in
+          let first : AddsNone (states old.device) (states c.into_keeper-keeper.result.device) = subst (λ k. AddsNone (states old.device) (states (device_of k))) (sym same) (c.figures.ensures.at_crash honest) in
+          let still : IsTrue (held state c.into_keeper-keeper.result).honest = ap (λ x. (held state x).honest) same ∙ c.figures.ensures.kept.honest ∙ honest in
+          subst (λ d. AddsNone (states old.device) (states d)) (sym c.into_device-in-Ok-read_keeper.ensures) (adds_none_again _ _ _ first (c.in-Ok-read_keeper.ensures.reads.at_crash still));
+      large =
+          let state = g.D.Device.state in
+          let fitted = c.read_keeper.new.keeper.fitted in
+          subst (λ d. 128 ≤ (state d).size) (sym c.into_device-in-Ok-read_keeper.ensures) (let least = fitted.least in let fits = fitted.fits in omega (arith, least, fits));
+    }
 
 pub returns-in-Err-read_keeper-clause-refused : goal.returns-in-Err-read_keeper-clause-refused
 returns-in-Err-read_keeper-clause-refused g c =
@@ -95,19 +98,13 @@ returns-in-Err-read_keeper-clause-refused g c =
     let read = c.in-Err-read_keeper.ensures in
     let kept = c.figures.ensures.kept in
     let honest_is : (held state first).honest ≡ (state old.device).honest = ap (λ x. (held state x).honest) same ∙ kept.honest in
-    let crash : AddsNone (states old.device) (states first.device) → IsTrue (state old.device).honest → AddsNone (states old.device) (states k.device) = λ before honest. adds_none_again _ _ _ before (read.at_crash (honest_is ∙ honest)) in
+    let crash : AddsNone (states old.device) (states first.device) → IsTrue (state old.device).honest → AddsNone (states old.device) (states k.device) = λ before honest. adds_none_again _ _ _ before (read.reads.at_crash (honest_is ∙ honest)) in
     let refused : HandsBack IsNotRead state states old.device k.device c.in-Err-read_keeper.fault = record {
-      caused = pairs_not_read (state old.device) (state k.device) (held state first) (held state k) c.in-Err-read_keeper.fault honest_is (ap (λ x. (held state x).failed_reads) same ∙ c.in-Ok.ensures.reads) refl (read.kept.writes ∙ ap (λ x. (held state x).failed_writes) same ∙ kept.writes) c.requires.large read.fault;
-      honest = read.kept.honest ∙ honest_is;
+      caused = pairs_not_read (state old.device) (state k.device) (held state first) (held state k) c.in-Err-read_keeper.fault honest_is (ap (λ x. (held state x).failed_reads) same ∙ c.in-Ok.ensures.reads) refl (read.reads.kept.writes ∙ ap (λ x. (held state x).failed_writes) same ∙ kept.writes) c.requires.large read.reads.fault;
+      honest = read.reads.kept.honest ∙ honest_is;
       no_new_crash_state = λ honest. crash (subst (λ x. AddsNone (states old.device) (states (device_of x))) (sym same) (c.figures.ensures.at_crash honest)) honest;
     } in
     subst (λ d. HandsBack IsNotRead state states old.device d c.in-Err-read_keeper.fault) (sym c.into_device-in-Err-read_keeper.ensures) refused
-
-pub returns-in-Ok-read_keeper-clause-large : goal.returns-in-Ok-read_keeper-clause-large
-returns-in-Ok-read_keeper-clause-large g c =
-    let state = g.D.Device.state in
-    let fitted = c.read_keeper.new.keeper.fitted in
-    subst (λ d. 128 ≤ (state d).size) (sym c.into_device-in-Ok-read_keeper.ensures) (let least = fitted.least in let fits = fitted.fits in omega (arith, least, fits))
 
 pub into_keeper-requires : goal.into_keeper-requires
 into_keeper-requires g c = record { unpinned = c.figures.ensures.kept.pins ∙ c.requires.unpinned }
@@ -118,9 +115,9 @@ into_keeper-keeper-requires g c = record { unpinned = c.figures.ensures.kept.pin
 pub into_device-requires-in-Ok-read_keeper : goal.into_device-requires-in-Ok-read_keeper
 into_device-requires-in-Ok-read_keeper g c =
     let state = g.D.Device.state in
-    record { unpinned = none_out (held state c.into_keeper-keeper.result) (held state c.read_keeper.new.keeper) c.in-Ok-read_keeper.ensures.kept.same.out c.into_keeper-keeper.ensures.unpinned }
+    record { unpinned = none_out (held state c.into_keeper-keeper.result) (held state c.read_keeper.new.keeper) c.in-Ok-read_keeper.ensures.reads.kept.same.out c.into_keeper-keeper.ensures.unpinned }
 
 pub into_device-requires-in-Err-read_keeper : goal.into_device-requires-in-Err-read_keeper
 into_device-requires-in-Err-read_keeper g c =
     let state = g.D.Device.state in
-    record { unpinned = none_out (held state c.into_keeper-keeper.result) (held state c.read_keeper.new.keeper) c.in-Err-read_keeper.ensures.kept.same.out c.into_keeper-keeper.ensures.unpinned }
+    record { unpinned = none_out (held state c.into_keeper-keeper.result) (held state c.read_keeper.new.keeper) c.in-Err-read_keeper.ensures.reads.kept.same.out c.into_keeper-keeper.ensures.unpinned }
