@@ -19,7 +19,7 @@ use Rattle.ready_turns.specs.Seats.{HasTurn, HasKept, LearnsWhatCame, Dismissed,
 use Rattle.ready_turns.specs.Tries.{write_try}
 use Rattle.ready_turns.specs.declared.seat.Seat.{Seat}
 use Rattle.ready_sockets.specs.DoorCalls.{DoorCall, Waited, WaitFailed, Came, NotHad, both_ways, is_nobody}
-use Rattle.ready_sockets.specs.Doors.{listener_token, HasSameListener}
+use Rattle.ready_sockets.specs.Doors.{listener_token, HasSameListener, IsClients}
 use Rattle.ready_sockets.specs.Limits.{is_over, longest_stay}
 use Rattle.ready_sockets.specs.Origins.{Origin, origin_of, is_same}
 use Rattle.ready_sockets.specs.Posts.{may_post, noted}
@@ -309,6 +309,13 @@ abbrev pub HasAsked : {W : Type 0} → Bool → Bool → Bool → Option (W × I
 HasAsked false may_accept lost next made = made ≡ []
 HasAsked true may_accept lost (Some next) made = made ≡ Came next.1 next.2 both_ways ∷ []
 HasAsked true may_accept lost None made = (missed : Missed) × (made ≡ NotHad missed ∷ []) × (may_accept ≡ not (is_nobody missed)) × (lost ≡ not (is_nobody missed))
+
+-- One came with this token: there is room, and the next is asked for as before.
+pub record HasTaken (old new : Room) (given : Token) : Type 0 where
+  pub room : length old.visits.items < 32
+  pub token : IsClients given
+  pub may_accept : (old.may_accept ≡ true) × (new.may_accept ≡ true)
+  pub lost : new.lost ≡ old.lost
 
 -- what one is told who is turned away; as a plain client is told, since its request is not read
 abbrev pub crowd_reply : List ℕ

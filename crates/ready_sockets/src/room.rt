@@ -55,14 +55,13 @@ pub struct Room {
 }
 
 impl Room {
-    ghost use Rattle.std.specs.Prelude.{◌⊎◌, ◌++◌, ◌<◌, true, false, not, List, [], length, filter, map, option_map, IfOk, IfErr, IfSome, OnErr};
+    ghost use Rattle.std.specs.Prelude.{◌⊎◌, ◌++◌, ◌<◌, true, false, not, List, [], filter, map, option_map, IfOk, IfErr, IfSome, OnErr};
     ghost use Rattle.std.specs.List.{list_any};
     ghost use Rattle.std.specs.Duration.{as_nanos};
     ghost use Rattle.mio.specs.Events.{items};
     ghost use Rattle.ready_sockets.specs.DoorCalls.{DoorCall, listen_calls};
-    ghost use Rattle.ready_sockets.specs.Doors.{IsClients};
     ghost use Rattle.ready_sockets.specs.Offices.{calls_office};
-    ghost use Rattle.ready_sockets.specs.Visits.{has_gone, woken, own_patience, patience, asks, HasAsked, IsFreshRoom, HasWoken, HasWaited, HasNotWaited};
+    ghost use Rattle.ready_sockets.specs.Visits.{has_gone, woken, own_patience, patience, asks, HasAsked, HasTaken, IsFreshRoom, HasWoken, HasWaited, HasNotWaited};
     ghost use Rattle.ready_sockets.specs.declared.room.VisitFault.TheVariants as faults;
 
     /// Listens at an address, with nobody in. Whether a listener was had there is noted, or why not.
@@ -174,11 +173,8 @@ impl Room {
     pub(crate) fn next(&mut self) -> Option<(TcpStream, IpAddr, Token)>
         ensures visits { self.new.visits ≡ self.old.visits }
         ensures posts { self.new.posts ≡ self.old.posts }
-        ensures room { IfSome result (λ _. length self.old.visits.items < 32) }
-        ensures token { IfSome result (λ next. IsClients next.2) }
-        ensures may_accept { IfSome result (λ _. (self.old.may_accept ≡ true) × (self.new.may_accept ≡ true)) }
+        ensures came { IfSome result (λ next. HasTaken self.old self.new next.2) }
         ensures shut { (self.new.may_accept ≡ self.old.may_accept) ⊎ (self.new.may_accept ≡ false) }
-        ensures lost { IfSome result (λ _. self.new.lost ≡ self.old.lost) }
         ensures asked { (made : List DoorCall) × (self.new.door.made.calls ≡ self.old.door.made.calls ++ made) × HasAsked (asks self.old) self.new.may_accept self.new.lost result made }
         ensures unasked { asks self.old ≡ false → self.new ≡ self.old }
     {

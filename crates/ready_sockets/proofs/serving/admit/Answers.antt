@@ -13,8 +13,8 @@ loop-client-init g c = record {
 pub loop-client-preserved : goal.loop-client-preserved
 loop-client-preserved g c = record {
   run = run_both _ _ _ _ g.met.S.SiteKeeper.crash_states_represent _ _ _ _ _ _ _ _ _ c.loop-client.invariant.run c.receive.ensures.run
-      (λ es fs os ps p q. one_more _ _ _ _ c.loop-client.room c.next.new.self _ c.in-Some.next (vec_len c.next.new.self.visits < vec_capacity c.next.new.self.visits) es fs os ps _ _ (omega (arith, c.in-Some.ensures.room, ap vec_len c.in-Some.ensures.visits, c.next.new.self.space))
-      c.in-Some.ensures.visits c.in-Some.ensures.room c.in-Some.ensures.may_accept c.in-Some.ensures.lost c.in-Some.ensures.asked refl refl refl c.in-Some.ensures.posts p q);
+      (λ es fs os ps p q. one_more _ _ _ _ c.loop-client.room c.next.new.self _ c.in-Some.next (vec_len c.next.new.self.visits < vec_capacity c.next.new.self.visits) es fs os ps _ _ (omega (arith, c.in-Some.ensures.came.room, ap vec_len c.in-Some.ensures.visits, c.next.new.self.space))
+      c.in-Some.ensures.visits c.in-Some.ensures.came.room c.in-Some.ensures.came.may_accept c.in-Some.ensures.came.lost c.in-Some.ensures.asked refl refl refl c.in-Some.ensures.posts p q);
   turned_away = omega (arith, c.loop-client.invariant.turned_away, c.receive.ensures.few);
 }
 
