@@ -1,5 +1,6 @@
 pub mod ImageSites
 pub mod OpeningWork
+pub mod DiskOpening
 pub mod OpenFaults
 pub mod Headline
 pub mod Upgrades

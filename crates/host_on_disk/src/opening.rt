@@ -1,17 +1,12 @@
 // Opening a device as a site.
-ghost use Rattle.std.specs.Prelude.{◌≡◌, ◌<◌, ◌≤◌, true, [], IfOk, IfErr, IsErrAnd, IsTrue};
+ghost use Rattle.std.specs.Prelude.{◌≡◌, ◌<◌, IfOk, IfErr, IsErrAnd, IsTrue};
 ghost use Rattle.host_types.specs.Site.{Site};
-ghost use Rattle.host_types.specs.CrashStates.{AddsNone};
-ghost use Rattle.sector_device.specs.Device.{NothingCounted};
-ghost use Rattle.page_store.specs.Roots.{greatest_seal};
 ghost use Rattle.page_store.specs.Steps.{crash_states_of};
 ghost use Rattle.page_store.specs.declared.fault.KeeperFault.TheVariants.{Small};
-ghost use Rattle.page_store.specs.Opening.{MadeToOpen};
 ghost use Rattle.page_store.specs.Work.{SyncsOnceAtMost};
-ghost use Rattle.cow_tree.specs.TreeSeen.{device_of, top_of, held, is_open};
 ghost use Rattle.site_store.specs.Seen.{keeper_of, seen_site};
+ghost use Rattle.host_on_disk.specs.DiskOpening.{OpensDisk};
 ghost use Rattle.host_on_disk.specs.ImageSites.{ImageRepresents};
-ghost use Rattle.host_on_disk.specs.OpeningWork.{opening_reads};
 ghost use Rattle.host_on_disk.specs.OpenFaults.{IsOpeningFault, HandsBack};
 ghost use Rattle.host_on_disk.specs.declared.open_fault.OpenFault.TheVariants.{Keeper};
 
@@ -31,19 +26,10 @@ pub fn open_site<D: Device>(
 ) -> Result<DiskSite<TreeKeeper<D>>, (OpenFault, D)>
     ensures site { IsTrue (D.state device).honest → IfOk result (λ d. ImageRepresents (D.state device).disk.view (seen_site d)) }
     ensures alone { IsTrue (D.state device).honest → (s : Site) → ImageRepresents (D.state device).disk.view s → IfOk result (λ d. s ≡ seen_site d) }
-    ensures top { IsTrue (D.state device).honest → IfOk result (λ d. top_of (keeper_of d) ≡ greatest_seal (D.state device).disk.view 16) }
-    ensures usable { IfOk result (λ d. is_open (keeper_of d) ≡ true) }
-    ensures unpinned { IfOk result (λ d. (held D.state (keeper_of d)).pins ≡ []) }
-    ensures none_pinned { IfOk result (λ d. (⟦<DiskSite<TreeKeeper<D>> as SiteKeeper>⟧.site_state d).pins ≡ []) }
-    ensures large { IfOk result (λ d. 128 ≤ (D.state device).size) }
-    // Each page is read once, and then the pages on the way to each pair, behind one sync.
-    ensures work { IfOk result (λ d. MadeToOpen (opening_reads (D.state device).size (held D.state (keeper_of d))) (D.state device) (D.state (device_of (keeper_of d)))) }
+    ensures opened { IfOk result (λ d. OpensDisk D.state (crash_states_of D.moment D.possible_since) device (keeper_of d) (⟦<DiskSite<TreeKeeper<D>> as SiteKeeper>⟧.site_state d).pins) }
     ensures work_on_fault { IfErr result (λ e. SyncsOnceAtMost (D.state device).made (D.state e.1).made) }
-    ensures counts { IfOk result (λ d. NothingCounted (D.state device) (D.state (device_of (keeper_of d)))) }
     ensures small { (D.state device).size < 128 → IsErrAnd result (λ e. (e.0 ≡ Keeper Small) × (e.1 ≡ device)) }
     ensures refused { IfErr result (λ e. HandsBack IsOpeningFault D.state (crash_states_of D.moment D.possible_since) device e.1 e.0) }
-    ensures at_crash { IsTrue (D.state device).honest → IfOk result (λ d. AddsNone (crash_states_of D.moment D.possible_since device) (crash_states_of D.moment D.possible_since (device_of (keeper_of d)))) }
-    ensures honest { IfOk result (λ d. (D.state (device_of (keeper_of d))).honest ≡ (D.state device).honest) }
 {
     let keeper = match TreeKeeper::open(alloc, device) {
         Ok(keeper) => keeper,

@@ -3,6 +3,7 @@ use Rattle.std.specs.Prelude.{◌≡◌, ◌+◌, ◌*◌, ◌<◌, ◌≤◌, �
 use Rattle.std.specs.List.{AllByRecursion}
 use Rattle.page_store.specs.Sizes.{longest_key, longest_value}
 use Rattle.common_types.specs.Counts.{counted}
+use Rattle.common_types.specs.CrashStates.{CrashStates}
 use Rattle.host_types.specs.Site.{Site, IsSite, item_at, with_item}
 use Rattle.host_types.specs.declared.item.Item.{Item}
 use Rattle.sector_device.specs.CallsMade.{none_made}
@@ -12,11 +13,12 @@ use Rattle.page_store.specs.Batch.{value_at}
 pub use Rattle.page_store.specs.PairsInOrder.{key_or_none, last_key, AreFirst}
 use Rattle.site_records.specs.Layout.{layout, item_pairs}
 use Rattle.site_records.specs.Limits.{is_short}
-use Rattle.page_store.specs.StoreState.{StoreState}
+use Rattle.page_store.specs.StoreState.{StoreState, CommitNeed}
+use Rattle.page_store.specs.declared.edit.Edit.{Edit}
 use Rattle.page_store.specs.declared.banner.Banner.{Banner}
 use Rattle.page_store.specs.declared.fault.KeeperFault.TheVariants as kinds
 use Rattle.site_store.specs.Represented.{RepresentedBy, PairsShowSite}
-use Rattle.site_store.specs.StoreReads.{NoneFailed}
+use Rattle.site_store.specs.StoreReads.{StoreReadsOnly, NoneFailed}
 use Rattle.site_store.specs.declared.fault.SiteOpenFault.{SiteOpenFault}
 use Rattle.site_store.specs.declared.fault.SiteOpenFault.TheVariants.{BadRecord, Keeper, Memory}
 
@@ -112,3 +114,10 @@ IsLayoutOf pairs s = IsSite s × (pairs ≡ layout s)
 -- How much is read of a store to go through its pairs once: one search for each pair, and one that finds no more.
 abbrev pub ReadsAll : StoreState → StoreState → Type 0
 ReadsAll old new = ReadsPages ((old.keys + 1) * pages_tried old.height) old.made new.made
+
+-- A keeper was opened as a site: it was only read, once through its pairs, no read failed, and it can be used.
+pub record OpensSite {K L : Type 0} (store_state : K → StoreState) (may_need : K → List Edit → CommitNeed → Type 0) (crash_states : K → CrashStates L) (old new : K) : Type 0 where
+  pub only : StoreReadsOnly store_state may_need crash_states old new
+  pub reads : NoneFailed (store_state old) (store_state new)
+  pub work : ReadsAll (store_state old) (store_state new)
+  pub usable : (store_state new).usable ≡ true

@@ -1,6 +1,7 @@
 -- Images of version 1 as sites, and what an upgrade makes of them.
-use Rattle.std.specs.Prelude.{◌≡◌, ◌⊎◌, ◌<◌, ◌+◌, ℕ, Bool, true, false, List, [], ◌∷◌, Result, Ok, Err, Some, length, is_none, ◌&&◌, if◌then◌else◌, IsTrue}
+use Rattle.std.specs.Prelude.{◌≡◌, ◌⊎◌, ◌<◌, ◌+◌, ℕ, Bool, true, false, List, [], ◌∷◌, Result, Ok, Err, Some, length, is_none, ◌&&◌, if◌then◌else◌, IsTrue, IfErr}
 use Rattle.std.specs.List.{AllByRecursion}
+use Rattle.common_types.specs.CrashStates.{CrashStates, AddsOnly, AddsNone}
 use Rattle.host_types.specs.Site.{Site, IsSite}
 use Rattle.host_types.specs.declared.item.Item.{Item}
 use Rattle.page_store.specs.Counting.{reads_after, writes_after}
@@ -175,3 +176,9 @@ pub record IsNotUpgraded (old new : StoreState) (may_need : List Edit → Commit
 abbrev pub handed_back : {K : Type 0} → Result (K × ℕ) (SiteOpenFault × K) → K
 handed_back (Ok done) = done.0
 handed_back (Err refused) = refused.1
+
+-- A crash within an upgrade leaves the site, in one version or the other. Where nothing was upgraded but the keeper can be used, and where there was no site in version 1, nothing was written.
+pub record UpgradeCrashes {K L : Type 0} (store_state : K → StoreState) (crash_states : K → CrashStates L) (has_content : L → List Pair → Banner → Type 0) (old : K) (result : Result (K × ℕ) (SiteOpenFault × K)) : Type 0 where
+  pub at_crash : IsTrue (store_state old).honest → (store_state old).usable ≡ true → (s : Site) → FirstBy (store_state old) s → AddsOnly (crash_states old) (crash_states (handed_back result)) (λ c. RepresentsEitherVersion has_content c s)
+  pub no_new_crash_state : IsTrue (store_state old).honest → IfErr result (λ e. (store_state e.1).usable ≡ true → AddsNone (crash_states old) (crash_states e.1))
+  pub no_site : IsTrue (store_state old).honest → ((s : Site) → FirstBy (store_state old) s → ⊥) → AddsNone (crash_states old) (crash_states (handed_back result))

@@ -1,12 +1,7 @@
 // A site over a key-value store is written anew.
-ghost use Rattle.std.specs.Prelude.{◌≡◌, ◌≤◌, ℕ, true, false, OnOk, IfErr, IsErrOf, IsTrue};
-ghost use Rattle.host_types.specs.CrashStates.{AddsOnly, AddsNone};
-ghost use Rattle.host_types.specs.declared.site_fault.SiteFault.TheVariants.{Failed, Spent};
-ghost use Rattle.page_store.specs.Compaction.{IsCompacted, CompactsTheSame};
-ghost use Rattle.page_store.specs.StoreState.{StoreHasTried, last_generation};
-ghost use Rattle.page_store.specs.Work.{WritesAtMost};
-ghost use Rattle.site_store.specs.Compacting.{IsSiteCompactFault, NoCallFailed};
-ghost use Rattle.site_store.specs.Represented.{site_of, site_state_of, Represents};
+ghost use Rattle.std.specs.Prelude.{OnOk, IfErr};
+ghost use Rattle.site_store.specs.Compacting.{SiteAndPinsStay, WritesSiteAnew, FailsToCompactSite, CompactsNoMore, TriesToCompact, SiteCompactionCrashes};
+ghost use Rattle.site_store.specs.Seen.{seen, seen_site};
 
 use crate::DiskSite;
 use crate::to_site_fault::store_fault_comes;
@@ -18,27 +13,12 @@ impl<K: CompactKeeper> DiskSite<K> {
     ///
     /// Faults in order: `Failed`, `Spent`, `Read`, `Full`, and `Failed` again once a write or a sync has failed; never `Deep`. `Memory` may stand in place of any fault or success after `Spent`; nothing is written then.
     pub fn compact(&mut self) -> Result<(), SiteFault>
-        ensures site { IsTrue (K.store_state self.old.keeper).honest → site_of (K.store_state self.new.keeper) self.new.kept ≡ site_of (K.store_state self.old.keeper) self.old.kept }
-        // What pins keep stays.
-        ensures pins { (site_state_of (K.store_state self.new.keeper) self.new.kept).pins ≡ (site_state_of (K.store_state self.old.keeper) self.old.kept).pins }
-        ensures done { OnOk result (IsCompacted (K.store_state self.old.keeper) (K.store_state self.new.keeper)) }
-        ensures filled { IsTrue (K.store_state self.old.keeper).honest → OnOk result (K.is_filled self.new.keeper) }
-        ensures fits { IsTrue (K.store_state self.old.keeper).honest → OnOk result ((n : ℕ) × K.compact_need self.old.keeper n × (n ≤ (K.store_state self.old.keeper).free)) }
-        ensures fault { IfErr result (IsSiteCompactFault (K.store_state self.old.keeper) (K.store_state self.new.keeper) (K.compact_need self.old.keeper)) }
-        ensures need { IfErr result (λ e. (K.store_state self.new.keeper).usable ≡ (K.store_state self.old.keeper).usable → CompactsTheSame (K.compact_need self.old.keeper) (K.compact_need self.new.keeper)) }
-        ensures counts { OnOk result (NoCallFailed (K.store_state self.old.keeper) (K.store_state self.new.keeper)) }
-        ensures closed { (K.store_state self.old.keeper).usable ≡ false → IsErrOf result Failed }
-        ensures spent { (K.store_state self.old.keeper).usable ≡ true → (K.store_state self.old.keeper).top ≡ last_generation → IsErrOf result Spent }
-        ensures work { WritesAtMost (K.store_state self.old.keeper).free (K.store_state self.old.keeper).made (K.store_state self.new.keeper).made }
-        ensures tried { StoreHasTried (K.store_state self.old.keeper) (K.store_state self.new.keeper) }
-
-        // A crash within the call leaves what represents the site.
-        ensures at_crash { IsTrue (K.store_state self.old.keeper).honest → (K.store_state self.old.keeper).usable ≡ true →
-            AddsOnly (K.crash_states self.old.keeper) (K.crash_states self.new.keeper) (λ c. Represents K.has_content c (site_of (K.store_state self.old.keeper) self.old.kept)) }
-
-        // Where nothing failed and nothing was changed, nothing was written.
-        ensures no_new_crash_state { IsTrue (K.store_state self.old.keeper).honest → IfErr result (λ e. (K.store_state self.new.keeper).usable ≡ true → AddsNone (K.crash_states self.old.keeper) (K.crash_states self.new.keeper)) }
-        ensures no_new_crash_state_when_closed { IsTrue (K.store_state self.old.keeper).honest → (K.store_state self.old.keeper).usable ≡ false → AddsNone (K.crash_states self.old.keeper) (K.crash_states self.new.keeper) }
+        ensures kept { SiteAndPinsStay (seen self.old) (seen self.new) }
+        ensures done { OnOk result (WritesSiteAnew (K.store_state self.old.keeper) (K.store_state self.new.keeper) (K.is_filled self.new.keeper) (K.compact_need self.old.keeper)) }
+        ensures fault { IfErr result (FailsToCompactSite K.store_state K.compact_need self.old.keeper self.new.keeper) }
+        ensures ended { CompactsNoMore (K.store_state self.old.keeper) result }
+        ensures counts { TriesToCompact (K.store_state self.old.keeper) (K.store_state self.new.keeper) }
+        ensures at_crash { SiteCompactionCrashes K.crash_states K.has_content K.store_state self.old.keeper self.new.keeper (seen_site self.old) result }
     {
         match self.keeper.compact() {
             Ok(()) => Ok(()),

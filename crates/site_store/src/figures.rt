@@ -1,14 +1,11 @@
 // How much a site over a keeper holds.
-ghost use Rattle.std.specs.Prelude.{◌≡◌, ◌+◌, ◌*◌, true, false, length, IfOk, IfErr, IsErrOf, IsTrue};
-ghost use Rattle.host_types.specs.Counting.{CountsReads};
-ghost use Rattle.host_types.specs.SiteState.{HasRead, LacksTheSame, IsReadFault};
-ghost use Rattle.host_types.specs.CrashStates.{AddsNone};
-ghost use Rattle.host_types.specs.declared.site_fault.SiteFault.TheVariants.{Failed};
-ghost use Rattle.page_store.specs.StoreState.{IsFigures};
+ghost use Rattle.std.specs.Prelude.{◌≡◌, ◌+◌, ◌*◌, true, length, IfOk};
+ghost use Rattle.host_types.specs.SiteCalls.{ReadsOnly, ReadsOrFails};
 ghost use Rattle.page_store.specs.Work.{WritesNothing, ReadsPages, pages_tried};
-ghost use Rattle.site_store.specs.Represented.{RepresentedBy, site_state_of, site_of};
-ghost use Rattle.site_store.specs.Lacking.{IsLacking};
+ghost use Rattle.site_store.specs.Counting.{TellsFigures};
+ghost use Rattle.site_store.specs.Represented.{RepresentedBy};
 ghost use Rattle.site_store.specs.Reads.{ReadsKnown};
+ghost use Rattle.site_store.specs.Seen.{seen, seen_site, lacks_of, crashes_of};
 
 use crate::to_site_fault::to_site_fault;
 use crate::walking::selector_after;
@@ -46,17 +43,12 @@ fn items_in<K: Keeper>(keeper: &mut K) -> Result<u64, SiteOpenFault>
 impl<K: Keeper> DiskSite<K> {
     /// How many items and pairs there are, how much room is left, and of which generation the image is.
     pub fn figures(&mut self) -> Result<SiteFigures, SiteFault>
-        ensures items { IsTrue (K.store_state self.old.keeper).honest → IfOk result (λ figures. figures.items ≡ length (site_state_of (K.store_state self.old.keeper) self.old.kept).site.items) }
-        ensures store { IfOk result (λ figures. IsFigures (K.store_state self.old.keeper) figures.store) }
+        ensures figures { IfOk result (λ figures. TellsFigures (K.store_state self.old.keeper) (seen_site self.old) figures.items figures.store) }
         // It goes through the items once.
         ensures work { IfOk result (λ figures. ReadsPages ((figures.items + 1) * pages_tried (K.store_state self.old.keeper).height) (K.store_state self.old.keeper).made (K.store_state self.new.keeper).made) }
         ensures calls { WritesNothing (K.store_state self.old.keeper).made (K.store_state self.new.keeper).made }
-        ensures reads { CountsReads result (site_state_of (K.store_state self.old.keeper) self.old.kept) (site_state_of (K.store_state self.new.keeper) self.new.kept) }
-        ensures lacking { LacksTheSame (IsLacking K.store_state K.may_need self.old.keeper (site_of (K.store_state self.old.keeper) self.old.kept)) (IsLacking K.store_state K.may_need self.new.keeper (site_of (K.store_state self.new.keeper) self.new.kept)) }
-        ensures kept { HasRead (site_state_of (K.store_state self.old.keeper) self.old.kept) (site_state_of (K.store_state self.new.keeper) self.new.kept) }
-        ensures fault { IfErr result (IsReadFault true (site_state_of (K.store_state self.old.keeper) self.old.kept) (site_state_of (K.store_state self.new.keeper) self.new.kept)) }
-        ensures closed { (K.store_state self.old.keeper).usable ≡ false → IsErrOf result Failed }
-        ensures at_crash { IsTrue (K.store_state self.old.keeper).honest → AddsNone (K.crash_states self.old.keeper) (K.crash_states self.new.keeper) }
+        ensures ended { ReadsOrFails true (seen self.old) (seen self.new) result }
+        ensures only { ReadsOnly seen lacks_of (crashes_of K.crash_states) self.old self.new }
     {
         if !self.keeper.is_usable() {
             return Err(SiteFault::Failed);

@@ -8,7 +8,7 @@ ghost use Rattle.page_store.specs.declared.fault.KeeperFault.TheVariants.{Failed
 ghost use Rattle.site_store.specs.Represented.{RepresentedBy, PairsShowSite};
 ghost use Rattle.site_store.specs.StoreReads.{StoreReadsOnly, NoneFailed, IsSiteReadFault, IsReadOrMemory};
 ghost use Rattle.site_store.specs.Reads.{AlwaysReads, ReadsKnown};
-ghost use Rattle.site_store.specs.Opening.{IsSiteOpenFault, IsReadWhole, IsSitePairsFault, ValuesFit, KeysFit, ReadsAll, last_key, site_under, with_named, with_all_named, HasAddressOf};
+ghost use Rattle.site_store.specs.Opening.{IsSiteOpenFault, IsReadWhole, IsSitePairsFault, ValuesFit, KeysFit, ReadsAll, OpensSite, last_key, site_under, with_named, with_all_named, HasAddressOf};
 ghost use Rattle.site_store.specs.Seen.{keeper_of, seen_site};
 ghost use Rattle.site_store.specs.declared.fault.SiteOpenFault.TheVariants.{Keeper as StoreFault};
 
@@ -183,11 +183,7 @@ impl<K: Keeper> DiskSite<K> {
         ensures site { IsTrue (K.store_state keeper).honest → IfOk result (λ d. RepresentedBy (K.store_state keeper) (seen_site d)) }
         // On every device: what was read is a valid site's layout, of as many pairs as the keeper counts.
         ensures whole { OnOk result (IsReadWhole (K.store_state keeper)) }
-        ensures reads_only { IfOk result (λ d. StoreReadsOnly K.store_state K.may_need K.crash_states keeper (keeper_of d)) }
-        ensures reads { IfOk result (λ d. NoneFailed (K.store_state keeper) (K.store_state (keeper_of d))) }
-        // It goes through the pairs once.
-        ensures work { IfOk result (λ d. ReadsAll (K.store_state keeper) (K.store_state (keeper_of d))) }
-        ensures usable { IfOk result (λ d. (K.store_state (keeper_of d)).usable ≡ true) }
+        ensures opened { IfOk result (λ d. OpensSite K.store_state K.may_need K.crash_states keeper (keeper_of d)) }
         ensures fault { IfErr result (λ e. IsSiteOpenFault (K.store_state keeper) (K.store_state e.1) e.0) }
         ensures handed_back { IfErr result (λ e. StoreReadsOnly K.store_state K.may_need K.crash_states keeper e.1) }
         ensures closed { (K.store_state keeper).usable ≡ false → IsErrAnd result (λ e. e.0 ≡ StoreFault Failed) }

@@ -11,7 +11,7 @@ ghost use Rattle.site_pairs.specs.Edits.{batch_of};
 ghost use Rattle.site_records.specs.Layout as layouts;
 ghost use Rattle.site_store.specs.Opening.{ValuesFit, KeysFit};
 ghost use Rattle.site_store.specs.Reads.{AlwaysReads};
-ghost use Rattle.site_store.specs.Upgrading.{IsRaised, IsRaisedPair, AreRaised, IsNotRaised, ShowsFirst, FirstBy, RepresentsEitherVersion, IsUpgradeOf, IsFirstReadFault, IsFirstWhole, IsUpgraded, IsNotUpgraded, handed_back};
+ghost use Rattle.site_store.specs.Upgrading.{IsRaised, IsRaisedPair, AreRaised, IsNotRaised, ShowsFirst, FirstBy, RepresentsEitherVersion, IsUpgradeOf, IsFirstReadFault, IsFirstWhole, IsUpgraded, IsNotUpgraded, UpgradeCrashes, handed_back};
 ghost use Rattle.site_store.specs.Upgrading as spec;
 ghost use Rattle.site_store.specs.declared.fault.SiteOpenFault.TheVariants.{Keeper as StoreFault};
 
@@ -209,9 +209,7 @@ impl<K: Keeper> DiskSite<K> {
         ensures done { ((K.store_state keeper).banner.version ≡ 2 → ⊥) → IfOk result (λ d. IsUpgraded (K.store_state keeper) (K.store_state d.0) d.1) }
         ensures fault { IfErr result (λ e. IsNotUpgraded (K.store_state keeper) (K.store_state e.1) (K.may_need keeper) e.0) }
         ensures out { numbers_out (K.store_state (handed_back result)) ≡ numbers_out (K.store_state keeper) }
-        ensures at_crash { IsTrue (K.store_state keeper).honest → (K.store_state keeper).usable ≡ true → (s : Site) → FirstBy (K.store_state keeper) s → AddsOnly (K.crash_states keeper) (K.crash_states (handed_back result)) (λ c. RepresentsEitherVersion K.has_content c s) }
-        ensures no_new_crash_state { IsTrue (K.store_state keeper).honest → IfErr result (λ e. (K.store_state e.1).usable ≡ true → AddsNone (K.crash_states keeper) (K.crash_states e.1)) }
-        ensures no_site { IsTrue (K.store_state keeper).honest → ((s : Site) → FirstBy (K.store_state keeper) s → ⊥) → AddsNone (K.crash_states keeper) (K.crash_states (handed_back result)) }
+        ensures at_crash { UpgradeCrashes K.store_state K.crash_states K.has_content keeper result }
     {
         if !keeper.is_usable() {
             return Err((SiteOpenFault::Keeper(KeeperFault::Failed), keeper));

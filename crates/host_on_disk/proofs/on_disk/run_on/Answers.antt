@@ -9,22 +9,22 @@ use Rattle.host_on_disk.proofs.on_disk.run_on.Goals as goal
 
 pub returns-in-Ok-run_over-clause-ran : goal.returns-in-Ok-run_over-clause-ran
 returns-in-Ok-run_over-clause-ran g c =
-    let opened = c.in-Ok.ensures in
+    let opened = c.in-Ok.ensures.opened in
     let back = c.into_device.ensures ∙ ap (λ k. device_of k) c.into_keeper.ensures.keeper in
     ran_on g.D.Device.state (λ d. device_of (keeper_of d)) _ _ (crash_states_of g.D.Device.moment g.D.Device.possible_since) (λ d. refl) c.args.device c.into_device.result c.in-Ok.site c.in-Ok-run_over.site c.args.grouped c.args.first c.args.events.now c.in-Ok-run_over.outcomes
-    (record { shows = opened.site; alone = opened.alone; counted = opened.counts; usable = opened.usable; no_new_crash_state = opened.at_crash; honest = opened.honest }) c.in-Ok-run_over.ensures.ran back
+    (record { shows = c.in-Ok.ensures.site; alone = c.in-Ok.ensures.alone; counted = opened.counts; usable = opened.usable; no_new_crash_state = opened.at_crash; honest = opened.honest }) c.in-Ok-run_over.ensures.ran back
 
 pub returns-in-Err-run_over-clause-refused : goal.returns-in-Err-run_over-clause-refused
 returns-in-Err-run_over-clause-refused g c =
     let state = g.D.Device.state in
-    let opened = c.in-Ok.ensures in
+    let opened = c.in-Ok.ensures.opened in
     let same = c.in-Err-run_over.ensures.err in
     let back = c.into_device-in-Err-run_over.ensures ∙ ap (λ k. device_of k) (c.into_keeper-in-Err-run_over.ensures.keeper ∙ ap (λ d. keeper_of d) same.1) in
     record {
-      caused = rw (same.0, back) (no_memory (state c.args.device) (state c.in-Ok.site.keeper.device) (seen_site c.in-Ok.site) opened.large opened.counts opened.site);
+      caused = rw (same.0, back) (no_memory (state c.args.device) (state c.in-Ok.site.keeper.device) (seen_site c.in-Ok.site) opened.large opened.counts c.in-Ok.ensures.site);
       honest = rw back opened.honest;
       no_new_crash_state = rw back opened.at_crash;
     }
 
 pub run_over-requires-clause-valid : goal.run_over-requires-clause-valid
-run_over-requires-clause-valid g c = λ is honest. valid_site _ _ (c.in-Ok.ensures.site (sym c.in-Ok.ensures.honest ∙ honest))
+run_over-requires-clause-valid g c = λ is honest. valid_site _ _ (c.in-Ok.ensures.site (sym c.in-Ok.ensures.opened.honest ∙ honest))

@@ -49,31 +49,14 @@ returns-in-Ok-open-clause-site g c =
     let k = c.in-Ok.keeper in
     λ honest. kept_stands (g.D.Device.state c.args.device).disk.view (held g.D.Device.state k).pairs k.slot.root.banner _ (c.in-Ok.ensures.opened.content honest) k.fitted.version (c.in-Ok-open.ensures.site (subst IsTrue (sym c.in-Ok.ensures.opened.honest) honest))
 
-pub returns-in-Ok-open-clause-unpinned : goal.returns-in-Ok-open-clause-unpinned
-returns-in-Ok-open-clause-unpinned g c = none_out (held g.D.Device.state c.in-Ok.keeper) (held g.D.Device.state c.in-Ok-open.site.keeper) c.in-Ok-open.ensures.reads_only.read.same.out c.in-Ok.ensures.opened.unpinned
-
-pub returns-in-Ok-open-clause-none_pinned : goal.returns-in-Ok-open-clause-none_pinned
-returns-in-Ok-open-clause-none_pinned g c = no_site_pins (held g.D.Device.state c.in-Ok-open.site.keeper) c.in-Ok-open.site.kept (none_out (held g.D.Device.state c.in-Ok.keeper) (held g.D.Device.state c.in-Ok-open.site.keeper) c.in-Ok-open.ensures.reads_only.read.same.out c.in-Ok.ensures.opened.unpinned)
-
 pub returns-in-Ok-open-clause-alone : goal.returns-in-Ok-open-clause-alone
 returns-in-Ok-open-clause-alone g c =
     let k = c.in-Ok.keeper in
     let view = (g.D.Device.state c.args.device).disk.view in
     λ honest s stands. one_site view s _ stands (kept_stands view (held g.D.Device.state k).pairs k.slot.root.banner _ (c.in-Ok.ensures.opened.content honest) k.fitted.version (c.in-Ok-open.ensures.site (subst IsTrue (sym c.in-Ok.ensures.opened.honest) honest)))
 
-pub returns-in-Ok-open-clause-top : goal.returns-in-Ok-open-clause-top
-returns-in-Ok-open-clause-top g c = λ honest. c.in-Ok-open.ensures.reads_only.read.same.top ∙ c.in-Ok.ensures.opened.top honest
-
 pub into_device-requires : goal.into_device-requires
 into_device-requires g c = record { unpinned = none_out (held g.D.Device.state c.in-Ok.keeper) (held g.D.Device.state c.in-Err-open.keeper) c.in-Err-open.ensures.handed_back.read.same.out c.in-Ok.ensures.opened.unpinned }
-
-pub returns-in-Ok-open-clause-work : goal.returns-in-Ok-open-clause-work
-returns-in-Ok-open-clause-work g c =
-    let state = g.D.Device.state in
-    let k = c.in-Ok.keeper in
-    let site = c.in-Ok-open.site in
-    let stayed = c.in-Ok-open.ensures.reads_only.read.same in
-    opened_once (state c.args.device) (state k.device) (state site.keeper.device) k.slot.root.pages (held state k) (held state site.keeper) k.fitted.least c.in-Ok.ensures.opened.fits c.in-Ok.ensures.opened.work c.in-Ok-open.ensures.work stayed.keys stayed.height
 
 pub returns-in-Err-clause-work_on_fault : goal.returns-in-Err-clause-work_on_fault
 returns-in-Err-clause-work_on_fault g c =
@@ -84,3 +67,24 @@ pub returns-in-Err-open-clause-work_on_fault : goal.returns-in-Err-open-clause-w
 returns-in-Err-open-clause-work_on_fault g c =
     let state = g.D.Device.state in
     rw c.into_device.ensures (refused_once _ (state c.args.device) (state c.in-Ok.keeper.device) (state c.in-Err-open.keeper.device) c.in-Ok.ensures.opened.work c.in-Err-open.ensures.handed_back.read.same.calls)
+
+pub returns-in-Ok-open-clause-opened : goal.returns-in-Ok-open-clause-opened
+returns-in-Ok-open-clause-opened g c =
+    let state = g.D.Device.state in
+    let k = c.in-Ok.keeper in
+    let site = c.in-Ok-open.site in
+    let tree = c.in-Ok.ensures.opened in
+    let opened = c.in-Ok-open.ensures.opened in
+    let same = opened.only.read.same in
+    let none = none_out (held state k) (held state site.keeper) same.out tree.unpinned in
+    record {
+      top = λ honest. same.top ∙ tree.top honest;
+      usable = opened.usable;
+      unpinned = none;
+      none_pinned = no_site_pins (held state site.keeper) site.kept none;
+      large = tree.large;
+      work = opened_once (state c.args.device) (state k.device) (state site.keeper.device) k.slot.root.pages (held state k) (held state site.keeper) k.fitted.least tree.fits tree.work opened.work same.keys same.height;
+      counts = search (rules, tree.counts, opened.reads, opened.only.read);
+      at_crash = λ honest. search (rules, tree.at_crash honest, opened.only, tree.honest);
+      honest = search (rules, tree.honest, opened.only.read);
+    }

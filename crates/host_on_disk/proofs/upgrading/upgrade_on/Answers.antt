@@ -50,7 +50,7 @@ returns-in-Ok-upgrade-clause-upgraded g c = λ honest.
     let disk = (state now.device).disk in
     let durable = now.durable honest_now done.usable in
     inl (record {
-      kept = keeps state states device k.device now.device (held state k).pairs k.slot.root.banner u.0 content k.fitted.version u.1 (opened.at_crash honest) (given.at_crash still opened.usable u.0 u.1);
+      kept = keeps state states device k.device now.device (held state k).pairs k.slot.root.banner u.0 content k.fitted.version u.1 (opened.at_crash honest) (given.at_crash.at_crash still opened.usable u.0 u.1);
       now = kept_stands disk.view (held state now).pairs now.slot.root.banner u.0 (crash_states_have_the_tree disk now.slot now.ledger now.top now.fitted.version (now.there honest_now) durable disk.view (g.met.D.Device.view_is_image now.device honest_now)).0 now.fitted.version u.2;
       sure = λ image left. kept_stands image (held state now).pairs now.slot.root.banner u.0
           (crash_states_have_the_tree disk now.slot now.ledger now.top now.fitted.version (now.there honest_now) durable image (g.met.D.Device.crash_states_are_images now.device image honest_now left)).0 now.fitted.version u.2;
@@ -80,8 +80,8 @@ returns-in-Err-upgrade-clause-kept g c = λ honest.
     let still = opened.honest ∙ honest in
     subst (λ d. AddsNone (states device) (states d) ⊎ KeepsEither state states device d) (sym c.into_device-in-Err-upgrade.ensures)
     (⊎_elim
-    (λ up. inl (adds_none_again (states device) (states k.device) (states now.device) (opened.at_crash honest) (given.no_new_crash_state still up)))
-    (λ failed. let u = failed.1 still in inr (keeps state states device k.device now.device (held state k).pairs k.slot.root.banner u.0 (opened.content honest) k.fitted.version u.1 (opened.at_crash honest) (given.at_crash still opened.usable u.0 u.1)))
+    (λ up. inl (adds_none_again (states device) (states k.device) (states now.device) (opened.at_crash honest) (given.at_crash.no_new_crash_state still up)))
+    (λ failed. let u = failed.1 still in inr (keeps state states device k.device now.device (held state k).pairs k.slot.root.banner u.0 (opened.content honest) k.fitted.version u.1 (opened.at_crash honest) (given.at_crash.at_crash still opened.usable u.0 u.1)))
     (usable_or_failed (held state k) (held state now) (λ batch need. MayNeed k.slot (state k.device) batch need) c.in-Err-upgrade.fault given.fault.cause opened.usable))
 
 pub returns-in-Err-upgrade-clause-no_new_crash_state : goal.returns-in-Err-upgrade-clause-no_new_crash_state
@@ -95,7 +95,7 @@ returns-in-Err-upgrade-clause-no_new_crash_state g c = λ honest.
     let now = c.in-Err-upgrade.keeper in
     let still = opened.honest ∙ honest in
     ⊎_elim
-    (λ up. inr (subst (λ d. AddsNone (states device) (states d)) (sym c.into_device-in-Err-upgrade.ensures) (adds_none_again (states device) (states k.device) (states now.device) (opened.at_crash honest) (given.no_new_crash_state still up))))
+    (λ up. inr (subst (λ d. AddsNone (states device) (states d)) (sym c.into_device-in-Err-upgrade.ensures) (adds_none_again (states device) (states k.device) (states now.device) (opened.at_crash honest) (given.at_crash.no_new_crash_state still up))))
     (λ failed. inl (c.of_site.ensures ∙ ap of_site failed.0))
     (usable_or_failed (held state k) (held state now) (λ batch need. MayNeed k.slot (state k.device) batch need) c.in-Err-upgrade.fault given.fault.cause opened.usable)
 

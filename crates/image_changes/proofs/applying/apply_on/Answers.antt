@@ -14,7 +14,7 @@ use Rattle.image_changes.proofs.applying.apply_on.Goals as goal
 pub returns-clause-applied : goal.returns-clause-applied
 returns-clause-applied g c = λ honest.
     let states = crash_states_of g.D.Device.moment g.D.Device.possible_since in
-    let opened = c.in-Ok.ensures in
+    let opened = c.in-Ok.ensures.opened in
     let first = seen_site c.in-Ok.site in
     let changes = c.args.changes.items in
     let answer = c.apply_over-applied.result.0 in
@@ -22,8 +22,8 @@ returns-clause-applied g c = λ honest.
     let back = c.into_device.ensures ∙ ap (λ k. device_of k) c.into_keeper.ensures.keeper in
     record {
       site = first;
-      stands = opened.site honest;
-      alone = opened.alone honest;
+      stands = c.in-Ok.ensures.site honest;
+      alone = c.in-Ok.ensures.alone honest;
       opened = c.in-Ok.site.keeper.device;
       no_new_crash_state = opened.at_crash honest;
       all = subst (λ d. OnOk answer (HasMadeChanges ImageRepresents (states d) first changes c.args.now)) (sym back) over.all;
@@ -37,8 +37,8 @@ returns-clause-stopped g c = err_too c.apply_over-applied.result.0
       opened = c.in-Ok.site;
       closed = c.apply_over-applied.result.1;
       shows = c.in-Ok.ensures.site;
-      counted = c.in-Ok.ensures.counts;
-      usable = c.in-Ok.ensures.usable;
+      counted = c.in-Ok.ensures.opened.counts;
+      usable = c.in-Ok.ensures.opened.usable;
       stops = is;
       handed = c.into_device.ensures ∙ ap (λ k. device_of k) c.into_keeper.ensures.keeper;
     })
@@ -47,7 +47,7 @@ returns-clause-stopped g c = err_too c.apply_over-applied.result.0
 pub returns-clause-counts : goal.returns-clause-counts
 returns-clause-counts g c =
     let state = g.D.Device.state in
-    let opened = c.in-Ok.ensures in
+    let opened = c.in-Ok.ensures.opened in
     let back = c.into_device.ensures ∙ ap (λ k. device_of k) c.into_keeper.ensures.keeper in
     record {
       counts = on_ok_too c.apply_over-applied.result.0
@@ -66,4 +66,4 @@ returns-clause-counts g c =
     }
 
 pub into_keeper-requires : goal.into_keeper-requires
-into_keeper-requires g c = record { unpinned = c.apply_over-applied.ensures.pins ∙ c.in-Ok.ensures.none_pinned }
+into_keeper-requires g c = record { unpinned = c.apply_over-applied.ensures.pins ∙ c.in-Ok.ensures.opened.none_pinned }

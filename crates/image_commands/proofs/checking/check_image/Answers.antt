@@ -12,7 +12,7 @@ use Rattle.image_commands.proofs.checking.check_image.Goals as goal
 
 pub returns-in-Ok-checked-clause-checked : goal.returns-in-Ok-checked-clause-checked
 returns-in-Ok-checked-clause-checked g c = λ honest.
-    let opened = c.in-Ok.ensures in
+    let opened = c.in-Ok.ensures.opened in
     let site = c.in-Ok.site in
     let keeper = site.keeper in
     let disk = (g.D.Device.state keeper.device).disk in
@@ -22,7 +22,7 @@ returns-in-Ok-checked-clause-checked g c = λ honest.
     let has = crash_states_have_the_tree disk keeper.slot keeper.ledger keeper.top keeper.fitted.version there durable disk.view (g.met.D.Device.view_is_image keeper.device still) in
     record {
       site = seen_site site;
-      stands = opened.site honest;
+      stands = c.in-Ok.ensures.site honest;
       opened = keeper.device;
       no_new_crash_state = opened.at_crash honest;
       shows = kept_stands disk.view (held g.D.Device.state keeper).pairs keeper.slot.root.banner (seen_site site) has.0 keeper.fitted.version (site_kept (held g.D.Device.state keeper) site.kept still);
@@ -32,16 +32,16 @@ returns-in-Ok-checked-clause-checked g c = λ honest.
     }
 
 pub into_keeper-requires : goal.into_keeper-requires
-into_keeper-requires g c = record { unpinned = c.check_site-checked.ensures.line.only.kept.pins ∙ c.in-Ok.ensures.none_pinned }
+into_keeper-requires g c = record { unpinned = c.check_site-checked.ensures.line.only.kept.pins ∙ c.in-Ok.ensures.opened.none_pinned }
 
 pub returns-in-Ok-checked-clause-work : goal.returns-in-Ok-checked-clause-work
 returns-in-Ok-checked-clause-work g c =
     let state = g.D.Device.state in
     let back = c.into_device-device.ensures ∙ ap (λ k. device_of k) c.into_keeper.ensures.keeper in
-    subst (λ d. SyncsOnce (state c.args.device).made (state d).made) (sym back) (once_then (synced_once _ (state c.args.device) (state c.in-Ok.site.keeper.device) c.in-Ok.ensures.work) c.in-Ok-checked.ensures.work)
+    subst (λ d. SyncsOnce (state c.args.device).made (state d).made) (sym back) (once_then (synced_once _ (state c.args.device) (state c.in-Ok.site.keeper.device) c.in-Ok.ensures.opened.work) c.in-Ok-checked.ensures.work)
 
 pub returns-in-Err-checked-clause-work_on_fault : goal.returns-in-Err-checked-clause-work_on_fault
 returns-in-Err-checked-clause-work_on_fault g c =
     let state = g.D.Device.state in
     let back = c.into_device-device.ensures ∙ ap (λ k. device_of k) c.into_keeper.ensures.keeper in
-    subst (λ d. SyncsOnceAtMost (state c.args.device).made (state d).made) (sym back) (at_most_once (once_then (synced_once _ (state c.args.device) (state c.in-Ok.site.keeper.device) c.in-Ok.ensures.work) c.in-Err-checked.ensures.work))
+    subst (λ d. SyncsOnceAtMost (state c.args.device).made (state d).made) (sym back) (at_most_once (once_then (synced_once _ (state c.args.device) (state c.in-Ok.site.keeper.device) c.in-Ok.ensures.opened.work) c.in-Err-checked.ensures.work))

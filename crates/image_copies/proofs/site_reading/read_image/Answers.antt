@@ -15,28 +15,28 @@ returns-in-Err-clause-refused g c =
 
 pub returns-in-Ok-read_open-clause-read : goal.returns-in-Ok-read_open-clause-read
 returns-in-Ok-read_open-clause-read g c = λ honest.
-    let opened = c.in-Ok.ensures in
-    record { site = seen_site c.in-Ok.site; stands = opened.site honest; alone = opened.alone honest; read_is = c.in-Ok-read_open.ensures.read (opened.honest ∙ honest) }
+    let opened = c.in-Ok.ensures.opened in
+    record { site = seen_site c.in-Ok.site; stands = c.in-Ok.ensures.site honest; alone = c.in-Ok.ensures.alone honest; read_is = c.in-Ok-read_open.ensures.read (opened.honest ∙ honest) }
 
 pub returns-in-Ok-read_open-clause-rooted : goal.returns-in-Ok-read_open-clause-rooted
-returns-in-Ok-read_open-clause-rooted g c = λ honest. c.in-Ok-read_open.ensures.rooted (c.in-Ok.ensures.honest ∙ honest)
+returns-in-Ok-read_open-clause-rooted g c = λ honest. c.in-Ok-read_open.ensures.rooted (c.in-Ok.ensures.opened.honest ∙ honest)
 
 pub returns-in-Ok-read_open-clause-counts : goal.returns-in-Ok-read_open-clause-counts
-returns-in-Ok-read_open-clause-counts g c = counted_since _ _ _ c.in-Ok.ensures.counts c.in-Ok-read_open.ensures.back.counts
+returns-in-Ok-read_open-clause-counts g c = counted_since _ _ _ c.in-Ok.ensures.opened.counts c.in-Ok-read_open.ensures.back.counts
 
 pub returns-in-Ok-read_open-clause-honest : goal.returns-in-Ok-read_open-clause-honest
-returns-in-Ok-read_open-clause-honest g c = c.in-Ok-read_open.ensures.back.honest ∙ c.in-Ok.ensures.honest
+returns-in-Ok-read_open-clause-honest g c = c.in-Ok-read_open.ensures.back.honest ∙ c.in-Ok.ensures.opened.honest
 
 pub returns-in-Ok-read_open-clause-at_crash : goal.returns-in-Ok-read_open-clause-at_crash
-returns-in-Ok-read_open-clause-at_crash g c = λ honest. adds_none_again _ _ _ (c.in-Ok.ensures.at_crash honest) (c.in-Ok-read_open.ensures.back.at_crash (c.in-Ok.ensures.honest ∙ honest))
+returns-in-Ok-read_open-clause-at_crash g c = λ honest. adds_none_again _ _ _ (c.in-Ok.ensures.opened.at_crash honest) (c.in-Ok-read_open.ensures.back.at_crash (c.in-Ok.ensures.opened.honest ∙ honest))
 
 pub returns-in-Ok-read_open-clause-large : goal.returns-in-Ok-read_open-clause-large
-returns-in-Ok-read_open-clause-large g c = (c.in-Ok.ensures.large, c.in-Ok-read_open.ensures.back.large)
+returns-in-Ok-read_open-clause-large g c = (c.in-Ok.ensures.opened.large, c.in-Ok-read_open.ensures.back.large)
 
 pub returns-in-Err-read_open-clause-refused : goal.returns-in-Err-read_open-clause-refused
 returns-in-Err-read_open-clause-refused g c =
     let state = g.D.Device.state in
-    let opened = c.in-Ok.ensures in
+    let opened = c.in-Ok.ensures.opened in
     let refused = c.in-Err-read_open.ensures.refused in
     let mid = c.in-Ok.site.keeper.device in
     record {

@@ -4,5 +4,5 @@ use Rattle.image_exports.proofs.image.export_image.Goals as goal
 
 pub returns-in-Ok-exported-clause-exported : goal.returns-in-Ok-exported-clause-exported
 returns-in-Ok-exported-clause-exported g c = λ honest.
-    let opened = c.in-Ok.ensures in
-    (seen_site c.in-Ok.site, opened.site honest, c.in-Ok-exported.ensures.export (subst IsTrue (sym opened.honest) honest))
+    let opened = c.in-Ok.ensures.opened in
+    (seen_site c.in-Ok.site, c.in-Ok.ensures.site honest, c.in-Ok-exported.ensures.export (subst IsTrue (sym opened.honest) honest))

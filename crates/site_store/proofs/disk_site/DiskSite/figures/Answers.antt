@@ -3,25 +3,39 @@ use Rattle.site_store.proofs.SiteCounts.{read_counted}
 use Rattle.site_store.proofs.StoreAsSite.{has_read, lacks_same, read_fault_comes}
 use Rattle.site_store.proofs.disk_site.DiskSite.figures.Goals as goal
 
-pub returns-in-Ok-clause-items : goal.returns-in-Ok-clause-items
-returns-in-Ok-clause-items g c = λ honest.
+pub returns-in-Ok-clause-figures : goal.returns-in-Ok-clause-figures
+returns-in-Ok-clause-figures g c =
     let h = g.K.Keeper.store_state c.args.self.now.keeper in
-    c.in-Ok.ensures.items.gives honest (site_of h c.args.self.now.kept) (site_kept h c.args.self.now.kept honest)
+    record {
+      items = λ honest. c.in-Ok.ensures.items.gives honest (site_of h c.args.self.now.kept) (site_kept h c.args.self.now.kept honest);
+      store = c.figures.ensures;
+    }
 
-pub returns-in-Ok-clause-kept : goal.returns-in-Ok-clause-kept
-returns-in-Ok-clause-kept g c = has_read (g.K.Keeper.store_state c.args.self.now.keeper) (g.K.Keeper.store_state c.items_in.new.keeper) c.args.self.now.kept c.self-1.given.0 c.items_in.ensures.items.only.read
+pub returns-in-Ok-clause-only : goal.returns-in-Ok-clause-only
+returns-in-Ok-clause-only g c =
+    let only = c.items_in.ensures.items.only in
+    record {
+      kept = has_read (g.K.Keeper.store_state c.args.self.now.keeper) (g.K.Keeper.store_state c.items_in.new.keeper) c.args.self.now.kept c.self-1.given.0 only.read;
+      lacking = lacks_same g.K.Keeper.store_state g.K.Keeper.may_need g.K.Keeper.crash_states c.args.self.now.keeper c.items_in.new.keeper c.args.self.now.kept c.self-1.given.0 only;
+      no_new_crash_state = only.no_new_crash_state;
+    }
 
-pub returns-in-Err-clause-kept : goal.returns-in-Err-clause-kept
-returns-in-Err-clause-kept g c = has_read (g.K.Keeper.store_state c.args.self.now.keeper) (g.K.Keeper.store_state c.items_in.new.keeper) c.args.self.now.kept c.self-1.given.0 c.items_in.ensures.items.only.read
+pub returns-in-Err-clause-only : goal.returns-in-Err-clause-only
+returns-in-Err-clause-only g c =
+    let only = c.items_in.ensures.items.only in
+    record {
+      kept = has_read (g.K.Keeper.store_state c.args.self.now.keeper) (g.K.Keeper.store_state c.items_in.new.keeper) c.args.self.now.kept c.self-1.given.0 only.read;
+      lacking = lacks_same g.K.Keeper.store_state g.K.Keeper.may_need g.K.Keeper.crash_states c.args.self.now.keeper c.items_in.new.keeper c.args.self.now.kept c.self-1.given.0 only;
+      no_new_crash_state = only.no_new_crash_state;
+    }
 
-pub returns-in-Ok-clause-lacking : goal.returns-in-Ok-clause-lacking
-returns-in-Ok-clause-lacking g c = lacks_same g.K.Keeper.store_state g.K.Keeper.may_need g.K.Keeper.crash_states c.args.self.now.keeper c.items_in.new.keeper c.args.self.now.kept c.self-1.given.0 c.items_in.ensures.items.only
-
-pub returns-in-Err-clause-lacking : goal.returns-in-Err-clause-lacking
-returns-in-Err-clause-lacking g c = lacks_same g.K.Keeper.store_state g.K.Keeper.may_need g.K.Keeper.crash_states c.args.self.now.keeper c.items_in.new.keeper c.args.self.now.kept c.self-1.given.0 c.items_in.ensures.items.only
-
-pub returns-in-Err-clause-fault : goal.returns-in-Err-clause-fault
-returns-in-Err-clause-fault g c = read_fault_comes (g.K.Keeper.store_state c.args.self.now.keeper) (g.K.Keeper.store_state c.items_in.new.keeper) c.args.self.now.kept c.self-1.given.0 c.in-Err.fault c.to_site_fault.result c.to_site_fault.ensures c.in-Err.ensures.items.fault
-
-pub returns-in-Err-clause-reads : goal.returns-in-Err-clause-reads
-returns-in-Err-clause-reads g c = read_counted (g.K.Keeper.store_state c.args.self.now.keeper) (g.K.Keeper.store_state c.items_in.new.keeper) c.args.self.now.kept c.in-Err.fault c.to_site_fault.result c.to_site_fault.ensures c.in-Err.ensures.items.fault
+pub returns-in-Err-clause-ended : goal.returns-in-Err-clause-ended
+returns-in-Err-clause-ended g c =
+    let h0 = g.K.Keeper.store_state c.args.self.now.keeper in
+    let h1 = g.K.Keeper.store_state c.items_in.new.keeper in
+    let why = c.in-Err.ensures.items.fault in
+    record {
+      fault = read_fault_comes h0 h1 c.args.self.now.kept c.self-1.given.0 c.in-Err.fault c.to_site_fault.result c.to_site_fault.ensures why;
+      reads = read_counted h0 h1 c.args.self.now.kept c.in-Err.fault c.to_site_fault.result c.to_site_fault.ensures why;
+      closed = λ closed. absurd (cc (closed, c.if-not-is_usable.false));
+    }
