@@ -21,7 +21,7 @@ use Rattle.admin_lines.specs.Faults.{request_line}
 use Rattle.admin_lines.specs.Heads.{head_in}
 use Rattle.admin_lines.specs.Holds.{is_hold, held_line, held_text}
 use Rattle.admin_lines.specs.declared.fault.RequestFault.TheVariants.{Late}
-use Rattle.ready_turns.specs.Tries.{write_try}
+use Rattle.daily_turns.specs.Tries.{write_try}
 use Rattle.admin_lines.specs.declared.head.RequestHead.{RequestHead}
 use Rattle.admin_lines.specs.declared.fault.RequestFault.{RequestFault}
 use Rattle.admin_office.specs.Lines.{no_memory, not_made, site_fault}

@@ -5,9 +5,9 @@ use Rattle.group_world.specs.declared.event.Outcome.{Outcome}
 use Rattle.change_file.specs.declared.fault.ApplyFault.{ApplyFault}
 use Rattle.turns.specs.Turns.{Trace, trace, nothing, then as one_after}
 use Rattle.turns.specs.WireCalls.{WireCall, Closed}
-use Rattle.ready_sockets.specs.Offices.{WorksOf}
-use Rattle.ready_sockets.specs.declared.pace.Pace.{Pace}
-use Rattle.ready_sockets.specs.declared.pace.Pace.TheVariants.{Idle, Waits, Busy}
+use Rattle.daily_server.specs.Offices.{WorksOf}
+use Rattle.daily_server.specs.declared.pace.Pace.{Pace}
+use Rattle.daily_server.specs.declared.pace.Pace.TheVariants.{Idle, Waits, Busy}
 use Rattle.admin_office.specs.Requests.{TakesStep, is_late}
 use Rattle.admin_office.specs.Tasks.{Task, Hearing, Holding, Making, Telling, Over, task_of}
 use Rattle.admin_office.specs.declared.gate_log.Arrival.{Arrival}

@@ -13,7 +13,7 @@ use Rattle.change_file.specs.declared.fault.FileChange.{FileChange}
 use Rattle.change_file.specs.declared.fault.FileChange.TheVariants.{Change, Refused}
 use Rattle.turns.specs.Turns.{Trace, trace, nothing}
 use Rattle.turns.specs.declared.wire.WireFault.{WireFault}
-use Rattle.ready_turns.specs.Tries.{write_try}
+use Rattle.daily_turns.specs.Tries.{write_try}
 use Rattle.turns.specs.WireCalls.{WireCall, Read, ReadFailed, ReadWaited, Wrote, WriteFailed, WriteWaited, Closed}
 use Rattle.admin_lines.specs.Faults.{request_line}
 use Rattle.admin_lines.specs.Heads.{head_in}

@@ -3,8 +3,8 @@ ghost use Rattle.std.specs.Prelude.{◌≡◌, List, [], ◌∷◌, ◌++◌, If
 ghost use Rattle.admin_office.specs.Arrivals.{arrival_of};
 ghost use Rattle.admin_office.specs.declared.gate_log.Arrival.{Arrival};
 
-use ready_sockets::Desk;
-use ready_turns::ReadyWire;
+use daily_server::Desk;
+use daily_turns::ReadyWire;
 
 /// Where administrators come, each with a wire that never waits.
 pub trait AdminGate<W: ReadyWire> {

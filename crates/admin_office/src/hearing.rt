@@ -11,7 +11,7 @@ use crate::lines::{refuse, refuse_by};
 use crate::{Making, Stage, Unsent};
 use admin_lines::{RequestFault, RequestHead, is_hold, read_head, reply_text, request_line};
 use change_file::{FileChange, applied_line, file_line, read_changes};
-use ready_turns::ReadyWire;
+use daily_turns::ReadyWire;
 use std::alloc::{AllocError, Global};
 use std::collections::VecDeque;
 

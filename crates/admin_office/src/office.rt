@@ -6,7 +6,7 @@ use crate::gate::AdminGate;
 use crate::turn::serve;
 use crate::{FaultTexts, PatientWire, Request};
 use group_hub::Hub;
-use ready_sockets::{Desk, Office, Pace};
+use daily_server::{Desk, Office, Pace};
 use std::alloc::Global;
 use turns::Clock;
 use word_index::SearchKeeper;

@@ -1,8 +1,8 @@
 // A wire on which an administrator can be waited for.
 ghost use Rattle.std.specs.Prelude.{◌≡◌, ◌≤◌, ◌++◌, ◌∷◌, [], IfOk, IfSome, length};
-ghost use Rattle.ready_turns.specs.Tries.{read_try};
+ghost use Rattle.daily_turns.specs.Tries.{read_try};
 
-use ready_turns::ReadyWire;
+use daily_turns::ReadyWire;
 use turns::WireFault;
 
 /// A wire that never waits, but where that is asked for.

@@ -2,7 +2,7 @@
 ghost use Rattle.std.specs.Prelude.{◌≡◌, [], ◌&&◌, not};
 
 use crate::Stage;
-use ready_turns::ReadyWire;
+use daily_turns::ReadyWire;
 use std::alloc::Global;
 
 /// For how many seconds a request may neither send nor take anything.

@@ -4,7 +4,7 @@ ghost use Rattle.admin_office.specs.Requests.{WritesOnce};
 ghost use Rattle.admin_office.specs.Tasks.{task_of, unsent_bytes};
 
 use crate::{Stage, Unsent};
-use ready_turns::ReadyWire;
+use daily_turns::ReadyWire;
 
 /// One write of what is to be told, or the connection is closed; and whether the request rests.
 pub(crate) fn tell<W: ReadyWire>(wire: &mut W, unsent: Unsent) -> (Stage, bool)

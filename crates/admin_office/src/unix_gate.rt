@@ -6,7 +6,7 @@ use crate::UnixWire;
 use crate::gate::AdminGate;
 use crate::gate_log::{Arrival, GateLog};
 use mio::net::{UnixListener, UnixStream};
-use ready_sockets::Desk;
+use daily_server::Desk;
 
 /// A listener on a Unix socket, or none, to which nobody comes; whether waits tell of it, and what it answered.
 #[derive(Drop)]

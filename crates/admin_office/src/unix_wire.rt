@@ -5,7 +5,7 @@ ghost use Rattle.std.specs.Prelude.{◌≡◌, ◌⊎◌, true, []};
 use crate::PatientWire;
 use libc::types::pollfd;
 use mio::net::UnixStream;
-use ready_turns::ReadyWire;
+use daily_turns::ReadyWire;
 use std::io::{ErrorKind, Read, Write};
 use std::net::Shutdown;
 use std::os::fd::AsRawFd;

@@ -6,7 +6,7 @@ use Rattle.host_types.specs.declared.site_fault.SiteFault.TheVariants as site
 use Rattle.gopher_host.specs.Advice.{met_by, listener_advice, stopped_advice}
 use Rattle.gopher_host.specs.Faults.{advice_of, change_that_met, listener_of, ended, ended_if_any, met_other}
 use Rattle.image_server.specs.declared.serving.ServingFault.TheVariants as serving
-use Rattle.ready_sockets.specs.declared.listen_fault.NetCause.{NetCause}
+use Rattle.daily_server.specs.declared.listen_fault.NetCause.{NetCause}
 use Rattle.std.specs.declared.net.socket_addr.SocketAddr.{SocketAddr}
 use Rattle.gopher_host.specs.declared.fault.Fault.{Fault}
 use Rattle.gopher_host.specs.declared.fault.Fault.TheVariants.{Image, NotHad, NotMade, There, Compact, Copy, Changes, Flaw, NoChanges, Stopped, Refused, RefusedName, Item, NoFolder, LeftOut, Serving, Round, Script, Socket, Told, ToldOf, Reply, NotHeld}

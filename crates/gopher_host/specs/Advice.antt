@@ -16,8 +16,8 @@ use Rattle.admin_socket.specs.declared.listening.SocketFault.{SocketFault}
 use Rattle.admin_socket.specs.declared.listening.SocketFault.TheVariants as socket
 use Rattle.image_items.specs.declared.fault.ItemFault.{ItemFault}
 use Rattle.image_items.specs.declared.fault.ItemFault.TheVariants as item
-use Rattle.ready_sockets.specs.declared.listen_fault.NetCause.{NetCause}
-use Rattle.ready_sockets.specs.declared.listen_fault.NetCause.TheVariants as causes
+use Rattle.daily_server.specs.declared.listen_fault.NetCause.{NetCause}
+use Rattle.daily_server.specs.declared.listen_fault.NetCause.TheVariants as causes
 
 -- of an image that is not had, by what stands at its name
 abbrev pub lack_advice : Lack → List ℕ

@@ -7,7 +7,7 @@ use Rattle.image_commands.specs.Faults.{of_opening}
 use Rattle.image_commands.specs.declared.fault.ImageFault.{ImageFault}
 use Rattle.image_server.specs.Serving.{of_visits}
 use Rattle.image_server.specs.declared.serving.ServingFault.{ServingFault}
-use Rattle.ready_sockets.specs.declared.room.VisitFault.{VisitFault}
+use Rattle.daily_server.specs.declared.room.VisitFault.{VisitFault}
 use Rattle.gopher_host.specs.Faults.{ended, output_fault, memory_fault}
 use Rattle.gopher_host.specs.declared.fault.Fault.{Fault}
 use Rattle.gopher_host.specs.declared.fault.Fault.TheVariants.{Image, Serving, Script}

@@ -7,7 +7,7 @@ use Rattle.host_types.specs.declared.site_fault.SiteFault.TheVariants as site
 use Rattle.change_file.specs.Printed.{file_line}
 use Rattle.host_script.specs.Printed.{fault_text}
 use Rattle.host_script.specs.declared.fault.ReplayFault.TheVariants as script
-use Rattle.image_changes.specs.StoppedLines.{stopped_line}
+use Rattle.image_runs.specs.StoppedLines.{stopped_line}
 use Rattle.image_commands.specs.Faults.{of_opening}
 use Rattle.image_commands.specs.FaultLines.{fault_line, advice, store_advice}
 use Rattle.image_commands.specs.declared.fault.ImageFault.{ImageFault}
@@ -19,7 +19,7 @@ use Rattle.image_items.specs.ItemLines.{item_line}
 use Rattle.printed_names.specs.Names.{change_line, refused_name}
 use Rattle.image_server.specs.Lines.{serving_line, round_line}
 use Rattle.image_server.specs.declared.serving.ServingFault.TheVariants as serving
-use Rattle.ready_sockets.specs.declared.listen_fault.NetCause.{NetCause}
+use Rattle.daily_server.specs.declared.listen_fault.NetCause.{NetCause}
 use Rattle.admin_lines.specs.declared.reply.ReplyFault.{ReplyFault}
 use Rattle.admin_lines.specs.declared.reply.ReplyFault.TheVariants as reply
 use Rattle.admin_socket.specs.declared.listening.SocketFault.{SocketFault}

@@ -13,7 +13,7 @@ use Rattle.file_device.specs.FileCalls.{FileHistory, file_state}
 use Rattle.file_device.specs.FileUses.{FileUse}
 use Rattle.host_on_disk.specs.OpenFaults.{IsOpeningFault, HandsBack}
 use Rattle.host_on_disk.specs.declared.open_fault.OpenFault.{OpenFault}
-use Rattle.image_changes.specs.ImageChanges.{AppliesToImage}
+use Rattle.image_runs.specs.ImageChanges.{AppliesToImage}
 use Rattle.image_commands.specs.Faults.{of_opening}
 use Rattle.image_commands.specs.declared.fault.ImageFault.{ImageFault}
 use Rattle.gopher_host.specs.Endings.{GivesCount, given_beside, device_beside}

@@ -14,14 +14,14 @@ use Rattle.host_on_disk.specs.declared.open_fault.OpenFault.{OpenFault}
 use Rattle.host_on_disk.specs.declared.open_fault.OpenFault.TheVariants as opening
 use Rattle.host_script.specs.Lines.{Ran}
 use Rattle.host_script.specs.declared.fault.ReplayFault.{ReplayFault as ScriptFault}
-use Rattle.image_sessions.specs.ImageRuns.{OnImage, OverSite, Replays}
+use Rattle.image_runs.specs.ImageRuns.{OnImage, OverSite, Replays}
 use Rattle.image_server.specs.Lines.{served_line}
 use Rattle.image_server.specs.Serving.{ServedImage, IsServingFault}
 use Rattle.image_server.specs.Visiting.{VisitedImage, IsListened, IsAskedInVain}
 use Rattle.image_server.specs.declared.listening.ListenCall.{ListenCall}
 use Rattle.image_server.specs.declared.listening.ListenCall.TheVariants as listens
 use Rattle.image_server.specs.declared.serving.ServingFault.{ServingFault}
-use Rattle.ready_sockets.specs.DoorCalls.{DoorCall, Listened, NotListened}
+use Rattle.daily_server.specs.DoorCalls.{DoorCall, Listened, NotListened}
 use Rattle.change_file.specs.declared.fault.ApplyFault.{ApplyFault}
 use Rattle.admin_office.specs.Offices.{IsNewOffice, Works, pace_of}
 use Rattle.admin_office.specs.declared.office.AdminOffice.{AdminOffice}
@@ -32,9 +32,9 @@ use Rattle.admin_socket.specs.SocketCalls.{SocketCall}
 use Rattle.admin_socket.specs.declared.listening.SocketFault.{SocketFault}
 use Rattle.command_words.specs.declared.words.SocketPlace.{SocketPlace}
 use Rattle.command_words.specs.declared.words.SocketPlace.TheVariants as places
-use Rattle.ready_sockets.specs.declared.room.VisitFault.{VisitFault}
-use Rattle.ready_sockets.specs.declared.stopwatch.Reading.{Reading}
-use Rattle.ready_sockets.specs.declared.terms.Terms.{Terms}
+use Rattle.daily_server.specs.declared.room.VisitFault.{VisitFault}
+use Rattle.daily_server.specs.declared.stopwatch.Reading.{Reading}
+use Rattle.daily_server.specs.declared.terms.Terms.{Terms}
 use Rattle.socket_wires.specs.declared.serving.ServeFault.{ServeFault}
 use Rattle.gopher_host.specs.Endings.{GivesCount, given_beside, device_beside, serving_ended, replay_ended}
 use Rattle.gopher_host.specs.Asked.{socket_name}

@@ -13,10 +13,10 @@ use Rattle.file_names.specs.NameCalls.{NameCall}
 use Rattle.image_commands.specs.declared.fault.ImageFault.{ImageFault}
 use Rattle.socket_wires.specs.declared.system_clock.ClockReading.{ClockReading}
 use Rattle.image_server.specs.declared.listening.ListenCall.{ListenCall}
-use Rattle.ready_sockets.specs.DoorCalls.{DoorCall}
-use Rattle.ready_sockets.specs.declared.terms.LogForm.{LogForm}
-use Rattle.ready_sockets.specs.declared.terms.LogForm.TheVariants.{Own, Common}
-use Rattle.ready_sockets.specs.declared.terms.Terms.{Terms}
+use Rattle.daily_server.specs.DoorCalls.{DoorCall}
+use Rattle.daily_server.specs.declared.terms.LogForm.{LogForm}
+use Rattle.daily_server.specs.declared.terms.LogForm.TheVariants.{Own, Common}
+use Rattle.daily_server.specs.declared.terms.Terms.{Terms}
 use Rattle.admin_socket.specs.SocketCalls.{SocketCall}
 use Rattle.command_words.specs.declared.words.SocketPlace.{SocketPlace}
 use Rattle.command_words.specs.declared.words.Task.{Task}

@@ -8,7 +8,7 @@ use change_file::ChangeFileFault;
 use common_types::Refused;
 use file_names::Lack;
 use image_items::ItemFault;
-use ready_sockets::NetCause;
+use daily_server::NetCause;
 
 /// About an image that is not had.
 pub fn lack_advice(lack: Lack) -> &'static str

@@ -29,7 +29,7 @@ use command_words::NewSite;
 use file_device::UsedFiles;
 use file_names::{Look, NameLog, look_for};
 use host_types::Stamp;
-use image_changes::apply_on;
+use image_runs::apply_on;
 use image_commands::{ImageFault, ListForm, check_image, compact_image, show_image, upgrade_image};
 use image_exports::export_image;
 use std::alloc::Global;

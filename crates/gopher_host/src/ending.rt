@@ -6,7 +6,7 @@ use crate::fault::Fault;
 use host_on_disk::OpenFault;
 use image_commands::ImageFault;
 use image_server::ServingFault;
-use ready_sockets::VisitFault;
+use daily_server::VisitFault;
 use std::io;
 
 /// Clients were served until that could not go on.

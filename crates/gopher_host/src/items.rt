@@ -22,7 +22,7 @@ use crate::removing::{dropped_line, removals, removals_file};
 use admin_socket::SocketLog;
 use file_device::UsedFiles;
 use host_types::{Selector, Stamp};
-use image_changes::apply_on;
+use image_runs::apply_on;
 use image_commands::ImageFault;
 use image_items::{ItemFault, get_image, posts_image};
 use std::alloc::Global;

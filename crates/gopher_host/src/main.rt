@@ -42,7 +42,7 @@ use file_names::NameLog;
 use host_types::SiteKeeper;
 use image_server::ListenLog;
 use lacking::{explained, image_of, makes_image};
-use ready_sockets::{DoorLog, LogForm, Terms};
+use daily_server::{DoorLog, LogForm, Terms};
 use refused_words::{refused_word, with_word};
 use site_store::DiskSite;
 use socket_wires::SystemClock;

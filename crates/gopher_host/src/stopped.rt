@@ -8,7 +8,7 @@ use crate::advice::refused_advice;
 use admin_office::FaultTexts;
 use change_file::ApplyFault;
 use host_types::SiteFault;
-use image_changes::stopped_line;
+use image_runs::stopped_line;
 use std::alloc::{AllocError, Global};
 
 /// Tells of a change that was not made by the lines that the program says where it makes changes by itself.

@@ -1,7 +1,7 @@
 -- A listener for rounds of connections, as it is noted.
 use Rattle.std.specs.Prelude.{Result, Ok, Err}
 use Rattle.std.specs.declared.net.socket_addr.SocketAddr.{SocketAddr}
-use Rattle.ready_sockets.specs.declared.listen_fault.NetCause.{NetCause}
+use Rattle.daily_server.specs.declared.listen_fault.NetCause.{NetCause}
 use Rattle.image_server.specs.declared.listening.ListenCall.{ListenCall}
 use Rattle.image_server.specs.declared.listening.ListenCall.TheVariants.{Listened, NotListened}
 

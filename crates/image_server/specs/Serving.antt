@@ -18,9 +18,9 @@ use Rattle.host_on_disk.specs.ImageSites.{ImageRepresents}
 use Rattle.host_on_disk.specs.OpenFaults.{IsOpeningFault}
 use Rattle.host_on_disk.specs.declared.open_fault.OpenFault.TheVariants as opening
 use Rattle.page_store.specs.declared.fault.KeeperFault.TheVariants as keeper
-use Rattle.ready_sockets.specs.declared.room.VisitFault.{VisitFault}
-use Rattle.ready_sockets.specs.declared.room.VisitFault.TheVariants as visits
-use Rattle.image_sessions.specs.ImageRuns.{OverSite, OnImage}
+use Rattle.daily_server.specs.declared.room.VisitFault.{VisitFault}
+use Rattle.daily_server.specs.declared.room.VisitFault.TheVariants as visits
+use Rattle.image_runs.specs.ImageRuns.{OverSite, OnImage}
 use Rattle.turns.specs.Runs.{HasRun}
 use Rattle.socket_wires.specs.Rounds.{IsServing}
 use Rattle.socket_wires.specs.declared.gate.Taken.{Taken}

@@ -6,7 +6,7 @@ use Rattle.std.specs.Net.Text.{socket_text}
 use Rattle.std.specs.declared.net.socket_addr.SocketAddr.{SocketAddr}
 use Rattle.host_types.specs.Address.{Address}
 use Rattle.turns.specs.WireCalls.{WireCall}
-use Rattle.ready_sockets.specs.Logged.{HasLine}
+use Rattle.daily_server.specs.Logged.{HasLine}
 
 -- a second line where no other machine reaches the address
 abbrev pub who_comes : Bool → List ℕ

@@ -15,17 +15,17 @@ use Rattle.group_world.specs.declared.event.Event.{Event}
 use Rattle.group_world.specs.declared.event.Outcome.{Outcome}
 use Rattle.turns.specs.Runs.{HasRun}
 use Rattle.host_on_disk.specs.ImageSites.{ImageRepresents}
-use Rattle.image_sessions.specs.ImageRuns.{OverSite, OnImage}
+use Rattle.image_runs.specs.ImageRuns.{OverSite, OnImage}
 use Rattle.host_on_disk.specs.declared.open_fault.OpenFault.TheVariants as opening
-use Rattle.ready_sockets.specs.Offices.{WorksOf}
-use Rattle.ready_sockets.specs.Rounds.{HasServed, Premises}
-use Rattle.ready_sockets.specs.Visits.{IsFreshRoom}
-use Rattle.ready_sockets.specs.declared.listen_fault.NetCause.{NetCause}
-use Rattle.ready_sockets.specs.declared.pace.Pace.{Pace}
-use Rattle.ready_sockets.specs.declared.room.Room.{Room}
-use Rattle.ready_sockets.specs.declared.stopwatch.Reading.{Reading}
-use Rattle.ready_sockets.specs.declared.terms.Terms.{Terms}
-use Rattle.ready_sockets.specs.declared.room.VisitFault.{VisitFault}
+use Rattle.daily_server.specs.Offices.{WorksOf}
+use Rattle.daily_server.specs.Rounds.{HasServed, Premises}
+use Rattle.daily_server.specs.Visits.{IsFreshRoom}
+use Rattle.daily_server.specs.declared.listen_fault.NetCause.{NetCause}
+use Rattle.daily_server.specs.declared.pace.Pace.{Pace}
+use Rattle.daily_server.specs.declared.room.Room.{Room}
+use Rattle.daily_server.specs.declared.stopwatch.Reading.{Reading}
+use Rattle.daily_server.specs.declared.terms.Terms.{Terms}
+use Rattle.daily_server.specs.declared.room.VisitFault.{VisitFault}
 use Rattle.image_server.specs.Starting.{TellsStart}
 use Rattle.image_server.specs.declared.serving.ServingFault.{ServingFault}
 use Rattle.image_server.specs.declared.serving.ServingFault.TheVariants.{Image, Listener, Net}

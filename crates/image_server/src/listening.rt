@@ -2,11 +2,11 @@
 ghost use Rattle.std.specs.Prelude.{◌≡◌, Err, IfOk, IfErr, IsOk, OnOk, List, [], ◌∷◌, ◌++◌};
 ghost use Rattle.std.specs.Borrow.{ftrue};
 ghost use Rattle.std.specs.IoError.{error_kind};
-ghost use Rattle.ready_sockets.specs.NetCauses.{cause_of};
+ghost use Rattle.daily_server.specs.NetCauses.{cause_of};
 ghost use Rattle.image_server.specs.Listening.{listen_call};
 ghost use Rattle.image_server.specs.declared.listening.ListenCall.{ListenCall as Call};
 
-use ready_sockets::NetCause;
+use daily_server::NetCause;
 use socket_wires::Gate;
 use std::io;
 use std::marker::Model;

@@ -15,7 +15,7 @@ use cow_tree::TreeKeeper;
 use group_hub::Hub;
 use host_on_disk::{OpenFault, open_site};
 use host_types::SiteKeeper;
-use ready_sockets::NetCause;
+use daily_server::NetCause;
 use sector_device::Device;
 use site_store::DiskSite;
 use socket_wires::{Gate, ServeFault, serve_on};

@@ -4,7 +4,7 @@ ghost use Rattle.image_server.specs.Starting.{TellsStart};
 ghost use Rattle.image_server.specs.Starting as spec;
 
 use host_types::Address;
-use ready_sockets::write_line;
+use daily_server::write_line;
 use std::alloc::{AllocError, Global};
 use std::io::Write;
 use std::net::SocketAddr;

@@ -5,7 +5,7 @@ ghost use Rattle.page_store.specs.Steps.{crash_states_of};
 ghost use Rattle.cow_tree.specs.TreeSeen.{device_of};
 ghost use Rattle.site_store.specs.Seen.{keeper_of};
 ghost use Rattle.host_on_disk.specs.OpenFaults.{HandsBack};
-ghost use Rattle.ready_sockets.specs.DoorCalls.{Listened, NotListened};
+ghost use Rattle.daily_server.specs.DoorCalls.{Listened, NotListened};
 ghost use Rattle.image_server.specs.Serving.{IsServingFault, of_visits};
 ghost use Rattle.image_server.specs.Visiting.{IsGivenOrOwn, VisitedOver, VisitedImage, IsListened, IsAskedInVain};
 
@@ -16,7 +16,7 @@ use group_hub::Hub;
 use host_on_disk::{OpenFault, open_site};
 use host_types::SiteKeeper;
 use page_store::KeeperFault;
-use ready_sockets::{
+use daily_server::{
     DoorLog, ListenFault, Office, Room, Stopwatch, Terms, VisitFault, serve_visits,
 };
 use sector_device::Device;

@@ -13,7 +13,7 @@ ghost use Rattle.site_store.specs.Reads.{ReadsKnown, AlwaysReadsKnown};
 ghost use Rattle.site_store.specs.Work.{MakesLookUps};
 
 use crate::SiteOpenFault;
-use crate::looking::ValueLookup;
+use crate::value_lookup::ValueLookup;
 use crate::parts::{read_part, read_view};
 use crate::records::record_at;
 use host_types::{

@@ -8,7 +8,7 @@ ghost use Rattle.site_store.specs.Reads.{ReadsKnown, AlwaysReadsKnown};
 ghost use Rattle.site_store.specs.Work.{MakesLookUps};
 
 use crate::SiteOpenFault;
-use crate::looking::ValueLookup;
+use crate::value_lookup::ValueLookup;
 use host_types::{Bytes, CHUNK, CardView, MOST_VIEW_BYTES, Selector, View};
 use page_store::LONGEST_VALUE;
 use site_records::chunk_key;

@@ -8,7 +8,7 @@ ghost use Rattle.site_store.specs.Opening.{pairs_state, ValuesFit};
 
 use crate::SiteOpenFault;
 use crate::likely::LikelyPlaces;
-use crate::looking::ValueLookup;
+use crate::value_lookup::ValueLookup;
 use page_store::{Banner, LONGEST_VALUE, Pair, keys_rise};
 use site_pairs::Piece;
 use site_records::Key;

@@ -13,7 +13,7 @@ ghost use Rattle.site_store.specs.Reads.{AlwaysReadsKnown};
 ghost use Rattle.site_store.specs.declared.fault.SiteOpenFault.TheVariants.{BadRecord, Memory};
 
 use crate::SiteOpenFault;
-use crate::looking::ValueLookup;
+use crate::value_lookup::ValueLookup;
 use host_types::{CardFront, Selector};
 use page_store::LONGEST_VALUE;
 use site_records::{Record, RecordFault, item_key, items_have_records, read_front, read_record};

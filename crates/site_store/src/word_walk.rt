@@ -13,7 +13,7 @@ ghost use Rattle.site_store.specs.WordWalks as spec;
 ghost use Rattle.site_store.specs.declared.fault.SiteOpenFault.TheVariants.{BadRecord};
 
 use crate::SiteOpenFault;
-use crate::looking::ValueLookup;
+use crate::value_lookup::ValueLookup;
 use host_types::{Bytes, Selector};
 use page_store::{Keeper, LONGEST_KEY, LONGEST_VALUE};
 use site_records::{LONGEST_WORD, word_key};

@@ -2,7 +2,7 @@
 ghost use Rattle.std.specs.Prelude.{◌≡◌};
 
 use crate::memory_wire::MemoryWire;
-use ready_turns::ReadyWire;
+use daily_turns::ReadyWire;
 use turns::{CallLog, Wire, WireCallKind, WireFault};
 
 /// A wire of which every other call finds nothing ready, beginning with the first.

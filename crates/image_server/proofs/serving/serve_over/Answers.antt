@@ -2,7 +2,7 @@ use Rattle.std.specs.Prelude.{true}
 use Rattle.group_hub.specs.Calls.{HubRun}
 use Rattle.group_hub.specs.Hub.{world_of}
 use Rattle.host_on_disk.proofs.Runs.{handed_over}
-use Rattle.image_sessions.specs.ImageRuns.{OverSite}
+use Rattle.image_runs.specs.ImageRuns.{OverSite}
 use Rattle.image_server.proofs.OtherRuns.{run_too}
 use Rattle.image_server.proofs.serving.serve_over.Goals as goal
 

@@ -1,5 +1,5 @@
 use Rattle.std.proofs.Common.{subst}
-use Rattle.ready_sockets.specs.Logged.{HasLine}
+use Rattle.daily_server.specs.Logged.{HasLine}
 use Rattle.image_server.specs.Starting.{start_text}
 use Rattle.image_server.proofs.starting.tell_start.Goals as goal
 

@@ -3,9 +3,9 @@ use Rattle.std.specs.Prelude.{true}
 use Rattle.group_hub.specs.Calls.{HubRun}
 use Rattle.group_hub.specs.Hub.{world_of}
 use Rattle.host_on_disk.proofs.Runs.{handed_over}
-use Rattle.image_sessions.specs.ImageRuns.{OverSite}
+use Rattle.image_runs.specs.ImageRuns.{OverSite}
 use Rattle.host_types.specs.SiteState.{SiteState}
-use Rattle.ready_sockets.specs.Rounds.{HasServed}
+use Rattle.daily_server.specs.Rounds.{HasServed}
 use Rattle.image_server.proofs.OtherRuns.{run_too}
 use Rattle.image_server.proofs.visiting.visits_over.Goals as goal
 

@@ -1,0 +1,5 @@
+use Rattle.daily_turns.proofs.SeatsMade.{later_fits}
+use Rattle.daily_turns.proofs.turn.refused.Goals as goal
+
+pub become_stage-requires : goal.become_stage-requires
+become_stage-requires g c = later_fits _ c.try_again_later.ensures

@@ -1,0 +1,153 @@
+// A wire and the session on it.
+ghost use Rattle.std.specs.Prelude.{◌≡◌, ◌≤◌, false, [], length, Option, Some, None};
+ghost use Rattle.daily_turns.specs.DrawSizes.{draw_size};
+ghost use Rattle.daily_turns.specs.Seats.{at, acts, has_left, ending_of, is_waiting, state_of};
+
+use crate::unsent::Unsent;
+use old_clients::ClientAdapter;
+
+/// How a session ended.
+#[derive(Clone, Copy, Debug, PartialEq, Eq)]
+pub enum Ending {
+    /// All of a reply was drawn for it.
+    Served,
+    /// Its post could not be made, and its client is asked to try again later.
+    Full,
+    /// The hub answered another fault.
+    Failed,
+    /// Its client went before that.
+    Cut,
+    /// Its time was over.
+    Late,
+    /// None joined: as many of its client's origin were in as may be.
+    Crowd,
+    /// Its post was not made: as many of its client's origin came as may come in a minute.
+    Often,
+}
+
+/// How far the session on a wire is.
+#[derive(Clone, Copy, Debug, PartialEq, Eq)]
+pub enum SeatStage {
+    /// The session of this number hears what is read.
+    Listening(u64),
+    /// The post of the session of this number waits for others.
+    Waiting(u64),
+    /// The reply to the session of this number is drawn and sent.
+    Replying(u64),
+    /// It has left the hub, and the rest is sent.
+    Leaving(Ending),
+    /// The wire is closed.
+    Closed(Ending),
+}
+
+impl SeatStage {
+    /// Whether the session has left the hub.
+    pub fn has_left(self) -> bool
+        ensures { result ≡ has_left self }
+    {
+        match self {
+            SeatStage::Listening(_) | SeatStage::Waiting(_) | SeatStage::Replying(_) => false,
+            SeatStage::Leaving(_) | SeatStage::Closed(_) => true,
+        }
+    }
+
+    /// Whether there is something to do in a turn of the session.
+    pub fn acts(self) -> bool
+        ensures { result ≡ acts self }
+    {
+        match self {
+            SeatStage::Listening(_) | SeatStage::Replying(_) | SeatStage::Leaving(_) => true,
+            SeatStage::Waiting(_) | SeatStage::Closed(_) => false,
+        }
+    }
+
+    /// Whether the post of the session waits for others.
+    pub fn is_waiting(self) -> bool
+        ensures { result ≡ is_waiting self }
+    {
+        matches!(self, SeatStage::Waiting(_))
+    }
+
+    /// How the session of a closed wire ended.
+    pub fn ending(self) -> Option<Ending>
+        ensures { result ≡ ending_of self }
+    {
+        match self {
+            SeatStage::Closed(ending) => Some(ending),
+            _ => None,
+        }
+    }
+}
+
+/// A wire, how far the session on it is, what is to be sent, and the adapter of its client.
+#[derive(Drop)]
+pub struct Seat<W> {
+    pub(crate) wire: W,
+    pub(crate) stage: SeatStage,
+    pub(crate) unsent: Unsent,
+    pub(crate) waits: bool,
+    pub(crate) client: ClientAdapter,
+}
+
+impl<W> Seat<W> {
+    /// How far the session is.
+    pub fn stage(&self) -> SeatStage
+        ensures { result ≡ self.now.stage }
+    {
+        self.stage
+    }
+
+    /// Whether it rests until its wire is ready again.
+    pub fn waits(&self) -> bool
+        ensures { result ≡ self.now.waits }
+    {
+        self.waits
+    }
+
+    /// Its wire.
+    pub fn wire(&self) -> &W
+        ensures { result.now ≡ self.now.wire }
+    {
+        &self.wire
+    }
+
+    /// Its wire may be ready again.
+    pub fn wake(&mut self)
+        ensures state { state_of self.new ≡ at self.old.stage self.old.unsent.items false }
+        ensures wire { self.new.wire ≡ self.old.wire }
+        ensures client { self.new.client ≡ self.old.client }
+    {
+        self.waits = false;
+    }
+
+    /// From here on the session is so far, with these bytes to be sent.
+    pub(crate) fn become_stage(&mut self, stage: SeatStage, unsent: &[u8])
+        requires { length unsent.now ≤ draw_size }
+        ensures state { state_of self.new ≡ at stage unsent.now false }
+        ensures wire { self.new.wire ≡ self.old.wire }
+        ensures client { self.new.client ≡ self.old.client }
+    {
+        self.stage = stage;
+        self.unsent.fill(unsent);
+        self.waits = false;
+    }
+
+    /// From here on the session is so far, with the same bytes to be sent.
+    pub(crate) fn go_on(&mut self, stage: SeatStage)
+        ensures state { state_of self.new ≡ at stage self.old.unsent.items false }
+        ensures wire { self.new.wire ≡ self.old.wire }
+        ensures client { self.new.client ≡ self.old.client }
+    {
+        self.stage = stage;
+        self.waits = false;
+    }
+}
+
+impl<W: Drop> Seat<W> {
+    /// Its room for what is to be sent, which the next client can have.
+    pub fn into_unsent(self) -> Unsent
+        ensures { result ≡ self.unsent }
+    {
+        self.unsent
+    }
+}

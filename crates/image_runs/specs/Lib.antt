@@ -1,0 +1,3 @@
+pub mod ImageChanges
+pub mod ImageRuns
+pub mod StoppedLines

@@ -1,6 +1,0 @@
-use Rattle.std.proofs.Common.{◌++◌}
-use Rattle.ready_sockets.proofs.HeadsKept.{take_pieces}
-use Rattle.ready_sockets.proofs.laws.head_of_pieces.Goals as goal
-
-pub returns : goal.returns
-returns c = λ before piece later. take_pieces 256 (before ++ piece) later

@@ -1,6 +1,0 @@
-use Rattle.std.proofs.Common.{refl}
-use Rattle.turns.proofs.Runnings.{run_none}
-use Rattle.ready_sockets.proofs.office.NoOfficeOffice.turn.Goals as goal
-
-pub returns : goal.returns
-returns g c = run_none _ _ _ _ g.met.S.SiteKeeper.crash_states_represent _ _ _ (refl, refl, refl)

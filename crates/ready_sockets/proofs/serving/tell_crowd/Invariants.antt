@@ -1,7 +1,0 @@
-use Rattle.std.proofs.Common.{take}
-use Rattle.ready_sockets.specs.Logged.{AreToldOff}
-use Rattle.ready_sockets.proofs.serving.tell_crowd.Given as goal
-
--- so many of them are told
-abbrev pub invariant-loop-away : goal.invariant-loop-away
-invariant-loop-away g l = AreToldOff g.L.Write.contents l.form l.moment (take l.away-index l.crowd) (l.fn.log, l.fn.written.calls) (l.log, l.written.calls)

@@ -1,7 +1,0 @@
-use Rattle.std.proofs.Common.{take}
-use Rattle.ready_sockets.specs.Logged.{AreTold}
-use Rattle.ready_sockets.proofs.serving.tell_gone.Given as goal
-
--- so many of them are told
-abbrev pub invariant-loop-visit : goal.invariant-loop-visit
-invariant-loop-visit g l = AreTold g.L.Write.contents l.form l.moment (take l.visit-index l.visits) (l.fn.log, l.fn.written.calls) (l.log, l.written.calls)

@@ -1,7 +1,0 @@
-use Rattle.std.proofs.Common.{sym, ap, ◌∙◌}
-use Rattle.ready_turns.specs.Seats.{ending_of}
-use Rattle.ready_sockets.specs.Logged.{told}
-use Rattle.ready_sockets.proofs.serving.tell_if_gone.Goals as goal
-
-pub returns-in-Some : goal.returns-in-Some
-returns-in-Some g c = told c.in-Some.ending (ap ending_of (sym c.stage.ensures) ∙ sym c.ending.ensures ∙ c.in-Some.is) (c.write_line.ensures _ c.line.ensures)

@@ -1,4 +1,0 @@
-use Rattle.ready_sockets.proofs.serving.tell_off.Goals as goal
-
-pub returns : goal.returns
-returns g c = c.write_line.ensures _ c.away_line.ensures
