@@ -5,8 +5,8 @@ ghost use Rattle.admin_office.specs.Offices.{in_still, IsNewOffice, Receives, Wo
 use crate::gate::AdminGate;
 use crate::turn::serve;
 use crate::{FaultTexts, PatientWire, Request};
-use group_hub::Hub;
 use daily_server::{Desk, Office, Pace};
+use group_hub::Hub;
 use std::alloc::Global;
 use turns::Clock;
 use word_index::SearchKeeper;

@@ -5,8 +5,8 @@ ghost use Rattle.std.specs.Option.{is_some};
 use crate::UnixWire;
 use crate::gate::AdminGate;
 use crate::gate_log::{Arrival, GateLog};
-use mio::net::{UnixListener, UnixStream};
 use daily_server::Desk;
+use mio::net::{UnixListener, UnixStream};
 
 /// A listener on a Unix socket, or none, to which nobody comes; whether waits tell of it, and what it answered.
 #[derive(Drop)]

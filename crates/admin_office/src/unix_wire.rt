@@ -3,9 +3,9 @@
 ghost use Rattle.std.specs.Prelude.{◌≡◌, ◌⊎◌, true, []};
 
 use crate::PatientWire;
+use daily_turns::ReadyWire;
 use libc::types::pollfd;
 use mio::net::UnixStream;
-use daily_turns::ReadyWire;
 use std::io::{ErrorKind, Read, Write};
 use std::net::Shutdown;
 use std::os::fd::AsRawFd;

@@ -8,8 +8,8 @@ use crate::ReadySocket;
 use crate::room::MOST_VISITS;
 use crate::visit::Visit;
 use arrayvec::ArrayVec;
-use mio::net::TcpStream;
 use daily_turns::ReadyWire;
+use mio::net::TcpStream;
 use std::net::{IpAddr, Ipv4Addr};
 
 /// A client that was turned away.

@@ -7,8 +7,8 @@ ghost use Rattle.daily_server.specs.Stored.{stored_by, told_of};
 ghost use Rattle.std.specs.Option.{option_copied};
 
 use crate::Head;
-use mio::net::TcpStream;
 use daily_turns::ReadyWire;
+use mio::net::TcpStream;
 use std::io::{ErrorKind, Read, Write};
 use std::net::Shutdown;
 use turns::{CallLog, WireCallKind, WireFault};

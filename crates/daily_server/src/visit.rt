@@ -7,9 +7,9 @@ ghost use Rattle.daily_server.specs.Visits.{has_gone, has_turn, is_late, woken};
 use crate::limits::{is_over, longest_stay};
 use crate::lines::{LogRecord, address_text, log_line};
 use crate::{LogForm, ReadySocket};
+use daily_turns::{Ending, Seat};
 use host_types::Stamp;
 use mio::Token;
-use daily_turns::{Ending, Seat};
 use std::alloc::{AllocError, Global};
 use std::net::IpAddr;
 

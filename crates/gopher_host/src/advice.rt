@@ -6,9 +6,9 @@ use admin_lines::ReplyFault;
 use admin_socket::SocketFault;
 use change_file::ChangeFileFault;
 use common_types::Refused;
+use daily_server::NetCause;
 use file_names::Lack;
 use image_items::ItemFault;
-use daily_server::NetCause;
 
 /// About an image that is not had.
 pub fn lack_advice(lack: Lack) -> &'static str

@@ -29,9 +29,9 @@ use command_words::NewSite;
 use file_device::UsedFiles;
 use file_names::{Look, NameLog, look_for};
 use host_types::Stamp;
-use image_runs::apply_on;
 use image_commands::{ImageFault, ListForm, check_image, compact_image, show_image, upgrade_image};
 use image_exports::export_image;
+use image_runs::apply_on;
 use std::alloc::Global;
 use std::io::Write;
 

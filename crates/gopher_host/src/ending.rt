@@ -3,10 +3,10 @@ ghost use Rattle.std.specs.Prelude.{◌≡◌};
 ghost use Rattle.gopher_host.specs.Endings as spec;
 
 use crate::fault::Fault;
+use daily_server::VisitFault;
 use host_on_disk::OpenFault;
 use image_commands::ImageFault;
 use image_server::ServingFault;
-use daily_server::VisitFault;
 use std::io;
 
 /// Clients were served until that could not go on.

@@ -12,10 +12,10 @@ ghost use Rattle.image_server.specs.declared.listening.ListenCall.TheVariants.{L
 use crate::listening::{ListenLog, listen};
 use crate::visiting::given_or_own;
 use cow_tree::TreeKeeper;
+use daily_server::NetCause;
 use group_hub::Hub;
 use host_on_disk::{OpenFault, open_site};
 use host_types::SiteKeeper;
-use daily_server::NetCause;
 use sector_device::Device;
 use site_store::DiskSite;
 use socket_wires::{Gate, ServeFault, serve_on};

@@ -3,8 +3,8 @@ ghost use Rattle.std.specs.Prelude.{◌≡◌, IfOk};
 ghost use Rattle.image_server.specs.Starting.{TellsStart};
 ghost use Rattle.image_server.specs.Starting as spec;
 
-use host_types::Address;
 use daily_server::write_line;
+use host_types::Address;
 use std::alloc::{AllocError, Global};
 use std::io::Write;
 use std::net::SocketAddr;

@@ -12,13 +12,13 @@ ghost use Rattle.image_server.specs.Visiting.{IsGivenOrOwn, VisitedOver, Visited
 use crate::ServingFault;
 use crate::starting::tell_start;
 use cow_tree::TreeKeeper;
+use daily_server::{
+    DoorLog, ListenFault, Office, Room, Stopwatch, Terms, VisitFault, serve_visits,
+};
 use group_hub::Hub;
 use host_on_disk::{OpenFault, open_site};
 use host_types::SiteKeeper;
 use page_store::KeeperFault;
-use daily_server::{
-    DoorLog, ListenFault, Office, Room, Stopwatch, Terms, VisitFault, serve_visits,
-};
 use sector_device::Device;
 use site_store::DiskSite;
 use std::alloc::Global;

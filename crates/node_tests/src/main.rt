@@ -17,7 +17,6 @@
 
 mod bench;
 mod commits;
-mod dice;
 mod fields;
 mod image;
 mod laws;

@@ -1,10 +1,10 @@
 // A seeded run of puts and deletes beside a sorted map.
-use crate::dice::{Dice, key};
 use crate::store::Store;
 use crate::trouble::Trouble;
 use crate::walk::Walk;
 use std::alloc::Global;
 use std::collections::BTreeMap;
+use test_help::{Dice, key};
 
 /// How many keys a run changes.
 /// How many pages the store has.

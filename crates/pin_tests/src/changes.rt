@@ -1,8 +1,8 @@
 // Documents, and changes of a site.
-use crate::dice::Dice;
 use crate::trouble::Trouble;
 use host_types::{Body, Bytes, Change, Item, Question, QuestionList, Selector, Stamp, Title};
 use std::alloc::{AllocError, Global};
+use test_help::Dice;
 
 /// How many bytes a line of a document has, with its LF.
 const LINE: usize = 512;

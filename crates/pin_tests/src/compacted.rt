@@ -3,11 +3,11 @@ ghost use Rattle.std.specs.Prelude.{◌≡◌, IsTrue};
 ghost use Rattle.host_types.specs.Pins.{is_out};
 
 use crate::changes::{Document, put_text, remove};
-use crate::dice::Dice;
 use crate::made::{TreeSite, new_disk, site_on};
 use crate::trouble::Trouble;
 use host_types::{Selector, SiteKeeper, Stamp};
 use std::alloc::Global;
+use test_help::Dice;
 
 /// The lines of a document of 65,536 bytes, and the pages of an image that has room for it four times.
 const LINES: usize = 128;

@@ -1,6 +1,5 @@
 // A document that is removed while it is drawn, in the least image in which it can be put.
 use crate::changes::{Document, put_board, put_form, put_text, remove};
-use crate::dice::Dice;
 use crate::drawing::{ask, draw};
 use crate::made::{TreeSite, hub_over, new_disk, site_on};
 use crate::trouble::Trouble;
@@ -8,6 +7,7 @@ use group_hub::Hub;
 use group_world::{HubFault, InputStatus};
 use host_types::Stamp;
 use std::alloc::Global;
+use test_help::Dice;
 
 /// The document of 65,536 bytes, which is half drawn in 512 draws of 64 bytes.
 const LINES: usize = 128;

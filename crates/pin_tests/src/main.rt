@@ -13,7 +13,6 @@
 mod batches;
 mod changes;
 mod compacted;
-mod dice;
 mod drawing;
 mod least;
 mod made;

@@ -1,6 +1,5 @@
 // Sessions over the same site on a disk and in memory, whose events are mixed at random.
 use crate::changes::{Document, put_board, put_form, put_text, remove};
-use crate::dice::Dice;
 use crate::made::{TreeSite, disk_under, hub_over, in_memory, new_disk, site_on};
 use crate::trouble::Trouble;
 use group_hub::{Hub, MOST_SESSIONS};
@@ -9,6 +8,7 @@ use host_types::{Change, SiteFault, SiteKeeper, Stamp};
 use mem_site::MemSite;
 use sector_device::MemDisk;
 use std::alloc::Global;
+use test_help::Dice;
 
 /// Where documents stand.
 const PLACES: [&[u8]; 6] = [b"/a", b"/b", b"/c", b"/d", b"/e", b"/f"];

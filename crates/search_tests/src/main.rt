@@ -13,7 +13,6 @@
 
 mod batches;
 mod counting;
-mod dice;
 mod made;
 mod random;
 mod rows;

@@ -1,11 +1,11 @@
 // Random sites, changes and queries.
 ghost use Rattle.std.specs.Prelude.{◌<◌};
 
-use crate::dice::Dice;
 use crate::sites::{Query, Sites};
 use crate::trouble::Trouble;
 use host_types::{Body, Bytes, Change, Item, Selector, SiteFault, Stamp, Title};
 use std::alloc::Global;
+use test_help::Dice;
 
 /// The words of items. Some are fronts of others.
 const WORDS: [&[u8]; 8] = [

@@ -13,9 +13,9 @@ ghost use Rattle.site_store.specs.Reads.{ReadsKnown, AlwaysReadsKnown};
 ghost use Rattle.site_store.specs.Work.{MakesLookUps};
 
 use crate::SiteOpenFault;
-use crate::value_lookup::ValueLookup;
 use crate::parts::{read_part, read_view};
 use crate::records::record_at;
+use crate::value_lookup::ValueLookup;
 use host_types::{
     Body, CardView, EntryList, Item, MOST_VIEW_BYTES, QuestionList, Selector, ViewList,
 };

@@ -13,8 +13,8 @@ ghost use Rattle.site_store.specs.Seen.{keeper_of, seen_site};
 ghost use Rattle.site_store.specs.declared.fault.SiteOpenFault.TheVariants.{Keeper as StoreFault};
 
 use crate::items::item_in;
-use crate::value_lookup::ValueLookup;
 use crate::read_pairs::ReadPairs;
+use crate::value_lookup::ValueLookup;
 use crate::whole_layout::has_layout;
 use crate::{DiskSite, SiteOpenFault};
 use host_types::Selector;

@@ -1,6 +1,5 @@
 // Commits that are stopped at each call of the device.
 use crate::batches::commit_tree;
-use crate::dice::Dice;
 use crate::made::{Sectors, device_under, disk_of, height_of, image_of, new_tree, open_tree};
 use crate::pairs::{one_edit, pairs_of, value_of};
 use crate::trouble::Trouble;
@@ -9,6 +8,7 @@ use cow_tree::TreeKeeper;
 use page_store::{Edit, KeeperFault, LONGEST_VALUE};
 use sector_device::{Call, FuseDisk, MemDisk, SECTOR_SIZE};
 use std::alloc::Global;
+use test_help::Dice;
 
 /// How many pages the image has, how many pairs, and how many commits are made before.
 const PAGES: u16 = 48;

@@ -14,7 +14,6 @@
 mod batches;
 mod bench;
 mod crashes;
-mod dice;
 mod full;
 mod made;
 mod opening;

@@ -1,6 +1,5 @@
 // Random batches, committed to a tree and to flat pages.
 use crate::batches::{commit_flat, commit_tree};
-use crate::dice::{Dice, key};
 use crate::made::{
     Sectors, device_under, disk_of, height_of, image_of, new_flat, new_tree, open_flat, open_tree,
 };
@@ -13,6 +12,7 @@ use sector_device::MemDisk;
 use std::alloc::Global;
 use std::collections::BTreeMap;
 use std::mem;
+use test_help::{Dice, key};
 
 /// How many pages the image of the tree has, and the one of the flat pages.
 const TREE_PAGES: u16 = 256;

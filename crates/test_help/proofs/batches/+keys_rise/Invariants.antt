@@ -1,5 +1,5 @@
 use Rattle.std.proofs.Common.{length}
-use Rattle.search_tests.proofs.batches.+keys_rise.Given as goal
+use Rattle.test_help.proofs.batches.+keys_rise.Given as goal
 
 abbrev pub decreases-keys_rise : goal.decreases-keys_rise
 decreases-keys_rise l = length l.batch.now

@@ -6,7 +6,7 @@ use std::alloc::{AllocError, Global};
 
 /// Numbers that look random, by a seed.
 #[derive(Drop)]
-pub(crate) struct Dice {
+pub struct Dice {
     state: u64,
 }
 

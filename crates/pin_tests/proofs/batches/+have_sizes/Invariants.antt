@@ -1,5 +1,0 @@
-use Rattle.std.proofs.Common.{length}
-use Rattle.pin_tests.proofs.batches.+have_sizes.Given as goal
-
-abbrev pub decreases-have_sizes : goal.decreases-have_sizes
-decreases-have_sizes l = length l.batch.now

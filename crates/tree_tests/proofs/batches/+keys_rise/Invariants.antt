@@ -1,5 +1,0 @@
-use Rattle.std.proofs.Common.{length}
-use Rattle.tree_tests.proofs.batches.+keys_rise.Given as goal
-
-abbrev pub decreases-keys_rise : goal.decreases-keys_rise
-decreases-keys_rise l = length l.batch.now
