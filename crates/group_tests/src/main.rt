@@ -19,6 +19,7 @@
 //! `end`, `draw`, `draw ROOM`, `leave` and `post NAME LINES`, an answer to the form `/sign`: a name, in which `#` is the number of the session, and so many lines.
 #![tactic(auto)]
 
+mod fused;
 mod items;
 mod once;
 mod refused;

@@ -3,6 +3,7 @@ ghost use Rattle.std.specs.Prelude.{◌≡◌, [], IfOk, IsTrue};
 ghost use Rattle.host_types.specs.Site.{IsSite};
 ghost use Rattle.cow_tree.specs.TreeSeen.{held};
 
+use crate::fused::FusedDisk;
 use crate::script::EVENING;
 use crate::trouble::Trouble;
 use cow_tree::TreeKeeper;
@@ -13,13 +14,13 @@ use host_types::{Bytes, SiteKeeper, Stamp};
 use image_commands::{SiteNames, format_image};
 use mem_site::MemSite;
 use page_store::{Keeper, LONGEST_KEY, LONGEST_VALUE};
-use sector_device::{Device, FuseDisk, MemDisk, SECTOR_SIZE};
+use sector_device::{Device, MemDisk, SECTOR_SIZE};
 use site_store::DiskSite;
 use std::alloc::Global;
 use word_index::SearchKeeper;
 
 /// A site over a tree on a disk in memory, which fails after so many calls.
-pub(crate) type TreeSite = DiskSite<TreeKeeper<FuseDisk<MemDisk>>>;
+pub(crate) type TreeSite = DiskSite<TreeKeeper<FusedDisk>>;
 
 const PORT: u16 = 7070;
 
@@ -63,7 +64,7 @@ pub fn site_on(alloc: Global, disk: MemDisk, calls: u64) -> Result<TreeSite, Tro
     ensures unpinned { IfOk result (λ site. (⟦<TreeSite as SiteKeeper>⟧.site_state site).pins ≡ []) }
     ensures valid { IfOk result (λ site. IsTrue (⟦<TreeSite as SiteKeeper>⟧.site_state site).honest → ∥ IsSite (⟦<TreeSite as SiteKeeper>⟧.site_state site).site ∥₁) }
 {
-    site_over(alloc, FuseDisk::new(disk, calls))
+    site_over(alloc, FusedDisk::new(disk, calls))
 }
 
 /// The keeper of a site, of which no pin is to be out.

@@ -1,38 +1,40 @@
 // A disk that counts its reads.
-use sector_device::{Device, DeviceFault, SECTOR_SIZE};
+ghost use Rattle.sector_device.specs.Images.{good, only_images, all_images};
+
+use sector_device::{Device, DeviceFault, MemDisk, SECTOR_SIZE};
 use std::cell::Cell;
 use std::rc::Rc;
 
 /// How many sectors were read.
 pub(crate) type Reads = Rc<Cell<u64>>;
 
-/// A device that counts the sectors that are read of it.
+/// A disk in memory that counts the sectors that are read of it.
 #[derive(Drop)]
-pub(crate) struct CountingDisk<D: Device> {
-    inner: D,
+pub(crate) struct CountingDisk {
+    inner: MemDisk,
     reads: Reads,
 }
 
-impl<D: Device> CountingDisk<D> {
-    pub fn new(inner: D, reads: Reads) -> Self {
+impl CountingDisk {
+    pub fn new(inner: MemDisk, reads: Reads) -> Self {
         CountingDisk { inner, reads }
     }
 }
 
-impl<D: Device> Device for CountingDisk<D> {
-    ghost state = { λ d. D.state d.inner };
+impl Device for CountingDisk {
+    ghost state = { λ d. ⟦<MemDisk as Device>⟧.state d.inner };
 
-    ghost moment = { λ d. D.moment d.inner };
+    ghost moment = { λ d. ⟦<MemDisk as Device>⟧.moment d.inner };
 
-    ghost possible_since = { λ d. D.possible_since d.inner };
+    ghost possible_since = { λ d. ⟦<MemDisk as Device>⟧.possible_since d.inner };
 
-    ghost crash_states_are_images = { λ d c h left. D.crash_states_are_images d.inner c h left };
+    ghost crash_states_are_images = { λ d c h left. only_images d.inner.first d.inner.writes_and_syncs c left };
 
-    ghost each_image_is_a_crash_state = { λ d c h image. D.each_image_is_a_crash_state d.inner c h image };
+    ghost each_image_is_a_crash_state = { λ d c h image. all_images d.inner.first d.inner.writes_and_syncs c image };
 
-    ghost view_is_image = { λ d h. D.view_is_image d.inner h };
+    ghost view_is_image = { λ d h. (good d.inner.first d.inner.writes_and_syncs).view };
 
-    ghost base_has_size = { λ d h. D.base_has_size d.inner h };
+    ghost base_has_size = { λ d h. (good d.inner.first d.inner.writes_and_syncs).size_is };
 
     fn sectors(&self) -> u64 {
         self.inner.sectors()

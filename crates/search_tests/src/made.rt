@@ -14,7 +14,7 @@ use std::alloc::Global;
 pub(crate) type TreeSite = DiskSite<Tree>;
 
 /// A tree on a disk in memory whose reads are counted.
-pub(crate) type Tree = TreeKeeper<CountingDisk<MemDisk>>;
+pub(crate) type Tree = TreeKeeper<CountingDisk>;
 
 /// How many pages an image has.
 const PAGES: u16 = 256;
@@ -71,7 +71,7 @@ fn keeper_on(alloc: Global, disk: MemDisk, reads: Reads) -> Result<Tree, Trouble
 }
 
 /// The disk of a keeper, of which no pin is to be out.
-pub fn device_under(keeper: Tree) -> Result<CountingDisk<MemDisk>, Trouble> {
+pub fn device_under(keeper: Tree) -> Result<CountingDisk, Trouble> {
     if !keeper.is_unpinned() {
         return Err(Trouble::Wrong("a pin is out"));
     }
@@ -79,7 +79,7 @@ pub fn device_under(keeper: Tree) -> Result<CountingDisk<MemDisk>, Trouble> {
 }
 
 /// The site on a disk.
-pub fn site_on(alloc: Global, disk: CountingDisk<MemDisk>) -> Result<TreeSite, Trouble> {
+pub fn site_on(alloc: Global, disk: CountingDisk) -> Result<TreeSite, Trouble> {
     let keeper = match TreeKeeper::open(alloc, disk) {
         Ok(keeper) => keeper,
         Err((fault, _)) => return Err(Trouble::Keeper(fault)),
