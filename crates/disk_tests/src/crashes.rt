@@ -5,6 +5,7 @@ use crate::disks::unsynced;
 use crate::keepers::pairs_of;
 use crate::made::EVENING;
 use crate::scripts::Dice;
+use crate::tested::{disk_under, fused};
 use crate::trouble::Trouble;
 use cow_tree::TreeKeeper;
 use group_hub::OutcomeList;
@@ -14,7 +15,7 @@ use host_types::{Admin, Bytes, Host, SiteKeeper, Stamp, Title};
 use image_commands::compact_image;
 use mem_site::MemSite;
 use page_store::{Keeper, PinKeeper};
-use sector_device::{Device, FuseDisk, MemDisk, SECTOR_SIZE};
+use sector_device::{Device, MemDisk, SECTOR_SIZE};
 use site_store::DiskSite;
 use std::alloc::Global;
 use word_index::SearchKeeper;
@@ -155,14 +156,14 @@ fn stopped(
     events: &[Event],
     calls: u64,
 ) -> Result<Option<(usize, MemDisk)>, Trouble> {
-    let fuse = FuseDisk::new(disk_of(alloc, image)?, calls);
-    let Ok((outcomes, fuse)) = run_on(alloc, false, fuse, 1, events) else {
+    let device = fused(disk_of(alloc, image)?, calls);
+    let Ok((outcomes, device)) = run_on(alloc, false, device, 1, events) else {
         return Ok(None);
     };
     let failed = outcomes.as_slice().iter().position(|outcome| {
         matches!(outcome, Outcome::Fault(HubFault::Failed | HubFault::Broken))
     });
-    Ok(Some((failed.unwrap_or(events.len()), fuse.into_inner())))
+    Ok(Some((failed.unwrap_or(events.len()), disk_under(device))))
 }
 
 /// What is kept after the first so many events without any crash.
@@ -272,9 +273,9 @@ pub fn compacts(
     calls: u64,
     used: &[Event],
 ) -> Result<bool, Trouble> {
-    let fuse = FuseDisk::new(disk_of(alloc, image)?, calls);
-    let (is_done, fuse) = compacted(alloc, fuse);
+    let device = fused(disk_of(alloc, image)?, calls);
+    let (is_done, device) = compacted(alloc, device);
     let before = kept_after(alloc, image, &[], 0)?;
-    leaves(alloc, &fuse.into_inner(), calls, used, &[&before])?;
+    leaves(alloc, &disk_under(device), calls, used, &[&before])?;
     Ok(is_done)
 }

@@ -1,12 +1,13 @@
 // Several changes in one step, on a disk that is stopped at any of its calls.
 use crate::crashes::{disk_of, kept_after, kept_and_used, sets_of};
 use crate::disks::unsynced;
+use crate::tested::{TestedDisk, disk_under, fused, plain};
 use crate::trouble::Trouble;
 use group_world::Event;
 use host_on_disk::open_site;
 use host_types::{Change, ChangesFault, SiteKeeper, Stamp};
 use page_store::Keeper;
-use sector_device::{FuseDisk, MemDisk, SECTOR_SIZE};
+use sector_device::{MemDisk, SECTOR_SIZE};
 use std::alloc::Global;
 
 /// The administrator's changes among some events, each with its moment.
@@ -23,17 +24,17 @@ fn group_of(alloc: Global, events: &[Event]) -> Result<Vec<(Change, Stamp)>, Tro
 /// How the changes of a group went, by how many generations the image rose, and the disk; none where the image was not opened.
 fn made(
     alloc: Global,
-    fuse: FuseDisk<MemDisk>,
+    device: TestedDisk,
     group: Vec<(Change, Stamp)>,
 ) -> (Option<(Result<(), ChangesFault>, u64)>, MemDisk) {
-    let mut site = match open_site(alloc, fuse) {
+    let mut site = match open_site(alloc, device) {
         Ok(site) => site,
-        Err((_, fuse)) => return (None, fuse.into_inner()),
+        Err((_, device)) => return (None, disk_under(device)),
     };
     let ended = site.change_all(group);
     let keeper = site.into_keeper();
     let generation = keeper.figures().generation;
-    (Some((ended, generation)), keeper.into_device().into_inner())
+    (Some((ended, generation)), disk_under(keeper.into_device()))
 }
 
 /// The changes of a group in one step on a disk that crashes after so many calls: whether they are made. Each image that the crash leaves, by the sets of the writes since the last sync, is the site with none or
@@ -45,8 +46,8 @@ pub fn groups(
     calls: u64,
     used: &[Event],
 ) -> Result<bool, Trouble> {
-    let fuse = FuseDisk::new(disk_of(alloc, image)?, calls);
-    let (ended, disk) = made(alloc, fuse, group_of(alloc, events)?);
+    let device = fused(disk_of(alloc, image)?, calls);
+    let (ended, disk) = made(alloc, device, group_of(alloc, events)?);
     let is_done = matches!(ended, Some((Ok(()), _)));
     let before = kept_after(alloc, image, &[], 0)?;
     let after = kept_after(alloc, image, events, events.len())?;
@@ -68,8 +69,8 @@ pub fn together(
     image: &[[u8; SECTOR_SIZE]],
     events: &[Event],
 ) -> Result<(Result<(), ChangesFault>, u64), Trouble> {
-    let fuse = FuseDisk::new(disk_of(alloc, image)?, u64::MAX);
-    match made(alloc, fuse, group_of(alloc, events)?) {
+    let device = plain(disk_of(alloc, image)?);
+    match made(alloc, device, group_of(alloc, events)?) {
         (Some(ended), _) => Ok(ended),
         (None, _) => Err(Trouble::Wrong("the image opens")),
     }

@@ -1,10 +1,11 @@
 // Events on a disk of whose calls one fails, once.
 use crate::crashes::{compacted, disk_of, kept_after, leaves};
+use crate::tested::{disk_under, failing_once};
 use crate::trouble::Trouble;
 use group_hub::OutcomeList;
 use group_world::{Event, HubFault, Outcome};
 use host_on_disk::run_on;
-use sector_device::{MemDisk, OnceDisk, SECTOR_SIZE};
+use sector_device::{MemDisk, SECTOR_SIZE};
 use std::alloc::Global;
 
 /// The events, and the last of them again.
@@ -34,7 +35,7 @@ fn ran(
     events: &[Event],
     call: u64,
 ) -> Result<Told, Trouble> {
-    let device = OnceDisk::new(disk_of(alloc, image)?, call);
+    let device = failing_once(disk_of(alloc, image)?, call);
     let (first, is_second) = match run_on(alloc, false, device, 1, events) {
         Ok(first) => (Ok(first), false),
         Err((_, device)) => (run_on(alloc, false, device, 1, events), true),
@@ -43,7 +44,7 @@ fn ran(
         Ok((outcomes, device)) => Ok(Told {
             outcomes,
             is_second,
-            disk: device.into_inner(),
+            disk: disk_under(device),
         }),
         Err((fault, _)) => Err(Trouble::from(fault)),
     }
@@ -114,9 +115,9 @@ pub fn compacts_once(
     used: &[Event],
 ) -> Result<bool, Trouble> {
     let before = kept_after(alloc, image, &[], 0)?;
-    let once = OnceDisk::new(disk_of(alloc, image)?, call);
-    let (is_done, once) = compacted(alloc, once);
-    let disk = once.into_inner();
+    let device = failing_once(disk_of(alloc, image)?, call);
+    let (is_done, device) = compacted(alloc, device);
+    let disk = disk_under(device);
     leaves(alloc, &disk, call, used, &[&before])?;
     if !is_done {
         let (is_now, disk) = compacted(alloc, disk);

@@ -3,13 +3,14 @@ use crate::crashes::{device_under, disk_of, kept, kept_after, kept_and_used, set
 use crate::disks::unsynced;
 use crate::keepers::pairs_of;
 use crate::made::change;
+use crate::tested::{TestedDisk, disk_under, fused, plain};
 use crate::trouble::Trouble;
 use cow_tree::{TreeKeeper, format};
 use group_world::Event;
 use host_on_disk::{OpenFault, upgrade_on};
 use host_types::Bytes;
 use page_store::{Banner, Keeper, KeeperFault};
-use sector_device::{FuseDisk, MemDisk, SECTOR_SIZE};
+use sector_device::{MemDisk, SECTOR_SIZE};
 use site_records::read_record;
 use std::alloc::Global;
 
@@ -61,10 +62,10 @@ pub fn in_version_1(
 }
 
 /// Whether the image on a disk was upgraded, and the disk.
-fn upgraded(alloc: Global, fuse: FuseDisk<MemDisk>) -> (bool, MemDisk) {
-    match upgrade_on(alloc, fuse) {
-        Ok((_count, fuse)) => (true, fuse.into_inner()),
-        Err((_fault, fuse)) => (false, fuse.into_inner()),
+fn upgraded(alloc: Global, device: TestedDisk) -> (bool, MemDisk) {
+    match upgrade_on(alloc, device) {
+        Ok((_count, device)) => (true, disk_under(device)),
+        Err((_fault, device)) => (false, disk_under(device)),
     }
 }
 
@@ -79,11 +80,11 @@ pub fn upgrades(
     let before = kept_after(alloc, image, &[], 0)?;
     let pages = u32::try_from(image.len() / 8).or(Err(Trouble::Line))?;
     let first = in_version_1(alloc, image, pages)?;
-    let fuse = FuseDisk::new(disk_of(alloc, &first)?, calls);
-    let (is_done, disk) = upgraded(alloc, fuse);
+    let device = fused(disk_of(alloc, &first)?, calls);
+    let (is_done, disk) = upgraded(alloc, device);
     for picks in &sets_of(alloc, unsynced(&disk), calls)? {
         let left = MemDisk::of(alloc, disk.after_stop(alloc, picks)?)?;
-        let (is_new, left) = upgraded(alloc, FuseDisk::new(left, u64::MAX));
+        let (is_new, left) = upgraded(alloc, plain(left));
         if !is_new || kept_and_used(alloc, left, used)?.as_slice() != before.as_slice() {
             return Err(Trouble::Wrong("another site"));
         }
