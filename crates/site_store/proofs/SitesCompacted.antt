@@ -72,3 +72,7 @@ content_represents has_content old keeps before now honest adds = record {
   nothing_else = λ t c le left. ⊎_elim (λ m. inl m) (λ p. inr (old.pairs, old.banner, p, site_kept old keeps honest)) (adds.nothing_else t c le left);
   now = λ c left. (old.pairs, old.banner, adds.now c left, site_kept old keeps honest);
 }
+
+-- what holds of a refusal, once there is one
+pub where_refused : {T E : Type 0} (P : Type 0) (result : Result T E) (e : E) → result ≡ Err e → IfErr result (λ e. P) → P
+where_refused P result e is given = subst (λ r. IfErr r (λ e. P)) is given

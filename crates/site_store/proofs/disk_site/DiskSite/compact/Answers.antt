@@ -1,4 +1,6 @@
-use Rattle.site_store.proofs.SitesCompacted.{stays, same_site_kept, pins_as_before, content_represents}
+use Rattle.std.specs.Prelude.{◌≡◌, true}
+use Rattle.common_types.specs.CrashStates.{AddsNone}
+use Rattle.site_store.proofs.SitesCompacted.{stays, same_site_kept, pins_as_before, content_represents, where_refused}
 use Rattle.site_store.proofs.disk_site.DiskSite.compact.Goals as goal
 
 pub returns-in-Ok-clause-kept : goal.returns-in-Ok-clause-kept
@@ -37,6 +39,6 @@ returns-in-Err-clause-at_crash g c =
     let crash = c.compact.ensures.at_crash in
     record {
       at_crash = λ honest up. content_represents g.K.Keeper.has_content (g.K.Keeper.store_state c.args.self.now.keeper) c.args.self.now.kept (crash_states c.args.self.now.keeper) (crash_states c.compact.new.self) honest (crash.at_crash honest up);
-      no_new_crash_state = λ honest. search (c.in-Err.is, crash.no_new_crash_state honest);
+      no_new_crash_state = λ honest. where_refused ((g.K.Keeper.store_state c.compact.new.self).usable ≡ true → AddsNone (crash_states c.args.self.now.keeper) (crash_states c.compact.new.self)) c.compact.result c.in-Err.fault c.in-Err.is (crash.no_new_crash_state honest);
       no_new_crash_state_when_closed = crash.no_new_crash_state_when_closed;
     }

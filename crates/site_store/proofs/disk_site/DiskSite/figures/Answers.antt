@@ -8,7 +8,7 @@ returns-in-Ok-clause-figures g c =
     let h = g.K.Keeper.store_state c.args.self.now.keeper in
     record {
       items = λ honest. c.in-Ok.ensures.items.gives honest (site_of h c.args.self.now.kept) (site_kept h c.args.self.now.kept honest);
-      store = c.figures.ensures;
+      store = c.figures-store.ensures;
     }
 
 pub returns-in-Ok-clause-only : goal.returns-in-Ok-clause-only
