@@ -26,7 +26,7 @@ pub fn open_site<D: Device>(
 ) -> Result<DiskSite<TreeKeeper<D>>, (OpenFault, D)>
     ensures site { IsTrue (D.state device).honest → IfOk result (λ d. ImageRepresents (D.state device).disk.view (seen_site d)) }
     ensures alone { IsTrue (D.state device).honest → (s : Site) → ImageRepresents (D.state device).disk.view s → IfOk result (λ d. s ≡ seen_site d) }
-    ensures opened { IfOk result (λ d. OpensDisk D.state (crash_states_of D.moment D.possible_since) device (keeper_of d) (⟦<DiskSite<TreeKeeper<D>> as SiteKeeper>⟧.site_state d).pins) }
+    ensures opened { IfOk result (λ d. OpensDisk D.state (crash_states_of D.moment D.possible_since) device (keeper_of d) (⟦<DiskSite<TreeKeeper<D>> as SiteKeeper>⟧.site_state d)) }
     ensures work_on_fault { IfErr result (λ e. SyncsOnceAtMost (D.state device).made (D.state e.1).made) }
     ensures small { (D.state device).size < 128 → IsErrAnd result (λ e. (e.0 ≡ Keeper Small) × (e.1 ≡ device)) }
     ensures refused { IfErr result (λ e. HandsBack IsOpeningFault D.state (crash_states_of D.moment D.possible_since) device e.1 e.0) }
