@@ -51,7 +51,7 @@ fn write_tree(
     ensures sound { (old : OldPages) → IsValidRoot old (state_of tree.now).root (state_of tree.now).height → IsRootInside slot.now.root.pages (state_of tree.now).root → All (λ n. IsTreePage slot.now.root.pages n) numbers.now →
         IfErr result (λ e. e ≡ Memory) }
 {
-    let mut pages = Vec::new(alloc);
+    let mut pages = Vec::with_capacity(alloc, numbers.len())?;
     let Some(root) = tree.root() else {
         return Ok((0, pages));
     };

@@ -11,7 +11,7 @@ use Rattle.cow_tree.proofs.plans.write_tree.Goals.{then-page-lt2-via-then-page-l
 
 pub returns-in_default-clause-written : goal.returns-in_default-clause-written
 returns-in_default-clause-written c =
-    subst (λ (o : Option Tree). IsRootWritten c.args.slot.now.root.pages c.args.seal c.args.numbers.now c.args.tree.now.height o c.new-pages.result.items 0) c.in_default.ensures (c.new-pages.ensures.items, refl)
+    subst (λ (o : Option Tree). IsRootWritten c.args.slot.now.root.pages c.args.seal c.args.numbers.now c.args.tree.now.height o c.in_ok-pages.pages.items 0) c.in_default.ensures (c.in_ok-pages.ensures.items, refl)
 
 pub returns-then-not-fits_pages-clause-sound : goal.returns-then-not-fits_pages-clause-sound
 returns-then-not-fits_pages-clause-sound c = λ old valid inside all.
@@ -27,7 +27,7 @@ returns-then-page-lt2-clause-sound c = λ old valid inside all.
     let tree = tree_of c.in-Some.root.now in
     let count = c.args.slot.now.root.pages in
     let added : AddsTree c.args.numbers.now c.args.seal c.saturating_sub-level.result [] c.write_node.new.pages.items tree c.in_ok-page.page =
-    subst (λ (l : List NewPage). AddsTree c.args.numbers.now c.args.seal c.saturating_sub-level.result l c.write_node.new.pages.items tree c.in_ok-page.page) c.new-pages.ensures.items c.in_ok-page.ensures in
+    subst (λ (l : List NewPage). AddsTree c.args.numbers.now c.args.seal c.saturating_sub-level.result l c.write_node.new.pages.items tree c.in_ok-page.page) c.in_ok-pages.ensures.items c.in_ok-page.ensures in
     let here : IsTreePage count c.in_ok-page.page = root_inside count c.args.numbers.now c.args.seal c.saturating_sub-level.result c.write_node.new.pages.items tree c.in_ok-page.page (subst (λ (o : Option Tree). IsRootInside count o) (sym c.in-Some.ensures) inside) all added in
     elim c.then-page-lt2.branch [
       | then-page-lt2-via-then-page-lt2 w ↦ let less = w.if-page-lt2.true in absurd (omega (arith, less, here.0))
@@ -41,7 +41,7 @@ returns-clause-written c =
     let count = c.args.slot.now.root.pages in
     let below : c.saturating_sub-level.result ≡ height - 1 = let a = c.saturating_sub-level.ensures in let b = c.height.ensures in omega (arith, a, b) in
     let added : AddsTree c.args.numbers.now c.args.seal c.saturating_sub-level.result [] c.write_node.new.pages.items tree c.in_ok-page.page =
-    subst (λ (l : List NewPage). AddsTree c.args.numbers.now c.args.seal c.saturating_sub-level.result l c.write_node.new.pages.items tree c.in_ok-page.page) c.new-pages.ensures.items c.in_ok-page.ensures in
+    subst (λ (l : List NewPage). AddsTree c.args.numbers.now c.args.seal c.saturating_sub-level.result l c.write_node.new.pages.items tree c.in_ok-page.page) c.in_ok-pages.ensures.items c.in_ok-page.ensures in
     let fits : AllFit c.saturating_sub-level.result tree = c.fits_pages.ensures.0 c.if-not-fits_pages.false in
     let least = c.if-page-lt2.false in
     let most = c.if-page-slot.false in
