@@ -12,6 +12,7 @@ pub mod Seals
 pub mod SectorRows
 pub mod PairsByPage
 pub mod DecodedPages
+pub mod SlotSectors
 pub mod WrittenSlots
 pub mod Zeros
 pub mod Parsing

@@ -1,8 +1,8 @@
 // The bytes of flat pages and root slots.
-ghost use Rattle.std.specs.Prelude.{◌≡◌, ◌+◌, ◌-◌, ◌*◌, ◌<◌, ◌≤◌, ◌++◌, ◌∷◌, ◌^◌, ℕ, [], IsTrue, IfOk, OnOk, length, take, drop, map};
+ghost use Rattle.std.specs.Prelude.{◌≡◌, ◌+◌, ◌-◌, ◌*◌, ◌<◌, ◌≤◌, ◌++◌, ◌∷◌, ◌^◌, ℕ, [], IsTrue, IfOk, OnOk, OnErr, length, vec_capacity, take, drop, map};
 ghost use Rattle.std.specs.Int.{w16, w32, w64, to_be_bytes};
 ghost use Rattle.std.specs.List.{list_all};
-ghost use Rattle.page_store.specs.Sizes.{page_size, record_size};
+ghost use Rattle.page_store.specs.Sizes.{page_size, part_size};
 ghost use Rattle.page_store.specs.Batch.{is_pair};
 ghost use Rattle.page_store.specs.Roots.{FitsDevice};
 ghost use Rattle.page_store.specs.Switch.{IsSlotPage};
@@ -10,7 +10,7 @@ ghost use Rattle.page_store.specs.Flat.{flat_word, entry_size};
 ghost use Rattle.page_store.specs.Encoding.{padded, entry_bytes, entries_bytes, flat_head_bytes, flat_bytes, fitting, page_room, paged, by_pages, pages_needed, flat_pages, IsRootTyped, record_fields, record_bytes, root_sector, root_sectors, slot_bytes};
 
 use crate::reading::{FLAT_WORD, ROOT_WORD};
-use crate::sizes::{PART_SIZE, RECORD_SIZE};
+use crate::sizes::PART_SIZE;
 use crate::{NewPage, Pair, Root, Slot};
 use sector_device::PAGE_SIZE;
 use std::alloc::{AllocError, Global};
@@ -42,22 +42,19 @@ pub fn put_entries(out: &mut Vec<u8>, pairs: &[Pair]) -> Result<(), AllocError>
     Ok(())
 }
 
-/// The bytes, and zeros after them up to so many.
-fn padded<const N: usize>(bytes: &[u8]) -> [u8; N]
-    requires { length bytes.now ≤ N }
-    ensures { result ≡ padded N bytes.now }
+/// A page of these bytes, and zeros after them. It takes no memory where the bytes have room for a page.
+#[inline(always)]
+pub fn padded_page(bytes: Vec<u8>) -> Result<[u8; PAGE_SIZE], AllocError>
+    requires { length bytes.items ≤ page_size }
+    ensures page { IfOk result (λ page. page ≡ padded page_size bytes.items) }
+    ensures full { OnErr result (vec_capacity bytes < page_size) }
 {
-    let mut all = [0; N];
-    all[..bytes.len()].copy_from_slice(bytes);
-    all
-}
-
-/// A page of these bytes, and zeros after them. It takes no memory.
-pub fn padded_page(bytes: &[u8]) -> [u8; PAGE_SIZE]
-    requires { length bytes.now ≤ page_size }
-    ensures { result ≡ padded page_size bytes.now }
-{
-    padded(bytes)
+    let mut bytes = bytes;
+    bytes.resize(PAGE_SIZE, 0)?;
+    let Some(page) = bytes.as_array() else {
+        unreachable!()
+    };
+    Ok(*page)
 }
 
 /// The bytes of a flat page of a generation.
@@ -73,14 +70,14 @@ fn flat_page(
     requires room { length (entries_bytes pairs.now) ≤ page_room }
     ensures { IfOk result (λ bytes. bytes ≡ flat_bytes seal page pairs.now) }
 {
-    let mut bytes = Vec::new(alloc);
+    let mut bytes = Vec::with_capacity(alloc, PAGE_SIZE)?;
     bytes.extend_from_slice(&FLAT_WORD)?;
     bytes.extend_from_slice(&page.to_be_bytes())?;
     bytes.extend_from_slice(&seal.to_be_bytes())?;
     bytes.extend_from_slice(&0u16.to_be_bytes())?;
     bytes.extend_from_slice(&(pairs.len() as u16).to_be_bytes())?;
     put_entries(&mut bytes, pairs)?;
-    Ok(padded_page(&bytes))
+    Ok(padded_page(bytes)?)
 }
 
 /// How many pairs from the first on fit into one page.
@@ -166,46 +163,49 @@ fn record_fields(alloc: Global, root: &Root) -> Result<Vec<u8>, AllocError>
     Ok(bytes)
 }
 
-/// The record of a root slot.
-#[tactic(auto, unfolding(crate::specs::Encoding::record_bytes))]
-fn record_of(alloc: Global, root: &Root) -> Result<[u8; RECORD_SIZE], AllocError>
-    ensures bytes { IfOk result (λ bytes. bytes ≡ record_bytes root.now) }
-    ensures length { IfOk result (λ bytes. length bytes ≡ record_size) }
-    ensures typed { IfOk result (λ bytes. IsRootTyped root.now) }
-{
-    Ok(padded(&record_fields(alloc, root)?))
-}
-
-/// One root sector.
+/// One root sector: behind its part all is zeros.
 fn put_sector(out: &mut Vec<u8>, number: u64, seal: u64, part: &[u8]) -> Result<(), AllocError>
-    ensures { OnOk result (out.new.items ≡ out.old.items ++ root_sector number seal part.now) }
+    requires { length part.now ≤ part_size }
+    ensures { OnOk result (out.new.items ≡ out.old.items ++ root_sector number seal (padded part_size part.now)) }
 {
+    let zeros = [0; PART_SIZE];
     out.extend_from_slice(&ROOT_WORD)?;
     out.extend_from_slice(&number.to_be_bytes())?;
     out.extend_from_slice(&seal.to_be_bytes())?;
     out.extend_from_slice(part)?;
+    out.extend_from_slice(&zeros[part.len()..])?;
     Ok(())
+}
+
+/// The sectors of a slot's page: all fields of its record stand in the first.
+#[tactic(auto, unfolding(crate::specs::Encoding::slot_bytes))]
+fn slot_sectors(alloc: Global, slot: &Slot) -> Result<Vec<u8>, AllocError>
+    requires { slot.now.number < 2 }
+    ensures bytes { IfOk result (λ bytes. bytes.items ≡ slot_bytes slot.now) }
+    ensures length { IfOk result (λ bytes. length bytes.items ≡ page_size) }
+    ensures typed { IfOk result (λ bytes. IsRootTyped slot.now.root) }
+{
+    let fields = record_fields(alloc, &slot.root)?;
+    let first = 8 * slot.number as u64;
+    let mut out = Vec::with_capacity(alloc, PAGE_SIZE)?;
+    put_sector(&mut out, first, slot.seal, &fields)?;
+    for k in 1..8 {
+        put_sector(&mut out, first + k, slot.seal, &[])?;
+    }
+    Ok(out)
 }
 
 /// The bytes of a slot's page.
 #[tactic(auto, unfolding(crate::specs::Encoding::slot_bytes))]
+#[inline(always)]
 pub fn slot_page(alloc: Global, slot: &Slot) -> Result<[u8; PAGE_SIZE], AllocError>
     requires { slot.now.number < 2 }
     ensures bytes { IfOk result (λ bytes. bytes ≡ slot_bytes slot.now) }
     ensures valid { IfOk result (λ bytes. (sectors : ℕ) → slot.now.seal < 2 ^ 64 → FitsDevice sectors slot.now.root → 0 < slot.now.root.banner.port → IsSlotPage sectors slot.now bytes) }
 {
-    let record = record_of(alloc, &slot.root)?;
-    let first = 8 * slot.number as u64;
-    let mut out = Vec::new(alloc);
-    for k in 0..8 {
-        put_sector(
-            &mut out,
-            first + k as u64,
-            slot.seal,
-            &record[PART_SIZE * k..PART_SIZE * k + PART_SIZE],
-        )?;
-    }
-    let mut page = [0; PAGE_SIZE];
-    page.copy_from_slice(&out);
-    Ok(page)
+    let sectors = slot_sectors(alloc, slot)?;
+    let Some(page) = sectors.as_array() else {
+        unreachable!()
+    };
+    Ok(*page)
 }
