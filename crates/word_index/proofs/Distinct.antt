@@ -1,11 +1,11 @@
 -- Words that are gathered one by one are the first different ones.
 use Rattle.std.proofs.Common.{◌≡◌, ℕ, ◌<◌, ◌≤◌, Bool, true, false, List, [], ◌∷◌, ◌++◌, length, take, arith, ap, sym, subst, ◌∙◌, inl, inr, refl}
-use Rattle.std.specs.Prelude.{◌||◌, ◌&&◌, not, nat_lt, bytes_eq, filter, if◌then◌else◌}
+use Rattle.std.specs.Prelude.{◌||◌, ◌&&◌, not, nat_lt, bytes_eq, map, filter, if◌then◌else◌}
 use Rattle.std.proofs.lemmas.Bool.{cases_Bool, cases_lt, le-ltb, lt-ltb}
 use Rattle.std.proofs.lemmas.List.{append-nil, append_assoc, length-append, length-take-le, take_all, take-append-le}
 use Rattle.std.proofs.lemmas.List.Elements.{filter-append}
 use Rattle.std.proofs.lemmas.Slice.Eq.{bytes_eq-Decides}
-use Rattle.host_types.specs.Words.{is_among, distinct, first_words}
+use Rattle.host_types.specs.Words.{is_among, distinct, first_words, word_of, words_in, is_some_run}
 use Rattle.word_index.specs.Gathered.{added, gathered}
 
 -- the words that differ from one
@@ -100,6 +100,22 @@ all_more : (words more : List (List ℕ)) → gathered (take 200 (distinct words
 all_more words [] = ap (λ l. take 200 (distinct l)) (sym (append-nil words))
 all_more words (w ∷ more) =
     ap (λ l. gathered l more) (one_more words w) ∙ all_more (words ++ w ∷ []) more ∙ ap (λ l. take 200 (distinct l)) (append_assoc words (w ∷ []) more)
+
+-- ---- words that are gathered run by run
+
+pub gathered_on : (words xs ys : List (List ℕ)) → gathered (gathered words xs) ys ≡ gathered words (xs ++ ys)
+gathered_on words [] ys = refl
+gathered_on words (x ∷ xs) ys = gathered_on (added words x) xs ys
+
+-- One run more is gathered.
+pub gathered_run : (words more all : List (List ℕ)) (run rest left : List ℕ) → more ≡ gathered words (map word_of (filter is_some_run (run ∷ []))) → map word_of (filter is_some_run (run ∷ [])) ++ words_in rest ≡ words_in left → gathered words (words_in left) ≡ all →
+    gathered more (words_in rest) ≡ all
+gathered_run words more all run rest left ended cut so_far =
+    ap (λ l. gathered l (words_in rest)) ended ∙ gathered_on words (map word_of (filter is_some_run (run ∷ []))) (words_in rest) ∙ ap (gathered words) cut ∙ so_far
+
+pub none_to_gather : (words all : List (List ℕ)) (left : List ℕ) → length left ≡ 0 → gathered words (words_in left) ≡ all → words ≡ all
+none_to_gather words all [] none so_far = so_far
+none_to_gather words all (b ∷ left) none so_far = absurd (cc none)
 
 -- three lists of words, one after another
 pub gathered_thrice : (a b c : List (List ℕ)) → gathered (gathered (gathered [] a) b) c ≡ first_words (a ++ b ++ c)

@@ -20,7 +20,7 @@ fn without(alloc: Global, words: &LineList, others: &LineList) -> Result<LineLis
 {
     let mut left = LineList::new(alloc);
     for word in words.as_slice() {
-        if !is_among(others, word) {
+        if !is_among(others, word.as_slice()) {
             left.push(word.clone()?)?;
         }
     }

@@ -22,7 +22,7 @@ fn holds(there: &LineList, asked: &LineList) -> bool
     ensures { result ≡ spec.holds there.now asked.now }
 {
     for word in asked.as_slice() {
-        if !is_among(there, word) {
+        if !is_among(there, word.as_slice()) {
             return false;
         }
     }

@@ -1,23 +1,42 @@
 // The words of an item.
-ghost use Rattle.std.specs.Prelude.{◌≡◌, ◌<◌, ◌++◌, ◌==◌, ℕ, List, OnOk, OnErr, IfOk, IsOk, [], length, false};
+ghost use Rattle.std.specs.Prelude.{◌≡◌, ◌<◌, ◌++◌, ◌∷◌, ◌==◌, ℕ, List, OnOk, OnErr, IfOk, IsOk, [], length, map, filter, bytes_eq, false};
 ghost use Rattle.word_index.specs.Gathered.{added, gathered};
 ghost use Rattle.host_types.specs.Words as spec;
 ghost use Rattle.host_types.specs.declared.card.CardBody.TheVariants as cards;
 ghost use Rattle.host_types.specs.declared.item.Body.TheVariants as bodies;
 
-use crate::word::words_in;
+use crate::word::{LONGEST_WORD, first_run, put_word};
+use common_types::are_same;
 use host_types::{Body, Bytes, Card, CardBody, Item, Kind, LineList};
 use std::alloc::{AllocError, Global};
 
 /// How many different words of an item are found.
 const MOST_WORDS: usize = 200;
 
+/// Whether two words are the same. Most that differ do so in their length or their last letter.
+#[tactic(auto, using(crate::proofs::SameWords::other_length, crate::proofs::SameWords::both_empty, crate::proofs::SameWords::differs_there))]
+fn is_same(one: &[u8], other: &[u8]) -> bool
+    ensures { result ≡ bytes_eq one.now other.now }
+{
+    if one.len() != other.len() {
+        return false;
+    }
+    if one.is_empty() {
+        return true;
+    }
+    let last = one.len() - 1;
+    if one[last] != other[last] {
+        return false;
+    }
+    are_same(one, other)
+}
+
 /// Whether the word is one of these.
-pub fn is_among(words: &LineList, word: &Bytes) -> bool
+pub fn is_among(words: &LineList, word: &[u8]) -> bool
     ensures { result ≡ spec.is_among words.now word.now }
 {
     for other in words.as_slice() {
-        if word == other {
+        if is_same(word, other.as_slice()) {
             return true;
         }
     }
@@ -26,23 +45,38 @@ pub fn is_among(words: &LineList, word: &Bytes) -> bool
 
 /// Adds a word that is new, while there is room.
 #[tactic(auto, unfolding(crate::specs::Gathered::added))]
-fn add(words: &mut LineList, word: &Bytes) -> Result<(), AllocError>
+fn add(alloc: Global, words: &mut LineList, word: &[u8]) -> Result<(), AllocError>
     ensures added { OnOk result (words.new ≡ added words.old word.now) }
     ensures memory { OnErr result ((length words.old < 200) × (spec.is_among words.old word.now ≡ false)) }
 {
     if words.as_slice().len() < MOST_WORDS && !is_among(words, word) {
-        words.push(word.clone()?)?;
+        words.push(Bytes::from_slice(alloc, word)?)?;
     }
     Ok(())
 }
 
+/// Adds a run as a word, if it has bytes.
+fn add_run(alloc: Global, words: &mut LineList, run: &[u8]) -> Result<(), AllocError>
+    ensures { OnOk result (words.new ≡ gathered words.old (map spec.word_of (filter spec.is_some_run (run.now ∷ [])))) }
+{
+    if run.is_empty() {
+        return Ok(());
+    }
+    let mut buffer = [0; LONGEST_WORD];
+    let length = put_word(run, &mut buffer);
+    add(alloc, words, &buffer[..length])
+}
+
 /// Adds the words of some bytes, each that is new, while there is room.
+#[tactic(auto, using(crate::proofs::Distinct::gathered_run, crate::proofs::Distinct::none_to_gather))]
 fn gather(alloc: Global, words: &mut LineList, bytes: &[u8]) -> Result<(), AllocError>
     ensures { OnOk result (words.new ≡ gathered words.old (spec.words_in bytes.now)) }
 {
-    let more = words_in(alloc, bytes)?;
-    for word in more.as_slice() {
-        add(words, word)?;
+    let mut left = bytes;
+    while !left.is_empty() {
+        let (run, rest) = first_run(left);
+        add_run(alloc, words, run)?;
+        left = rest;
     }
     Ok(())
 }

@@ -1,8 +1,10 @@
-use Rattle.std.proofs.Common.{◌≡◌, ◌++◌, drop, false}
-use Rattle.std.specs.List.{list_any}
-use Rattle.host_types.specs.Words.{is_gap, words_in}
+use Rattle.std.proofs.Common.{◌≡◌, ◌++◌, length}
+use Rattle.host_types.specs.Words.{words_in}
 use Rattle.word_index.proofs.word.words_in.Given as goal
 
--- what was cut off, and the words of what is left, are those of the bytes; the run that has begun holds no gap
-abbrev pub invariant-loop-byte : goal.invariant-loop-byte
-invariant-loop-byte l = (l.words ++ words_in (l.run.items ++ drop l.byte-index l.bytes) ≡ words_in l.bytes) × (list_any is_gap l.run.items ≡ false)
+-- what was cut off, and the words of what is left, are those of the bytes
+abbrev pub invariant-loop-left : goal.invariant-loop-left
+invariant-loop-left l = l.words ++ words_in l.left ≡ words_in l.bytes
+
+abbrev pub decreases-loop-left : goal.decreases-loop-left
+decreases-loop-left l = length l.left
