@@ -23,6 +23,7 @@ pub mod WrittenChildren
 pub mod ListsOfSteps
 pub mod NodesRead
 pub mod BoundedPages
+pub mod LeafWalks
 pub mod OwnedCounts
 pub mod PathsDown
 pub mod EditsStand

@@ -9,6 +9,7 @@ pub mod Image
 pub mod Supply
 pub mod PageBytes
 pub mod PageViews
+pub mod LeafForm
 pub mod Supplied
 pub mod Steps
 pub mod Needs

@@ -5,6 +5,7 @@ mod deleting;
 mod encoding;
 mod fault;
 mod laws;
+mod leaf_form;
 mod node;
 mod owned_tree;
 mod packed_leaf;

@@ -1,5 +1,5 @@
 // Entries of a page, lent from its bytes.
-ghost use Rattle.std.specs.Prelude.{◌≡◌, ◌∷◌, ◌<◌, true, false, [], Some, None, IfOk, IfErr, MatchOption, option_map, option_copied, map, drop};
+ghost use Rattle.std.specs.Prelude.{◌≡◌, ◌∷◌, ◌<◌, true, false, [], Some, None, IfOk, IfErr, IfSome, MatchOption, option_map, option_copied, length, map, drop};
 ghost use Rattle.page_store.specs.Keys.{rises, is_between};
 ghost use Rattle.page_store.specs.Pages.{pair_at, child_at, entries_at, key_of, child_key, fits_place, starts_empty, leaf_of, branch_of, is_inside};
 ghost use Rattle.page_store.specs.Batch.{value_at, pair_after};
@@ -11,6 +11,7 @@ ghost use Rattle.tree_nodes.specs.Supply.{others_named};
 ghost use Rattle.tree_nodes.specs.PageViews.{bounds_of, pairs_in, children_in, entries_by_head, least_entry, is_head_of, has_head, after_entries, are_children, page_on_path};
 ghost use Rattle.tree_nodes.specs.declared.fault.NodeFault.TheVariants.{Damaged};
 
+use crate::leaf_form::after_between;
 use crate::packed_leaf::entries_in;
 use crate::splitting::ENTRY_ROOM;
 use crate::{Node, NodeFault};
@@ -232,27 +233,21 @@ impl<'a> Leaf<'a> {
         bytes: &'a [u8; PAGE_SIZE],
     ) -> Result<Leaf<'a>, NodeFault>
         ensures pairs { IfOk result (λ leaf. leaf_of (place_in (bounds_of bounds) 0 page) low.now (option_copied high.entry) bytes.now ≡ Some (pairs_in leaf.count leaf.entries.now)) }
+        ensures count { IfOk result (λ leaf. leaf.count ≡ length (pairs_in leaf.count leaf.entries.now)) }
         ensures fault { IfErr result (λ e. (e ≡ Damaged page) × (leaf_of (place_in (bounds_of bounds) 0 page) low.now (option_copied high.entry) bytes.now ≡ None)) }
     {
-        let leaf = Leaf::new(bounds, page, bytes)?;
-        if !leaf.lies_between(low, high) {
-            return Err(NodeFault::Damaged { page });
+        match leaf_between(bounds, page, low, high, bytes) {
+            Some(leaf) => Ok(leaf),
+            None => Err(NodeFault::Damaged { page }),
         }
-        Ok(leaf)
     }
 
-    /// Whether all its keys lie between two.
-    fn lies_between(&self, low: &[u8], high: Option<&[u8]>) -> bool
-        ensures { result ≡ list_all (is_between low.now (option_copied high.entry)) (map key_of (pairs_in self.now.count self.now.entries.now)) }
+    /// How many pairs it has, where as many as it counts have the form.
+    pub fn count(&self) -> u16
+        ensures { result ≡ self.now.count }
     {
-        let mut left = *self;
-        while let Some((key, _, others)) = left.first() {
-            if !is_between(low, high, key) {
-                return false;
-            }
-            left = others;
-        }
-        true
+        let Leaf { count, .. } = *self;
+        count
     }
 }
 
@@ -445,6 +440,31 @@ impl<'a> Branch<'a> {
         }
         Ok(children)
     }
+}
+
+/// The leaf between two keys that the bytes of a page have the form of.
+fn leaf_between<'a>(
+    bounds: ImageBounds,
+    page: u32,
+    low: &[u8],
+    high: Option<&[u8]>,
+    bytes: &'a [u8; PAGE_SIZE],
+) -> Option<Leaf<'a>>
+    ensures pairs { MatchOption result (leaf_of (place_in (bounds_of bounds) 0 page) low.now (option_copied high.entry) bytes.now ≡ None) (λ leaf. leaf_of (place_in (bounds_of bounds) 0 page) low.now (option_copied high.entry) bytes.now ≡ Some (pairs_in leaf.count leaf.entries.now)) }
+    ensures count { IfSome result (λ leaf. leaf.count ≡ length (pairs_in leaf.count leaf.entries.now)) }
+{
+    let (head, entries) = head_at(&PAGE_WORD, bytes)?;
+    let rest = after_between(head.count, low, high, entries)?;
+    if !fits_place(bounds, 0, page, head) {
+        return None;
+    }
+    if !are_zero(rest) {
+        return None;
+    }
+    Some(Leaf {
+        count: head.count,
+        entries,
+    })
 }
 
 /// The branch that the bytes of a page have the form of.
