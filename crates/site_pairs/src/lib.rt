@@ -10,6 +10,6 @@ mod piece;
 
 pub use edits::batch_of;
 pub use first_site::first_pairs;
-pub use item_pairs::put_item;
+pub use item_pairs::put_data;
 pub use laws::{changed_words_are_written, changes_have_keys, worked_examples};
 pub use piece::Piece;
