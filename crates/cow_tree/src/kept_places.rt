@@ -9,6 +9,9 @@ use std::alloc::Global;
 /// Of how many pages the places are kept, at most.
 const KEPT_PAGES: usize = 64;
 
+/// For how many levels it is kept how far the search came.
+const LEVELS: usize = 16;
+
 /// Where the entries of a page of a level begin; of none where the count is 0.
 #[derive(Clone, Copy)]
 pub(crate) struct PagePlaces {
@@ -27,9 +30,11 @@ const NO_PLACES: PagePlaces = PagePlaces {
 };
 
 /// Where the entries of some pages begin. Which of its places a page has here its number tells. They lie on the heap, once there is something to keep.
+/// Beside them stands how far the last search came on each level, since keys are mostly looked up in their order.
 #[derive(Drop)]
 pub(crate) struct KeptPlaces {
     pages: Vec<PagePlaces>,
+    near: [usize; LEVELS],
 }
 
 impl KeptPlaces {
@@ -39,7 +44,20 @@ impl KeptPlaces {
     {
         KeptPlaces {
             pages: Vec::new(alloc),
+            near: [0; LEVELS],
         }
+    }
+
+    /// How many entries of a page of a level came before the key that was looked for last.
+    pub(crate) fn near(&self, level: u16) -> usize {
+        self.near[level as usize % LEVELS]
+    }
+
+    /// Keeps how many they are.
+    pub(crate) fn set_near(&mut self, level: u16, count: usize)
+        ensures { self.new.pages ≡ self.old.pages }
+    {
+        self.near[level as usize % LEVELS] = count;
     }
 
     /// Keeps nothing any more.

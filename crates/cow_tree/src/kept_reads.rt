@@ -69,6 +69,7 @@ fn around_kept(
     page: u32,
     bytes: &[u8; PAGE_SIZE],
     places: &PagePlaces,
+    near: &mut usize,
     key: &[u8],
 ) -> Result<(u32, Option<u32>), PageFault>
     requires { 0 < level }
@@ -79,7 +80,7 @@ fn around_kept(
     ensures fault { IfErr result (λ e. e ≡ Damaged page) }
 {
     branch_by_head(bounds, level, page, bytes)?;
-    match pages_by_places(bytes, places, key) {
+    match pages_by_places(bytes, places, near, key) {
         Some(around) if are_inside(bounds.pages, around) => Ok(around),
         _ => Err(PageFault::Damaged { page }),
     }
@@ -102,8 +103,11 @@ fn around_lent(
     ensures head { IfOk result (λ around. has_head (place_in (bounds_of bounds) level page) bytes.now ≡ true) }
     ensures fault { IfErr result (λ e. e ≡ Damaged page) }
 {
+    let mut near = places.near(level);
     if let Some(kept) = places.of(level, page) {
-        return around_kept(bounds, level, page, bytes, kept, key);
+        let around = around_kept(bounds, level, page, bytes, kept, &mut near, key);
+        places.set_near(level, near);
+        return around;
     }
     keep_branch(places, bounds, level, page, bytes);
     around_in(bounds, level, page, bytes, key)
@@ -149,6 +153,7 @@ fn copy_kept_value(
     page: u32,
     bytes: &[u8; PAGE_SIZE],
     places: &PagePlaces,
+    near: &mut usize,
     key: &[u8],
     buffer: &mut [u8; LONGEST_VALUE],
 ) -> Result<Option<usize>, PageFault>
@@ -160,7 +165,7 @@ fn copy_kept_value(
     ensures fault { IfErr result (λ e. e ≡ Damaged page) }
 {
     leaf_by_head(bounds, page, bytes)?;
-    let Some(value) = value_by_places(bytes, places, key) else {
+    let Some(value) = value_by_places(bytes, places, near, key) else {
         return Ok(None);
     };
     put_in_front(value, buffer);
@@ -184,8 +189,11 @@ fn copy_lent_value(
     ensures head { IfOk result (λ found. has_head (place_in (bounds_of bounds) 0 page) bytes.now ≡ true) }
     ensures fault { IfErr result (λ e. e ≡ Damaged page) }
 {
+    let mut near = places.near(0);
     if let Some(kept) = places.of(0, page) {
-        return copy_kept_value(bounds, page, bytes, kept, key, buffer);
+        let found = copy_kept_value(bounds, page, bytes, kept, &mut near, key, buffer);
+        places.set_near(0, near);
+        return found;
     }
     keep_leaf(places, bounds, page, bytes);
     copy_value(bounds, page, bytes, key, buffer)

@@ -114,14 +114,38 @@ fn precedes(key: &[u8], other: &[u8]) -> bool
     key.cmp(other) == Ordering::Less
 }
 
-/// How many entries of a page come before the first whose key is above a key, by halves.
-fn count_upto(level: u16, bytes: &[u8; PAGE_SIZE], places: &PagePlaces, key: &[u8]) -> Option<usize>
+/// Which of the entries from one on up to another is tried next: those around the likely one, and then the one in the middle.
+fn tried_next(low: usize, high: usize, near: usize) -> usize
+    requires { low < high }
+    ensures from { low ≤ result }
+    ensures below { result < high }
+{
+    if low <= near && near < high {
+        return near;
+    }
+    if high == near {
+        return high - 1;
+    }
+    if low > 0 && low - 1 == near {
+        return low;
+    }
+    low + (high - low) / 2
+}
+
+/// How many entries of a page come before the first whose key is above a key, by halves once those around the likely one are tried.
+fn count_upto(
+    level: u16,
+    bytes: &[u8; PAGE_SIZE],
+    places: &PagePlaces,
+    near: usize,
+    key: &[u8],
+) -> Option<usize>
     ensures { (keys : List (List ℕ)) → AreFoundAt (key_from level bytes.now) keys places.now.count places.now.at → IsTrue (rises keys) → result ≡ Some (count_upto key.now keys) }
 {
     let mut low = 0;
     let mut high = places.count as usize;
     while low < high {
-        let middle = low + (high - low) / 2;
+        let middle = tried_next(low, high, near);
         let here = key_from(level, bytes, *places.at.get(middle)?)?;
         if precedes(key, here) {
             high = middle;
@@ -167,12 +191,14 @@ fn pair_by_number<'a>(
 pub(crate) fn value_by_places<'a>(
     bytes: &'a [u8; PAGE_SIZE],
     places: &PagePlaces,
+    near: &mut usize,
     key: &[u8],
 ) -> Option<&'a [u8]>
     ensures value { (pairs : List Pair) → AreFoundAt (entry_from pair_at bytes.now) pairs places.now.count places.now.at → IsTrue (rises (map key_of pairs)) → option_map (λ v. v.now) result ≡ value_at pairs key.now }
     ensures size { IfSome result (λ v. length v.now ≤ longest_value) }
 {
-    let count = count_upto(0, bytes, places, key)?;
+    let count = count_upto(0, bytes, places, *near, key)?;
+    *near = count;
     if count < 1 {
         return None;
     }
@@ -205,11 +231,13 @@ fn page_by_number(bytes: &[u8; PAGE_SIZE], places: &PagePlaces, number: usize) -
 pub(crate) fn pages_by_places(
     bytes: &[u8; PAGE_SIZE],
     places: &PagePlaces,
+    near: &mut usize,
     key: &[u8],
 ) -> Option<(u32, Option<u32>)>
     ensures { (children : List Child) → AreFoundAt (entry_from child_at bytes.now) children places.now.count places.now.at → IsTrue (rises (map child_key children)) → IsTrue (starts_empty (map child_key children)) → result ≡ pages_around key.now children }
 {
-    let count = count_upto(1, bytes, places, key)?;
+    let count = count_upto(1, bytes, places, *near, key)?;
+    *near = count;
     if count < 1 {
         return None;
     }

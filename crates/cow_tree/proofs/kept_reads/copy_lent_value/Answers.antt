@@ -6,7 +6,7 @@ use Rattle.cow_tree.proofs.PagesTold.{value_answered}
 use Rattle.cow_tree.proofs.kept_reads.copy_lent_value.Goals as goal
 
 pub returns-in-Some-clause-value : goal.returns-in-Some-clause-value
-returns-in-Some-clause-value c = λ view found is are walked. c.copy_kept_value.ensures.value view found is (subst (λ (l : List ℕ). ArePlaces 0 l c.in-Some.kept.now.count c.in-Some.kept.now.at) is (c.in-Some.ensures view are)) walked
+returns-in-Some-clause-value c = λ view found is are walked. c.copy_kept_value-found.ensures.value view found is (subst (λ (l : List ℕ). ArePlaces 0 l c.in-Some.kept.now.count c.in-Some.kept.now.at) is (c.in-Some.ensures view are)) walked
 
 pub returns-clause-value : goal.returns-clause-value
 returns-clause-value c = λ view found is are walked.

@@ -13,21 +13,23 @@ loop-low-init c = record {
 
 pub returns-in_err-here : goal.returns-in_err-here
 returns-in_err-here c = λ keys are rising.
-    let middle = c.loop-low.low + (c.loop-low.high - c.loop-low.low) / 2 in
+    let middle = c.tried_next-middle.result in
+    let from = c.tried_next-middle.ensures.from in
+    let below = c.tried_next-middle.ensures.below in
     let count = c.loop-low.invariant.count in
-    let test = c.loop-low-test.true in
-    let inside : middle < c.args.places.now.count = omega (arith, count, test) in
+    let inside : middle < c.args.places.now.count = omega (arith, count, below) in
     let there = key_got (key_from c.args.level c.args.bytes.now) keys c.args.places.now.count c.args.places.now.at middle c.in_ok-get.field-0.now inside (c.in_ok-get.ensures.lookup.3.1 0) are in
     absurd (some_got keys middle (let many = are.many in omega (arith, inside, many)) (sym there ∙ sym c.in_err-here.ensures))
 
 pub loop-low-preserved-then-precedes : goal.loop-low-preserved-then-precedes
 loop-low-preserved-then-precedes c =
-    let middle = c.loop-low.low + (c.loop-low.high - c.loop-low.low) / 2 in
+    let middle = c.tried_next-middle.result in
+    let from = c.tried_next-middle.ensures.from in
+    let below = c.tried_next-middle.ensures.below in
     let count = c.loop-low.invariant.count in
-    let test = c.loop-low-test.true in
-    let inside : middle < c.args.places.now.count = omega (arith, count, test) in
+    let inside : middle < c.args.places.now.count = omega (arith, count, below) in
     record {
-      order = omega (arith, test);
+      order = omega (arith, from, below);
       count = omega (arith, inside);
       between = λ keys are rising.
           let there = key_got (key_from c.args.level c.args.bytes.now) keys c.args.places.now.count c.args.places.now.at middle c.in_ok-get.field-0.now inside (c.in_ok-get.ensures.lookup.3.1 0) are in
@@ -36,12 +38,13 @@ loop-low-preserved-then-precedes c =
 
 pub loop-low-preserved : goal.loop-low-preserved
 loop-low-preserved c =
-    let middle = c.loop-low.low + (c.loop-low.high - c.loop-low.low) / 2 in
+    let middle = c.tried_next-middle.result in
+    let from = c.tried_next-middle.ensures.from in
+    let below = c.tried_next-middle.ensures.below in
     let count = c.loop-low.invariant.count in
-    let test = c.loop-low-test.true in
-    let inside : middle < c.args.places.now.count = omega (arith, count, test) in
+    let inside : middle < c.args.places.now.count = omega (arith, count, below) in
     record {
-      order = omega (arith, test);
+      order = omega (arith, from, below);
       count = omega (arith, count);
       between = λ keys are rising.
           let there = key_got (key_from c.args.level c.args.bytes.now) keys c.args.places.now.count c.args.places.now.at middle c.in_ok-get.field-0.now inside (c.in_ok-get.ensures.lookup.3.1 0) are in
