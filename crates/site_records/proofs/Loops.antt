@@ -1,10 +1,10 @@
 -- Reading fields of one sort in a loop.
-use Rattle.std.proofs.Common.{◌≡◌, ℕ, zero, suc, Bool, true, false, cond, eqb, List, [], ◌∷◌, ◌++◌, length, Option, Some, None, is_some, Result, Ok, Err, refl, sym, ap, ◌∙◌, append_assoc}
+use Rattle.std.proofs.Common.{◌≡◌, ℕ, zero, suc, Bool, true, false, cond, eqb, List, [], ◌∷◌, ◌++◌, length, Option, Some, None, is_some, Result, Ok, Err, refl, sym, ap, subst, ◌∙◌, append_assoc}
 use Rattle.std.proofs.lemmas.List.{append-nil}
 use Rattle.std.specs.Prelude.{IsTrue, IfErr}
 use Rattle.site_records.specs.declared.record.RecordFault.{RecordFault}
 use Rattle.site_records.specs.declared.record.RecordFault.TheVariants.{BadRecord, Memory}
-use Rattle.site_records.specs.Reading.{Gives, MemoryOnlyFor}
+use Rattle.site_records.specs.Reading.{Gives, ReadingFails, MemoryOnlyFor}
 use Rattle.site_records.specs.Field.{Read, ◌>>=◌, times, until_end, with_front, with_all}
 
 pub with_front-nil : {A R : Type 0} (r : Option (List A × R)) → with_front [] r ≡ r
@@ -64,6 +64,17 @@ module _ {A : Type 0} (read : Read A) where
   pub until_over : (front : List A) (m : ℕ) (rest : List ℕ) (all : Option (List A)) → m ≡ 0 → eqb (length rest) 0 ≡ false → with_all front (until_end read m rest) ≡ all → all ≡ None
   until_over front m rest all is more whole =
       sym whole ∙ ap (λ (k : ℕ). with_all front (until_end read k rest)) is ∙ ap (λ (b : Bool). with_all front (cond b last_step None)) more
+
+  -- what fails behind what was read fails in all
+  fails_behind : (front : List A) (r : Option (List A)) (e : RecordFault) → ReadingFails e r → ReadingFails e (with_all front r)
+  fails_behind front None Memory fails = absurd (cc fails)
+  fails_behind front None BadRecord fails = refl
+  fails_behind front (Some xs) Memory fails = refl
+  fails_behind front (Some xs) BadRecord fails = absurd (cc fails)
+
+  pub until_fails : (front : List A) (m n : ℕ) (x : A) (rest after : List ℕ) (all : Option (List A)) (e : RecordFault) → m ≡ suc n → eqb (length rest) 0 ≡ false → read rest ≡ Some (x, after) → with_all front (until_end read m rest) ≡ all → ReadingFails e (until_end read n after) → ReadingFails e all
+  until_fails front m n x rest after all e is more found whole fails =
+      subst (ReadingFails e) (until_more front m n x rest after all is more found whole) (fails_behind (front ++ x ∷ []) (until_end read n after) e fails)
 
   -- reading goes on, and whether it ends well is what it was
   pub goes_on : (m n : ℕ) (x : A) (rest after : List ℕ) (all : Bool) → m ≡ suc n → eqb (length rest) 0 ≡ false → read rest ≡ Some (x, after) → is_some (until_end read m rest) ≡ all → is_some (until_end read n after) ≡ all

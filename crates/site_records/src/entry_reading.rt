@@ -16,6 +16,9 @@ use std::alloc::Global;
 /// The most entries of a menu.
 const MOST_ENTRIES: usize = 100;
 
+/// The fewest bytes of an entry: its tag, and the length of what is empty.
+const SHORTEST_ENTRY: usize = 2;
+
 #[tactic(auto, unfolding(crate::specs::Field::both, crate::specs::Field::mapped))]
 fn remote_of(bytes: &[u8]) -> Result<(Entry, &[u8]), RecordFault>
     ensures { Reads (λ x. (x.0, x.1.now)) result (remote_entry bytes.now) }
@@ -70,8 +73,8 @@ fn entry_of(bytes: &[u8]) -> Result<(Entry, &[u8]), RecordFault>
 /// Adds the entry at the front of the bytes, and says whether there was memory for it, and what stands behind it. A local one, which most are, is
 /// made where it is added: to hand it on would copy each field that it might have.
 #[tactic(auto, unfolding(crate::specs::Reading::entry_at, crate::specs::Reading::entry_behind, crate::specs::Field::byte, crate::specs::Field::mapped))]
-fn add_entry<'a>(entries: &mut EntryList, bytes: &'a [u8]) -> Result<(bool, &'a [u8]), RecordFault>
-    ensures added { IfOk result (λ a. (entry : Entry) × (entry_at bytes.now ≡ Some (entry, a.1.now)) × (IsTrue a.0 → entries.new ≡ entries.old ++ entry ∷ [])) }
+fn add_entry<'a>(entries: &mut Vec<Entry>, bytes: &'a [u8]) -> Result<(bool, &'a [u8]), RecordFault>
+    ensures added { IfOk result (λ a. (entry : Entry) × (entry_at bytes.now ≡ Some (entry, a.1.now)) × (IsTrue a.0 → entries.new.items ≡ entries.old.items ++ entry ∷ [])) }
     ensures fault { IfErr result (λ e. (e ≡ BadRecord) × (entry_at bytes.now ≡ None)) }
 {
     if let [b'L', fields @ ..] = bytes {
@@ -107,11 +110,16 @@ fn lacking(most: usize, bytes: &[u8]) -> RecordFault
 fn entries_within(alloc: Global, most: usize, bytes: &[u8]) -> Result<EntryList, RecordFault>
     ensures { Gives (λ x. x) result (until_end entry_at most bytes.now) }
 {
-    let mut entries = EntryList::new(alloc);
+    let mut entries = Vec::new(alloc);
+    // They are large, and would be copied each time that there is more room to be made.
+    let room = most.min(bytes.len() / SHORTEST_ENTRY);
+    if entries.reserve(room).is_err() {
+        return Err(lacking(most, bytes));
+    }
     let mut rest = bytes;
     for count in 0..most {
         if rest.is_empty() {
-            return Ok(entries);
+            return Ok(EntryList::from(entries));
         }
         let (is_added, behind) = add_entry(&mut entries, rest)?;
         if !is_added {
@@ -120,7 +128,7 @@ fn entries_within(alloc: Global, most: usize, bytes: &[u8]) -> Result<EntryList,
         rest = behind;
     }
     if rest.is_empty() {
-        Ok(entries)
+        Ok(EntryList::from(entries))
     } else {
         Err(RecordFault::BadRecord)
     }
