@@ -8,7 +8,8 @@ use Rattle.host_types.specs.SiteState.{SiteState, HasRead, LacksTheSame, IsReadF
 use Rattle.host_types.specs.Counting.{IsReadCounted, CountsReads}
 use Rattle.host_types.specs.CrashStates.{CrashStates, AddsNone, no_new_crash_state, adds_none_again}
 use Rattle.host_types.specs.declared.change.Change.{Change}
-use Rattle.site_replies.specs.Reads.{SiteReadsOnly, ReadsSite}
+use Rattle.host_types.specs.SiteCalls.{ReadsOnly}
+use Rattle.site_replies.specs.Reads.{ReadsSite}
 use Rattle.host_types.specs.Site.{Site}
 use Rattle.std.specs.Prelude.{Result, Ok, Err, IfOk, IfErr}
 use Rattle.host_types.specs.declared.site_fault.SiteFault.{SiteFault}
@@ -67,14 +68,14 @@ fault_since wants a b c faults.Failed first second fault = sym first.usable ∙ 
 fault_since wants a b c faults.Memory first second fault = fault
 
 -- one call that only reads after another
-pub only_on : {K L : Type 0} (site_state : K → SiteState) (lacks : K → Changes → SiteFault → Type 0) (crash_states : K → CrashStates L) (a b c : K) → SiteReadsOnly site_state lacks crash_states a b → SiteReadsOnly site_state lacks crash_states b c → SiteReadsOnly site_state lacks crash_states a c
+pub only_on : {K L : Type 0} (site_state : K → SiteState) (lacks : K → Changes → SiteFault → Type 0) (crash_states : K → CrashStates L) (a b c : K) → ReadsOnly site_state lacks crash_states a b → ReadsOnly site_state lacks crash_states b c → ReadsOnly site_state lacks crash_states a c
 only_on site_state lacks crash_states a b c first second = record {
   kept = reads_on (site_state a) (site_state b) (site_state c) first.kept second.kept;
   lacking = lacking_on (lacks a) (lacks b) (lacks c) first.lacking second.lacking;
   no_new_crash_state = none_added_on (site_state a) (site_state b) (crash_states a) (crash_states b) (crash_states c) first.kept first.no_new_crash_state second.no_new_crash_state;
 }
 
-pub only_none : {K L : Type 0} (site_state : K → SiteState) (lacks : K → Changes → SiteFault → Type 0) (crash_states : K → CrashStates L) (a : K) → SiteReadsOnly site_state lacks crash_states a a
+pub only_none : {K L : Type 0} (site_state : K → SiteState) (lacks : K → Changes → SiteFault → Type 0) (crash_states : K → CrashStates L) (a : K) → ReadsOnly site_state lacks crash_states a a
 only_none site_state lacks crash_states a = record { kept = nothing_read (site_state a); lacking = same_lacking (lacks a); no_new_crash_state = λ honest. no_new_crash_state (crash_states a) }
 
 -- what a call that succeeds gives

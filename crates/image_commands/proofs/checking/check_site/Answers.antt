@@ -17,7 +17,7 @@ returns-clause-line g c =
           ∙ ap (λ (n : ℕ). figures_line (length s.items) n figures.store.free figures.store.generation) (store.keys honest ∙ ap length (site_kept h c.args.site.now.kept honest).all)
           ∙ ap (λ (n : ℕ). figures_line (length s.items) (length (layout s)) n figures.store.generation) store.free
           ∙ ap (λ (n : ℕ). figures_line (length s.items) (length (layout s)) h.free n) store.generation;
-      only = record { kept = c.in_ok-figures.ensures.only.kept; lacking = c.in_ok-figures.ensures.only.lacking; no_new_crash_state = c.in_ok-figures.ensures.only.no_new_crash_state };
+      only = c.in_ok-figures.ensures.only;
       fault = tt;
       counts = c.in_ok-figures.ensures.ended.reads;
     }

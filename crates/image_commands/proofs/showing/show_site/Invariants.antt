@@ -1,5 +1,5 @@
 use Rattle.std.specs.Prelude.{◌≡◌, IsTrue}
-use Rattle.site_replies.specs.Reads.{SiteReadsOnly}
+use Rattle.host_types.specs.SiteCalls.{ReadsOnly}
 use Rattle.image_commands.proofs.ListedItems.{IsListedTo}
 use Rattle.image_commands.proofs.DiskSites.{disk_state, disk_lacks, disk_crash_states}
 use Rattle.image_commands.proofs.showing.show_site.Given as goal
@@ -8,7 +8,7 @@ use Rattle.image_commands.proofs.showing.show_site.Given as goal
 abbrev pub invariant-loop : goal.invariant-loop
 invariant-loop g l =
     record {
-      only : SiteReadsOnly disk_state disk_lacks disk_crash_states l.fn.site l.site;
+      only : ReadsOnly disk_state disk_lacks disk_crash_states l.fn.site l.site;
       none : (disk_state l.site).failed_reads ≡ (disk_state l.fn.site).failed_reads;
       listed : IsTrue (disk_state l.fn.site).honest → IsListedTo l.form (disk_state l.fn.site).site l.text.items l.after;
     }

@@ -1,7 +1,7 @@
 use Rattle.std.proofs.Common.{◌≡◌, take}
 use Rattle.std.specs.Prelude.{filter_map, flat_map, IsTrue}
 use Rattle.host_types.specs.Visible.{visible}
-use Rattle.site_replies.specs.Reads.{SiteReadsOnly}
+use Rattle.host_types.specs.SiteCalls.{ReadsOnly}
 use Rattle.site_replies.specs.Reply.{locals}
 use Rattle.text_writer.specs.Menu.{entry_line}
 use Rattle.site_replies.proofs.menus.lines_at.Given as goal
@@ -11,7 +11,7 @@ abbrev pub invariant-loop-selector : goal.invariant-loop-selector
 invariant-loop-selector g l =
     let site_state = g.S.SiteKeeper.site_state in
     record {
-      only : SiteReadsOnly site_state g.S.SiteKeeper.lacks g.S.SiteKeeper.crash_states l.fn.site l.site;
+      only : ReadsOnly site_state g.S.SiteKeeper.lacks g.S.SiteKeeper.crash_states l.fn.site l.site;
       none_failed : (site_state l.site).failed_reads ≡ (site_state l.fn.site).failed_reads;
       lines : IsTrue (site_state l.fn.site).honest → l.lines.items ≡ flat_map (λ line. line) (filter_map (entry_line (visible (site_state l.fn.site).site l.now)) (locals (take l.selector-index l.selectors)));
     }
