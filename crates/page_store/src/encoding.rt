@@ -1,5 +1,5 @@
 // The bytes of flat pages and root slots.
-ghost use Rattle.std.specs.Prelude.{◌≡◌, ◌+◌, ◌-◌, ◌*◌, ◌<◌, ◌≤◌, ◌++◌, ◌∷◌, ◌^◌, ℕ, [], IsTrue, IfOk, OnOk, OnErr, length, vec_capacity, take, drop, map};
+ghost use Rattle.std.specs.Prelude.{◌≡◌, ◌+◌, ◌-◌, ◌*◌, ◌<◌, ◌≤◌, ◌++◌, ◌∷◌, ◌^◌, ℕ, [], IsTrue, IfOk, OnOk, length, take, drop, map};
 ghost use Rattle.std.specs.Int.{w16, w32, w64, to_be_bytes};
 ghost use Rattle.std.specs.List.{list_all};
 ghost use Rattle.page_store.specs.Sizes.{page_size, part_size};
@@ -42,19 +42,22 @@ pub fn put_entries(out: &mut Vec<u8>, pairs: &[Pair]) -> Result<(), AllocError>
     Ok(())
 }
 
-/// A page of these bytes, and zeros after them. It takes no memory where the bytes have room for a page.
-#[inline(always)]
-pub fn padded_page(bytes: Vec<u8>) -> Result<[u8; PAGE_SIZE], AllocError>
-    requires { length bytes.items ≤ page_size }
-    ensures page { IfOk result (λ page. page ≡ padded page_size bytes.items) }
-    ensures full { OnErr result (vec_capacity bytes < page_size) }
+/// The bytes, and zeros after them up to so many.
+fn padded<const N: usize>(bytes: &[u8]) -> [u8; N]
+    requires { length bytes.now ≤ N }
+    ensures { result ≡ padded N bytes.now }
 {
-    let mut bytes = bytes;
-    bytes.resize(PAGE_SIZE, 0)?;
-    let Some(page) = bytes.as_array() else {
-        unreachable!()
-    };
-    Ok(*page)
+    let mut all = [0; N];
+    all[..bytes.len()].copy_from_slice(bytes);
+    all
+}
+
+/// A page of these bytes, and zeros after them. It takes no memory.
+pub fn padded_page(bytes: &[u8]) -> [u8; PAGE_SIZE]
+    requires { length bytes.now ≤ page_size }
+    ensures { result ≡ padded page_size bytes.now }
+{
+    padded(bytes)
 }
 
 /// The bytes of a flat page of a generation.
@@ -70,14 +73,14 @@ fn flat_page(
     requires room { length (entries_bytes pairs.now) ≤ page_room }
     ensures { IfOk result (λ bytes. bytes ≡ flat_bytes seal page pairs.now) }
 {
-    let mut bytes = Vec::with_capacity(alloc, PAGE_SIZE)?;
+    let mut bytes = Vec::new(alloc);
     bytes.extend_from_slice(&FLAT_WORD)?;
     bytes.extend_from_slice(&page.to_be_bytes())?;
     bytes.extend_from_slice(&seal.to_be_bytes())?;
     bytes.extend_from_slice(&0u16.to_be_bytes())?;
     bytes.extend_from_slice(&(pairs.len() as u16).to_be_bytes())?;
     put_entries(&mut bytes, pairs)?;
-    Ok(padded_page(bytes)?)
+    Ok(padded_page(&bytes))
 }
 
 /// How many pairs from the first on fit into one page.

@@ -17,6 +17,7 @@ pub mod PagesOpen
 pub mod EntriesOneByOne
 pub mod EncodedPages
 pub mod PackedEntries
+pub mod PackedKeys
 pub mod EntriesFound
 pub mod PageForm
 pub mod WrittenChildren

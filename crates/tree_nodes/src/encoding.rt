@@ -15,8 +15,8 @@ use page_store::{LONGEST_KEY, LONGEST_VALUE, Pair, padded_page, put_entries};
 use sector_device::PAGE_SIZE;
 use std::alloc::{AllocError, Global};
 
-/// What stands before the entries of a page, with room for these.
-pub(crate) fn page_head(
+/// What stands before the entries of a page.
+fn page_head(
     alloc: Global,
     page: u32,
     generation: u64,
@@ -25,7 +25,7 @@ pub(crate) fn page_head(
 ) -> Result<Vec<u8>, AllocError>
     ensures { IfOk result (λ bytes. bytes.items ≡ head_bytes page generation level count) }
 {
-    let mut bytes = Vec::with_capacity(alloc, PAGE_SIZE)?;
+    let mut bytes = Vec::new(alloc);
     bytes.extend_from_slice(&PAGE_WORD)?;
     bytes.extend_from_slice(&page.to_be_bytes())?;
     bytes.extend_from_slice(&generation.to_be_bytes())?;
@@ -69,7 +69,6 @@ fn put_others(out: &mut Vec<u8>, others: &[(Bytes, Node)]) -> Result<(), AllocEr
 
 /// The bytes of a leaf of these pairs, as a page of a number and a generation.
 #[tactic(auto, unfolding(crate::specs::PageBytes::leaf_page))]
-#[inline(always)]
 pub fn encode_leaf(
     alloc: Global,
     page: u32,
@@ -82,12 +81,11 @@ pub fn encode_leaf(
 {
     let mut bytes = page_head(alloc, page, generation, 0, pairs.len() as u16)?;
     put_entries(&mut bytes, pairs)?;
-    padded_page(bytes)
+    Ok(padded_page(&bytes))
 }
 
 /// The bytes of a branch.
 #[tactic(auto, unfolding(crate::specs::PageBytes::branch_page))]
-#[inline(always)]
 fn branch_page(
     alloc: Global,
     page: u32,
@@ -102,7 +100,7 @@ fn branch_page(
     let mut bytes = page_head(alloc, page, generation, level, (others.len() + 1) as u16)?;
     put_child(&mut bytes, &[], page_number(first))?;
     put_others(&mut bytes, others)?;
-    padded_page(bytes)
+    Ok(padded_page(&bytes))
 }
 
 /// Whether all of these have the sizes of a pair.
@@ -129,7 +127,6 @@ pub fn is_writable(node: &Node) -> bool
 }
 
 /// The bytes of an owned node of a level, as a page of a number and a generation; a branch names the pages of its children.
-#[inline(always)]
 pub fn encode(
     alloc: Global,
     node: &Node,
@@ -143,7 +140,7 @@ pub fn encode(
     match node {
         Node::Page(_) => Ok([0; PAGE_SIZE]),
         Node::Leaf(pairs) => encode_leaf(alloc, page, generation, pairs),
-        Node::Packed(leaf) => leaf.to_page(alloc, page, generation),
+        Node::Packed(leaf) => Ok(leaf.to_page(page, generation)),
         Node::Branch(first, others) => {
             branch_page(alloc, page, generation, level, first, others)
         }

@@ -3,6 +3,8 @@ ghost use Rattle.std.specs.Prelude.{◌≡◌, ◌↔◌, ◌≤◌, ◌<◌, �
 ghost use Rattle.std.specs.Int.{w16, from_be_bytes};
 ghost use Rattle.std.specs.Map.{remove_entry};
 ghost use Rattle.std.specs.BTreeMap.{insert_entry, is_at};
+ghost use lib.Seq.{paste};
+ghost use Rattle.sector_device.specs.Sizes.{page_size};
 ghost use Rattle.common_types.specs.ByteOrder.{byte_cmp};
 ghost use Rattle.page_store.specs.Batch.{is_pair, value_at};
 ghost use Rattle.page_store.specs.Content.{place_in};
@@ -16,12 +18,11 @@ ghost use Rattle.tree_nodes.specs.PackedEntries.{IsPacked, bytes_below, bytes_th
 ghost use Rattle.tree_nodes.specs.Supply.{tree_in};
 ghost use Rattle.tree_nodes.specs.Needs.{IsNodeReadFault};
 
-use crate::encoding::page_head;
 use crate::page_views::{PAGE_WORD, after_pairs, fits_place};
 use crate::splitting::ENTRY_ROOM;
 use crate::{ImageBounds, Leaf, NodeFault};
 use common_types::compare_bytes;
-use page_store::{LONGEST_KEY, LONGEST_VALUE, Pair, are_zero, head_at, padded_page};
+use page_store::{LONGEST_KEY, LONGEST_VALUE, Pair, are_zero, head_at};
 use sector_device::PAGE_SIZE;
 use std::alloc::{AllocError, Global};
 use std::cmp::Ordering;
@@ -156,6 +157,17 @@ fn put_entry(out: &mut Vec<u8>, key: &[u8], value: &[u8]) -> Result<(), AllocErr
     out.extend_from_slice(value)
 }
 
+/// Writes a piece at a place of a page, and answers where it ends.
+fn write_at(page: &mut [u8; PAGE_SIZE], at: usize, piece: &[u8]) -> usize
+    requires { at + length piece.now ≤ page_size }
+    ensures page { page.new ≡ paste page.old at piece.now (length piece.now) }
+    ensures end { result ≡ at + length piece.now }
+{
+    let end = at + piece.len();
+    page[at..end].copy_from_slice(piece);
+    end
+}
+
 impl PackedLeaf {
     /// The leaf that the bytes of a page have the form of; `Damaged` exactly where they have not the form of that page.
     pub(crate) fn of_page(
@@ -205,7 +217,8 @@ impl PackedLeaf {
     pub(crate) fn has(&self, key: &[u8]) -> bool
         ensures { result ≡ is_some (value_at self.now key.now) }
     {
-        self.pairs().get(key).is_some()
+        let (_, size) = place_of(self.count, &self.bytes, key);
+        size != 0
     }
 
     /// Whether it fits a page. It takes no memory.
@@ -268,20 +281,18 @@ impl PackedLeaf {
         self.count -= 1;
     }
 
-    /// Its bytes as a page of a number and a generation.
-    #[inline(always)]
-    #[tactic(auto, unfolding(crate::specs::PageBytes::leaf_page))]
-    pub(crate) fn to_page(
-        &self,
-        alloc: Global,
-        page: u32,
-        generation: u64,
-    ) -> Result<[u8; PAGE_SIZE], AllocError>
+    /// Its bytes as a page of a number and a generation. It takes no memory.
+    pub(crate) fn to_page(&self, page: u32, generation: u64) -> [u8; PAGE_SIZE]
         requires { leaf_bytes self.now ≤ entry_room }
-        ensures { IfOk result (λ bytes. bytes ≡ leaf_page page generation self.now) }
+        ensures { result ≡ leaf_page page generation self.now }
     {
-        let mut bytes = page_head(alloc, page, generation, 0, self.count)?;
-        bytes.extend_from_slice(&self.bytes)?;
-        padded_page(bytes)
+        let mut made = [0; PAGE_SIZE];
+        let at = write_at(&mut made, 0, &PAGE_WORD);
+        let at = write_at(&mut made, at, &page.to_be_bytes());
+        let at = write_at(&mut made, at, &generation.to_be_bytes());
+        let at = write_at(&mut made, at, &0u16.to_be_bytes());
+        let at = write_at(&mut made, at, &self.count.to_be_bytes());
+        let _ = write_at(&mut made, at, &self.bytes);
+        made
     }
 }

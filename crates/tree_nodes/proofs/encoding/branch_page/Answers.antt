@@ -1,4 +1,4 @@
-use Rattle.std.proofs.Common.{◌≡◌, ◌+◌, ◌++◌, [], List, ℕ, IfOk, length, ap, subst, ◌∙◌, arith, length-append, append_assoc}
+use Rattle.std.proofs.Common.{◌≡◌, ◌+◌, ◌++◌, [], List, ℕ, length, ap, ◌∙◌, arith, length-append, append_assoc}
 use Rattle.page_store.specs.Encoding.{padded}
 use Rattle.page_store.specs.Heads.{seen_child}
 use Rattle.tree_nodes.specs.PageBytes.{head_bytes, child_bytes, children_bytes, other_entries, branch_entries, branch_page}
@@ -30,4 +30,4 @@ returns c =
     let whole : padded 4096 c.put_others.new.out.items ≡ branch_page c.args.page c.args.generation c.args.level (branch_entries tree others) =
     ap (padded 4096) (same ∙ append_assoc head first rest ∙ ap (λ (n : ℕ). head ++ (child_bytes (seen_child [] n) ++ rest)) c.page_number.ensures
     ∙ ap (λ (n : ℕ). head_bytes c.args.page c.args.generation c.args.level n ++ children_bytes (branch_entries tree others)) (entries_count tree c.args.others.now)) in
-    subst (λ (l : List ℕ). IfOk c.padded_page.result (λ bytes. bytes ≡ l)) whole c.padded_page.ensures.page
+    c.padded_page.ensures ∙ ap (padded 4096) c.deref.ensures.value ∙ whole
