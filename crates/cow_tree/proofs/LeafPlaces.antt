@@ -14,7 +14,7 @@ use Rattle.page_store.proofs.DecodedPages.{pair_sizes}
 use Rattle.tree_nodes.specs.PageViews.{pairs_in, then_more}
 use Rattle.tree_nodes.proofs.KeyOrder.{below_upto, itself, not_back, upto_upto}
 use Rattle.tree_nodes.proofs.SizesRead.{some_is, number_size, piece_size, pair_read}
-use Rattle.cow_tree.specs.KeptLeaves.{begins_by, has_next, next_in, TellsAsAll, IsWalkedPast, IsReachedAfter}
+use Rattle.cow_tree.specs.KeptLeaves.{begins_by, has_next, next_in, TellsAsAll, IsWalkedPast, IsBehind, IsReachedAfter}
 use Rattle.cow_tree.proofs.LeafBytes.{number_rest, piece_rest, then_rest}
 
 -- ---- bytes
@@ -167,15 +167,61 @@ next_nowhere pairs key begins = ap (λ (b : Bool). cond b (pair_after pairs key)
 pub first_is : (bytes : List ℕ) (at left count : ℕ) → at ≡ 24 → left ≡ count → pairs_in left (drop at bytes) ≡ pairs_in count (drop 24 bytes)
 first_is bytes at left count here many = ap (λ (n : ℕ). pairs_in left (drop n bytes)) here ∙ ap (λ (n : ℕ). pairs_in n (drop 24 bytes)) many
 
-module _ {P : Type 0} (pairs_at : P → List Pair) (one first : P) (all : List Pair) (tells : TellsAsAll (pairs_at one) all) (is : pairs_at first ≡ all) where
-  pub either_tells : (from : P) → (from ≡ one) ⊎ (from ≡ first) → TellsAsAll (pairs_at from) all
-  either_tells from (inl e) = subst (λ (p : P). TellsAsAll (pairs_at p) all) (sym e) tells
-  either_tells from (inr e) = subst (λ (p : P). TellsAsAll (pairs_at p) all) (sym e) (subst (λ (l : List Pair). TellsAsAll l all) (sym is) (all_tell all))
+-- the pair at a place, which isn't above the key, or is
+pub behind_first : (key : List ℕ) (p : Pair) (later pairs : List Pair) → pairs ≡ p ∷ later → precedes key p.0 ≡ false → IsBehind key later pairs
+behind_first key p later pairs is upto = (upto_begins key p later pairs is upto, sym (ap (drop 1) is))
 
-  -- From a place whose pair isn't above the key, or else from the first one, the pair after the key is that of all.
-  pub place_tells : (key : List ℕ) (found : Option P) (from : P) → MatchOption found (begins_by key (pairs_at first) ≡ false) (λ place. IsTrue (begins_by key (pairs_at place)) × ((place ≡ one) ⊎ (place ≡ first))) → from ≡ unwrap_or found first
-      → TellsAsAll (pairs_at from) all × (pair_after all key ≡ pair_after (pairs_at from) key)
-  place_tells key None from r e = (either_tells from (inr e), ap (λ (l : List Pair). pair_after l key) (sym is) ∙ ap (λ (p : P). pair_after (pairs_at p) key) (sym e))
+pub begins_above : (key : List ℕ) (p : Pair) (later pairs : List Pair) → pairs ≡ p ∷ later → precedes key p.0 ≡ true → begins_by key pairs ≡ false
+begins_above key p later pairs is above = ap (begins_by key) is ∙ ap not above
+
+pub begins_nowhere : (key : List ℕ) (pairs : List Pair) → pairs ≡ [] → begins_by key pairs ≡ false
+begins_nowhere key pairs none = ap (begins_by key) none
+
+behind_walked : (key : List ℕ) (later pairs : List Pair) → IsBehind key later pairs → IsWalkedPast key later pairs
+behind_walked key later [] b = absurd (cc b.0)
+behind_walked key later (p ∷ others) b =
+    let upto = not_true (precedes key p.0) b.0 in
+    subst (λ (l : List Pair). IsWalkedPast key l (p ∷ others)) (sym b.1) (walked_on key p others (p ∷ others) (p ∷ others) refl upto (walked_nowhere key (p ∷ others)))
+
+reached_behind : (key : List ℕ) (found : Pair) (later behind pairs : List Pair) → IsBehind key behind pairs → IsReachedAfter key found later behind → IsReachedAfter key found later pairs
+reached_behind key found later behind pairs b r =
+    let w = behind_walked key behind pairs b in
+    record {
+      walked = record {
+        tells = λ other above. w.tells other above ∙ r.walked.tells other above;
+        begins = λ other above begins. w.begins other above (r.walked.begins other above begins);
+      };
+      others = r.others;
+      first = r.first;
+      above = r.above;
+    }
+
+module _ {P : Type 0} (pairs_at : P → List Pair) (one first : P) (all : List Pair) (tells : TellsAsAll (pairs_at one) all) (is : pairs_at first ≡ all) where
+  -- what is walked to from behind one of two pairs tells as all do
+  pub behind_tells : (key : List ℕ) (found : Pair) (later behind : List Pair) → IsBehind key behind (pairs_at one) ⊎ IsBehind key behind (pairs_at first) → IsReachedAfter key found later behind → TellsAsAll later all
+  behind_tells key found later behind (inl b) r = reached_tells key found later (pairs_at one) all (reached_behind key found later behind (pairs_at one) b r) tells
+  behind_tells key found later behind (inr b) r =
+      reached_tells key found later (pairs_at first) all (reached_behind key found later behind (pairs_at first) b r) (subst (λ (l : List Pair). TellsAsAll l all) (sym is) (all_tell all))
+
+  -- the pair after a key stands behind the one that isn't above it
+  pub behind_after : (key : List ℕ) (behind : List Pair) → IsBehind key behind (pairs_at one) ⊎ IsBehind key behind (pairs_at first) → IsTrue (begins_by key all) × (pair_after all key ≡ pair_after behind key)
+  behind_after key behind (inl b) =
+      let t = tells key b.0 in
+      (t.0, t.1 ∙ (behind_walked key behind (pairs_at one) b).tells key (itself_upto key))
+  behind_after key behind (inr b) = (
+    subst (λ (l : List Pair). IsTrue (begins_by key l)) is b.0,
+    ap (λ (l : List Pair). pair_after l key) (sym is) ∙ (behind_walked key behind (pairs_at first) b).tells key (itself_upto key),
+  )
+
+  -- From behind a pair that isn't above the key, or else from the first one, the pair after the key is that of all.
+  pub place_tells : (key : List ℕ) (found : Option P) (from : P) → MatchOption found (begins_by key (pairs_at first) ≡ false) (λ place. IsBehind key (pairs_at place) (pairs_at one) ⊎ IsBehind key (pairs_at place) (pairs_at first)) → from ≡ unwrap_or found first
+      → (pair_after all key ≡ pair_after (pairs_at from) key) × ((pair : Pair) (later : List Pair) → IsReachedAfter key pair later (pairs_at from) → TellsAsAll later all)
+  place_tells key None from r e = (
+    ap (λ (l : List Pair). pair_after l key) (sym is) ∙ ap (λ (p : P). pair_after (pairs_at p) key) (sym e),
+    λ pair later reached. reached_tells key pair later (pairs_at from) all reached (subst (λ (l : List Pair). TellsAsAll l all) (sym is ∙ ap pairs_at (sym e)) (all_tell all)),
+  )
   place_tells key (Some place) from r e =
-      let t = either_tells place r.1 in
-      (subst (λ (p : P). TellsAsAll (pairs_at p) all) (sym e) t, (t key r.0).1 ∙ ap (λ (p : P). pair_after (pairs_at p) key) (sym e))
+      let same = ap pairs_at e in (
+        (behind_after key (pairs_at place) r).1 ∙ ap (λ (l : List Pair). pair_after l key) (sym same),
+        λ pair later reached. behind_tells key pair later (pairs_at place) r (subst (λ (l : List Pair). IsReachedAfter key pair later l) same reached),
+      )

@@ -64,6 +64,10 @@ pub record IsWalkedPast (key : List ℕ) (later pairs : List Pair) : Type 0 wher
   pub tells : (other : List ℕ) → precedes other key ≡ false → pair_after pairs other ≡ pair_after later other
   pub begins : (other : List ℕ) → precedes other key ≡ false → IsTrue (begins_by other later) → IsTrue (begins_by other pairs)
 
+-- The first of these pairs isn't above a key, and the later ones are those behind it.
+abbrev pub IsBehind : List ℕ → List Pair → List Pair → Type 0
+IsBehind key later pairs = IsTrue (begins_by key pairs) × (later ≡ drop 1 pairs)
+
 -- The later ones begin with the pair after the key.
 pub record IsReachedAfter (key : List ℕ) (found : Pair) (later pairs : List Pair) : Type 0 where
   pub walked : IsWalkedPast key later pairs

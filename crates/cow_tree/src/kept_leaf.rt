@@ -1,5 +1,5 @@
 // The leaf that a next pair was last read from.
-ghost use Rattle.std.specs.Prelude.{◌≡◌, ◌≤◌, ◌<◌, ◌*◌, ◌∷◌, ◌⊎◌, false, List, [], None, Some, Ok, IsTrue, OnOk, IfSome, MatchOption, option_map, length, take};
+ghost use Rattle.std.specs.Prelude.{◌≡◌, ◌≤◌, ◌<◌, ◌*◌, ◌∷◌, ◌⊎◌, false, List, [], None, Some, Ok, IsTrue, OnOk, IfSome, IsSomeAnd, MatchOption, option_map, length, take, drop};
 ghost use Rattle.sector_device.specs.Effects.{MadeAtMost};
 ghost use Rattle.std.specs.Option.{is_some};
 ghost use Rattle.page_store.specs.Sizes.{longest_key, longest_value};
@@ -10,7 +10,7 @@ ghost use Rattle.page_store.specs.Batch.{pair_after};
 ghost use Rattle.page_store.specs.StoreState.{IsFilled};
 ghost use Rattle.page_store.specs.Content.{place_in};
 ghost use Rattle.tree_nodes.specs.PageViews.{bounds_of, pairs_in};
-ghost use Rattle.cow_tree.specs.KeptLeaves.{begins_by, next_in, pairs_from, CopiesPair, IsReachedAfter};
+ghost use Rattle.cow_tree.specs.KeptLeaves.{begins_by, next_in, pairs_from, CopiesPair, IsBehind, IsReachedAfter};
 ghost use Rattle.cow_tree.specs.Ways.{AnswersBy};
 ghost use Rattle.cow_tree.specs.Walks.{ReadsTreePages};
 ghost use Rattle.cow_tree.specs.declared.page_fault.PageFault.{PageFault as PageFaultValue};
@@ -185,13 +185,14 @@ pub(crate) fn pair_from(bytes: &[u8; PAGE_SIZE], place: Place) -> Option<(&[u8],
     Some((key, value, behind))
 }
 
-/// Whether the pair at a place isn't above a key.
-fn begins_by(bytes: &[u8; PAGE_SIZE], place: Place, key: &[u8]) -> bool
-    ensures { result ≡ begins_by key.now (pairs_from bytes.now place.at place.left) }
+/// The place behind the pair at a place, where that pair isn't above a key.
+#[tactic(auto, using(crate::proofs::LeafPlaces::behind_first, crate::proofs::LeafPlaces::begins_above, crate::proofs::LeafPlaces::begins_nowhere))]
+fn place_behind(bytes: &[u8; PAGE_SIZE], place: Place, key: &[u8]) -> Option<Place>
+    ensures { MatchOption result (begins_by key.now (pairs_from bytes.now place.at place.left) ≡ false) (λ behind. IsBehind key.now (pairs_from bytes.now behind.at behind.left) (pairs_from bytes.now place.at place.left)) }
 {
     match pair_from(bytes, place) {
-        Some((first, _, _)) => compare_bytes(key, first) != Ordering::Less,
-        None => false,
+        Some((first, _, behind)) if compare_bytes(key, first) != Ordering::Less => Some(behind),
+        _ => None,
     }
 }
 
@@ -215,18 +216,15 @@ fn place_after<'a>(
     None
 }
 
-/// The one of two places whose pair isn't above a key, the second only where the first is none.
+/// The place behind the one of two pairs that isn't above a key, the second only where the first is above it.
 fn place_by(bytes: &[u8; PAGE_SIZE], one: Place, other: Place, key: &[u8]) -> Option<Place>
-    ensures first { IsTrue (begins_by key.now (pairs_from bytes.now one.at one.left)) → result ≡ Some one }
-    ensures place { MatchOption result (begins_by key.now (pairs_from bytes.now other.at other.left) ≡ false) (λ place. IsTrue (begins_by key.now (pairs_from bytes.now place.at place.left)) × ((place ≡ one) ⊎ (place ≡ other))) }
+    ensures first { IsTrue (begins_by key.now (pairs_from bytes.now one.at one.left)) → IsSomeAnd result (λ place. pairs_from bytes.now place.at place.left ≡ drop 1 (pairs_from bytes.now one.at one.left)) }
+    ensures place { MatchOption result (begins_by key.now (pairs_from bytes.now other.at other.left) ≡ false) (λ place. IsBehind key.now (pairs_from bytes.now place.at place.left) (pairs_from bytes.now one.at one.left) ⊎ IsBehind key.now (pairs_from bytes.now place.at place.left) (pairs_from bytes.now other.at other.left)) }
 {
-    if begins_by(bytes, one, key) {
-        return Some(one);
+    if let Some(place) = place_behind(bytes, one, key) {
+        return Some(place);
     }
-    if begins_by(bytes, other, key) {
-        return Some(other);
-    }
-    None
+    place_behind(bytes, other, key)
 }
 
 /// Puts the first pair above a key, from a place on, into the buffers, and gives its place.

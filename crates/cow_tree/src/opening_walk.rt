@@ -48,6 +48,7 @@ pub(crate) fn leaf_in<'a>(
     bytes: &'a [u8; PAGE_SIZE],
 ) -> Result<Leaf<'a>, PageFault>
     ensures pairs { IfOk result (λ leaf. leaf_of (place_in (bounds_of bounds) 0 page) low.now (option_copied high.entry) bytes.now ≡ Some (pairs_in leaf.count leaf.entries.now)) }
+    ensures count { IfOk result (λ leaf. leaf.count ≡ length (pairs_in leaf.count leaf.entries.now)) }
     ensures sizes { IfOk result (λ leaf. IsTrue (list_all is_pair (pairs_in leaf.count leaf.entries.now))) }
     ensures fault { IfErr result (λ e. (e ≡ Damaged page) × (leaf_of (place_in (bounds_of bounds) 0 page) low.now (option_copied high.entry) bytes.now ≡ None)) }
 {
@@ -178,7 +179,7 @@ pub(crate) fn walk_tree<D: Device>(
     load_page(device, page, &mut bytes)?;
     if level == 0 {
         let leaf = leaf_in(bounds, page, low, high, &bytes)?;
-        return Ok(u64::from(count_pairs(leaf)));
+        return Ok(u64::from(leaf.count()));
     }
     let branch = branch_in(bounds, level, page, low, high, &bytes)?;
     walk_children(device, ledger, bounds, level - 1, &branch, low, high)
