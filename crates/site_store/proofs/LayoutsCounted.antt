@@ -20,7 +20,7 @@ use Rattle.site_records.specs.Records.{parts_of}
 use Rattle.site_records.specs.Layout.{chunk_count, chunk_pairs, part_pairs, word_pairs, data_pairs, item_pairs, in_order, layout}
 use Rattle.site_records.specs.LayoutLaws.{OwnedBy, OwnedBy-item_pairs, is_at-Decides, at_itself, not_at, value_at-append, value_at-not_owned, value_at-in_order, is_sorted-in_order, is_sorted-layout}
 use Rattle.site_records.proofs.ChunkLaws.{AreSmall, no_word_among_data, among_words, empty_value, count_within}
-use Rattle.site_store.specs.Opening.{AreCounted, ItemsAreShort, IsLayoutOf, StandAmong, pairs_in}
+use Rattle.site_store.specs.Opening.{AreCounted, CountsItem, ItemsAreShort, IsLayoutOf, StandAmong, pairs_in}
 use Rattle.site_store.proofs.PairsFound.{rises_sorted, sorted_rises}
 use Rattle.site_store.proofs.RisingKeys.{is_below, below_later_all, not_itself, found_below, clash}
 use Rattle.site_store.proofs.ShortSites.{AllSmall, valid_small}
@@ -337,25 +337,68 @@ split : (all ps qs : List Pair) → StandAmong all (ps ++ qs) → StandAmong all
 split all [] qs h = (tt, h)
 split all (p ∷ ps) qs h = let rest = split all ps qs h.1 in ((h.0, rest.0), rest.1)
 
+-- ---- the pairs of one item
+
+abbrev pub AllWords : List Pair → List ℕ → List (List ℕ) → Type 0
+AllWords all selector words = All (λ w. value_at all (word_key w selector) ≡ Some []) words
+
+words_stand : (all : List Pair) (selector : List ℕ) (words : List (List ℕ)) → AllWords all selector words → StandAmong all (word_pairs selector words)
+words_stand all selector [] h = tt
+words_stand all selector (w ∷ ws) h = (h 0 w (omega arith), words_stand all selector ws (λ k d less. h (suc k) d (omega (arith, less))))
+
+each_word : (all : List Pair) (selector : List ℕ) (words : List (List ℕ)) → StandAmong all (word_pairs selector words) → AllWords all selector words
+each_word all selector [] h k d less = absurd (omega (arith, less))
+each_word all selector (w ∷ ws) h zero d less = h.0
+each_word all selector (w ∷ ws) h (suc k) d less = each_word all selector ws h.1 k d (omega (arith, less))
+
+words_many : (selector : List ℕ) (words : List (List ℕ)) → length (word_pairs selector words) ≡ length words
+words_many selector [] = refl
+words_many selector (w ∷ ws) = ap suc (words_many selector ws)
+
+pub data_lacks : (all : List Pair) (selector : List ℕ) (item : Item) (some : List Pair) → some ≡ data_pairs selector item → (AllStand all some → ⊥) → StandAmong all (item_pairs selector item) → ⊥
+unfolding item_pairs
+data_lacks all selector item some is bad stand = bad (each_one all some (subst (StandAmong all) (sym is) (split all (data_pairs selector item) (word_pairs selector (words_of item)) stand).0))
+
+pub word_lacks : (all : List Pair) (selector : List ℕ) (item : Item) (words : List (List ℕ)) → words ≡ words_of item → (AllWords all selector words → ⊥) → StandAmong all (item_pairs selector item) → ⊥
+unfolding item_pairs
+word_lacks all selector item words is bad stand =
+    bad (each_word all selector words (subst (λ (ws : List (List ℕ)). StandAmong all (word_pairs selector ws)) (sym is) (split all (data_pairs selector item) (word_pairs selector (words_of item)) stand).1))
+
+pub item_stands : (all : List Pair) (selector : List ℕ) (item : Item) (some : List Pair) (words : List (List ℕ)) (n : ℕ) → some ≡ data_pairs selector item → words ≡ words_of item → AllStand all some → AllWords all selector words → n ≡ length some + length words
+    → StandAmong all (item_pairs selector item) × (n ≡ length (item_pairs selector item))
+unfolding item_pairs
+item_stands all selector item some words n is are data_there words_there count =
+    let first = subst (StandAmong all) is (one_by_one all some data_there) in
+    let second = subst (λ (ws : List (List ℕ)). StandAmong all (word_pairs selector ws)) are (words_stand all selector words words_there) in
+    let size = length-append (data_pairs selector item) (word_pairs selector (words_of item)) in
+    let many = words_many selector (words_of item) in
+    let data_size : length some ≡ length (data_pairs selector item) = ap length is in
+    let words_size : length words ≡ length (words_of item) = ap length are in
+    (joined all (data_pairs selector item) (word_pairs selector (words_of item)) first second, omega (arith, size, many, data_size, words_size, count))
+
 -- the pairs of the first item are taken from the count
-pub count_on : (all : List Pair) (n : ℕ) (some : List Pair) (e : List ℕ × Item) (es : List (List ℕ × Item)) → some ≡ item_pairs e.0 e.1 → AreCounted all n (e ∷ es) → AreCounted all (n - length some) es
-count_on all n some e es is counted =
+count_on : (all : List Pair) (n m : ℕ) (e : List ℕ × Item) (es : List (List ℕ × Item)) → m ≡ length (item_pairs e.0 e.1) → AreCounted all n (e ∷ es) → AreCounted all (n - m) es
+count_on all n m e es is counted =
     let parts = split all (item_pairs e.0 e.1) (pairs_in es) counted.0 in
     let size = length-append (item_pairs e.0 e.1) (pairs_in es) in
-    let same : length some ≡ length (item_pairs e.0 e.1) = ap length is in
     let count = counted.1 in
-    (parts.1, omega (arith, size, same, count))
+    (parts.1, omega (arith, size, is, count))
 
-pub count_back : (all : List Pair) (n : ℕ) (some : List Pair) (e : List ℕ × Item) (es : List (List ℕ × Item)) → some ≡ item_pairs e.0 e.1 → length some ≤ n → AllStand all some → AreCounted all (n - length some) es → AreCounted all n (e ∷ es)
-count_back all n some e es is room stand counted =
+count_back : (all : List Pair) (n m : ℕ) (e : List ℕ × Item) (es : List (List ℕ × Item)) → m ≡ length (item_pairs e.0 e.1) → m ≤ n → StandAmong all (item_pairs e.0 e.1) → AreCounted all (n - m) es → AreCounted all n (e ∷ es)
+count_back all n m e es is room stand counted =
     let size = length-append (item_pairs e.0 e.1) (pairs_in es) in
-    let same : length some ≡ length (item_pairs e.0 e.1) = ap length is in
     let count = counted.1 in
-    (joined all (item_pairs e.0 e.1) (pairs_in es) (subst (StandAmong all) is (one_by_one all some stand)) counted.0, omega (arith, size, same, count, room))
+    (joined all (item_pairs e.0 e.1) (pairs_in es) stand counted.0, omega (arith, size, is, count, room))
 
 -- an item whose pairs aren't all there, or are too many
-pub not_there : (all : List Pair) (n : ℕ) (some : List Pair) (e : List ℕ × Item) (es : List (List ℕ × Item)) → some ≡ item_pairs e.0 e.1 → (AllStand all some → ⊥) → AreCounted all n (e ∷ es) → ⊥
-not_there all n some e es is bad counted = bad (each_one all some (subst (StandAmong all) (sym is) (split all (item_pairs e.0 e.1) (pairs_in es) counted.0).0))
+not_there : (all : List Pair) (n : ℕ) (e : List ℕ × Item) (es : List (List ℕ × Item)) → (StandAmong all (item_pairs e.0 e.1) → ⊥) → AreCounted all n (e ∷ es) → ⊥
+not_there all n e es bad counted = bad (split all (item_pairs e.0 e.1) (pairs_in es) counted.0).0
+
+too_many : (all : List Pair) (n m : ℕ) (e : List ℕ × Item) (es : List (List ℕ × Item)) → m ≡ length (item_pairs e.0 e.1) → n < m → AreCounted all n (e ∷ es) → ⊥
+too_many all n m e es is less counted =
+    let size = length-append (item_pairs e.0 e.1) (pairs_in es) in
+    let count = counted.1 in
+    omega (arith, size, is, less, count)
 
 -- What is left to count decides.
 pub record IsLeft (all : List Pair) (items rest : List (List ℕ × Item)) (left : ℕ) : Type 0 where
@@ -372,23 +415,31 @@ module _ {R : Type 0} (entry : R → List ℕ × Item) (all : List Pair) (items 
       λ i. sym first i ∷ sym others i
 
   -- one item more is counted
-  pub next_item : (rest : List R) (left behind : ℕ) (x : R) (some : List Pair) → 1 ≤ length rest → x ≡ slice_index_or rest 0 x → some ≡ item_pairs (entry x).0 (entry x).1 → AllStand all some → length some ≤ left → behind ≡ left - length some
+  pub next_item : (rest : List R) (left behind n : ℕ) (x : R) → 1 ≤ length rest → x ≡ slice_index_or rest 0 x → CountsItem all (entry x).0 (entry x).1 (Some n) → n ≤ left → behind ≡ left - n
       → IsLeft all items (map entry rest) left → IsLeft all items (map entry (take (length rest - 1) (drop 1 rest))) behind
-  next_item rest left behind x some is_some first is stand room size before =
+  next_item rest left behind n x is_some first counts room size before =
       let others = take (length rest - 1) (drop 1 rest) in
       let now = subst (λ (r : List R). IsLeft all items (map entry r) left) (parted rest x is_some first) before in
       subst (IsLeft all items (map entry others)) (sym size) (record {
         short = now.short.1;
-        on = λ counted. count_on all left some (entry x) (map entry others) is (now.on counted);
-        back = λ counted. now.back (count_back all left some (entry x) (map entry others) is room stand counted);
+        on = λ counted. count_on all left n (entry x) (map entry others) counts.1 (now.on counted);
+        back = λ counted. now.back (count_back all left n (entry x) (map entry others) counts.1 room counts.0 counted);
       })
 
-  pub item_lacks : (rest : List R) (left : ℕ) (x : R) (some : List Pair) → 1 ≤ length rest → x ≡ slice_index_or rest 0 x → some ≡ item_pairs (entry x).0 (entry x).1 → (AllStand all some → ⊥) → IsLeft all items (map entry rest) left → Decides false (AreCounted all (length all) items)
-  item_lacks rest left x some is_some first is bad before =
+  pub item_lacks : (rest : List R) (left : ℕ) (x : R) → 1 ≤ length rest → x ≡ slice_index_or rest 0 x → CountsItem all (entry x).0 (entry x).1 None → IsLeft all items (map entry rest) left → Decides false (AreCounted all (length all) items)
+  item_lacks rest left x is_some first bad before =
       let others = take (length rest - 1) (drop 1 rest) in
       let now = subst (λ (r : List R). IsLeft all items (map entry r) left) (parted rest x is_some first) before in (
         λ t. absurd (let e : false ≡ true = t in cc e),
-        λ counted. absurd (not_there all left some (entry x) (map entry others) is bad (now.on counted)),
+        λ counted. absurd (not_there all left (entry x) (map entry others) bad (now.on counted)),
+      )
+
+  pub item_overflows : (rest : List R) (left n : ℕ) (x : R) → 1 ≤ length rest → x ≡ slice_index_or rest 0 x → CountsItem all (entry x).0 (entry x).1 (Some n) → left < n → IsLeft all items (map entry rest) left → Decides false (AreCounted all (length all) items)
+  item_overflows rest left n x is_some first counts less before =
+      let others = take (length rest - 1) (drop 1 rest) in
+      let now = subst (λ (r : List R). IsLeft all items (map entry r) left) (parted rest x is_some first) before in (
+        λ t. absurd (let e : false ≡ true = t in cc e),
+        λ counted. absurd (too_many all left n (entry x) (map entry others) counts.1 less (now.on counted)),
       )
 
 -- ---- what is answered

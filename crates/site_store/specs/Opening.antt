@@ -103,6 +103,11 @@ IsPlaceOf ps key (Some n) = (n < length ps) × ((d : Pair) → value_at ps key �
 abbrev pub StandAmong : List Pair → List Pair → Type 0
 StandAmong all some = AllByRecursion (λ p. value_at all p.0 ≡ Some p.1) some
 
+-- How many pairs an item has, where each stands among all; none where one doesn't.
+abbrev pub CountsItem : List Pair → List ℕ → Item → Option ℕ → Type 0
+CountsItem all selector item None = StandAmong all (item_pairs selector item) → ⊥
+CountsItem all selector item (Some n) = StandAmong all (item_pairs selector item) × (n ≡ length (item_pairs selector item))
+
 -- Each pair of some items stands among all, and there are so many of them.
 abbrev pub AreCounted : List Pair → ℕ → List (List ℕ × Item) → Type 0
 AreCounted all n es = StandAmong all (pairs_in es) × (n ≡ length (pairs_in es))

@@ -10,7 +10,7 @@ use page_store::Pair;
 use std::alloc::{AllocError, Global};
 
 /// How many pairs there are for one beginning of keys, on the average.
-const PAIRS_OF_A_BEGINNING: usize = 8;
+const PAIRS_OF_A_BEGINNING: usize = 2;
 
 /// A place for each beginning of keys, by a hash. Where it is not the right one the key is searched for, so that it costs time and nothing else.
 #[derive(Drop)]
@@ -57,7 +57,7 @@ fn place_at(pairs: &[Pair], key: &[u8], likely: usize) -> Option<usize>
 impl LikelyPlaces {
     /// Places for so many pairs. They are likely only once keys were looked for.
     pub fn new(alloc: Global, count: usize) -> Result<Self, AllocError>
-        ensures { IfOk result (λ p. p.places.items ≡ replicate (count / 8 + 1) 0) }
+        ensures { IfOk result (λ p. p.places.items ≡ replicate (count / 2 + 1) 0) }
     {
         let places = vec![in alloc; 0; count / PAIRS_OF_A_BEGINNING + 1]?;
         Ok(LikelyPlaces { places })

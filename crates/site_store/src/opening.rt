@@ -50,14 +50,15 @@ fn pair_behind<K: Keeper>(
     alloc: Global,
     keeper: &mut K,
     pairs: &[Pair],
+    key: &mut [u8; LONGEST_KEY],
+    value: &mut [u8; LONGEST_VALUE],
 ) -> Result<Option<Pair>, SiteOpenFault>
     ensures pair { AlwaysReads K.store_state K.may_need K.crash_states keeper.old keeper.new result IsReadOrMemory (λ h found. found ≡ pair_after h.pairs (last_key pairs.now)) }
     ensures fit { IfOk result (λ found. IfSome found (λ p. length p.1 ≤ longest_value)) }
     ensures keys { IfOk result (λ found. IfSome found (λ p. length p.0 ≤ longest_key)) }
     ensures work { ReadsPages (pages_tried (K.store_state keeper.old).height) (K.store_state keeper.old).made (K.store_state keeper.new).made }
 {
-    let (mut key, mut value) = ([0; LONGEST_KEY], [0; LONGEST_VALUE]);
-    match keeper.next(last_key(pairs), &mut key, &mut value) {
+    match keeper.next(last_key(pairs), key, value) {
         Ok(Some((size, length))) => {
             let pair = Pair::from_slices(alloc, &key[..size], &value[..length])?;
             Ok(Some(pair))
@@ -76,8 +77,9 @@ pub(crate) fn pairs_of<K: Keeper>(alloc: Global, keeper: &mut K) -> Result<Vec<P
     ensures work { OnOk result (ReadsAll (K.store_state keeper.old) (K.store_state keeper.new)) }
 {
     let mut pairs = Vec::new(alloc);
+    let (mut key, mut value) = ([0; LONGEST_KEY], [0; LONGEST_VALUE]);
     for _ in 0..u64::MAX {
-        match pair_behind(alloc, keeper, &pairs) {
+        match pair_behind(alloc, keeper, &pairs, &mut key, &mut value) {
             Ok(Some(pair)) => pairs.push(pair)?,
             Ok(None) if are_all(keeper, &pairs) => return Ok(pairs),
             Ok(None) => return Err(NOT_COUNTED),

@@ -10,7 +10,6 @@ use crate::SiteOpenFault;
 use crate::likely::LikelyPlaces;
 use crate::value_lookup::ValueLookup;
 use page_store::{Banner, LONGEST_VALUE, Pair, keys_rise};
-use site_pairs::Piece;
 use site_records::Key;
 use std::alloc::{AllocError, Global};
 use std::marker::Model;
@@ -74,12 +73,12 @@ impl<'a> ReadPairs<'a> {
     }
 
     /// Whether this value stands at this key.
-    pub(crate) fn has(&mut self, key: &Key, value: &Piece) -> bool
+    pub(crate) fn has(&mut self, key: &Key, value: &[u8]) -> bool
         ensures has { Decides result (value_at self.old.0 key.now ≡ Some value.now) }
         ensures same { self.new ≡ self.old }
     {
         match self.likely.place_of(self.pairs, key.as_bytes()) {
-            Some(place) => self.pairs[place].value() == value.as_slice(),
+            Some(place) => self.pairs[place].value() == value,
             None => false,
         }
     }

@@ -1,14 +1,17 @@
 // Whether some pairs are the layout of a site. No layout is made for it: the pairs of one item after the other are looked up and counted.
-ghost use Rattle.std.specs.Prelude.{◌≡◌, All, Some, length, map, IfOk, IsTrue, Decides};
+ghost use Rattle.std.specs.Prelude.{◌≡◌, ◌≤◌, [], All, Some, length, map, IfOk, IsTrue, Decides};
 ghost use Rattle.page_store.specs.Batch.{value_at};
-ghost use Rattle.site_store.specs.Opening.{AreCounted, ItemsAreShort, IsLayoutOf};
+ghost use Rattle.site_records.specs.Keys.{word_key};
+ghost use Rattle.site_records.specs.Limits.{is_short};
+ghost use Rattle.site_store.specs.Opening.{AreCounted, CountsItem, ItemsAreShort, IsLayoutOf};
 
 use crate::read_pairs::ReadPairs;
-use host_types::{Item, Selector};
+use host_types::{Bytes, Item, Selector};
 use mem_site::MemSite;
-use site_pairs::{Piece, put_item};
-use site_records::Key;
+use site_pairs::{Piece, put_data};
+use site_records::{Key, LONGEST_WORD, word_key};
 use std::alloc::{AllocError, Global};
+use word_index::words;
 
 /// Whether each of these entries is one of the pairs.
 fn are_among(read: &mut ReadPairs<'_>, entries: &[(Key, Piece)]) -> bool
@@ -16,11 +19,50 @@ fn are_among(read: &mut ReadPairs<'_>, entries: &[(Key, Piece)]) -> bool
     ensures same { read.new ≡ read.old }
 {
     for entry in entries {
-        if !read.has(&entry.0, &entry.1) {
+        if !read.has(&entry.0, entry.1.as_slice()) {
             return false;
         }
     }
     true
+}
+
+/// Whether the key of each of these words of an item stands among the pairs, without a value.
+fn are_words_among(read: &mut ReadPairs<'_>, selector: &Selector, words: &[Bytes]) -> bool
+    requires short { All (λ w. length w ≤ LONGEST_WORD) words.now }
+    ensures among { Decides result (All (λ w. value_at read.old.0 (word_key w selector.now) ≡ Some []) words.now) }
+    ensures same { read.new ≡ read.old }
+{
+    for word in words {
+        if !read.has(&word_key(word.as_slice(), selector), &[]) {
+            return false;
+        }
+    }
+    true
+}
+
+/// How many pairs an item has, where each of them stands among all. The list is room for some of them.
+#[tactic(auto, using(site_pairs::proofs::ShortWords::short_words))]
+fn count_of(
+    alloc: Global,
+    read: &mut ReadPairs<'_>,
+    entries: &mut Vec<(Key, Piece)>,
+    selector: &Selector,
+    item: &Item,
+) -> Result<Option<usize>, AllocError>
+    requires short { IsTrue (is_short item.now) }
+    ensures count { IfOk result (λ count. CountsItem read.old.0 selector.now item.now count) }
+    ensures same { read.new ≡ read.old }
+{
+    entries.clear();
+    put_data(alloc, entries, selector, item)?;
+    if !are_among(read, entries) {
+        return Ok(None);
+    }
+    let words = words(alloc, item)?;
+    if !are_words_among(read, selector, words.as_slice()) {
+        return Ok(None);
+    }
+    Ok(Some(entries.len() + words.as_slice().len()))
 }
 
 /// Whether each pair of these items stands among all, and there are as many of them.
@@ -34,13 +76,12 @@ fn are_counted(
 {
     let mut rest = items;
     let mut left = read.pairs().len();
+    let mut entries = Vec::new(alloc);
     while let [item, others @ ..] = rest {
-        let mut entries = Vec::new(alloc);
-        put_item(alloc, &mut entries, item.0, item.1)?;
-        if !are_among(read, &entries) {
+        let Some(count) = count_of(alloc, read, &mut entries, item.0, item.1)? else {
             return Ok(false);
-        }
-        let Some(fewer) = left.checked_sub(entries.len()) else {
+        };
+        let Some(fewer) = left.checked_sub(count) else {
             return Ok(false);
         };
         left = fewer;

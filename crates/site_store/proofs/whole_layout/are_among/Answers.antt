@@ -1,4 +1,4 @@
-use Rattle.std.proofs.Common.{◌≡◌, Some, List, sym, subst, ◌∙◌, false, true, refl, arith}
+use Rattle.std.proofs.Common.{◌≡◌, Some, List, ℕ, sym, ap, subst, ◌∙◌, false, true, refl, arith}
 use Rattle.std.specs.Prelude.{All}
 use Rattle.std.proofs.lemmas.List.{take_all}
 use Rattle.std.proofs.lemmas.List.Elements.{All-more}
@@ -16,7 +16,7 @@ returns-then-not-has c =
         λ all.
             let item = c.entry-item.is in
             let there = subst (λ p. value_at c.args.read.now.0 p.0 ≡ Some p.1) (sym item) (all c.loop-entry.entry-index c.entry-item.result c.loop-entry-test.true) in
-            let yes : c.has.result ≡ true = c.has.ensures.has.1 (subst (λ (r : List Pair × Banner). value_at r.0 c.entry-item.result.0 ≡ Some c.entry-item.result.1) (sym same) there) in
+            let yes : c.has.result ≡ true = c.has.ensures.has.1 (subst (λ (r : List Pair × Banner). value_at r.0 c.entry-item.result.0 ≡ Some c.as_slice.result.now) (sym same) (there ∙ ap (λ (v : List ℕ). Some v) (sym c.as_slice.ensures.value))) in
             absurd (let e : false ≡ true = sym c.if-not-has.true ∙ yes in cc e),
       );
       same = c.has.ensures.same ∙ same;
@@ -25,7 +25,7 @@ returns-then-not-has c =
 pub loop-entry-preserved : goal.loop-entry-preserved
 loop-entry-preserved c =
     let same = c.loop-entry.invariant.0 in
-    let stands = subst (λ (r : List Pair × Banner). value_at r.0 c.entry-item.result.0 ≡ Some c.entry-item.result.1) same (c.has.ensures.has.0 c.if-not-has.false) in (
+    let stands = subst (λ (r : List Pair × Banner). value_at r.0 c.entry-item.result.0 ≡ Some c.entry-item.result.1) same (c.has.ensures.has.0 c.if-not-has.false ∙ ap (λ (v : List ℕ). Some v) c.as_slice.ensures.value) in (
       c.has.ensures.same ∙ same,
       All-more (λ p. value_at c.args.read.now.0 p.0 ≡ Some p.1) c.args.entries.now c.loop-entry.entry-index c.entry-item.result c.loop-entry-test.true c.loop-entry.invariant.1 (subst (λ p. value_at c.args.read.now.0 p.0 ≡ Some p.1) c.entry-item.is stands),
     )
