@@ -1,4 +1,4 @@
-use Rattle.std.proofs.Common.{List, drop, sym, ap, ◌∙◌, take, rules}
+use Rattle.std.proofs.Common.{◌≡◌, List, None, drop, sym, ap, ◌∙◌, take, rules}
 use Rattle.page_store.specs.Pages.{Pair}
 use Rattle.page_store.specs.Batch.{pair_after}
 use Rattle.tree_nodes.specs.PageViews.{pairs_in}
@@ -30,3 +30,17 @@ returns-clause-copied c =
       key = search rules;
       value = search rules;
     }
+
+pub returns-in_err-place-clause-copied : goal.returns-in_err-place-clause-copied
+returns-in_err-place-clause-copied c =
+    let bytes = c.self.inside.bytes in
+    let all = pairs_in c.self.inside.count (drop 24 bytes) in
+    let first = first_is bytes c.first_place-first.result.at c.first_place-first.result.left c.self.inside.count c.first_place-first.ensures.at c.first_place-first.ensures.left in
+    let from = place_tells (λ (p : Place). pairs_from bytes p.at p.left) c.self.inside.last c.first_place-first.result all c.self.invariant first c.args.after.now c.place_by.result c.unwrap_or-from.result c.place_by.ensures.place c.unwrap_or-from.ensures in
+    let none : c.from_residual.result ≡ None = c.from_residual.ensures in
+    rw none (record {
+      within = tt;
+      is = sym c.in_err-place.ensures.reached ∙ sym from.0 ∙ ap (λ (l : List Pair). pair_after l c.args.after.now) c.self.view_is;
+      key = c.in_err-place.ensures.key;
+      value = c.in_err-place.ensures.value;
+    })
