@@ -72,7 +72,7 @@ fn search<S: SearchKeeper>(
         .search(&Selector::new(scope)?, query, Stamp::start())?
         .as_slice()
     {
-        line.bytes(found.as_bytes())?;
+        line.bytes(found.selector.as_bytes())?;
     }
     Ok(())
 }

@@ -8,7 +8,7 @@ use host_types::{
     SitePinFault, Stamp,
 };
 use mem_site::{MemPin, MemSite};
-use word_index::{SearchKeeper, SelectorList};
+use word_index::{FindList, SearchKeeper};
 
 /// A site of which one read fails, or a change.
 #[derive(Drop)]
@@ -181,7 +181,7 @@ impl SearchKeeper for FailingSite {
         scope: &Selector,
         query: &[u8],
         now: Stamp,
-    ) -> Result<SelectorList, SiteFault> {
+    ) -> Result<FindList, SiteFault> {
         if !self.usable {
             return Err(SiteFault::Failed);
         }

@@ -182,8 +182,8 @@ fn search(bench: &mut Bench, line: &mut Line, fields: &[Vec<u8>]) -> Result<(), 
         return Err(Trouble::Line);
     };
     let found = bench.site.search(&Selector::new(scope)?, words, bench.now)?;
-    for selector in found.as_slice() {
-        line.bytes(selector.as_bytes())?;
+    for find in found.as_slice() {
+        line.bytes(find.selector.as_bytes())?;
     }
     Ok(())
 }

@@ -5,7 +5,7 @@ use crate::trouble::Trouble;
 use host_types::{Bytes, Change, Item, Selector, Stamp, Title};
 use std::alloc::Global;
 use std::fs;
-use word_index::SelectorList;
+use word_index::FindList;
 
 /// The number that decimal digits write.
 fn number(field: &str) -> Result<u32, Trouble> {
@@ -90,11 +90,11 @@ fn move_to(sites: &mut Sites, fields: &str) -> Result<(), Trouble> {
 }
 
 /// How many selectors there are, and each behind a space.
-fn show_found(alloc: Global, found: &SelectorList) -> Result<String, Trouble> {
+fn show_found(alloc: Global, found: &FindList) -> Result<String, Trouble> {
     let mut text = format!(in alloc; " {}", found.as_slice().len())?;
-    for selector in found.as_slice() {
+    for find in found.as_slice() {
         text.push(' ')?;
-        text.push_str(std::str::from_utf8(selector.as_bytes()).unwrap_or("?"))?;
+        text.push_str(std::str::from_utf8(find.selector.as_bytes()).unwrap_or("?"))?;
     }
     Ok(text)
 }

@@ -8,7 +8,7 @@ use site_store::search_by_filter;
 use std::alloc::Global;
 use std::cell::Cell;
 use std::rc::Rc;
-use word_index::{SearchKeeper, SelectorList};
+use word_index::{Find, FindList, SearchKeeper};
 
 /// What is asked for: words within a scope, at a moment.
 #[derive(Drop)]
@@ -21,7 +21,7 @@ pub(crate) struct Query {
 /// What is found for each query, and how many of them have another answer elsewhere.
 #[derive(Drop)]
 pub(crate) struct Answers {
-    pub found: Vec<SelectorList>,
+    pub found: Vec<FindList>,
     pub differ: usize,
 }
 
@@ -41,7 +41,7 @@ fn found_in<S: SearchKeeper>(
     alloc: Global,
     site: &mut S,
     queries: &[Query],
-) -> Result<Vec<SelectorList>, Trouble> {
+) -> Result<Vec<FindList>, Trouble> {
     let mut found = Vec::new(alloc);
     for query in queries {
         found.push(site.search(&query.scope, &query.words, query.now)?)?;
@@ -54,7 +54,7 @@ fn filtered_in(
     alloc: Global,
     keeper: &mut Tree,
     queries: &[Query],
-) -> Result<Vec<SelectorList>, Trouble> {
+) -> Result<Vec<FindList>, Trouble> {
     let mut found = Vec::new(alloc);
     for query in queries {
         found.push(search_by_filter(alloc, keeper, &query.scope, &query.words, query.now)?)?;
@@ -62,15 +62,29 @@ fn filtered_in(
     Ok(found)
 }
 
+/// Whether two finds are the same.
+fn is_same(one: &Find, other: &Find) -> bool {
+    one.selector == other.selector
+        && one.front.title == other.front.title
+        && one.front.until == other.front.until
+        && one.front.sort == other.front.sort
+}
+
+/// Whether two searches find the same.
+fn find_the_same(one: &FindList, other: &FindList) -> bool {
+    let (one, other) = (one.as_slice(), other.as_slice());
+    one.len() == other.len()
+        && one
+            .iter()
+            .zip(other)
+            .all(|(one, other)| is_same(one, other))
+}
+
 /// How many answers are not the same in all three.
-fn differing(
-    found: &[SelectorList],
-    filtered: &[SelectorList],
-    in_memory: &[SelectorList],
-) -> usize {
+fn differing(found: &[FindList], filtered: &[FindList], in_memory: &[FindList]) -> usize {
     let mut count = 0usize;
     for ((one, other), third) in found.iter().zip(filtered).zip(in_memory) {
-        if one.as_slice() != other.as_slice() || one.as_slice() != third.as_slice() {
+        if !find_the_same(one, other) || !find_the_same(one, third) {
             count = count.saturating_add(1);
         }
     }
@@ -118,7 +132,7 @@ impl Sites {
     }
 
     /// What the site on the disk finds by the keys of words.
-    fn found(&mut self, queries: &[Query]) -> Result<Vec<SelectorList>, Trouble> {
+    fn found(&mut self, queries: &[Query]) -> Result<Vec<FindList>, Trouble> {
         match &mut self.disk {
             Some(site) => found_in(self.alloc, site, queries),
             None => Err(Trouble::Wrong("no site")),
@@ -126,7 +140,7 @@ impl Sites {
     }
 
     /// What is found on the disk by a look at each item. The site is then opened again.
-    fn filtered(&mut self, queries: &[Query]) -> Result<Vec<SelectorList>, Trouble> {
+    fn filtered(&mut self, queries: &[Query]) -> Result<Vec<FindList>, Trouble> {
         let Some(site) = self.disk.take() else {
             return Err(Trouble::Wrong("no site"));
         };

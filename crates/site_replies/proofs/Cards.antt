@@ -17,10 +17,8 @@ use Rattle.host_types.specs.declared.card.Card.{Card}
 use Rattle.host_types.specs.declared.card.CardBody.{CardBody}
 use Rattle.host_types.specs.declared.card.CardBody.TheVariants as cards
 use Rattle.host_types.specs.declared.card.CardView.{CardView}
-use Rattle.word_index.specs.Search.{search_of}
 use Rattle.request_reader.specs.Request.{Request}
 use Rattle.site_replies.specs.Lengths.{AreLengths, HasLengths}
-use Rattle.site_replies.specs.Reply.{menu_reply, locals}
 use Rattle.site_replies.specs.LaterReply.{later_card_reply, later_found_reply, later_reply_of, later_reply}
 use Rattle.site_replies.specs.Replies.{reply_bytes, answer_of, IsSized}
 use Rattle.site_replies.specs.declared.answered.Reply.{Reply}
@@ -103,14 +101,3 @@ found_up a b before r now selector card (Ok answered) here same kept honest is s
     let size = sized_seen a b selector now card answered kept honest is sizes in
     ap (λ (bytes : List ℕ). record { bytes = bytes; post = answered.post }) (sym (whole_bytes a.site now answered.reply size))
     ∙ rw here (given ∙ ap (λ (at : List ℕ). later_found_reply (visible a.site now) before r now (card_at (visible a.site now) at)) same)
-
--- the menu of what a search found before
-pub searched : {E : Type 0} (a b : SiteState) (is_plus : Bool) (now : ℕ) (scope words : List ℕ) (names : List (List ℕ)) (result : Result (List ℕ) E) → HasRead a b → IsTrue a.honest
-    → names ≡ search_of (visible a.site now) scope words
-    → (IsTrue b.honest → IfOk result (λ reply. reply ≡ menu_reply (visible b.site now) is_plus (locals names)))
-    → IfOk result (λ reply. reply ≡ menu_reply (visible a.site now) is_plus (locals (search_of (visible a.site now) scope words)))
-searched a b is_plus now scope words names (Err e) kept honest names_are given = tt
-searched a b is_plus now scope words names (Ok reply) kept honest names_are given =
-    given (still_honest a b kept honest)
-    ∙ ap (λ (s : Site). menu_reply (visible s now) is_plus (locals names)) (kept.site honest)
-    ∙ ap (λ (l : List (List ℕ)). menu_reply (visible a.site now) is_plus (locals l)) names_are

@@ -8,3 +8,4 @@ pub mod Posted
 pub mod StoredPosts
 pub mod VisibleCards
 pub mod FormCards
+pub mod FoundMenus

@@ -32,7 +32,7 @@ one_line : (o : Option (List ℕ)) → flat_map (λ line. line) (option_to_list 
 one_line None = refl
 one_line (Some line) = append-nil line
 
-line_push : {X : Type 0} (h : X → Option (List ℕ)) (xs : List X) (x : X) → flat_map (λ line. line) (filter_map h (xs ++ x ∷ [])) ≡ flat_map (λ line. line) (filter_map h xs) ++ line_bytes (h x)
+pub line_push : {X : Type 0} (h : X → Option (List ℕ)) (xs : List X) (x : X) → flat_map (λ line. line) (filter_map h (xs ++ x ∷ [])) ≡ flat_map (λ line. line) (filter_map h xs) ++ line_bytes (h x)
 line_push h xs x =
     ap (flat_map (λ line. line)) (filter_map_push h xs x)
     ∙ flat_map-append (λ (line : List ℕ). line) (filter_map h xs) (option_to_list (h x))

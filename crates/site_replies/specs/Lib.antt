@@ -6,3 +6,4 @@ pub mod Lengths
 pub mod PostReply
 pub mod LaterReply
 pub mod Fronts
+pub mod Finds

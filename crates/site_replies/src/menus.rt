@@ -1,12 +1,15 @@
 // Menus of what stands in a site.
-ghost use Rattle.std.specs.Prelude.{◌≡◌, ◌++◌, true, filter_map, flat_map, IfOk, IfErr, IsTrue, option_copied};
+ghost use Rattle.std.specs.Prelude.{◌≡◌, ◌++◌, true, All, filter_map, flat_map, IfOk, OnOk, IfErr, IsTrue, option_copied};
 ghost use Rattle.host_types.specs.Card.{card_at};
 ghost use Rattle.host_types.specs.Visible.{visible};
 ghost use Rattle.host_types.specs.Address.{address};
+ghost use Rattle.host_types.specs.Site.{Site};
+ghost use Rattle.host_types.specs.declared.menu.Entry.TheVariants.{Local};
 ghost use Rattle.host_types.specs.SiteState.{HasRead, LacksTheSame, IsReadFault};
 ghost use Rattle.host_types.specs.CrashStates.{AddsNone};
 ghost use Rattle.text_writer.specs.Menu.{found_line, entry_line, line_bytes};
 ghost use Rattle.word_index.specs.Search.{search_of};
+ghost use Rattle.site_replies.specs.Finds.{IsFindOf, found_names};
 ghost use Rattle.site_replies.specs.Reply.{locals};
 ghost use Rattle.site_replies.specs.Reads.{ReadsSite};
 ghost use Rattle.site_replies.specs.Reply as spec;
@@ -14,10 +17,10 @@ ghost use Rattle.site_replies.specs.Reply as spec;
 use crate::documents::as_text;
 use crate::entries::post_names;
 use crate::looking::front_at;
-use host_types::{Bytes, Entry, Selector, SiteFault, Stamp};
-use std::alloc::Global;
+use host_types::{Address, Bytes, Entry, Selector, SiteFault, Stamp};
+use std::alloc::{AllocError, Global};
 use text_writer::{add_link_line, add_menu_line, ended_menu};
-use word_index::SearchKeeper;
+use word_index::{Find, SearchKeeper};
 
 /// Adds the line of what stands at a selector, where it has one.
 #[tactic(auto, using(crate::proofs::AfterReads::same_address))]
@@ -139,6 +142,38 @@ fn words_asked(search: Option<&[u8]>) -> &[u8]
     }
 }
 
+/// Adds the line of a find, where it has one.
+fn add_find_line(lines: &mut Vec<u8>, front: &Address<'_>, find: &Find) -> Result<(), AllocError>
+    ensures line { (s : Site) → front.now ≡ address s → IsFindOf s find.now → OnOk result (lines.new.items ≡ lines.old.items ++ line_bytes (entry_line s (Local find.now.selector))) }
+{
+    add_menu_line(lines, front, &find.selector, &find.front)
+}
+
+/// The lines of finds that have one, in a row.
+fn lines_of_finds(alloc: Global, front: &Address<'_>, finds: &[Find]) -> Result<Vec<u8>, AllocError>
+    ensures lines { (s : Site) → front.now ≡ address s → All (IsFindOf s) finds.now → IfOk result (λ lines. lines.items ≡ flat_map (λ line. line) (filter_map (entry_line s) (locals (found_names finds.now)))) }
+{
+    let mut lines = Vec::new(alloc);
+    for find in finds {
+        add_find_line(&mut lines, front, find)?;
+    }
+    Ok(lines)
+}
+
+/// The menu of finds, behind its head where Gopher+ asked for it.
+#[tactic(auto, unfolding(text_writer::specs::Menu::menu))]
+fn finds_reply(
+    alloc: Global,
+    front: &Address<'_>,
+    is_plus: bool,
+    finds: &[Find],
+) -> Result<Bytes, AllocError>
+    ensures reply { (s : Site) → front.now ≡ address s → All (IsFindOf s) finds.now → IfOk result (λ reply. reply ≡ spec.menu_reply s is_plus (locals (found_names finds.now))) }
+{
+    let lines = lines_of_finds(alloc, front, finds)?;
+    as_text(alloc, is_plus, ended_menu(lines)?)
+}
+
 /// The menu of what a search finds.
 pub fn search_reply<S: SearchKeeper>(
     alloc: Global,
@@ -151,5 +186,5 @@ pub fn search_reply<S: SearchKeeper>(
     ensures reply { ReadsSite S.site_state S.lacks S.crash_states site.old site.new result (λ s reply. reply ≡ spec.menu_reply (visible s now) is_plus (locals (search_of (visible s now) scope.now (spec.words_asked (option_copied words.entry))))) }
 {
     let found = site.search(scope, words_asked(words), now)?;
-    names_reply(alloc, site, is_plus, found.as_slice(), now)
+    Ok(finds_reply(alloc, &site.front(), is_plus, found.as_slice())?)
 }

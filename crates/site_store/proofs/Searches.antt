@@ -11,7 +11,9 @@ use Rattle.host_types.specs.Visible.{is_fresh}
 use Rattle.host_types.specs.Words.{words_of, is_among}
 use Rattle.host_types.specs.declared.item.Item.{Item}
 use Rattle.site_records.specs.Layout.{has_word}
+use Rattle.word_index.specs.Finds.{find_of}
 use Rattle.word_index.specs.Gathered.{searched_at}
+use Rattle.word_index.specs.declared.find.Find.{Find}
 use Rattle.word_index.specs.Search.{holds, is_found}
 use Rattle.site_store.specs.FilterSearch.{all_found}
 use Rattle.site_store.specs.Walking.{Entry}
@@ -51,16 +53,16 @@ not_found scope word asked e among without =
       | false ↦ λ b. refl
     ] refl
 
-passed_over : (now : ℕ) (scope word : List ℕ) (asked : List (List ℕ)) → is_among asked word ≡ true → (old : List (List ℕ)) (e : Entry) → is_with scope word e ≡ false → searched_at now scope asked old e ≡ old
+passed_over : (now : ℕ) (scope word : List ℕ) (asked : List (List ℕ)) → is_among asked word ≡ true → (old : List Find) (e : Entry) → is_with scope word e ≡ false → searched_at now scope asked old e ≡ old
 unfolding searched_at
 passed_over now scope word asked among old e without =
-    ap (λ (b : Bool). cond (nat_lt (length old) 100 && (b && is_fresh now e)) (old ++ e.0 ∷ []) old) (not_found scope word asked e among without) ∙ unmoved (nat_lt (length old) 100) old (old ++ e.0 ∷ [])
+    ap (λ (b : Bool). cond (nat_lt (length old) 100 && (b && is_fresh now e)) (old ++ find_of e ∷ []) old) (not_found scope word asked e among without) ∙ unmoved (nat_lt (length old) 100) old (old ++ find_of e ∷ [])
 
 -- so only the items that have the word are to be looked at
 only_with : (now : ℕ) (s : Site) (scope word : List ℕ) (asked : List (List ℕ)) → is_among asked word ≡ true → fold (searched_at now scope asked) [] (items_with s scope word) ≡ all_found now s scope asked
 only_with now s scope word asked among = sym (fold_kept (searched_at now scope asked) (is_with scope word) s.items [] (passed_over now scope word asked among))
 
-looked_at : (now : ℕ) (scope word : List ℕ) (asked old : List (List ℕ)) (selector : List ℕ) (item : Item) → is_among asked word ≡ true → length old < 100 → starts_with nat_eq selector scope ≡ true → searched_at now scope asked old (selector, item) ≡ found_with now asked old selector item
+looked_at : (now : ℕ) (scope word : List ℕ) (asked : List (List ℕ)) (old : List Find) (selector : List ℕ) (item : Item) → is_among asked word ≡ true → length old < 100 → starts_with nat_eq selector scope ≡ true → searched_at now scope asked old (selector, item) ≡ found_with now asked old selector item
 unfolding searched_at
 looked_at now scope word asked old selector item among room within = rw (lt-ltb (length old) 100 room, within, all_hold (words_of item) asked word among) refl
 
@@ -87,7 +89,7 @@ holder s selector word has =
     ] refl has
 
 -- the item at the scope has the word
-pub begins_here : (now : ℕ) (s : Site) (scope word : List ℕ) (asked new : List (List ℕ)) (item : Item) → IsTrue (is_sorted byte_cmp s.items) → is_among asked word ≡ true → item_at s scope ≡ Some item → is_among (words_of item) word ≡ true → new ≡ found_with now asked [] scope item → IsLeftToFind now s scope word asked new scope
+pub begins_here : (now : ℕ) (s : Site) (scope word : List ℕ) (asked : List (List ℕ)) (new : List Find) (item : Item) → IsTrue (is_sorted byte_cmp s.items) → is_among asked word ≡ true → item_at s scope ≡ Some item → is_among (words_of item) word ≡ true → new ≡ found_with now asked [] scope item → IsLeftToFind now s scope word asked new scope
 begins_here now s scope word asked new item sorted among stands has is =
     let es = items_with s scope word in
     let passes : is_with scope word (scope, item) ≡ true = rw (begins_itself scope, has) refl in
@@ -95,13 +97,13 @@ begins_here now s scope word asked new item sorted among stands has is =
     record {
       within = begins_itself scope;
       rest =
-          ap (λ (l : List (List ℕ)). fold (searched_at now scope asked) l (rest_of es scope)) (is ∙ sym (looked_at now scope word asked [] scope item among (omega arith) (begins_itself scope)))
+          ap (λ (l : List Find). fold (searched_at now scope asked) l (rest_of es scope)) (is ∙ sym (looked_at now scope word asked [] scope item among (omega arith) (begins_itself scope)))
           ∙ ap (fold (searched_at now scope asked) []) (sym first)
           ∙ only_with now s scope word asked among;
     }
 
 -- it doesn't, or no item stands there
-pub begins_above : (now : ℕ) (s : Site) (scope word : List ℕ) (asked new : List (List ℕ)) → IsTrue (is_sorted byte_cmp s.items) → is_among asked word ≡ true → has_word (item_at s scope) word ≡ false → new ≡ [] → IsLeftToFind now s scope word asked new scope
+pub begins_above : (now : ℕ) (s : Site) (scope word : List ℕ) (asked : List (List ℕ)) (new : List Find) → IsTrue (is_sorted byte_cmp s.items) → is_among asked word ≡ true → has_word (item_at s scope) word ≡ false → new ≡ [] → IsLeftToFind now s scope word asked new scope
 begins_above now s scope word asked new sorted among lacks is =
     let es = items_with s scope word in
     let nothing : found es scope ≡ None =
@@ -115,21 +117,21 @@ begins_above now s scope word asked new sorted among lacks is =
     record {
       within = begins_itself scope;
       rest =
-          ap (λ (l : List (List ℕ)). fold (searched_at now scope asked) l (rest_of es scope)) is
+          ap (λ (l : List Find). fold (searched_at now scope asked) l (rest_of es scope)) is
           ∙ ap (fold (searched_at now scope asked) []) (all_above es scope (none_kept (is_with scope word) scope s.items (none_below s scope word)) nothing)
           ∙ only_with now s scope word asked among;
     }
 
 -- ---- one step
 
-pub stops_full : (now : ℕ) (s : Site) (scope word : List ℕ) (asked old : List (List ℕ)) (last : List ℕ) → IsLeftToFind now s scope word asked old last → 100 ≤ length old → old ≡ all_found now s scope asked
+pub stops_full : (now : ℕ) (s : Site) (scope word : List ℕ) (asked : List (List ℕ)) (old : List Find) (last : List ℕ) → IsLeftToFind now s scope word asked old last → 100 ≤ length old → old ≡ all_found now s scope asked
 stops_full now s scope word asked old last left many = sym (enough now scope asked old (rest_of (items_with s scope word) last) many) ∙ left.rest
 
 none_with : (o : Option Entry) → None ≡ option_map {U = List ℕ} (λ e. e.0) o → o ≡ None
 none_with None none = refl
 none_with (Some e) none = absurd (cc none)
 
-pub stops_last : (now : ℕ) (s : Site) (scope word : List ℕ) (asked old : List (List ℕ)) (last : List ℕ) → IsLeftToFind now s scope word asked old last → None ≡ next_with s scope word last → old ≡ all_found now s scope asked
+pub stops_last : (now : ℕ) (s : Site) (scope word : List ℕ) (asked : List (List ℕ)) (old : List Find) (last : List ℕ) → IsLeftToFind now s scope word asked old last → None ≡ next_with s scope word last → old ≡ all_found now s scope asked
 stops_last now s scope word asked old last left none =
     let es = items_with s scope word in
     ap (fold (searched_at now scope asked) old) (sym (none_left es last (none_with (next_of es last) none))) ∙ left.rest
@@ -160,31 +162,31 @@ next_item s scope word last next sorted is =
           }
     ] refl is
 
-pub goes_further : (now : ℕ) (s : Site) (scope word : List ℕ) (asked old new : List (List ℕ)) (last next : List ℕ) → IsTrue (is_sorted byte_cmp s.items) → is_among asked word ≡ true → length old < 100 → IsLeftToFind now s scope word asked old last → (n : IsNextItem s scope word last next) → new ≡ found_with now asked old next n.item → IsLeftToFind now s scope word asked new next
+pub goes_further : (now : ℕ) (s : Site) (scope word : List ℕ) (asked : List (List ℕ)) (old new : List Find) (last next : List ℕ) → IsTrue (is_sorted byte_cmp s.items) → is_among asked word ≡ true → length old < 100 → IsLeftToFind now s scope word asked old last → (n : IsNextItem s scope word last next) → new ≡ found_with now asked old next n.item → IsLeftToFind now s scope word asked new next
 goes_further now s scope word asked old new last next sorted among room left n is =
     let es = items_with s scope word in
     record {
       within = n.within;
       rest =
-          ap (λ (l : List (List ℕ)). fold (searched_at now scope asked) l (rest_of es next)) (is ∙ sym (looked_at now scope word asked old next n.item among room n.within))
+          ap (λ (l : List Find). fold (searched_at now scope asked) l (rest_of es next)) (is ∙ sym (looked_at now scope word asked old next n.item among room n.within))
           ∙ ap (fold (searched_at now scope asked) old) (sym (next_left es last (next, n.item) (sorted_kept (is_with scope word) s.items sorted) n.is_next))
           ∙ left.rest;
     }
 
 -- ---- no word is asked for
 
-nothing_asked : (now : ℕ) (scope : List ℕ) (found : List (List ℕ)) (e : Entry) → searched_at now scope [] found e ≡ found
+nothing_asked : (now : ℕ) (scope : List ℕ) (found : List Find) (e : Entry) → searched_at now scope [] found e ≡ found
 unfolding searched_at
 nothing_asked now scope found e = by (starts_with nat_eq e.0 scope) (nat_lt (length found) 100)
   where
-    by : (b c : Bool) → cond (c && ((b && false) && is_fresh now e)) (found ++ e.0 ∷ []) found ≡ found
+    by : (b c : Bool) → cond (c && ((b && false) && is_fresh now e)) (found ++ find_of e ∷ []) found ≡ found
     by true true = refl
     by false true = refl
     by b false = refl
 
 none_found : (now : ℕ) (scope : List ℕ) (es : List Entry) → fold (searched_at now scope []) [] es ≡ []
 none_found now scope [] = refl
-none_found now scope (e ∷ es) = ap (λ (l : List (List ℕ)). fold (searched_at now scope []) l es) (nothing_asked now scope [] e) ∙ none_found now scope es
+none_found now scope (e ∷ es) = ap (λ (l : List Find). fold (searched_at now scope []) l es) (nothing_asked now scope [] e) ∙ none_found now scope es
 
 pub finds_nothing : (now : ℕ) (s : Site) (scope : List ℕ) (asked : List (List ℕ)) → asked ≡ [] → all_found now s scope asked ≡ []
 finds_nothing now s scope asked none = ap (all_found now s scope) none ∙ none_found now scope s.items

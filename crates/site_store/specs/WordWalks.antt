@@ -27,6 +27,14 @@ next_with s scope word selector = option_map (λ e. e.0) (find (λ e. is_lt (byt
 abbrev pub named_by : List ℕ → List ℕ → List ℕ → Option (List ℕ)
 named_by scope word key = if starts_with nat_eq key (word_key word scope) then Some (drop (suc (suc (length word))) key) else None
 
+-- the key of a word and some selector
+abbrev pub IsKeyOf : List ℕ → List ℕ → Type 0
+IsKeyOf word key = (selector : List ℕ) × (key ≡ word_key word selector)
+
+-- the next item within the scope behind a selector of the scope, by the key of the word and that selector
+abbrev pub GoesToNext : Site → List ℕ → List ℕ → List ℕ → Option (List ℕ) → Type 0
+GoesToNext s scope word key next = (selector : List ℕ) → key ≡ word_key word selector → starts_with nat_eq selector scope ≡ true → next ≡ next_with s scope word selector
+
 -- This item, which has the word, stands at a selector of the site that is kept.
 abbrev pub StandsWith : List ℕ → List ℕ → StoreState → Item → Type 0
 StandsWith selector word h item = StandsAt selector h item × (is_among (words_of item) word ≡ true)

@@ -5,7 +5,7 @@ ghost use Rattle.site_store.specs.StoreReads.{StandsAt};
 ghost use Rattle.site_store.specs.Reads.{ReadsKnown};
 ghost use Rattle.site_store.specs.FilterSearch as spec;
 ghost use Rattle.word_index.specs.Gathered.{searched_at};
-ghost use Rattle.word_index.specs.Search.{search_of};
+ghost use Rattle.word_index.specs.Finds.{finds_of};
 ghost use Rattle.host_types.specs.Visible.{visible};
 ghost use Rattle.host_types.specs.Words as words;
 
@@ -15,14 +15,14 @@ use crate::walking::selector_after;
 use host_types::{LineList, Selector, Stamp};
 use page_store::Keeper;
 use std::alloc::Global;
-use word_index::{MOST_FOUND, SelectorList, look_at, words_in};
+use word_index::{FindList, MOST_FOUND, look_at, words_in};
 
 /// Looks at the item that is to stand at a selector: it is read where the selector begins with the scope.
 #[tactic(auto, using(crate::proofs::FilterSearches::out_of_scope))]
 fn look_in<K: Keeper>(
     alloc: Global,
     keeper: &mut K,
-    found: &mut SelectorList,
+    found: &mut FindList,
     scope: &Selector,
     asked: &LineList,
     now: Stamp,
@@ -47,7 +47,7 @@ fn look_in<K: Keeper>(
 fn step<K: Keeper>(
     alloc: Global,
     keeper: &mut K,
-    found: &mut SelectorList,
+    found: &mut FindList,
     scope: &Selector,
     asked: &LineList,
     now: Stamp,
@@ -79,10 +79,10 @@ fn search_in<K: Keeper>(
     scope: &Selector,
     asked: &LineList,
     now: Stamp,
-) -> Result<SelectorList, SiteOpenFault>
+) -> Result<FindList, SiteOpenFault>
     ensures found { ReadsKnown K.store_state K.may_need K.crash_states keeper.old keeper.new result RepresentedBy (λ s found. found ≡ spec.all_found now s scope.now asked.now) }
 {
-    let mut found = SelectorList::new(alloc);
+    let mut found = FindList::new(alloc);
     let mut selector = Selector::root();
     for _ in 0..u64::MAX {
         match step(alloc, keeper, &mut found, scope, asked, now, &mut selector) {
@@ -102,8 +102,8 @@ pub fn search_by_filter<K: Keeper>(
     scope: &Selector,
     query: &[u8],
     now: Stamp,
-) -> Result<SelectorList, SiteOpenFault>
-    ensures found { ReadsKnown K.store_state K.may_need K.crash_states keeper.old keeper.new result RepresentedBy (λ s found. found ≡ search_of (visible s now) scope.now query.now) }
+) -> Result<FindList, SiteOpenFault>
+    ensures found { ReadsKnown K.store_state K.may_need K.crash_states keeper.old keeper.new result RepresentedBy (λ s found. found ≡ finds_of (visible s now) scope.now query.now) }
 {
     let asked = words_in(alloc, query)?;
     search_in(alloc, keeper, scope, &asked, now)

@@ -26,6 +26,7 @@ mod upgrading;
 mod value_lookup;
 mod walking;
 mod whole_layout;
+mod word_keys;
 mod word_walk;
 mod writing;
 

@@ -64,17 +64,17 @@ fn front_in(bytes: &[u8]) -> Result<CardFront, SiteOpenFault>
     }
 }
 
-/// What the line of a menu says of what stands at a selector. It takes no memory.
+/// What the line of a menu says of what stands at a selector, by way of the buffer. It takes no memory.
 pub fn front_at<V: ValueLookup>(
     from: &mut V,
     selector: &Selector,
+    buffer: &mut [u8; LONGEST_VALUE],
 ) -> Result<Option<CardFront>, SiteOpenFault>
     ensures front { AlwaysReadsKnown V.store_state V.may_need V.crash_states from.old from.new result RepresentedBy (λ s front. front ≡ front_at s selector.now) }
     ensures work { ReadsPages (V.store_state from.old).height (V.store_state from.old).made (V.store_state from.new).made }
 {
     items_have_records();
-    let mut buffer = [0; LONGEST_VALUE];
-    let Some(length) = from.look_up(&item_key(selector), &mut buffer)? else {
+    let Some(length) = from.look_up(&item_key(selector), buffer)? else {
         return Ok(None);
     };
     match front_in(&buffer[..length]) {

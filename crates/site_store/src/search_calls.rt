@@ -4,7 +4,7 @@ use crate::searching::search_all;
 use crate::to_site_fault::to_site_fault;
 use host_types::{Selector, SiteFault, Stamp};
 use page_store::PinKeeper;
-use word_index::{SearchKeeper, SelectorList};
+use word_index::{FindList, SearchKeeper};
 
 impl<K: PinKeeper> SearchKeeper for DiskSite<K> {
     fn search(
@@ -12,7 +12,7 @@ impl<K: PinKeeper> SearchKeeper for DiskSite<K> {
         scope: &Selector,
         query: &[u8],
         now: Stamp,
-    ) -> Result<SelectorList, SiteFault> {
+    ) -> Result<FindList, SiteFault> {
         if !self.keeper.is_usable() {
             return Err(SiteFault::Failed);
         }

@@ -32,7 +32,7 @@ use host_types::{
     Address, Card, CardFront, Change, ChangesFault, Selector, SiteFault, SiteKeeper, SitePinFault,
     Stamp,
 };
-use page_store::PinKeeper;
+use page_store::{LONGEST_VALUE, PinKeeper};
 use std::alloc::{AllocError, Global};
 
 /// One change at its moment.
@@ -104,7 +104,8 @@ impl<K: PinKeeper> SiteKeeper for DiskSite<K> {
         // Its record is looked up.
         ensures work { ReadsPages (K.store_state self.old.keeper).height (K.store_state self.old.keeper).made (K.store_state self.new.keeper).made }
     {
-        match front_at(&mut self.keeper, selector) {
+        let mut buffer = [0; LONGEST_VALUE];
+        match front_at(&mut self.keeper, selector, &mut buffer) {
             Ok(front) => Ok(front),
             Err(fault) => Err(to_site_fault(fault)),
         }

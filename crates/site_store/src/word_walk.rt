@@ -1,7 +1,7 @@
 // The items of a site that have a word, by the keys of the words: no item is read.
-ghost use Rattle.std.specs.Prelude.{◌≡◌, ◌≤◌, nat_eq, true, All, IfOk, IfErr};
+ghost use Rattle.std.specs.Prelude.{◌≡◌, ◌≤◌, true, All, IfOk, IfErr};
 ghost use Rattle.std.specs.Prelude as list;
-ghost use Rattle.std.specs.List.{list_all, starts_with};
+ghost use Rattle.std.specs.List.{list_all};
 ghost use Rattle.host_types.specs.Site.{Site, item_at};
 ghost use Rattle.host_types.specs.Words.{words_of, is_among};
 ghost use Rattle.site_records.specs.Layout as kept;
@@ -14,9 +14,10 @@ ghost use Rattle.site_store.specs.declared.fault.SiteOpenFault.TheVariants.{BadR
 
 use crate::SiteOpenFault;
 use crate::value_lookup::ValueLookup;
+use crate::word_keys::WordKeys;
 use host_types::{Bytes, Selector};
 use page_store::{Keeper, LONGEST_KEY, LONGEST_VALUE};
-use site_records::{LONGEST_WORD, word_key};
+use site_records::{Key, LONGEST_WORD, word_key};
 
 /// Whether a word is among those of the item at a selector: there is a key of both.
 pub fn has_word<K: Keeper>(
@@ -73,42 +74,32 @@ pub fn has_all<K: Keeper>(
 
 /// The selector of which a key is that of the word, where it begins with the scope; other keys are of none.
 #[tactic(auto, using(crate::proofs::ItemWalks::refused_name))]
-fn selector_in(
-    key: &[u8],
-    scope: &Selector,
-    word: &Bytes,
-) -> Result<Option<Selector>, SiteOpenFault>
-    requires { list.length word.now ≤ LONGEST_WORD }
-    ensures selector { IfOk result (λ found. found ≡ spec.named_by scope.now word.now key.now) }
-    ensures fault { IfErr result (λ e. (e ≡ BadRecord) × IsInvalid (spec.named_by scope.now word.now key.now)) }
+fn selector_in(key: &[u8], keys: &WordKeys<'_>) -> Result<Option<Selector>, SiteOpenFault>
+    ensures selector { IfOk result (λ found. found ≡ spec.named_by keys.now.scope.now keys.now.word.now key.now) }
+    ensures fault { IfErr result (λ e. (e ≡ BadRecord) × IsInvalid (spec.named_by keys.now.scope.now keys.now.word.now key.now)) }
 {
-    if !key.starts_with(word_key(word.as_slice(), scope).as_bytes()) {
+    if !key.starts_with(keys.front.as_bytes()) {
         return Ok(None);
     }
-    match Selector::new(&key[2 + word.len()..]) {
+    match Selector::new(&key[2 + keys.word.len()..]) {
         Ok(selector) => Ok(Some(selector)),
         Err(_) => Err(SiteOpenFault::BadRecord),
     }
 }
 
-/// The selector of the first item within the scope that has the word and stands above a selector of the scope.
-pub fn next_with<K: Keeper>(
+/// The selector of the first item within the scope that has the word and stands above one of the scope, by the key of the word and that one.
+pub(crate) fn next_with<K: Keeper>(
     keeper: &mut K,
-    scope: &Selector,
-    word: &Bytes,
-    after: &Selector,
+    keys: &WordKeys<'_>,
+    after: &Key,
+    key: &mut [u8; LONGEST_KEY],
+    value: &mut [u8; LONGEST_VALUE],
 ) -> Result<Option<Selector>, SiteOpenFault>
-    requires { list.length word.now ≤ LONGEST_WORD }
-    ensures next { AlwaysReads K.store_state K.may_need K.crash_states keeper.old keeper.new result IsQuickFault (λ h next. (s : Site) → RepresentedBy h s → starts_with nat_eq after.now scope.now ≡ true → next ≡ spec.next_with s scope.now word.now after.now) }
+    requires { spec.IsKeyOf keys.now.word.now after.now }
+    ensures next { AlwaysReads K.store_state K.may_need K.crash_states keeper.old keeper.new result IsQuickFault (λ h next. (s : Site) → RepresentedBy h s → spec.GoesToNext s keys.now.scope.now keys.now.word.now after.now next) }
 {
-    let mut key = [0; LONGEST_KEY];
-    let mut value = [0; LONGEST_VALUE];
-    match keeper.next(
-        word_key(word.as_slice(), after).as_bytes(),
-        &mut key,
-        &mut value,
-    ) {
-        Ok(Some((length, _))) => selector_in(&key[..length], scope, word),
+    match keeper.next(after.as_bytes(), key, value) {
+        Ok(Some((length, _))) => selector_in(&key[..length], keys),
         Ok(None) => Ok(None),
         Err(fault) => Err(SiteOpenFault::Keeper(fault)),
     }

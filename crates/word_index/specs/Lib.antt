@@ -1,4 +1,5 @@
 pub mod Search
+pub mod Finds
 pub mod IndexChange
 pub mod Gathered
 pub mod SearchExamples

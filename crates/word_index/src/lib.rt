@@ -2,6 +2,7 @@
 #![tactic(auto)]
 
 mod changed_words;
+mod find;
 mod laws;
 mod mem_search;
 mod search_keeper;
@@ -10,6 +11,7 @@ mod word;
 mod word_list;
 
 pub use changed_words::{IndexChange, index_change};
+pub use find::{Find, FindList};
 pub use laws::worked_examples;
 pub use mem_search::{MOST_FOUND, look_at};
 pub use search_keeper::SearchKeeper;

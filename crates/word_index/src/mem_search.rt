@@ -4,12 +4,13 @@ ghost use Rattle.std.specs.List.{list_all, starts_with};
 ghost use Rattle.host_types.specs.CrashStates.{no_new_crash_state, nothing};
 ghost use Rattle.word_index.specs.Gathered.{searched_at, is_looked_into};
 ghost use Rattle.word_index.specs.Search as spec;
+ghost use Rattle.word_index.specs.Finds.{find_of, finds_of};
 ghost use Rattle.host_types.specs.Visible.{is_fresh, visible};
 ghost use Rattle.host_types.specs.Words as words;
 
 use crate::word::words_in;
 use crate::word_list::{is_among, words};
-use crate::{SearchKeeper, SelectorList};
+use crate::{Find, FindList, SearchKeeper};
 use host_types::{Item, LineList, Selector, SiteFault, Stamp};
 use mem_site::MemSite;
 use std::alloc::{AllocError, Global};
@@ -53,11 +54,11 @@ fn entries(alloc: Global, site: &MemSite) -> Result<Vec<(&Selector, &Item)>, All
     site.items().iter().collect(alloc)
 }
 
-/// Adds the selector of an item that is found, while there is room.
+/// Adds an item that is found, while there is room.
 #[tactic(auto, unfolding(crate::specs::Gathered::searched_at))]
 pub fn look_at(
     alloc: Global,
-    found: &mut SelectorList,
+    found: &mut FindList,
     scope: &Selector,
     asked: &LineList,
     now: Stamp,
@@ -71,7 +72,7 @@ pub fn look_at(
         && !entry.1.is_expired(now)
         && is_found(alloc, scope, asked, entry.0, entry.1)?
     {
-        found.push(entry.0.clone()?)?;
+        found.push(Find::of(entry.0, entry.1)?)?;
     }
     Ok(())
 }
@@ -84,10 +85,10 @@ fn search_in(
     scope: &Selector,
     asked: &LineList,
     now: Stamp,
-) -> Result<SelectorList, AllocError>
-    ensures { IfOk result (λ found. found ≡ map (λ e. e.0) (take 100 (filter (spec.is_found scope.now asked.now) (filter (is_fresh now) (map (λ e. (e.0.now, e.1.now)) entries.now))))) }
+) -> Result<FindList, AllocError>
+    ensures { IfOk result (λ found. found ≡ map find_of (take 100 (filter (spec.is_found scope.now asked.now) (filter (is_fresh now) (map (λ e. (e.0.now, e.1.now)) entries.now))))) }
 {
-    let mut found = SelectorList::new(alloc);
+    let mut found = FindList::new(alloc);
     for entry in entries {
         look_at(alloc, &mut found, scope, asked, now, *entry)?;
     }
@@ -102,8 +103,8 @@ fn search_all(
     scope: &Selector,
     query: &[u8],
     now: Stamp,
-) -> Result<SelectorList, AllocError>
-    ensures { IfOk result (λ found. found ≡ spec.search_of (visible site.now now) scope.now query.now) }
+) -> Result<FindList, AllocError>
+    ensures { IfOk result (λ found. found ≡ finds_of (visible site.now now) scope.now query.now) }
 {
     let asked = words_in(alloc, query)?;
     let entries = entries(alloc, site)?;
@@ -117,7 +118,7 @@ impl SearchKeeper for MemSite {
         scope: &Selector,
         query: &[u8],
         now: Stamp,
-    ) -> Result<SelectorList, SiteFault> {
+    ) -> Result<FindList, SiteFault> {
         let alloc = self.alloc();
         Ok(search_all(alloc, self, scope, query, now)?)
     }

@@ -5,21 +5,16 @@ ghost use Rattle.host_types.specs.Visible.{visible};
 ghost use Rattle.host_types.specs.SiteState.{HasRead, LacksTheSame, IsReadFault};
 ghost use Rattle.host_types.specs.CrashStates.{AddsNone};
 ghost use Rattle.host_types.specs.declared.site_fault.SiteFault.TheVariants.{Failed};
-ghost use Rattle.word_index.specs.Search.{search_of};
+ghost use Rattle.word_index.specs.Finds.{finds_of};
 
-use crate::SelectorList;
+use crate::FindList;
 use host_types::{Selector, SiteFault, SiteKeeper, Stamp};
 
 /// A keeper of a site that finds items by their words.
 pub trait SearchKeeper: SiteKeeper {
-    /// The first 100 items that have not expired, whose selectors begin with the scope and whose words hold all words of the query, at least one, in byte order of their selectors.
-    fn search(
-        &mut self,
-        scope: &Selector,
-        query: &[u8],
-        now: Stamp,
-    ) -> Result<SelectorList, SiteFault>
-        ensures found { IsTrue (Self.site_state self.old).honest → IfOk result (λ found. found ≡ search_of (visible (Self.site_state self.old).site now) scope.now query.now) }
+    /// The first 100 items that have not expired, whose selectors begin with the scope and whose words hold all words of the query, at least one, in byte order of their selectors, each with what the line of a menu says of it.
+    fn search(&mut self, scope: &Selector, query: &[u8], now: Stamp) -> Result<FindList, SiteFault>
+        ensures found { IsTrue (Self.site_state self.old).honest → IfOk result (λ found. found ≡ finds_of (visible (Self.site_state self.old).site now) scope.now query.now) }
         ensures kept { HasRead (Self.site_state self.old) (Self.site_state self.new) }
         ensures fault { IfErr result (IsReadFault true (Self.site_state self.old) (Self.site_state self.new)) }
         ensures reads { CountsReads result (Self.site_state self.old) (Self.site_state self.new) }

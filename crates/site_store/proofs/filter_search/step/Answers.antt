@@ -1,4 +1,5 @@
-use Rattle.std.proofs.Common.{◌≡◌, ◌≤◌, ℕ, List, Some, None, length, sym, subst, ◌∙◌}
+use Rattle.std.proofs.Common.{◌≡◌, ◌≤◌, List, Some, None, length, sym, subst, ◌∙◌}
+use Rattle.word_index.specs.declared.find.Find.{Find}
 use Rattle.site_store.specs.ReadLaws.{kept_after, none_later}
 use Rattle.site_store.specs.Walking.{selector_after}
 use Rattle.site_store.proofs.AfterReads.{done, read_on}
@@ -8,7 +9,7 @@ use Rattle.site_store.proofs.filter_search.step.Goals as goal
 pub returns-then-as_slice-ge-MOST_FOUND : goal.returns-then-as_slice-ge-MOST_FOUND
 returns-then-as_slice-ge-MOST_FOUND g c =
     let look = c.in-Ok.ensures.found in
-    let many : 100 ≤ length c.look_in.new.found = subst (λ (l : List (List ℕ)). 100 ≤ length l) c.as_slice.ensures c.if-as_slice-ge-MOST_FOUND.true in
+    let many : 100 ≤ length c.look_in.new.found = subst (λ (l : List Find). 100 ≤ length l) c.as_slice.ensures c.if-as_slice-ge-MOST_FOUND.true in
     record {
       further = done look.only look.none (λ honest s known.
           let left = known.1 in

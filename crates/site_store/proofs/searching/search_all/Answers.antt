@@ -8,15 +8,15 @@ use Rattle.site_store.proofs.FilterSearches.{all_searched}
 use Rattle.site_store.proofs.Searches.{finds_nothing}
 use Rattle.site_store.proofs.searching.search_all.Goals as goal
 
-pub search_in-requires-clause-word : goal.search_in-requires-clause-word
-search_in-requires-clause-word g c =
+pub new-keys-requires : goal.new-keys-requires
+new-keys-requires g c =
     longest_short c.as_slice-asked.result.now c.in-Some.word.now (short_words c.args.query.now c.as_slice-asked.result.now (c.as_slice-asked.ensures ∙ c.in_ok-words.ensures)) c.in-Some.ensures
 
 pub search_in-requires-clause-short : goal.search_in-requires-clause-short
 search_in-requires-clause-short g c = short_words c.args.query.now c.as_slice-asked.result.now (c.as_slice-asked.ensures ∙ c.in_ok-words.ensures)
 
 pub search_in-requires-clause-asked : goal.search_in-requires-clause-asked
-search_in-requires-clause-asked g c = longest_among c.as_slice-asked.result.now c.in-Some.word.now c.in-Some.ensures
+search_in-requires-clause-asked g c = ap (is_among c.as_slice-asked.result.now) c.new-keys.ensures.word ∙ longest_among c.as_slice-asked.result.now c.in-Some.word.now c.in-Some.ensures
 
 pub returns-in-Some : goal.returns-in-Some
 returns-in-Some g c =

@@ -2,7 +2,8 @@ use Rattle.std.specs.Prelude.{IsTrue}
 use Rattle.host_types.specs.Site.{Site}
 use Rattle.site_store.specs.Represented.{RepresentedBy}
 use Rattle.site_store.specs.StoreReads.{StoreReadsOnly, NoneFailed}
-use Rattle.site_store.specs.Searching.{IsLeftToFind}
+use Rattle.site_store.specs.Searching.{IsLeftBehind}
+use Rattle.site_store.specs.WordWalks.{IsKeyOf}
 use Rattle.site_store.proofs.searching.search_in.Given as goal
 
 -- the items with the word above the last one are left
@@ -12,5 +13,6 @@ invariant-loop g l =
     record {
       only : StoreReadsOnly store_state g.K.Keeper.may_need g.K.Keeper.crash_states l.fn.keeper l.keeper;
       none : NoneFailed (store_state l.fn.keeper) (store_state l.keeper);
-      left : IsTrue (store_state l.fn.keeper).honest → (s : Site) → RepresentedBy (store_state l.fn.keeper) s → IsLeftToFind l.now s l.scope l.word l.asked l.found l.last;
+      last : IsKeyOf l.keys.word.now l.last;
+      left : IsTrue (store_state l.fn.keeper).honest → (s : Site) → RepresentedBy (store_state l.fn.keeper) s → IsLeftBehind l.now s l.keys l.asked l.found.items l.last;
     }
