@@ -57,7 +57,7 @@ first_more s find finds here all zero d less = here
 first_more s find finds here all (suc k) d less = all k d (omega (arith, less))
 
 pub all_stand : (s : Site) (names : List (List ℕ)) → All (IsFindOf s) (filter_map (find_at s) names)
-all_stand s [] k d less = absurd (omega (arith, less))
+all_stand s [] = λ k d less. absurd (omega (arith, less))
 all_stand s (n ∷ names) =
     let rest = all_stand s names in
     elim (find_at s n) as (λ o. find_at s n ≡ o → All (IsFindOf s) (cons_option o (filter_map (find_at s) names))) [
