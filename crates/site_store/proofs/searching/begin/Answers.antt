@@ -23,7 +23,7 @@ returns-in-Ok g c =
     let look = c.in-Ok.ensures.found in
     let scope = c.args.keys.now.scope.now in
     let word = c.args.keys.now.word.now in
-    let same = c.in_ok-scope.ensures in
+    let same = c.in_ok-scope.ensures.cases in
     record {
       left = done (read_on has.only look.only) (none_later (store_state c.args.keeper.now) (store_state c.has_word.new.keeper) (store_state c.look_in.new.keeper) has.none look.none) (λ honest s kept.
           let here = holder s scope word (sym (has.gives honest s kept) ∙ c.in-Ok-true.field-0-test) in
