@@ -1,5 +1,5 @@
 use Rattle.std.proofs.Common.{◌≡◌, refl, ap, sym, ◌∙◌}
-use Rattle.host_types.specs.Words.{words_in}
+use Rattle.host_types.specs.Words.{is_among, words_in}
 use Rattle.site_store.specs.FilterSearch.{all_found}
 use Rattle.site_store.specs.ReadLaws.{not_yet}
 use Rattle.site_store.proofs.AfterReads.{done, hands_on}
@@ -23,7 +23,7 @@ returns-in-Some g c =
     let asked : c.as_slice-asked.result.now ≡ words_in c.args.query.now = c.as_slice-asked.ensures ∙ c.in_ok-words.ensures in
     record {
       found = hands_on c.args.keeper.now c.search_in.new.keeper c.search_in.result c.search_in.ensures.found
-          (λ honest found is s kept. is s kept ∙ ap (all_found c.args.now s c.args.scope.now) asked ∙ all_searched c.args.now s c.args.scope.now c.args.query.now kept.valid) (λ fault h. h);
+          (λ honest found is s kept. is s kept ∙ ap (λ q. all_found c.args.now s q c.as_slice-asked.result.now) c.new-keys.ensures.scope ∙ ap (all_found c.args.now s c.args.scope.now) asked ∙ all_searched c.args.now s c.args.scope.now c.args.query.now kept.valid) (λ fault h. h);
     }
 
 pub returns : goal.returns
