@@ -1,6 +1,7 @@
 -- What is done for an administrator's request in a turn of the office.
 use Rattle.std.specs.Prelude.{◌≡◌, ◌≢◌, ◌⊎◌, ℕ, ◌+◌, ◌-◌, ◌≤◌, Bool, true, false, not, nat_lt, Option, Some, None, Result, Ok, Err, List, [], ◌∷◌, ◌++◌, IfOk, IsUtf8, drop, length, take}
 use Rattle.host_types.specs.declared.site_fault.SiteFault.TheVariants as site
+use Rattle.group_world.specs.declared.event.Event.{Event}
 use Rattle.group_world.specs.declared.event.Event.TheVariants.{Admin}
 use Rattle.group_world.specs.declared.event.Outcome.{Outcome}
 use Rattle.group_world.specs.declared.event.Outcome.TheVariants.{Done, Fault}
@@ -14,7 +15,7 @@ use Rattle.change_file.specs.declared.fault.FileChange.TheVariants.{Change, Refu
 use Rattle.turns.specs.Turns.{Trace, trace, nothing}
 use Rattle.turns.specs.declared.wire.WireFault.{WireFault}
 use Rattle.daily_turns.specs.Tries.{write_try}
-use Rattle.turns.specs.WireCalls.{WireCall, Read, ReadFailed, ReadWaited, Wrote, WriteFailed, WriteWaited, Closed}
+use Rattle.turns.specs.WireCalls.{WireCall, HasMade, Read, ReadFailed, ReadWaited, Wrote, WriteFailed, WriteWaited, Closed}
 use Rattle.admin_lines.specs.Faults.{request_line}
 use Rattle.admin_lines.specs.Heads.{head_in}
 use Rattle.admin_lines.specs.Holds.{is_hold, held_line, held_text}
@@ -137,6 +138,10 @@ TakesStep text Holding t after rests = ByWire (λ made task rested. HoldsOnce ma
 TakesStep text (Making left count) t after rests = MakesNext text left count t after × (rests ≡ false)
 TakesStep text (Telling unsent) t after rests = ByWire (WritesOnce unsent) t after rests
 TakesStep text Over t after rests = (t ≡ nothing) × (after ≡ Over) × (rests ≡ false)
+
+-- So it was with these calls of a wire, by these events.
+abbrev pub StepsBy : (ApplyFault → List ℕ) → List WireCall → List WireCall → Task → List Event → List Outcome → Task → Bool → Type 0
+StepsBy text before now task es os after rests = HasMade before now (λ made. TakesStep text task (trace made es os) after rests)
 
 -- half a minute
 abbrev pub longest_silence : ℕ

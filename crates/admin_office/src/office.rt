@@ -9,7 +9,7 @@ use daily_server::{Desk, Office, Pace};
 use group_hub::Hub;
 use std::alloc::Global;
 use turns::Clock;
-use word_index::SearchKeeper;
+use word_search::SearchKeeper;
 
 /// The administrator's office: a gate, one request at a time, and how changes are told of that were not made.
 #[derive(Drop)]

@@ -1,11 +1,10 @@
 // One turn of a request.
 ghost use Rattle.std.specs.Prelude.{◌≡◌, if◌then◌else◌, [], ◌∷◌};
-ghost use Rattle.group_hub.specs.Calls.{HubRun};
+ghost use Rattle.group_hub.specs.Calls.{RunsHub};
 ghost use Rattle.turns.specs.Runs.{HasRun};
 ghost use Rattle.turns.specs.Turns.{trace};
-ghost use Rattle.turns.specs.WireCalls.{HasMade};
 ghost use Rattle.admin_office.specs.Offices as spec;
-ghost use Rattle.admin_office.specs.Requests.{TakesStep, MakesNext};
+ghost use Rattle.admin_office.specs.Requests.{MakesNext, StepsBy};
 ghost use Rattle.admin_office.specs.Tasks.{task_of};
 
 use crate::hearing::listen;
@@ -18,7 +17,7 @@ use group_hub::Hub;
 use host_types::{Change, SiteFault};
 use std::alloc::Global;
 use turns::Clock;
-use word_index::SearchKeeper;
+use word_search::SearchKeeper;
 
 /// A change is made before those that are left.
 fn make<S: SearchKeeper, C: Clock, T: FaultTexts>(
@@ -29,7 +28,7 @@ fn make<S: SearchKeeper, C: Clock, T: FaultTexts>(
     hub: &mut Hub<S>,
     clock: &mut C,
 ) -> Stage
-    ensures { HasRun (HubRun S.site_state S.lacks S.crash_states S.represents) hub.old hub.new (C.given clock.old) (C.given clock.new) (λ es os. MakesNext (T.says texts.now) (FileChange.Change change ∷ making.left.items) making.count (trace [] es os) (task_of result)) }
+    ensures { HasRun RunsHub hub.old hub.new (C.given clock.old) (C.given clock.new) (λ es os. MakesNext (T.says texts.now) (FileChange.Change change ∷ making.left.items) making.count (trace [] es os) (task_of result)) }
 {
     match hub.admin(change, clock.now()) {
         Ok(()) => Stage::Making(making),
@@ -45,7 +44,7 @@ fn make_next<S: SearchKeeper, C: Clock, T: FaultTexts>(
     hub: &mut Hub<S>,
     clock: &mut C,
 ) -> Stage
-    ensures { HasRun (HubRun S.site_state S.lacks S.crash_states S.represents) hub.old hub.new (C.given clock.old) (C.given clock.new) (λ es os. MakesNext (T.says texts.now) making.left.items making.count (trace [] es os) (task_of result)) }
+    ensures { HasRun RunsHub hub.old hub.new (C.given clock.old) (C.given clock.new) (λ es os. MakesNext (T.says texts.now) making.left.items making.count (trace [] es os) (task_of result)) }
 {
     let Making {
         mut left,
@@ -73,7 +72,7 @@ fn act<S: SearchKeeper, C: Clock, W: PatientWire, T: FaultTexts>(
     hub: &mut Hub<S>,
     clock: &mut C,
 ) -> (Stage, bool)
-    ensures { HasRun (HubRun S.site_state S.lacks S.crash_states S.represents) hub.old hub.new (C.given clock.old) (C.given clock.new) (λ es os. HasMade (W.calls wire.old) (W.calls wire.new) (λ made. TakesStep (T.says texts.now) (task_of stage) (trace made es os) (task_of result.0) result.1)) }
+    ensures { HasRun RunsHub hub.old hub.new (C.given clock.old) (C.given clock.new) (λ es os. StepsBy (T.says texts.now) (W.calls wire.old) (W.calls wire.new) (task_of stage) es os (task_of result.0) result.1) }
 {
     match stage {
         Stage::Hearing(heard) => listen(alloc, wire, heard),
@@ -93,7 +92,7 @@ fn move_on<S: SearchKeeper, C: Clock, W: PatientWire, T: FaultTexts>(
     clock: &mut C,
     now: u64,
 ) -> Request<W>
-    ensures run { HasRun (HubRun S.site_state S.lacks S.crash_states S.represents) hub.old hub.new (C.given clock.old) (C.given clock.new) (λ es os. HasMade (W.calls request.wire) (W.calls result.wire) (λ made. TakesStep (T.says texts.now) (task_of request.stage) (trace made es os) (task_of result.stage) result.rests)) }
+    ensures run { HasRun RunsHub hub.old hub.new (C.given clock.old) (C.given clock.new) (λ es os. StepsBy (T.says texts.now) (W.calls request.wire) (W.calls result.wire) (task_of request.stage) es os (task_of result.stage) result.rests) }
     ensures moved { result.moved ≡ (if result.rests then request.moved else now) }
 {
     let Request {
@@ -121,7 +120,7 @@ fn take_turn<S: SearchKeeper, C: Clock, W: PatientWire, T: FaultTexts>(
     called: bool,
     now: u64,
 ) -> Request<W>
-    ensures { HasRun (HubRun S.site_state S.lacks S.crash_states S.represents) hub.old hub.new (C.given clock.old) (C.given clock.new) (λ es os. spec.ForRequest W.calls (spec.HasRequestTurn (T.says texts.now) called now) request es os result) }
+    ensures { HasRun RunsHub hub.old hub.new (C.given clock.old) (C.given clock.new) (λ es os. spec.ForRequest W.calls (spec.HasRequestTurn (T.says texts.now) called now) request es os result) }
 {
     if request.is_asleep(called) {
         return request;
@@ -152,7 +151,7 @@ pub(crate) fn serve<S: SearchKeeper, C: Clock, W: PatientWire, T: FaultTexts>(
     called: bool,
     now: u64,
 ) -> Request<W>
-    ensures { HasRun (HubRun S.site_state S.lacks S.crash_states S.represents) hub.old hub.new (C.given clock.old) (C.given clock.new) (λ es os. spec.ForRequest W.calls (spec.IsServed (T.says texts.now) called now) request es os result) }
+    ensures { HasRun RunsHub hub.old hub.new (C.given clock.old) (C.given clock.new) (λ es os. spec.ForRequest W.calls (spec.IsServed (T.says texts.now) called now) request es os result) }
 {
     let request = take_turn(alloc, texts, request, hub, clock, called, now);
     dismiss_if_late(request, now)

@@ -14,7 +14,7 @@ use Rattle.common_types.specs.declared.refused.Refused.{Refused}
 use Rattle.common_types.specs.declared.refused.Refused.TheVariants as refused
 use Rattle.change_file.specs.Tables.{◌>>=◌}
 use Rattle.change_flaws.specs.Told.{RefusalsAreRead, before, is_colon, is_lf, name_behind, number_in, refusal_at, refusal_in, refusal_told, refused_named}
-use Rattle.printed_names.specs.Names.{change_line, refused_name}
+use Rattle.common_types.specs.PrintedNames.{change_line, refused_name}
 
 -- ---- where the first byte of a kind stands
 

@@ -7,7 +7,7 @@ use Rattle.toml.specs.Parse.{parse_document}
 use Rattle.change_file.specs.Tables.{◌>>=◌, is_among, text_at}
 use Rattle.change_file.specs.declared.fault.ChangeFileFault.{ChangeFileFault}
 use Rattle.change_file.specs.declared.fault.ChangeFileFault.TheVariants.{NotToml, Table, Memory}
-use Rattle.printed_names.specs.Shown.{shown}
+use Rattle.common_types.specs.Shown.{shown}
 
 -- the keys of a table, in its order
 abbrev pub keys_in : Members → List (List ℕ)

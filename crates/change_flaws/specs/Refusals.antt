@@ -8,7 +8,7 @@ use Rattle.toml.specs.Data.{Data, Members, as_table, get_member}
 use Rattle.toml.specs.Parse.{parse_document}
 use Rattle.change_file.specs.Tables.{◌>>=◌, table_at, text_at, values_at}
 use Rattle.change_flaws.specs.Flaws.{table_of}
-use Rattle.printed_names.specs.Shown.{shown}
+use Rattle.common_types.specs.Shown.{shown}
 
 -- the first of two, where it is there, and else the second
 infixr 4 ◌orelse◌

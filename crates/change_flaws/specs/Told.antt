@@ -5,7 +5,7 @@ use Rattle.common_types.specs.Digits.{is_number, number_of}
 use Rattle.common_types.specs.declared.refused.Refused.{Refused}
 use Rattle.common_types.specs.declared.refused.Refused.TheVariants as refused
 use Rattle.change_file.specs.Tables.{◌>>=◌}
-use Rattle.printed_names.specs.Names.{change_line, refused_name}
+use Rattle.common_types.specs.PrintedNames.{change_line, refused_name}
 
 abbrev pub is_lf : ℕ → Bool
 is_lf b = b == 10

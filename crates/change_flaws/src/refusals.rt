@@ -7,8 +7,7 @@ ghost use Rattle.change_flaws.specs.Refusals as spec;
 use crate::keys::{table_of, text_at};
 use crate::limits::excess;
 use crate::said::document_of;
-use common_types::Refused;
-use printed_names::escaped;
+use common_types::{Refused, escaped};
 use std::alloc::{AllocError, Global};
 use toml::Table;
 

@@ -8,7 +8,7 @@ ghost use Rattle.change_flaws.specs.Flaws as spec;
 use crate::keys::{missing_key, table_of, text_at, unknown_key, unknown_word};
 use crate::lines::{line_at, line_text};
 use change_file::ChangeFileFault;
-use printed_names::escaped;
+use common_types::escaped;
 use std::alloc::{AllocError, Global};
 use std::str::from_utf8;
 use toml::Table;

@@ -1,7 +1,7 @@
 // What is to be made where an item is put or goes.
-ghost use Rattle.std.specs.Prelude.{◌≡◌, ◌∷◌, [], IfOk, IfErr};
+ghost use Rattle.std.specs.Prelude.{◌≡◌, ◌∷◌, [], IfOk, IfErr, ◌&&◌, ◌||◌, not, is_some};
 ghost use Rattle.host_types.specs.Site.{Site};
-ghost use Rattle.host_types.specs.Change.{put, remove, keeps_cap, touched};
+ghost use Rattle.host_types.specs.Change.{put, remove, keeps_cap, is_empty, is_menu, touched};
 ghost use Rattle.host_types.specs.declared.change.Change.TheVariants.{Put, Remove};
 ghost use Rattle.change_plan.specs.Plans.{AreMade, IsPlanFault, UnlessFailed};
 ghost use Rattle.change_plan.specs.Replacements.{AreFit};
@@ -28,6 +28,20 @@ fn keeps_cap(old: Option<(u16, u64)>, new: Option<(u16, u64)>) -> bool
         (Some((old, _)), Some((new, _))) => old == new,
         _ => false,
     }
+}
+
+/// Whether the top menu would be no menu, or would expire.
+fn is_bad_root(selector: &Selector, item: &Item) -> bool
+    ensures { result ≡ (is_empty selector.now && (not (is_menu item.now.body) || is_some item.now.until)) }
+{
+    selector.as_bytes().is_empty() && (!item.body.is_menu() || item.until.is_some())
+}
+
+/// Whether a board with posts would go, or get another cap.
+fn is_not_kept(has_posts: bool, old: Option<(u16, u64)>, new: Option<(u16, u64)>) -> bool
+    ensures { result ≡ (has_posts && not (keeps_cap old new)) }
+{
+    has_posts && !keeps_cap(old, new)
 }
 
 /// Takes an item away.
@@ -78,7 +92,7 @@ pub fn plan_put<L: ItemLookup>(
     ensures reads_only { UnlessFailed result (L.reads_only lookup.old lookup.new) }
     ensures fault { IfErr result (IsPlanFault L.shows L.failed lookup.old lookup.new (λ s. put s selector item now)) }
 {
-    if selector.as_bytes().is_empty() && (!item.body.is_menu() || item.until.is_some()) {
+    if is_bad_root(&selector, &item) {
         return Err(SiteFault::Refused(Refused::Root));
     }
     if selector.is_reserved() || item.body.is_moved() {
@@ -99,7 +113,7 @@ pub fn plan_put<L: ItemLookup>(
         Ok(stand) => stand,
         Err(fault) => return Err(fault),
     };
-    if stand && !keeps_cap(board, item.body.board()) {
+    if is_not_kept(stand, board, item.body.board()) {
         return Err(SiteFault::Refused(Refused::NotEmpty));
     }
     let after = Some(item.put_over(board, now));

@@ -3,3 +3,6 @@ pub mod Counts
 pub mod Digits
 pub mod Names
 pub mod CrashStates
+pub mod KeptBytes
+pub mod Shown
+pub mod PrintedNames

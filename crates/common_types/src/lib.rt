@@ -7,6 +7,7 @@ mod digits;
 mod list;
 mod names;
 mod post_name;
+mod printing;
 mod refused;
 
 pub use byte_order::{are_same, compare_bytes};
@@ -14,4 +15,5 @@ pub use bytes::Bytes;
 pub use digits::{is_number, number_of};
 pub use list::List;
 pub use names::{Admin, GREATEST_STAMP, Host, Selector, Stamp, Title, Url, is_field, is_word};
+pub use printing::{change_line, escaped, full_name, refused_name};
 pub use refused::Refused;

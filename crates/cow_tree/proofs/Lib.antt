@@ -1,6 +1,7 @@
 pub mod Pages
 pub mod ReadsInTurn
 pub mod Reaching
+pub mod ValuesInLeaves
 pub mod Walking
 pub mod WorkDone
 pub mod Finding

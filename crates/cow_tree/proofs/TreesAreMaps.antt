@@ -89,7 +89,7 @@ leaf_map place low high bytes pairs e =
     let b = both_true (rises (map key_of f.0)) (list_all (is_between low high) (map key_of f.0)) t.0 in
     both (rises (map key_of pairs)) (list_all is_pair pairs) (subst (λ (l : List Pair). rises (map key_of l) ≡ true) (pairs_is f.0 pairs t.1) b.0) (leaf_pairs place low high bytes pairs e)
 
-walk_map : (a : ℕ → List ℕ) (bounds : Bounds) (level page : ℕ) (low : List ℕ) (high : Option (List ℕ)) (found : Found) → walk a bounds level page low high ≡ Some found → is_map found.pairs ≡ true
+pub walk_map : (a : ℕ → List ℕ) (bounds : Bounds) (level page : ℕ) (low : List ℕ) (high : Option (List ℕ)) (found : Found) → walk a bounds level page low high ≡ Some found → is_map found.pairs ≡ true
 walk_map a bounds zero page low high found e =
     let f = bind_some (leaf_of (place_in bounds 0 page) low high (a page)) (λ pairs. Some (record { pages = page ∷ []; pairs = pairs })) found e in
     ap (λ (x : Found). is_map x.pairs) (sym (some_is _ found f.2)) ∙ leaf_map (place_in bounds 0 page) low high (a page) f.0 f.1
@@ -99,7 +99,7 @@ walk_map a bounds (suc level) page low high found e =
     ap (λ (x : Found). is_map x.pairs) (sym (some_is _ found g.2))
     ∙ fan_map a bounds level (λ p lo hi x h. walk_map a bounds level p lo hi x h) f.0 low high g.0 (branch_keys (place_in bounds (suc level) page) low high (a page) f.0 f.1).1 g.1
 
-tree_map : (a : ℕ → List ℕ) (bounds : Bounds) (height page : ℕ) (found : Found) → tree_of a bounds height page ≡ Some found → is_map found.pairs ≡ true
+pub tree_map : (a : ℕ → List ℕ) (bounds : Bounds) (height page : ℕ) (found : Found) → tree_of a bounds height page ≡ Some found → is_map found.pairs ≡ true
 tree_map a bounds zero page found e = let t = test_passed (page == 0) (Some nothing_found) found e in ap (λ (x : Found). is_map x.pairs) (sym (some_is nothing_found found t.1))
 tree_map a bounds (suc level) page found e =
     let t = test_passed (nat_le level 15 && (nat_le 2 page && nat_lt page bounds.pages)) (walk a bounds level page [] None) found e in

@@ -1,9 +1,14 @@
 -- Where the entries of a page begin, kept so that the page is searched by halves.
-use Rattle.std.specs.Prelude.{◌≡◌, ◌≤◌, ◌<◌, ℕ, zero, suc, List, [], ◌∷◌, length, drop, Option, option_map, slice_get, slice_index_or, if◌then◌else◌}
+use Rattle.std.specs.Prelude.{◌≡◌, ◌≤◌, ◌<◌, ℕ, zero, suc, List, [], ◌∷◌, length, drop, Option, Some, None, IfSome, option_map, slice_get, slice_index_or, if◌then◌else◌}
 use Rattle.page_store.specs.Keys.{precedes}
 use Rattle.page_store.specs.Pages.{key_of, child_key, pair_at, child_at}
+use Rattle.page_store.specs.Content.{Found, Bounds, walk}
 use Rattle.tree_nodes.specs.PageViews.{pairs_in, children_in, entries_by_head}
+use Rattle.cow_tree.specs.KeptLeaves.{IsPart}
+use Rattle.cow_tree.specs.PinnedTrees.{bounds_at, tree_at}
+use Rattle.cow_tree.specs.declared.kept_places.KeptPlaces.{KeptPlaces}
 use Rattle.cow_tree.specs.declared.kept_places.PagePlaces.{PagePlaces}
+use Rattle.cow_tree.specs.declared.tree_root.TreeRoot.{TreeRoot}
 
 -- the entry that begins at a place of a page, where one has the form there
 abbrev pub entry_from : {E : Type 0} → (List ℕ → Option (E × List ℕ)) → List ℕ → ℕ → Option E
@@ -49,3 +54,18 @@ IsKeptOf view kept = 0 < kept.count → ArePlaces kept.level (view kept.page) ke
 -- What is kept of pages is true of them.
 abbrev pub AreKeptOf : (ℕ → List ℕ) → List PagePlaces → Type 0
 AreKeptOf view pages = (n : ℕ) (other : PagePlaces) → n < length pages → IsKeptOf view (slice_index_or pages n other)
+
+-- A page is a leaf, and what stands there is a part of a tree.
+pub record IsLeafUnder (bytes : ℕ → List ℕ) (bounds : Bounds) (page : ℕ) (tree : Found) : Type 0 where
+  pub leaf : Found
+  pub stands : walk bytes bounds 0 page [] None ≡ Some leaf
+  pub part : IsPart leaf tree
+
+-- A page is a leaf of the tree at a root, where such a tree stands.
+abbrev pub IsLeafAt : (ℕ → List ℕ) → TreeRoot → ℕ → Type 0
+IsLeafAt bytes root page = (tree : Found) → tree_at root bytes ≡ Some tree → ∥ IsLeafUnder bytes (bounds_at root) page tree ∥₁
+
+-- What is kept of pages is true of them, and the page that was looked into last is a leaf of the tree that is named with it, if any is.
+pub record IsKeptTruly (view : ℕ → List ℕ) (places : KeptPlaces) : Type 0 where
+  pub pages : AreKeptOf view places.pages.items
+  pub leaf : IfSome places.tree (λ root. IsLeafAt view root places.leaf)

@@ -1,8 +1,9 @@
-// Where the entries of pages begin: kept of pages that were looked into lately, so that these are searched by halves. Where memory lacks for it, they are searched from the front.
+// Where the entries of pages begin: kept of pages that were looked into lately, so that these are searched by halves. Where memory lacks for it, they are searched from the front. And in which leaf a value was found last, so that the next one is found there.
 ghost use Rattle.std.specs.Prelude.{◌≡◌, ◌<◌, ◌≤◌, ℕ, List, IfSome, length, slice_index_or};
-ghost use Rattle.cow_tree.specs.KeptPlaces.{ArePlaces, HasSoManyEntries, IsKeptOf, AreKeptOf};
+ghost use Rattle.cow_tree.specs.KeptPlaces.{ArePlaces, HasSoManyEntries, IsKeptOf, AreKeptOf, IsKeptTruly, IsLeafAt};
 
 use crate::page_places::{MOST_PLACES, places_in};
+use crate::tree_root::TreeRoot;
 use sector_device::PAGE_SIZE;
 use std::alloc::Global;
 
@@ -30,21 +31,25 @@ const NO_PLACES: PagePlaces = PagePlaces {
 };
 
 /// Where the entries of some pages begin. Which of its places a page has here its number tells. They lie on the heap, once there is something to keep.
-/// Beside them stands how far the last search came on each level, since keys are mostly looked up in their order.
+/// Beside them stands how far the last search came on each level, and which leaf was looked into last, with the tree that it is of where that is known, since keys are mostly looked up in their order.
 #[derive(Drop)]
 pub(crate) struct KeptPlaces {
     pages: Vec<PagePlaces>,
     near: [usize; LEVELS],
+    leaf: u32,
+    tree: Option<TreeRoot>,
 }
 
 impl KeptPlaces {
     /// Of no page.
     pub(crate) fn none(alloc: Global) -> KeptPlaces
-        ensures { (view : ℕ → List ℕ) → AreKeptOf view result.pages.items }
+        ensures { (view : ℕ → List ℕ) → IsKeptTruly view result }
     {
         KeptPlaces {
             pages: Vec::new(alloc),
             near: [0; LEVELS],
+            leaf: 0,
+            tree: None,
         }
     }
 
@@ -55,15 +60,17 @@ impl KeptPlaces {
 
     /// Keeps how many they are.
     pub(crate) fn set_near(&mut self, level: u16, count: usize)
-        ensures { self.new.pages ≡ self.old.pages }
+        ensures pages { self.new.pages ≡ self.old.pages }
+        ensures leaf { (self.new.leaf ≡ self.old.leaf) × (self.new.tree ≡ self.old.tree) }
     {
         self.near[level as usize % LEVELS] = count;
     }
 
     /// Keeps nothing any more.
     pub(crate) fn clear(&mut self)
-        ensures { (view : ℕ → List ℕ) → AreKeptOf view self.new.pages.items }
+        ensures { (view : ℕ → List ℕ) → IsKeptTruly view self.new }
     {
+        self.tree = None;
         for at in 0..self.pages.len() {
             self.pages[at].count = 0;
         }
@@ -71,7 +78,7 @@ impl KeptPlaces {
 
     /// What is kept of a page of a level.
     pub(crate) fn of(&self, level: u16, page: u32) -> Option<&PagePlaces>
-        ensures { (view : ℕ → List ℕ) → AreKeptOf view self.now.pages.items → IfSome result (λ kept. ArePlaces level (view page) kept.now.count kept.now.at) }
+        ensures { (view : ℕ → List ℕ) → IsKeptTruly view self.now → IfSome result (λ kept. ArePlaces level (view page) kept.now.count kept.now.at) }
     {
         let number = page as usize % KEPT_PAGES;
         if number >= self.pages.len() {
@@ -86,7 +93,7 @@ impl KeptPlaces {
 
     /// Makes room for all pages where there is none, and memory for it.
     fn make_room(&mut self)
-        ensures { (view : ℕ → List ℕ) → AreKeptOf view self.old.pages.items → AreKeptOf view self.new.pages.items }
+        ensures { (view : ℕ → List ℕ) → IsKeptTruly view self.old → IsKeptTruly view self.new }
     {
         if self.pages.is_empty() {
             let _ = self.pages.resize(KEPT_PAGES, NO_PLACES);
@@ -96,7 +103,7 @@ impl KeptPlaces {
 
     /// Puts what is kept of a page in its place, where there is room.
     fn put(&mut self, number: usize, kept: PagePlaces)
-        ensures { (view : ℕ → List ℕ) → AreKeptOf view self.old.pages.items → IsKeptOf view kept → AreKeptOf view self.new.pages.items }
+        ensures { (view : ℕ → List ℕ) → IsKeptTruly view self.old → IsKeptOf view kept → IsKeptTruly view self.new }
     {
         if number < self.pages.len() {
             self.pages[number] = kept;
@@ -105,11 +112,37 @@ impl KeptPlaces {
 
     /// Keeps where so many entries of a page begin, by its bytes, in place of what was kept there. Nothing is kept where memory lacks.
     pub(crate) fn keep(&mut self, level: u16, page: u32, count: u16, bytes: &[u8; PAGE_SIZE])
-        ensures { (view : ℕ → List ℕ) → AreKeptOf view self.old.pages.items → view page ≡ bytes.now → HasSoManyEntries level bytes.now count → AreKeptOf view self.new.pages.items }
+        ensures { (view : ℕ → List ℕ) → IsKeptTruly view self.old → view page ≡ bytes.now → HasSoManyEntries level bytes.now count → IsKeptTruly view self.new }
     {
         self.make_room();
         let kept = places_of(level, page, count, bytes);
         self.put(page as usize % KEPT_PAGES, kept);
+    }
+
+    /// Keeps that a page was looked into last; of which tree it is a leaf isn't known yet.
+    pub(crate) fn looked_into(&mut self, page: u32)
+        ensures kept { (view : ℕ → List ℕ) → IsKeptTruly view self.old → IsKeptTruly view self.new }
+        ensures leaf { self.new.leaf ≡ page }
+    {
+        self.tree = None;
+        self.leaf = page;
+    }
+
+    /// Keeps that the page that was looked into last is a leaf of this tree.
+    pub(crate) fn is_of(&mut self, tree: TreeRoot)
+        ensures { (view : ℕ → List ℕ) → IsKeptTruly view self.old → IsLeafAt view tree self.old.leaf → IsKeptTruly view self.new }
+    {
+        self.tree = Some(tree);
+    }
+
+    /// The page that was looked into last, where it is known to be a leaf of this tree.
+    pub(crate) fn leaf_of(&self, tree: TreeRoot) -> Option<u32>
+        ensures { (view : ℕ → List ℕ) → IsKeptTruly view self.now → IfSome result (IsLeafAt view tree) }
+    {
+        match self.tree {
+            Some(known) if known == tree => Some(self.leaf),
+            _ => None,
+        }
     }
 }
 

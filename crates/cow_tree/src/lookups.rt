@@ -7,14 +7,14 @@ ghost use Rattle.page_store.specs.Content.{tree_found};
 ghost use Rattle.page_store.specs.Batch.{pair_after};
 ghost use Rattle.page_store.specs.Work.{pages_tried};
 ghost use Rattle.cow_tree.specs.LookUps.{LooksUpValue, FillsFronts, KeepsNext};
-ghost use Rattle.cow_tree.specs.KeptPlaces.{AreKeptOf};
+ghost use Rattle.cow_tree.specs.KeptPlaces.{IsKeptTruly};
 ghost use Rattle.cow_tree.specs.KeptLeaves.{IsKeptLeaf, has_next};
 ghost use Rattle.cow_tree.specs.Opening.{IsRooted, bounds_under};
 ghost use Rattle.cow_tree.specs.PinnedTrees.{IsRootedAt, bounds_at, tree_at};
 
 use crate::kept_leaf::KeptLeaf;
 use crate::kept_places::KeptPlaces;
-use crate::kept_reads::get_under;
+use crate::kept_reads::{get_behind, get_under};
 use crate::page_fault::PageFault;
 use crate::page_reads::leaf_after;
 use crate::tree_root::TreeRoot;
@@ -31,15 +31,18 @@ pub(crate) fn find_value<D: Device>(
 ) -> Result<Option<usize>, PageFault>
     requires fits { 8 * tree.pages ≤ (D.state device.old).size }
     requires rooted { IsRootedAt tree }
-    requires kept { IsTrue (D.state device.old).honest → AreKeptOf (page_of (D.state device.old).disk.view) places.old.pages.items }
+    requires kept { IsTrue (D.state device.old).honest → IsKeptTruly (page_of (D.state device.old).disk.view) places.old }
     ensures found { LooksUpValue D.state (crash_states_of D.moment D.possible_since) (λ pages. tree_at tree pages) key.now device.old device.new buffer.old buffer.new result }
-    ensures kept { IsTrue (D.state device.new).honest → AreKeptOf (page_of (D.state device.new).disk.view) places.new.pages.items }
+    ensures kept { IsTrue (D.state device.new).honest → IsKeptTruly (page_of (D.state device.new).disk.view) places.new }
     ensures work { MadeAtMost (8 * tree.height) 0 0 (D.state device.old) (D.state device.new) }
 {
     if tree.height == 0 {
         return Ok(None);
     }
-    get_under(
+    if let Some(size) = get_behind(device, places, tree, key, buffer) {
+        return Ok(Some(size));
+    }
+    let found = get_under(
         device,
         places,
         tree.bounds(),
@@ -47,7 +50,11 @@ pub(crate) fn find_value<D: Device>(
         tree.tree,
         key,
         buffer,
-    )
+    );
+    if found.is_ok() {
+        places.is_of(tree);
+    }
+    found
 }
 
 /// Keeps the leaf of a tree that has the pair after a key, or another where there is none.

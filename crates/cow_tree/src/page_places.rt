@@ -187,6 +187,23 @@ fn pair_by_number<'a>(
     pair_there(bytes, *places.at.get(number)?)
 }
 
+/// The value of a pair of a leaf's page by its number, where that pair has this key.
+pub(crate) fn value_by_number<'a>(
+    bytes: &'a [u8; PAGE_SIZE],
+    places: &PagePlaces,
+    number: usize,
+    key: &[u8],
+) -> Option<&'a [u8]>
+    ensures value { (pairs : List Pair) → AreFoundAt (entry_from pair_at bytes.now) pairs places.now.count places.now.at → IfSome result (λ v. slice_get pairs number ≡ Some (key.now, v.now)) }
+    ensures size { IfSome result (λ v. length v.now ≤ longest_value) }
+{
+    let (own, value) = pair_by_number(bytes, places, number)?;
+    if !is_same(key, own) {
+        return None;
+    }
+    Some(value)
+}
+
 /// The value at a key of a leaf's page.
 pub(crate) fn value_by_places<'a>(
     bytes: &'a [u8; PAGE_SIZE],

@@ -7,7 +7,7 @@ use page_store::Slot;
 use tree_nodes::ImageBounds;
 
 /// Where the tree of a generation stands, and what its pages are tested against.
-#[derive(Clone, Copy, Debug)]
+#[derive(Clone, Copy, Debug, PartialEq, Eq)]
 pub(crate) struct TreeRoot {
     /// How many pages the image has.
     pub(crate) pages: u32,

@@ -5,7 +5,7 @@ use Rattle.std.proofs.lemmas.List.{append-nil, take_more, take_more_set, take_al
 use Rattle.group_world.specs.declared.event.Event.{Event}
 use Rattle.group_world.specs.declared.event.Outcome.{Outcome}
 use Rattle.turns.specs.Turns.{StepOf}
-use Rattle.daily_server.specs.Visits.{InOrderBeside}
+use Rattle.daily_server.specs.DailyClients.{InOrderBeside}
 
 beside_push : {X Y : Type 0} (step : StepOf (X × Y)) (xs ys : List X) (x y : X) (first between last : Y) (es fs : List Event) (os ps : List Outcome) → InOrderBeside step xs first es os ys between → step (x, between) fs ps (y, last) → InOrderBeside step (xs ++ x ∷ []) first (es ++ fs) (os ++ ps) (ys ++ y ∷ []) last
 beside_push step [] [] x y first between last es fs os ps done one = record {

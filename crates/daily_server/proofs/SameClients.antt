@@ -4,10 +4,10 @@ use Rattle.std.proofs.Math.ListN.{set}
 use Rattle.std.proofs.lemmas.List.{map-set, set-get_or}
 use Rattle.std.specs.List.{list_any}
 use Rattle.daily_server.specs.Rounds.{who}
-use Rattle.daily_server.specs.declared.visit.Visit.{Visit}
+use Rattle.daily_server.specs.declared.daily_client.DailyClient.{DailyClient}
 
 -- one of them is still who it was
-pub same_clients : (all now : List Visit) (i : ℕ) (d new : Visit) → map who now ≡ map who all → who new ≡ who (get_or now i d) → map who (set now i new) ≡ map who all
+pub same_clients : (all now : List DailyClient) (i : ℕ) (d new : DailyClient) → map who now ≡ map who all → who new ≡ who (get_or now i d) → map who (set now i new) ≡ map who all
 same_clients all now i d new before same =
     map-set who now i new ∙ ap (set (map who now) i) same ∙ sym (map-set who now i (get_or now i d)) ∙ ap (map who) (set-get_or now i d) ∙ before
 

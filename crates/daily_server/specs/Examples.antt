@@ -1,11 +1,11 @@
 -- Worked examples of a word of the log, and of how long a client may stay.
 use Rattle.std.specs.Prelude.{◌≡◌, true, false, codes}
-use Rattle.daily_turns.specs.declared.seat.Ending.TheVariants.{Served, Crowd}
-use Rattle.daily_turns.specs.declared.seat.SeatStage.TheVariants.{Listening, Waiting, Replying, Leaving}
+use Rattle.daily_turns.specs.declared.ready_connection.Ending.TheVariants.{Served, Crowd}
+use Rattle.daily_turns.specs.declared.ready_connection.ConnectionStage.TheVariants.{Listening, Waiting, Replying, Leaving}
 use Rattle.daily_server.specs.Limits.{is_over, longest_stay}
 use Rattle.daily_server.specs.Lines.{ending_word}
 
-pub record VisitExamples : Type 0 where
+pub record ClientExamples : Type 0 where
   pub word : ending_word Served ≡ codes "served"
   pub turned_away : ending_word Crowd ≡ codes "crowd"
   pub stays : is_over 600 100 110 139 ≡ false

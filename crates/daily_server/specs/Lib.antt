@@ -1,6 +1,6 @@
 pub mod NetCauses
-pub mod DoorCalls
-pub mod Doors
+pub mod ListenerCalls
+pub mod Listeners
 pub mod Heads
 pub mod Origins
 pub mod Posts
@@ -8,7 +8,7 @@ pub mod Sent
 pub mod Stored
 pub mod Limits
 pub mod Lines
-pub mod Visits
+pub mod DailyClients
 pub mod Offices
 pub mod Due
 pub mod Logged

@@ -1,10 +1,10 @@
 -- How long a client may stay, in seconds.
 use Rattle.std.specs.Prelude.{ℕ, ◌-◌, Bool, true, false, ◌||◌, not, nat_lt}
-use Rattle.daily_turns.specs.declared.seat.SeatStage.{SeatStage}
-use Rattle.daily_turns.specs.declared.seat.SeatStage.TheVariants.{Listening}
+use Rattle.daily_turns.specs.declared.ready_connection.ConnectionStage.{ConnectionStage}
+use Rattle.daily_turns.specs.declared.ready_connection.ConnectionStage.TheVariants.{Listening}
 
 -- How long after it came, by how far its session is and whether a line has come whole: a quarter of a minute where none has, two minutes where its request isn't whole, and ten minutes else.
-abbrev pub longest_stay : SeatStage → Bool → ℕ
+abbrev pub longest_stay : ConnectionStage → Bool → ℕ
 longest_stay (Listening id) false = 15
 longest_stay (Listening id) true = 120
 longest_stay stage has_line = 600

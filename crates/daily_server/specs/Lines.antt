@@ -1,9 +1,9 @@
 -- The line of the log for a client that has gone, without its LF.
 use Rattle.std.specs.Prelude.{ℕ, zero, suc, Option, Some, None, List, [], ◌∷◌, ◌++◌, codes, decimal}
 use Rattle.plus_blocks.specs.Date.{log_date}
-use Rattle.printed_names.specs.Shown.{shown}
-use Rattle.daily_turns.specs.declared.seat.Ending.{Ending}
-use Rattle.daily_turns.specs.declared.seat.Ending.TheVariants.{Served, Full, Failed, Cut, Late, Crowd, Often}
+use Rattle.common_types.specs.Shown.{shown}
+use Rattle.daily_turns.specs.declared.ready_connection.Ending.{Ending}
+use Rattle.daily_turns.specs.declared.ready_connection.Ending.TheVariants.{Served, Full, Failed, Cut, Late, Crowd, Often}
 use Rattle.daily_server.specs.declared.terms.LogForm.{LogForm}
 use Rattle.daily_server.specs.declared.terms.LogForm.TheVariants.{Own, Common}
 

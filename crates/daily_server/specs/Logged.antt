@@ -3,22 +3,22 @@ use Rattle.std.specs.Prelude.{◌≡◌, ℕ, Bool, true, false, Option, Some, N
 use Rattle.std.specs.List.{list_any}
 use Rattle.std.specs.Io.KnownBytes.{Appends}
 use Rattle.turns.specs.WireCalls.{WireCall, HasMade, IsSent}
-use Rattle.daily_turns.specs.Seats.{ending_of}
-use Rattle.daily_turns.specs.declared.seat.Ending.{Ending}
-use Rattle.daily_turns.specs.declared.seat.Ending.TheVariants.{Crowd}
+use Rattle.daily_turns.specs.ReadyConnections.{ending_of}
+use Rattle.daily_turns.specs.declared.ready_connection.Ending.{Ending}
+use Rattle.daily_turns.specs.declared.ready_connection.Ending.TheVariants.{Crowd}
 use Rattle.daily_server.specs.Due.{bytes_by}
 use Rattle.daily_server.specs.Lines.{log_line}
 use Rattle.daily_server.specs.Origins.{address_text}
 use Rattle.daily_server.specs.Sent.{asked_by, taken_by}
 use Rattle.daily_server.specs.Stored.{stored_by}
-use Rattle.daily_server.specs.Visits.{has_gone}
+use Rattle.daily_server.specs.DailyClients.{has_gone}
 use Rattle.daily_server.specs.declared.crowd.Away.{Away}
 use Rattle.daily_server.specs.declared.terms.LogForm.{LogForm}
-use Rattle.daily_server.specs.declared.visit.Visit.{Visit}
+use Rattle.daily_server.specs.declared.daily_client.DailyClient.{DailyClient}
 
 -- The line of a client whose session ended so: when it had gone, its address, what it asked for, how many bytes it took, and the post that it stored.
-abbrev pub line_of : LogForm → ℕ → Visit → Ending → List ℕ
-line_of form moment visit ending = log_line form moment (address_text visit.from) (asked_by visit.seat.wire.made.calls) ending (taken_by visit.seat.wire.made.calls) (stored_by visit.seat.wire.made.calls)
+abbrev pub line_of : LogForm → ℕ → DailyClient → Ending → List ℕ
+line_of form moment client ending = log_line form moment (address_text client.from) (asked_by client.connection.wire.made.calls) ending (taken_by client.connection.wire.made.calls) (stored_by client.connection.wire.made.calls)
 
 -- The line of one who was turned away: nothing was read of its connection.
 abbrev pub crowd_line : LogForm → ℕ → Away → List ℕ
@@ -40,9 +40,9 @@ module _ {L : Type 0} (contents : L → Option (List ℕ)) where
     no_memory : (whole : Bool) → IsWritten old new (no_memory_line ++ 10 ∷ []) whole → HasLine line old new
 
   -- what the log gets for a client: nothing while it is in, and else its line
-  pub data IsTold (form : LogForm) (moment : ℕ) (visit : Visit) (old new : L × List WireCall) : Type 0 where
-    in_still : has_gone visit ≡ false → new ≡ old → IsTold form moment visit old new
-    told : (ending : Ending) → ending_of visit.seat.stage ≡ Some ending → HasLine (line_of form moment visit ending) old new → IsTold form moment visit old new
+  pub data IsTold (form : LogForm) (moment : ℕ) (client : DailyClient) (old new : L × List WireCall) : Type 0 where
+    in_still : has_gone client ≡ false → new ≡ old → IsTold form moment client old new
+    told : (ending : Ending) → ending_of client.connection.stage ≡ Some ending → HasLine (line_of form moment client ending) old new → IsTold form moment client old new
 
   -- and for one who was turned away
   abbrev pub IsToldOff : LogForm → ℕ → Away → L × List WireCall → L × List WireCall → Type 0
@@ -53,16 +53,16 @@ module _ {L : Type 0} (contents : L → Option (List ℕ)) where
   AllTold Tells [] old new = new ≡ old
   AllTold Tells (x ∷ xs) old new = (mid : L × List WireCall) × Tells x old mid × AllTold Tells xs mid new
 
-  abbrev pub AreTold : LogForm → ℕ → List Visit → L × List WireCall → L × List WireCall → Type 0
-  AreTold form moment visits old new = AllTold (IsTold form moment) visits old new
+  abbrev pub AreTold : LogForm → ℕ → List DailyClient → L × List WireCall → L × List WireCall → Type 0
+  AreTold form moment clients old new = AllTold (IsTold form moment) clients old new
 
   abbrev pub AreToldOff : LogForm → ℕ → List Away → L × List WireCall → L × List WireCall → Type 0
   AreToldOff form moment crowd old new = AllTold (IsToldOff form moment) crowd old new
 
   -- What the log gets where those go out who have gone: nothing where nobody has, or was turned away; else what it gets for each, at one moment that a clock gave.
-  pub data IsLogged (form : LogForm) (given_old given_new : List ℕ) (crowd : List Away) (visits : List Visit) (old new : L × List WireCall) : Type 0 where
-    nobody : crowd ≡ [] → list_any has_gone visits ≡ false → given_new ≡ given_old → new ≡ old → IsLogged form given_old given_new crowd visits old new
-    at : (moment : ℕ) (mid : L × List WireCall) → given_new ≡ given_old ++ moment ∷ [] → AreToldOff form moment crowd old mid → AreTold form moment visits mid new → IsLogged form given_old given_new crowd visits old new
+  pub data IsLogged (form : LogForm) (given_old given_new : List ℕ) (crowd : List Away) (clients : List DailyClient) (old new : L × List WireCall) : Type 0 where
+    nobody : crowd ≡ [] → list_any has_gone clients ≡ false → given_new ≡ given_old → new ≡ old → IsLogged form given_old given_new crowd clients old new
+    at : (moment : ℕ) (mid : L × List WireCall) → given_new ≡ given_old ++ moment ∷ [] → AreToldOff form moment crowd old mid → AreTold form moment clients mid new → IsLogged form given_old given_new crowd clients old new
 
 -- What writes take of bytes that are sent is a front of them; and all of them, where the last write did not fail and took some.
 abbrev pub TakesAFront : Type 0

@@ -4,8 +4,8 @@ use Rattle.mio.specs.declared.event.event.Event.{Event as SocketEvent}
 use Rattle.group_world.specs.declared.event.Event.{Event}
 use Rattle.group_world.specs.declared.event.Outcome.{Outcome}
 use Rattle.turns.specs.Turns.{StepOf}
-use Rattle.daily_server.specs.Doors.{office_listener_token, office_wire_token}
-use Rattle.daily_server.specs.Visits.{is_called, was_in_vain}
+use Rattle.daily_server.specs.Listeners.{office_listener_token, office_wire_token}
+use Rattle.daily_server.specs.DailyClients.{is_called, was_in_vain}
 
 -- What an office does in a turn, by whether it is called and at a second of the watch: from how it was, by these events with these outcomes, to how it is.
 abbrev pub WorksOf : Type 0 → Type 1

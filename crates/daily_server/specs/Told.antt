@@ -8,9 +8,9 @@ use Rattle.old_clients.specs.AdaptedRequest.{adapted_request}
 use Rattle.old_clients.specs.Streams.{will_pass}
 use Rattle.turns.specs.WireCalls.{WireCall, Read, ReadFailed, ReadWaited, Wrote, WriteFailed, WriteWaited, Closed}
 use Rattle.daily_server.specs.Sent.{read_by}
-use Rattle.daily_server.specs.Visits.{HadTurn, WasTurnedDown, Learned, WasDismissed, IsNew, woken}
+use Rattle.daily_server.specs.DailyClients.{HadTurn, WasTurnedDown, Learned, WasDismissed, IsNew, woken}
 use Rattle.daily_server.specs.declared.terms.Terms.{Terms}
-use Rattle.daily_server.specs.declared.visit.Visit.{Visit}
+use Rattle.daily_server.specs.declared.daily_client.DailyClient.{DailyClient}
 
 -- the bytes that an event tells of
 abbrev pub bytes_told : Event → List ℕ
@@ -45,14 +45,14 @@ passed_on true sent = adapted_request sent
 passed_on false sent = sent
 
 -- Until the end is found: whatever is read next, what was told and what the client's adapter will pass on are what is passed on of all that was read.
-abbrev pub WasTold : Bool → List ℕ → Visit → Type 0
-WasTold old_client told visit = list_any is_end visit.seat.wire.made.calls ≡ false → (rest : List ℕ) → told ++ will_pass visit.seat.client.asks rest ≡ passed_on old_client (flat_map read_by visit.seat.wire.made.calls ++ rest)
+abbrev pub WasTold : Bool → List ℕ → DailyClient → Type 0
+WasTold old_client told client = list_any is_end client.connection.wire.made.calls ≡ false → (rest : List ℕ) → told ++ will_pass client.connection.adapter.asks rest ≡ passed_on old_client (flat_map read_by client.connection.wire.made.calls ++ rest)
 
 -- So it is for who comes in, behind each turn, and behind all else that is done for a client.
 pub record TellsWhatIsSent : Type 0 where
-  pub at_first : (terms : Terms) (now : ℕ) (outcome : Outcome) (visit : Visit) → IsNew terms now outcome visit → WasTold terms.old_clients [] visit
-  pub by_turn : (old_client : Bool) (told : List ℕ) (now : ℕ) (old new : Visit) (es : List Event) (os : List Outcome) → WasTold old_client told old → HadTurn now old es os new → WasTold old_client (told ++ all_told es) new
-  pub by_refusal : (old_client : Bool) (told : List ℕ) (old new : Visit) (es : List Event) (os : List Outcome) → WasTold old_client told old → WasTurnedDown old es os new → WasTold old_client (told ++ all_told es) new
-  pub by_learning : (old_client : Bool) (told : List ℕ) (old new : Visit) (es : List Event) (os : List Outcome) → WasTold old_client told old → Learned old es os new → WasTold old_client (told ++ all_told es) new
-  pub by_dismissal : (old_client : Bool) (told : List ℕ) (now : ℕ) (old new : Visit) (es : List Event) (os : List Outcome) → WasTold old_client told old → WasDismissed now old es os new → WasTold old_client (told ++ all_told es) new
-  pub by_wait : (old_client : Bool) (told : List ℕ) (visit : Visit) → WasTold old_client told visit → WasTold old_client told (woken visit)
+  pub at_first : (terms : Terms) (now : ℕ) (outcome : Outcome) (client : DailyClient) → IsNew terms now outcome client → WasTold terms.old_clients [] client
+  pub by_turn : (old_client : Bool) (told : List ℕ) (now : ℕ) (old new : DailyClient) (es : List Event) (os : List Outcome) → WasTold old_client told old → HadTurn now old es os new → WasTold old_client (told ++ all_told es) new
+  pub by_refusal : (old_client : Bool) (told : List ℕ) (old new : DailyClient) (es : List Event) (os : List Outcome) → WasTold old_client told old → WasTurnedDown old es os new → WasTold old_client (told ++ all_told es) new
+  pub by_learning : (old_client : Bool) (told : List ℕ) (old new : DailyClient) (es : List Event) (os : List Outcome) → WasTold old_client told old → Learned old es os new → WasTold old_client (told ++ all_told es) new
+  pub by_dismissal : (old_client : Bool) (told : List ℕ) (now : ℕ) (old new : DailyClient) (es : List Event) (os : List Outcome) → WasTold old_client told old → WasDismissed now old es os new → WasTold old_client (told ++ all_told es) new
+  pub by_wait : (old_client : Bool) (told : List ℕ) (client : DailyClient) → WasTold old_client told client → WasTold old_client told (woken client)

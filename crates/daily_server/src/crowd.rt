@@ -1,12 +1,12 @@
-// Who is turned away at the door, since as many of its origin are in as may be.
+// Who is turned away, since as many of its origin are in as may be.
 ghost use Rattle.std.specs.Prelude.{◌≡◌, ◌<◌, [], ◌∷◌, ◌++◌, length, filter};
 ghost use Rattle.daily_server.specs.Origins.{is_same, origin_of};
-ghost use Rattle.daily_server.specs.Visits as spec;
-ghost use Rattle.daily_server.specs.declared.visit.Visit.{Visit as Client};
+ghost use Rattle.daily_server.specs.DailyClients as spec;
+ghost use Rattle.daily_server.specs.declared.daily_client.DailyClient.{DailyClient as Client};
 
 use crate::ReadySocket;
-use crate::room::MOST_VISITS;
-use crate::visit::Visit;
+use crate::daily_client::DailyClient;
+use crate::service::MOST_CLIENTS;
 use arrayvec::ArrayVec;
 use daily_turns::ReadyWire;
 use mio::net::TcpStream;
@@ -30,7 +30,7 @@ impl Default for Away {
 }
 
 /// Who was turned away in a round, in order.
-pub type Crowd = ArrayVec<Away, MOST_VISITS>;
+pub type Crowd = ArrayVec<Away, MOST_CLIENTS>;
 
 /// Whether two addresses are of one origin.
 pub(crate) fn is_same_origin(one: IpAddr, other: IpAddr) -> bool
@@ -44,20 +44,20 @@ pub(crate) fn is_same_origin(one: IpAddr, other: IpAddr) -> bool
 }
 
 /// How many clients are of the origin of an address.
-fn count_of(visits: &[Visit], from: IpAddr) -> usize
-    ensures { result ≡ length (filter (λ (visit : Client). is_same (origin_of visit.from) (origin_of from)) visits.now) }
+fn count_of(clients: &[DailyClient], from: IpAddr) -> usize
+    ensures { result ≡ length (filter (λ (client : Client). is_same (origin_of client.from) (origin_of from)) clients.now) }
 {
-    visits
+    clients
         .iter()
-        .filter(|visit| is_same_origin(visit.from, from))
+        .filter(|client| is_same_origin(client.from, from))
         .count()
 }
 
 /// Whether as many clients of the origin of an address are in as may be.
-pub(crate) fn is_crowded(visits: &[Visit], from: IpAddr, most: u32) -> bool
-    ensures { result ≡ spec.is_crowded most visits.now from }
+pub(crate) fn is_crowded(clients: &[DailyClient], from: IpAddr, most: u32) -> bool
+    ensures { result ≡ spec.is_crowded most clients.now from }
 {
-    count_of(visits, from) >= most as usize
+    count_of(clients, from) >= most as usize
 }
 
 /// What a client is told that is turned away: its request is not read, so that it is told plainly.

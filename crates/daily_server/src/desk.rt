@@ -1,17 +1,17 @@
 // Where an office has waits tell of its own sockets. That they do no clause can say: the system holds what is watched.
-use crate::door::{OFFICE_LISTENER, OFFICE_WIRE};
+use crate::ready_listener::{OFFICE_LISTENER, OFFICE_WIRE};
 use mio::event::Source;
 use mio::{Interest, Registry};
 use std::io;
 
-/// By it an office has the waits of a room tell of its own sockets: of where it listens, and of the connection that it has.
+/// By it an office has the waits of a service tell of its own sockets: of where it listens, and of the connection that it has.
 #[derive(Drop)]
 pub struct Desk<'a> {
     registry: &'a Registry,
 }
 
 impl<'a> Desk<'a> {
-    /// The desk of the room whose waits have these sources.
+    /// The desk of the service whose waits have these sources.
     pub(crate) fn new(registry: &'a Registry) -> Self {
         Desk { registry }
     }

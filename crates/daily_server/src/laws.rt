@@ -2,13 +2,13 @@
 ghost use Rattle.std.specs.Prelude.{◌≡◌, ℕ, Bool, List, ◌++◌, take};
 ghost use Rattle.mio.specs.declared.event.event.Event.{Event as SocketEvent};
 ghost use Rattle.daily_server.specs.Due.{GivesWhatIsDue};
-ghost use Rattle.daily_server.specs.Examples.{VisitExamples};
+ghost use Rattle.daily_server.specs.Examples.{ClientExamples};
 ghost use Rattle.daily_server.specs.Logged.{TakesAFront};
 ghost use Rattle.daily_server.specs.Posts.{StaysSparing};
 ghost use Rattle.daily_server.specs.Rounds.{StaysSpread};
 ghost use Rattle.daily_server.specs.Told.{TellsWhatIsSent};
-ghost use Rattle.daily_server.specs.Visits.{woken_by, IsSameClient};
-ghost use Rattle.daily_server.specs.declared.visit.Visit.{Visit};
+ghost use Rattle.daily_server.specs.DailyClients.{woken_by, IsSameClient};
+ghost use Rattle.daily_server.specs.declared.daily_client.DailyClient.{DailyClient};
 
 use crate::Office;
 use std::io::Write;
@@ -20,7 +20,7 @@ pub fn head_of_pieces()
 
 /// A wait takes nobody's turn, and changes nothing of a client but that it rests no more.
 pub fn wait_keeps_clients()
-    ensures { (all : Bool) (events : List SocketEvent) (visit : Visit) → IsSameClient visit (woken_by all events visit) }
+    ensures { (all : Bool) (events : List SocketEvent) (client : DailyClient) → IsSameClient client (woken_by all events client) }
 {}
 
 /// What a client is given is what was drawn for its session, in order and adapted where its request was rewritten, or that it is to try again later, and nothing else.
@@ -50,5 +50,5 @@ pub fn takes_a_front()
 
 /// Worked examples.
 pub fn worked_examples()
-    ensures { VisitExamples }
+    ensures { ClientExamples }
 {}

@@ -2,7 +2,7 @@
 ghost use Rattle.std.specs.Prelude.{◌≡◌};
 ghost use Rattle.daily_server.specs.Limits as spec;
 
-use daily_turns::SeatStage;
+use daily_turns::ConnectionStage;
 
 /// For how many seconds a client may neither send nor take anything.
 pub const LONGEST_SILENCE: u64 = 30;
@@ -14,16 +14,16 @@ pub const LONGEST_LINE: u64 = 15;
 pub const LONGEST_REQUEST: u64 = 120;
 
 /// For how many seconds any may stay.
-pub const LONGEST_VISIT: u64 = 600;
+pub const LONGEST_CONNECTION: u64 = 600;
 
 /// For how many seconds a client may stay whose session is so far, by whether a line has come whole.
-pub fn longest_stay(stage: SeatStage, has_line: bool) -> u64
+pub fn longest_stay(stage: ConnectionStage, has_line: bool) -> u64
     ensures { result ≡ spec.longest_stay stage has_line }
 {
     match stage {
-        SeatStage::Listening(_) if has_line => LONGEST_REQUEST,
-        SeatStage::Listening(_) => LONGEST_LINE,
-        _ => LONGEST_VISIT,
+        ConnectionStage::Listening(_) if has_line => LONGEST_REQUEST,
+        ConnectionStage::Listening(_) => LONGEST_LINE,
+        _ => LONGEST_CONNECTION,
     }
 }
 

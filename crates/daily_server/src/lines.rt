@@ -6,10 +6,10 @@ ghost use Rattle.daily_server.specs.Lines as spec;
 ghost use Rattle.daily_server.specs.Origins as origins;
 
 use crate::LogForm;
+use common_types::escaped;
 use daily_turns::Ending;
 use host_types::Stamp;
 use plus_blocks::push_log_date;
-use printed_names::escaped;
 use std::alloc::{AllocError, Global};
 use std::net::IpAddr;
 

@@ -31,7 +31,7 @@ impl NetCause {
     }
 }
 
-/// Why a room is not opened.
+/// Why a service is not opened.
 #[derive(Clone, Copy, Debug, PartialEq, Eq, Error)]
 pub enum ListenFault {
     /// No listener was had at its address.

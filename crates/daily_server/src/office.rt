@@ -1,6 +1,6 @@
 // Who else works on a hub, behind the turns of its clients.
 ghost use Rattle.std.specs.Prelude.{◌≡◌, ℕ, Bool, List};
-ghost use Rattle.group_hub.specs.Calls.{HubRun};
+ghost use Rattle.group_hub.specs.Calls.{RunsHub};
 ghost use Rattle.group_world.specs.declared.event.Event.{Event};
 ghost use Rattle.group_world.specs.declared.event.Outcome.{Outcome};
 ghost use Rattle.turns.specs.Runs.{HasRun};
@@ -11,7 +11,7 @@ ghost use Rattle.daily_server.specs.declared.pace.Pace.TheVariants as pace;
 use crate::{Desk, Pace};
 use group_hub::Hub;
 use turns::Clock;
-use word_index::SearchKeeper;
+use word_search::SearchKeeper;
 
 /// Who else works on a hub: it has one turn a round, behind those of the clients.
 pub trait Office {
@@ -34,7 +34,7 @@ pub trait Office {
         called: bool,
         now: u64,
     )
-        ensures { HasRun (HubRun S.site_state S.lacks S.crash_states S.represents) hub.old hub.new (C.given clock.old) (C.given clock.new) (λ es os. works called now self.old es os self.new) };
+        ensures { HasRun RunsHub hub.old hub.new (C.given clock.old) (C.given clock.new) (λ es os. works called now self.old es os self.new) };
 }
 
 /// Nobody else works on the hub.

@@ -1,18 +1,18 @@
 // Serves whoever comes.
 ghost use Rattle.std.specs.Prelude.{◌≡◌, ◌+◌, ◌<◌, ◌≤◌, ℕ, List, [], ◌∷◌, ◌++◌, length, map, vec_len, vec_capacity, IfOk, IsOkAnd};
-ghost use Rattle.group_hub.specs.Calls.{HubRun};
+ghost use Rattle.group_hub.specs.Calls.{RunsHub};
 ghost use Rattle.turns.specs.Runs.{HasRun};
-ghost use Rattle.daily_server.specs.Rounds.{who, HasLetIn, HasHadTurns, AllHadTurns, HasSeenOff, ServesVisits};
+ghost use Rattle.daily_server.specs.Rounds.{who, HasLetIn, HasHadTurns, AllHadTurns, HasSeenOff, ServesInHub};
 ghost use Rattle.turns.specs.Turns.{Both, StepsInOrder, IsFlushed};
-ghost use Rattle.daily_server.specs.Visits.{HasSpace, NoVisitWaits, HadTurn, HadLimitedTurn, HadPass, IsLetThroughBy, Learned, WasDismissed, HadPasses, WereServed, ComesInOrNot, IsReceived};
+ghost use Rattle.daily_server.specs.DailyClients.{HasSpace, NoClientWaits, HadTurn, HadLimitedTurn, HadPass, IsLetThroughBy, Learned, WasDismissed, HadPasses, WereServed, ComesInOrNot, IsReceived};
 ghost use Rattle.daily_server.specs.Logged.{crowd_line, HasLine, IsTold, IsToldOff, AreTold, AreToldOff, IsLogged};
 
 use crate::crowd::{Away, Crowd, decline, is_crowded, note_away};
+use crate::daily_client::DailyClient;
 use crate::lines::{LogRecord, address_text, log_line};
 use crate::posts::{RecentPosts, take_post};
-use crate::room::{MOST_VISITS, Room, VisitFault};
+use crate::service::{DailyFault, MOST_CLIENTS, Service};
 use crate::stopwatch::Stopwatch;
-use crate::visit::Visit;
 use crate::waking::all_wait;
 use crate::written::write_out;
 use crate::{LogForm, Office, ReadySocket, Terms};
@@ -27,14 +27,14 @@ use std::io::Write;
 use std::net::IpAddr;
 use std::time::Clock as Time;
 use turns::{CallLog, Clock};
-use word_index::SearchKeeper;
+use word_search::SearchKeeper;
 
 /// How many turns each client has before others are let in, at most.
 const TURNS: u32 = 16;
 
 /// A session joins for a client that came, with a buffer that is free. It leaves at once where no memory is found for it.
 fn enter<S: SearchKeeper>(
-    visits: &mut Vec<Visit>,
+    clients: &mut Vec<DailyClient>,
     free: &mut Vec<Unsent>,
     hub: &mut Hub<S>,
     next: (TcpStream, IpAddr, Token),
@@ -42,30 +42,30 @@ fn enter<S: SearchKeeper>(
     terms: Terms,
 )
     requires { 0 < vec_len free.old }
-    ensures run { HasRun (HubRun S.site_state S.lacks S.crash_states S.represents) hub.old hub.new [] [] (λ es os. ComesInOrNot terms (HasSpace visits.old) next.1 next.2 now visits.old.items es os visits.new.items) }
-    ensures capacity { vec_capacity visits.old ≤ vec_capacity visits.new }
-    ensures each { vec_len visits.new + vec_len free.new ≡ vec_len visits.old + vec_len free.old }
+    ensures run { HasRun RunsHub hub.old hub.new [] [] (λ es os. ComesInOrNot terms (HasSpace clients.old) next.1 next.2 now clients.old.items es os clients.new.items) }
+    ensures capacity { vec_capacity clients.old ≤ vec_capacity clients.new }
+    ensures each { vec_len clients.new + vec_len free.new ≡ vec_len clients.old + vec_len free.old }
     ensures free_capacity { vec_capacity free.new ≡ vec_capacity free.old }
 {
     let (stream, from, token) = next;
     let unsent = free.pop().unwrap();
-    let visit = Visit {
-        seat: join(hub, ReadySocket::new(stream), terms.old_clients, unsent),
+    let client = DailyClient {
+        connection: join(hub, ReadySocket::new(stream), terms.old_clients, unsent),
         from,
         token,
         came: now,
         moved: now,
     };
-    if let Err(failed) = visits.push(visit) {
-        let mut visit = failed.value;
-        dismiss(hub, &mut visit.seat);
-        free.push_reserved(visit.seat.into_unsent());
+    if let Err(failed) = clients.push(client) {
+        let mut client = failed.value;
+        dismiss(hub, &mut client.connection);
+        free.push_reserved(client.connection.into_unsent());
     }
 }
 
 /// A session joins for a client that came, or it is turned away, where as many of its origin are in as may be.
 fn receive<S: SearchKeeper>(
-    visits: &mut Vec<Visit>,
+    clients: &mut Vec<DailyClient>,
     free: &mut Vec<Unsent>,
     hub: &mut Hub<S>,
     next: (TcpStream, IpAddr, Token),
@@ -75,188 +75,188 @@ fn receive<S: SearchKeeper>(
 )
     requires few { length crowd.old.items < 32 }
     requires free { 0 < vec_len free.old }
-    ensures run { HasRun (HubRun S.site_state S.lacks S.crash_states S.represents) hub.old hub.new [] [] (λ es os. IsReceived terms (HasSpace visits.old) next.1 next.2 now visits.old.items es os visits.new.items crowd.old.items crowd.new.items) }
-    ensures capacity { vec_capacity visits.old ≤ vec_capacity visits.new }
-    ensures each { vec_len visits.new + vec_len free.new ≡ vec_len visits.old + vec_len free.old }
+    ensures run { HasRun RunsHub hub.old hub.new [] [] (λ es os. IsReceived terms (HasSpace clients.old) next.1 next.2 now clients.old.items es os clients.new.items crowd.old.items crowd.new.items) }
+    ensures capacity { vec_capacity clients.old ≤ vec_capacity clients.new }
+    ensures each { vec_len clients.new + vec_len free.new ≡ vec_len clients.old + vec_len free.old }
     ensures free_capacity { vec_capacity free.new ≡ vec_capacity free.old }
     ensures few { length crowd.new.items ≤ length crowd.old.items + 1 }
 {
-    if is_crowded(visits.as_slice(), next.1, terms.most) {
+    if is_crowded(clients.as_slice(), next.1, terms.most) {
         let (stream, from, _) = next;
         let socket = decline(stream);
         note_away(crowd, from, &socket);
     } else {
-        enter(visits, free, hub, next, now, terms);
+        enter(clients, free, hub, next, now, terms);
     }
 }
 
-/// A session joins for each client that comes, as long as there is room and not too many of its origin are in. It answers who was turned away.
-fn admit<S: SearchKeeper>(room: &mut Room, hub: &mut Hub<S>, now: u64, terms: Terms) -> Crowd
-    ensures { HasRun (HubRun S.site_state S.lacks S.crash_states S.represents) hub.old hub.new [] [] (λ es os. HasLetIn terms now room.old es os room.new result.items) }
+/// A session joins for each client that comes, as long as there is space and not too many of its origin are in. It answers who was turned away.
+fn admit<S: SearchKeeper>(service: &mut Service, hub: &mut Hub<S>, now: u64, terms: Terms) -> Crowd
+    ensures { HasRun RunsHub hub.old hub.new [] [] (λ es os. HasLetIn terms now service.old es os service.new result.items) }
 {
     let mut crowd = Crowd::new();
-    for _client in 0..MOST_VISITS {
-        let Some(next) = room.next() else {
+    for _client in 0..MOST_CLIENTS {
+        let Some(next) = service.next() else {
             return crowd;
         };
-        let (visits, free) = (&mut room.visits, &mut room.free);
-        receive(visits, free, hub, next, now, terms, &mut crowd);
+        let (clients, free) = (&mut service.clients, &mut service.free);
+        receive(clients, free, hub, next, now, terms, &mut crowd);
     }
     crowd
 }
 
 /// One turn for a client.
 fn take_turn_of<S: SearchKeeper, C: Clock>(
-    visit: &mut Visit,
+    client: &mut DailyClient,
     hub: &mut Hub<S>,
     clock: &mut C,
     now: u64,
 )
-    ensures run { HasRun (HubRun S.site_state S.lacks S.crash_states S.represents) hub.old hub.new (C.given clock.old) (C.given clock.new) (λ es os. HadTurn now visit.old es os visit.new) }
-    ensures who { who visit.new ≡ who visit.old }
+    ensures run { HasRun RunsHub hub.old hub.new (C.given clock.old) (C.given clock.new) (λ es os. HadTurn now client.old es os client.new) }
+    ensures who { who client.new ≡ who client.old }
 {
-    take_turn(hub, &mut visit.seat, clock);
-    visit.note_move(now);
+    take_turn(hub, &mut client.connection, clock);
+    client.note_move(now);
 }
 
 /// A client's post came to wait. Where posts are limited, and as many of its origin came of late as may be, the client is turned down.
 fn limit_post<S: SearchKeeper>(
-    visit: &mut Visit,
+    client: &mut DailyClient,
     posts: &mut RecentPosts,
     hub: &mut Hub<S>,
     now: u64,
     most: Option<u32>,
 )
-    ensures run { HasRun (HubRun S.site_state S.lacks S.crash_states S.represents) hub.old hub.new [] [] (λ es os. IsLetThroughBy most now (visit.old, posts.old.items) es os (visit.new, posts.new.items)) }
-    ensures who { who visit.new ≡ who visit.old }
+    ensures run { HasRun RunsHub hub.old hub.new [] [] (λ es os. IsLetThroughBy most now (client.old, posts.old.items) es os (client.new, posts.new.items)) }
+    ensures who { who client.new ≡ who client.old }
 {
     let Some(most) = most else {
         return;
     };
-    if !take_post(posts, visit.from, now, most) {
-        turn_down(hub, &mut visit.seat);
+    if !take_post(posts, client.from, now, most) {
+        turn_down(hub, &mut client.connection);
     }
 }
 
 /// One turn for a client, of which a post that comes to wait in it may be one too many.
 fn take_limited_turn<S: SearchKeeper, C: Clock>(
-    visit: &mut Visit,
+    client: &mut DailyClient,
     posts: &mut RecentPosts,
     hub: &mut Hub<S>,
     clock: &mut C,
     now: u64,
     most: Option<u32>,
 )
-    ensures run { HasRun (HubRun S.site_state S.lacks S.crash_states S.represents) hub.old hub.new (C.given clock.old) (C.given clock.new) (λ es os. HadLimitedTurn most now (visit.old, posts.old.items) es os (visit.new, posts.new.items)) }
-    ensures who { who visit.new ≡ who visit.old }
+    ensures run { HasRun RunsHub hub.old hub.new (C.given clock.old) (C.given clock.new) (λ es os. HadLimitedTurn most now (client.old, posts.old.items) es os (client.new, posts.new.items)) }
+    ensures who { who client.new ≡ who client.old }
 {
-    let waited = visit.seat.stage().is_waiting();
-    take_turn_of(visit, hub, clock, now);
-    if !waited && visit.seat.stage().is_waiting() {
-        limit_post(visit, posts, hub, now, most);
+    let waited = client.connection.stage().is_waiting();
+    take_turn_of(client, hub, clock, now);
+    if !waited && client.connection.stage().is_waiting() {
+        limit_post(client, posts, hub, now, most);
     }
 }
 
 /// One turn for each client, in order.
 fn pass<S: SearchKeeper, C: Clock>(
-    visits: &mut [Visit],
+    clients: &mut [DailyClient],
     posts: &mut RecentPosts,
     hub: &mut Hub<S>,
     clock: &mut C,
     now: u64,
     most: Option<u32>,
 )
-    ensures run { HasRun (HubRun S.site_state S.lacks S.crash_states S.represents) hub.old hub.new (C.given clock.old) (C.given clock.new) (λ es os. HadPass most now (visits.old, posts.old.items) es os (visits.new, posts.new.items)) }
-    ensures clients { map who visits.new ≡ map who visits.old }
+    ensures run { HasRun RunsHub hub.old hub.new (C.given clock.old) (C.given clock.new) (λ es os. HadPass most now (clients.old, posts.old.items) es os (clients.new, posts.new.items)) }
+    ensures same_who { map who clients.new ≡ map who clients.old }
 {
-    for visit in visits.iter_mut() {
-        take_limited_turn(visit, posts, hub, clock, now, most);
+    for client in clients.iter_mut() {
+        take_limited_turn(client, posts, hub, clock, now, most);
     }
 }
 
 /// Passes over the clients, until nobody has a turn.
 fn give_turns<S: SearchKeeper, C: Clock>(
-    visits: &mut [Visit],
+    clients: &mut [DailyClient],
     posts: &mut RecentPosts,
     hub: &mut Hub<S>,
     clock: &mut C,
     now: u64,
     most: Option<u32>,
 )
-    ensures run { HasRun (HubRun S.site_state S.lacks S.crash_states S.represents) hub.old hub.new (C.given clock.old) (C.given clock.new) (λ es os. HadPasses most now (visits.old, posts.old.items) es os (visits.new, posts.new.items)) }
-    ensures clients { map who visits.new ≡ map who visits.old }
+    ensures run { HasRun RunsHub hub.old hub.new (C.given clock.old) (C.given clock.new) (λ es os. HadPasses most now (clients.old, posts.old.items) es os (clients.new, posts.new.items)) }
+    ensures same_who { map who clients.new ≡ map who clients.old }
 {
     for _pass in 0..TURNS {
-        if all_wait(visits) {
+        if all_wait(clients) {
             return;
         }
-        pass(visits, posts, hub, clock, now, most);
+        pass(clients, posts, hub, clock, now, most);
     }
 }
 
 /// A client whose post waited learns what came of it.
-fn learn_of<S: SearchKeeper>(visit: &mut Visit, hub: &mut Hub<S>)
-    ensures run { HasRun (HubRun S.site_state S.lacks S.crash_states S.represents) hub.old hub.new [] [] (λ es os. Learned visit.old es os visit.new) }
-    ensures who { who visit.new ≡ who visit.old }
+fn learn_of<S: SearchKeeper>(client: &mut DailyClient, hub: &mut Hub<S>)
+    ensures run { HasRun RunsHub hub.old hub.new [] [] (λ es os. Learned client.old es os client.new) }
+    ensures who { who client.new ≡ who client.old }
 {
-    learn(hub, &mut visit.seat);
+    learn(hub, &mut client.connection);
 }
 
 /// Each client whose post waited learns what came of it, in order.
-fn learn_all<S: SearchKeeper>(visits: &mut [Visit], hub: &mut Hub<S>)
-    ensures run { HasRun (HubRun S.site_state S.lacks S.crash_states S.represents) hub.old hub.new [] [] (λ es os. StepsInOrder Learned visits.old es os visits.new) }
-    ensures clients { map who visits.new ≡ map who visits.old }
+fn learn_all<S: SearchKeeper>(clients: &mut [DailyClient], hub: &mut Hub<S>)
+    ensures run { HasRun RunsHub hub.old hub.new [] [] (λ es os. StepsInOrder Learned clients.old es os clients.new) }
+    ensures same_who { map who clients.new ≡ map who clients.old }
 {
-    for visit in visits.iter_mut() {
-        learn_of(visit, hub);
+    for client in clients.iter_mut() {
+        learn_of(client, hub);
     }
 }
 
 /// The posts that wait are made, and their clients learn what came of them.
-fn make_posts<S: SearchKeeper>(visits: &mut [Visit], hub: &mut Hub<S>)
-    ensures run { HasRun (HubRun S.site_state S.lacks S.crash_states S.represents) hub.old hub.new [] [] (λ es os. Both IsFlushed (StepsInOrder Learned) visits.old es os visits.new) }
-    ensures clients { map who visits.new ≡ map who visits.old }
+fn make_posts<S: SearchKeeper>(clients: &mut [DailyClient], hub: &mut Hub<S>)
+    ensures run { HasRun RunsHub hub.old hub.new [] [] (λ es os. Both IsFlushed (StepsInOrder Learned) clients.old es os clients.new) }
+    ensures same_who { map who clients.new ≡ map who clients.old }
 {
     let _ = hub.flush();
-    learn_all(visits, hub);
+    learn_all(clients, hub);
 }
 
 /// A client goes whose time is over.
-fn dismiss_if_over<S: SearchKeeper>(visit: &mut Visit, hub: &mut Hub<S>, now: u64)
-    ensures run { HasRun (HubRun S.site_state S.lacks S.crash_states S.represents) hub.old hub.new [] [] (λ es os. WasDismissed now visit.old es os visit.new) }
-    ensures who { who visit.new ≡ who visit.old }
+fn dismiss_if_over<S: SearchKeeper>(client: &mut DailyClient, hub: &mut Hub<S>, now: u64)
+    ensures run { HasRun RunsHub hub.old hub.new [] [] (λ es os. WasDismissed now client.old es os client.new) }
+    ensures who { who client.new ≡ who client.old }
 {
-    if visit.is_over(now) {
-        dismiss(hub, &mut visit.seat);
+    if client.is_over(now) {
+        dismiss(hub, &mut client.connection);
     }
 }
 
 /// Whose time is over goes.
-fn dismiss_late<S: SearchKeeper>(visits: &mut [Visit], hub: &mut Hub<S>, now: u64)
-    ensures run { HasRun (HubRun S.site_state S.lacks S.crash_states S.represents) hub.old hub.new [] [] (λ es os. StepsInOrder (WasDismissed now) visits.old es os visits.new) }
-    ensures clients { map who visits.new ≡ map who visits.old }
+fn dismiss_late<S: SearchKeeper>(clients: &mut [DailyClient], hub: &mut Hub<S>, now: u64)
+    ensures run { HasRun RunsHub hub.old hub.new [] [] (λ es os. StepsInOrder (WasDismissed now) clients.old es os clients.new) }
+    ensures same_who { map who clients.new ≡ map who clients.old }
 {
-    for visit in visits.iter_mut() {
-        dismiss_if_over(visit, hub, now);
+    for client in clients.iter_mut() {
+        dismiss_if_over(client, hub, now);
     }
 }
 
 /// Turns for all clients. Then the posts that wait are made, and whose time is over goes.
 fn serve_all<S: SearchKeeper, C: Clock>(
-    visits: &mut [Visit],
+    clients: &mut [DailyClient],
     posts: &mut RecentPosts,
     hub: &mut Hub<S>,
     clock: &mut C,
     now: u64,
     most: Option<u32>,
 )
-    ensures run { HasRun (HubRun S.site_state S.lacks S.crash_states S.represents) hub.old hub.new (C.given clock.old) (C.given clock.new) (λ es os. WereServed most now (visits.old, posts.old.items) es os (visits.new, posts.new.items)) }
-    ensures clients { map who visits.new ≡ map who visits.old }
-    ensures nobody_waits { NoVisitWaits visits.new }
+    ensures run { HasRun RunsHub hub.old hub.new (C.given clock.old) (C.given clock.new) (λ es os. WereServed most now (clients.old, posts.old.items) es os (clients.new, posts.new.items)) }
+    ensures same_who { map who clients.new ≡ map who clients.old }
+    ensures nobody_waits { NoClientWaits clients.new }
 {
-    give_turns(visits, posts, hub, clock, now, most);
-    make_posts(visits, hub);
-    dismiss_late(visits, hub, now);
+    give_turns(clients, posts, hub, clock, now, most);
+    make_posts(clients, hub);
+    dismiss_late(clients, hub, now);
 }
 
 /// A line with its LF.
@@ -286,15 +286,15 @@ pub fn write_line<L: Write>(line: Result<Vec<u8>, AllocError>, log: &mut L, writ
 fn tell_if_gone<L: Write>(
     alloc: Global,
     form: LogForm,
-    visit: &Visit,
+    client: &DailyClient,
     moment: Stamp,
     log: &mut L,
     written: &mut CallLog,
 )
-    ensures { IsTold L.contents form moment visit.now (log.old, written.old.calls) (log.new, written.new.calls) }
+    ensures { IsTold L.contents form moment client.now (log.old, written.old.calls) (log.new, written.new.calls) }
 {
-    if let Some(ending) = visit.seat.stage().ending() {
-        write_line(visit.line(alloc, form, moment, ending), log, written);
+    if let Some(ending) = client.connection.stage().ending() {
+        write_line(client.line(alloc, form, moment, ending), log, written);
     }
 }
 
@@ -302,15 +302,15 @@ fn tell_if_gone<L: Write>(
 fn tell_gone<L: Write>(
     alloc: Global,
     form: LogForm,
-    visits: &[Visit],
+    clients: &[DailyClient],
     moment: Stamp,
     log: &mut L,
     written: &mut CallLog,
 )
-    ensures { AreTold L.contents form moment visits.now (log.old, written.old.calls) (log.new, written.new.calls) }
+    ensures { AreTold L.contents form moment clients.now (log.old, written.old.calls) (log.new, written.new.calls) }
 {
-    for visit in visits.iter() {
-        tell_if_gone(alloc, form, visit, moment, log, written);
+    for client in clients.iter() {
+        tell_if_gone(alloc, form, client, moment, log, written);
     }
 }
 
@@ -373,42 +373,49 @@ fn tell_crowd<L: Write>(
 fn see_off<R: Time, L: Write>(
     alloc: Global,
     form: LogForm,
-    room: &mut Room,
+    service: &mut Service,
     crowd: &[Away],
     moments: &mut SystemClock<'_, R>,
     log: &mut L,
     written: &mut CallLog,
 )
-    ensures gone { HasSeenOff room.old room.new }
-    ensures logged { IsLogged L.contents form moments.old.given.moments moments.new.given.moments crowd.now room.old.visits.items (log.old, written.old.calls) (log.new, written.new.calls) }
+    ensures gone { HasSeenOff service.old service.new }
+    ensures logged { IsLogged L.contents form moments.old.given.moments moments.new.given.moments crowd.now service.old.clients.items (log.old, written.old.calls) (log.new, written.new.calls) }
 {
-    if !crowd.is_empty() || room.has_closed() {
+    if !crowd.is_empty() || service.has_closed() {
         let moment = moments.now();
         tell_crowd(alloc, form, crowd, moment, log, written);
-        tell_gone(alloc, form, &room.visits, moment, log, written);
-        room.sweep();
+        tell_gone(alloc, form, &service.clients, moment, log, written);
+        service.sweep();
     }
 }
 
 /// Who is ready comes in, and has turns; whose time is over goes. It answers who was turned away.
 fn clients_turns<S: SearchKeeper, C: Clock>(
-    room: &mut Room,
+    service: &mut Service,
     hub: &mut Hub<S>,
     clock: &mut C,
     now: u64,
     terms: Terms,
 ) -> Crowd
-    ensures { HasRun (HubRun S.site_state S.lacks S.crash_states S.represents) hub.old hub.new (C.given clock.old) (C.given clock.new) (λ es os. HasHadTurns terms now room.old es os room.new result.items) }
+    ensures { HasRun RunsHub hub.old hub.new (C.given clock.old) (C.given clock.new) (λ es os. HasHadTurns terms now service.old es os service.new result.items) }
 {
-    let crowd = admit(room, hub, now, terms);
+    let crowd = admit(service, hub, now, terms);
     let most = terms.posts;
-    serve_all(&mut room.visits, &mut room.posts, hub, clock, now, most);
+    serve_all(
+        &mut service.clients,
+        &mut service.posts,
+        hub,
+        clock,
+        now,
+        most,
+    );
     crowd
 }
 
-/// Turns with whoever is at the door, and then one turn of the office. It answers who was turned away.
+/// Turns with whoever asks to come in, and then one turn of the office. It answers who was turned away.
 fn round<S: SearchKeeper, C: Clock, O: Office>(
-    room: &mut Room,
+    service: &mut Service,
     office: &mut O,
     hub: &mut Hub<S>,
     clock: &mut C,
@@ -416,10 +423,10 @@ fn round<S: SearchKeeper, C: Clock, O: Office>(
     now: u64,
     terms: Terms,
 ) -> Crowd
-    ensures { HasRun (HubRun S.site_state S.lacks S.crash_states S.represents) hub.old hub.new (C.given clock.old) (C.given clock.new) (λ es os. AllHadTurns O.works terms called now (room.old, office.old) es os (room.new, office.new) result.items) }
+    ensures { HasRun RunsHub hub.old hub.new (C.given clock.old) (C.given clock.new) (λ es os. AllHadTurns O.works terms called now (service.old, office.old) es os (service.new, office.new) result.items) }
 {
-    let crowd = clients_turns(room, hub, clock, now, terms);
-    office.turn(&room.desk(), hub, clock, called, now);
+    let crowd = clients_turns(service, hub, clock, now, terms);
+    office.turn(&service.desk(), hub, clock, called, now);
     crowd
 }
 
@@ -427,32 +434,32 @@ fn round<S: SearchKeeper, C: Clock, O: Office>(
 /// Where posts wait for one another they are made behind the turns of each round, and behind a round nobody waits: who did learned that the post is stored, or is asked to try again later.
 /// For each client that has gone the log gets a line, as far as it takes it. The watch is read once a round.
 /// Behind the turns of each round the office has one.
-pub fn serve_visits<S: SearchKeeper, C: Clock, R: Time, L: Write, O: Office>(
+pub fn serve_in_hub<S: SearchKeeper, C: Clock, R: Time, L: Write, O: Office>(
     alloc: Global,
     rt: &R,
     watch: &mut Stopwatch,
-    room: &mut Room,
+    service: &mut Service,
     office: &mut O,
     hub: &mut Hub<S>,
     clock: &mut C,
     log: &mut L,
     terms: Terms,
-) -> Result<(), VisitFault>
-    ensures { ServesVisits S.site_state S.lacks S.crash_states S.represents L.contents O.lets_wait O.works terms result hub.old hub.new (room.old, log.old, watch.old.read.readings, office.old) (room.new, log.new, watch.new.read.readings, office.new) (C.given clock.old) (C.given clock.new) }
+) -> Result<(), DailyFault>
+    ensures { ServesInHub L.contents O.lets_wait O.works terms result hub.old hub.new (service.old, log.old, watch.old.read.readings, office.old) (service.new, log.new, watch.new.read.readings, office.new) (C.given clock.old) (C.given clock.new) }
 {
     let mut moments = SystemClock::new(rt);
     let mut written = CallLog::new();
     for _round in 0..u64::MAX {
         if !hub.is_usable() {
-            return Err(VisitFault::Failed);
+            return Err(DailyFault::Failed);
         }
-        let called = room.wait(office.pace())?;
+        let called = service.wait(office.pace())?;
         let now = watch.seconds(rt);
-        let crowd = round(room, office, hub, clock, called, now, terms);
+        let crowd = round(service, office, hub, clock, called, now, terms);
         see_off(
             alloc,
             terms.log,
-            room,
+            service,
             crowd.as_slice(),
             &mut moments,
             log,

@@ -3,19 +3,19 @@ ghost use Rattle.std.specs.Prelude.{◌≡◌, false, map, option_map};
 ghost use Rattle.std.specs.Duration.{as_nanos};
 ghost use Rattle.mio.specs.Events.{items};
 ghost use Rattle.daily_server.specs.Offices.{names_office};
-ghost use Rattle.daily_server.specs.Visits.{all_wait, at_most_a_second, is_called, woken_by, was_in_vain};
+ghost use Rattle.daily_server.specs.DailyClients.{all_wait, at_most_a_second, is_called, woken_by, was_in_vain};
 
-use crate::door::{OFFICE_LISTENER, OFFICE_WIRE};
-use crate::room::TICK;
-use crate::visit::Visit;
+use crate::daily_client::DailyClient;
+use crate::ready_listener::{OFFICE_LISTENER, OFFICE_WIRE};
+use crate::service::TICK;
 use mio::{Events, Token};
 use std::time::Duration;
 
 /// Whether nobody has a turn.
-pub(crate) fn all_wait(visits: &[Visit]) -> bool
-    ensures { result ≡ all_wait visits.now }
+pub(crate) fn all_wait(clients: &[DailyClient]) -> bool
+    ensures { result ≡ all_wait clients.now }
 {
-    visits.iter().all(|visit| !visit.has_turn())
+    clients.iter().all(|client| !client.has_turn())
 }
 
 /// Whether an event is one of what has this token.
@@ -53,19 +53,19 @@ pub(crate) fn was_in_vain(events: &Events, patience: Option<Duration>) -> bool
 }
 
 /// A client has its turn again where an event is one of its socket.
-pub(crate) fn wake_if_called(visit: &mut Visit, events: &Events)
-    ensures { visit.new ≡ woken_by false (items events.now) visit.old }
+pub(crate) fn wake_if_called(client: &mut DailyClient, events: &Events)
+    ensures { client.new ≡ woken_by false (items events.now) client.old }
 {
-    if is_called(events, visit.token) {
-        visit.wake();
+    if is_called(events, client.token) {
+        client.wake();
     }
 }
 
 /// Each client has its turn again where an event is one of its socket.
-pub(crate) fn wake_called(visits: &mut [Visit], events: &Events)
-    ensures { visits.new ≡ map (woken_by false (items events.now)) visits.old }
+pub(crate) fn wake_called(clients: &mut [DailyClient], events: &Events)
+    ensures { clients.new ≡ map (woken_by false (items events.now)) clients.old }
 {
-    for visit in visits.iter_mut() {
-        wake_if_called(visit, events);
+    for client in clients.iter_mut() {
+        wake_if_called(client, events);
     }
 }

@@ -1,4 +1,4 @@
--- Bytes that were drawn into a room, and those of them that are kept.
+-- Bytes that were drawn into a buffer, and those of them that are kept.
 use Rattle.std.proofs.Common.{◌≡◌, ℕ, List, take, refl, ap, ◌∙◌, arith, Result, Ok, Err}
 use Rattle.std.proofs.lemmas.List.{take_all, length-take}
 use Rattle.group_world.specs.Outcomes.{draw_outcome}
@@ -13,6 +13,6 @@ drawn_again (Ok (drawn.Bytes n)) room = ap outcomes.Drawn (take_all n (take n ro
 drawn_again (Ok drawn.Finished) room = refl
 drawn_again (Err fault) room = refl
 
--- The bytes that were drawn into a room tell the outcome as the room does.
+-- The bytes that were drawn into a buffer tell the outcome as the buffer does.
 pub kept_tell : (result : Result Drawn HubFault) (room bytes : List ℕ) → bytes ≡ drawn_bytes (draw_outcome result room) → draw_outcome result bytes ≡ draw_outcome result room
 kept_tell result room bytes is = ap (draw_outcome result) is ∙ drawn_again result room

@@ -1,4 +1,4 @@
 pub mod DrawSizes
 pub mod Tries
-pub mod Seats
-pub mod SeatExamples
+pub mod ReadyConnections
+pub mod ConnectionExamples

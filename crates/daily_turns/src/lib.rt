@@ -2,14 +2,14 @@
 #![tactic(auto)]
 
 mod laws;
+mod ready_connection;
 mod ready_wire;
-mod seat;
 mod turn;
 mod unsent;
 mod writing;
 
 pub use laws::worked_examples;
+pub use ready_connection::{ConnectionStage, Ending, ReadyConnection};
 pub use ready_wire::ReadyWire;
-pub use seat::{Ending, Seat, SeatStage};
 pub use turn::{dismiss, join, learn, take_turn, turn_down};
 pub use unsent::{DRAW_SIZE, Unsent};

@@ -1,7 +1,7 @@
 // Bytes that are to be sent.
 ghost use Rattle.std.specs.Prelude.{◌≡◌, ◌≤◌, ◌<◌, ◌==◌, ◌+◌, ◌*◌, ℕ, List, [], false, length, take, drop, vec_len, IfOk};
 ghost use Rattle.arrayvec.specs.ArrayVec.{ArrayVec as Items};
-ghost use Rattle.group_hub.specs.Calls.{HubCall};
+ghost use Rattle.group_hub.specs.Calls.{CallsHub};
 ghost use Rattle.group_world.specs.declared.event.Event.TheVariants.{Draw};
 ghost use Rattle.group_world.specs.Outcomes.{draw_outcome};
 ghost use Rattle.old_clients.specs.Clients.{is_through, HasHeard, HasAnswered, HasClosed};
@@ -13,12 +13,12 @@ use group_world::{Drawn, HubFault};
 use old_clients::{ClientAdapter, PASSED};
 use std::alloc::{AllocError, Global};
 use std::marker::Model;
-use word_index::SearchKeeper;
+use word_search::SearchKeeper;
 
 /// How many bytes are drawn in a turn, at most.
 pub const DRAW_SIZE: usize = 16_384;
 
-/// The bytes of a draw that are to be sent yet, where they were drawn: on the heap, in room that one client leaves to the next. They are seen as those of an `ArrayVec`.
+/// The bytes of a draw that are to be sent yet, where they were drawn: on the heap, in a buffer that one client leaves to the next. They are seen as those of an `ArrayVec`.
 #[derive(Drop)]
 pub struct Unsent {
     room: Vec<u8>,
@@ -37,7 +37,7 @@ impl Model for Unsent {
 // What is passed on of a piece finds room there too.
 const _: () = prove!(PASSED <= DRAW_SIZE);
 
-/// These bytes in front of the room.
+/// These bytes in front of the buffer.
 fn put_front(room: &mut [u8], bytes: &[u8])
     requires { length bytes.now ≤ length room.old }
     ensures { take (length bytes.now) room.new ≡ bytes.now }
@@ -56,14 +56,14 @@ fn count_of(drawn: &Result<Drawn, HubFault>) -> usize
     }
 }
 
-/// The bytes of one draw in front of the room, and how many they are.
+/// The bytes of one draw in front of the buffer, and how many they are.
 fn draw_front<S: SearchKeeper>(
     room: &mut [u8],
     hub: &mut Hub<S>,
     id: u64,
 ) -> (Result<Drawn, HubFault>, usize)
     requires { length room.old ≡ draw_size }
-    ensures call { HubCall S.site_state S.lacks S.crash_states S.represents hub.old (Draw id draw_size) (draw_outcome result.0 (take result.1 room.new)) hub.new }
+    ensures call { CallsHub hub.old (Draw id draw_size) (draw_outcome result.0 (take result.1 room.new)) hub.new }
     ensures bytes { take result.1 room.new ≡ drawn_bytes (draw_outcome result.0 (take result.1 room.new)) }
     ensures few { result.1 ≤ draw_size }
 {
@@ -72,17 +72,24 @@ fn draw_front<S: SearchKeeper>(
     (drawn, count)
 }
 
+/// None of the bytes of a buffer.
+fn none_in(room: Vec<u8>) -> Unsent
+    requires { vec_len room ≡ draw_size }
+    ensures { result.items ≡ [] }
+{
+    Unsent {
+        room,
+        start: 0,
+        end: 0,
+    }
+}
+
 impl Unsent {
-    /// No bytes, and room for those of a draw.
+    /// No bytes, and a buffer for those of a draw.
     pub fn new(alloc: Global) -> Result<Self, AllocError>
         ensures { IfOk result (λ unsent. unsent.items ≡ []) }
     {
-        let room = vec![in alloc; 0; DRAW_SIZE]?;
-        Ok(Unsent {
-            room,
-            start: 0,
-            end: 0,
-        })
+        Ok(none_in(vec![in alloc; 0; DRAW_SIZE]?))
     }
 
     /// None of the bytes.
@@ -125,32 +132,32 @@ impl Unsent {
     }
 
     /// What is passed on of a piece that a client sent, in place of those.
-    pub(crate) fn hear(&mut self, client: &mut ClientAdapter, piece: &[u8])
+    pub(crate) fn hear(&mut self, adapter: &mut ClientAdapter, piece: &[u8])
         requires { length piece.now ≤ piece_size }
-        ensures { HasHeard client.old piece.now self.new.items client.new }
+        ensures { HasHeard adapter.old piece.now self.new.items adapter.new }
     {
-        let passed = client.hear(piece, self.room.as_mut_slice());
+        let passed = adapter.hear(piece, self.room.as_mut_slice());
         self.start = 0;
         self.end = passed;
     }
 
     /// What is sent of bytes that were drawn, in place of those.
-    pub(crate) fn answer(&mut self, client: &mut ClientAdapter, drawn: &[u8])
+    pub(crate) fn answer(&mut self, adapter: &mut ClientAdapter, drawn: &[u8])
         requires room { 40 + 8 * length drawn.now < draw_size }
-        requires adapts { is_through client.old.answers ≡ false }
-        ensures { HasAnswered client.old drawn.now self.new.items client.new }
+        requires adapts { is_through adapter.old.answers ≡ false }
+        ensures { HasAnswered adapter.old drawn.now self.new.items adapter.new }
     {
-        let given = client.answer(drawn, self.room.as_mut_slice());
+        let given = adapter.answer(drawn, self.room.as_mut_slice());
         self.start = 0;
         self.end = given;
     }
 
     /// What is left to be sent of a reply that has ended, in place of those.
-    pub(crate) fn finish(&mut self, client: &mut ClientAdapter)
-        requires { is_through client.old.answers ≡ false }
-        ensures { HasClosed client.old self.new.items client.new }
+    pub(crate) fn finish(&mut self, adapter: &mut ClientAdapter)
+        requires { is_through adapter.old.answers ≡ false }
+        ensures { HasClosed adapter.old self.new.items adapter.new }
     {
-        let given = client.close(self.room.as_mut_slice());
+        let given = adapter.close(self.room.as_mut_slice());
         self.start = 0;
         self.end = given;
     }
@@ -161,7 +168,7 @@ impl Unsent {
         hub: &mut Hub<S>,
         id: u64,
     ) -> Result<Drawn, HubFault>
-        ensures call { HubCall S.site_state S.lacks S.crash_states S.represents hub.old (Draw id draw_size) (draw_outcome result self.new.items) hub.new }
+        ensures call { CallsHub hub.old (Draw id draw_size) (draw_outcome result self.new.items) hub.new }
         ensures bytes { self.new.items ≡ drawn_bytes (draw_outcome result self.new.items) }
         ensures few { length self.new.items ≤ draw_size }
     {

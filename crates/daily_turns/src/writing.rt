@@ -2,26 +2,26 @@
 ghost use Rattle.std.specs.Prelude.{◌≡◌, false, []};
 ghost use Rattle.turns.specs.WireCalls.{HasMade};
 ghost use Rattle.turns.specs.Turns.{trace};
-ghost use Rattle.daily_turns.specs.Seats.{at, state_of, WritesOn};
+ghost use Rattle.daily_turns.specs.ReadyConnections.{at, state_of, WritesOn};
 
 use crate::ReadyWire;
-use crate::seat::{Ending, Seat, SeatStage};
+use crate::ready_connection::{ConnectionStage, Ending, ReadyConnection};
 
 /// One write of what is to be sent.
-pub(crate) fn write_on<W: ReadyWire>(seat: &mut Seat<W>)
-    requires { seat.old.waits ≡ false }
-    ensures made { HasMade (W.calls seat.old.wire) (W.calls seat.new.wire) (λ made. WritesOn (state_of seat.old) (trace made [] []) (state_of seat.new)) }
-    ensures client { seat.new.client ≡ seat.old.client }
+pub(crate) fn write_on<W: ReadyWire>(connection: &mut ReadyConnection<W>)
+    requires { connection.old.waits ≡ false }
+    ensures made { HasMade (W.calls connection.old.wire) (W.calls connection.new.wire) (λ made. WritesOn (state_of connection.old) (trace made [] []) (state_of connection.new)) }
+    ensures adapter { connection.new.adapter ≡ connection.old.adapter }
 {
-    match seat.wire.write(seat.unsent.as_slice()) {
+    match connection.wire.write(connection.unsent.as_slice()) {
         Ok(Some(count)) => {
             if count == 0 {
-                seat.become_stage(SeatStage::Leaving(Ending::Cut), b"");
+                connection.become_stage(ConnectionStage::Leaving(Ending::Cut), b"");
             } else {
-                seat.unsent.pass(count);
+                connection.unsent.pass(count);
             }
         }
-        Ok(None) => seat.waits = true,
-        Err(_) => seat.become_stage(SeatStage::Leaving(Ending::Cut), b""),
+        Ok(None) => connection.waits = true,
+        Err(_) => connection.become_stage(ConnectionStage::Leaving(Ending::Cut), b""),
     }
 }

@@ -4,7 +4,6 @@ ghost use Rattle.std.specs.Prelude.{◌≡◌, [], IfOk};
 use crate::disks::unsynced;
 use crate::keepers::pairs_of;
 use crate::made::EVENING;
-use crate::scripts::Dice;
 use crate::tested::{disk_under, fused};
 use crate::trouble::Trouble;
 use cow_tree::TreeKeeper;
@@ -18,7 +17,8 @@ use page_store::{Keeper, PinKeeper};
 use sector_device::{Device, MemDisk, SECTOR_SIZE};
 use site_store::DiskSite;
 use std::alloc::Global;
-use word_index::SearchKeeper;
+use test_help::Dice;
+use word_search::SearchKeeper;
 
 /// A site in memory whose top menu has no entries.
 pub fn in_memory(alloc: Global) -> Result<MemSite, Trouble> {

@@ -3,7 +3,7 @@ use crate::line::{Line, copy, small_number};
 use crate::trouble::Trouble;
 use page_store::{
     Banner, NewPage, Roots, Slot, open_roots, read_page, read_sector, sync_all, write_page,
-    write_pages, write_sector,
+    write_pages,
 };
 use sector_device::{Device, DeviceFault, PAGE_SIZE, SECTOR_SIZE};
 
@@ -26,7 +26,6 @@ fn of_sector<D: Device>(
         "read" => reported(device.read(n, sector)),
         "write" => reported(device.write(n, sector)),
         "read_sector" => reported(read_sector(device, n, sector)),
-        "write_sector" => reported(write_sector(device, n, sector)),
         _ => Err(Trouble::Line),
     }
 }
@@ -139,7 +138,7 @@ fn of_number<D: Device>(
     }
 }
 
-/// `sectors`, `sync`, `sync_all`, `roots`; `read N`, `read_sector N`, `read_page N`; `write N BYTES`, `write_sector N BYTES`,
+/// `sectors`, `sync`, `sync_all`, `roots`; `read N`, `read_sector N`, `read_page N`; `write N BYTES`,
 /// `write_page N BYTES` and `write_pages N BYTES`.
 pub fn call<D: Device>(
     device: &mut D,

@@ -6,12 +6,13 @@ use crate::groups::{groups, together};
 use crate::items::{change, event};
 use crate::line::{Line, number, small_number, text_of};
 use crate::once::{compacts_once, once};
-use crate::scripts::{Dice, script};
+use crate::scripts::script;
 use crate::trouble::Trouble;
 use crate::upgrades::{outcome, upgrades};
 use group_world::Event;
 use host_types::{Bytes, Change};
 use std::mem;
+use test_help::Dice;
 
 /// `survives CALLS`: whether the events are all answered on a disk with the image that crashes after so many calls. What the crash leaves is
 /// always one of the sites that are named, and can be used.

@@ -9,7 +9,7 @@ use page_store::{Keeper, KeeperFault, LONGEST_KEY, LONGEST_VALUE, PinKeeper};
 use sector_device::{Device, MemDisk, SECTOR_SIZE};
 use site_store::DiskSite;
 use std::alloc::Global;
-use word_index::SearchKeeper;
+use word_search::SearchKeeper;
 
 type Site = DiskSite<TreeKeeper<MemDisk>>;
 

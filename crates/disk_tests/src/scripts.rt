@@ -1,39 +1,13 @@
 // Scripts of events by a seeded generator.
-ghost use Rattle.std.specs.Prelude.{◌<◌};
 
 use crate::trouble::Trouble;
 use group_world::Event;
 use host_types::{Bytes, Change, Stamp};
 use std::alloc::Global;
+use test_help::Dice;
 
 /// The greatest room of a draw.
 const ROOM: usize = 4096;
-
-/// Numbers that look random, by a seed.
-#[derive(Drop)]
-pub(crate) struct Dice {
-    state: u64,
-}
-
-impl Dice {
-    pub fn new(seed: u64) -> Self {
-        Dice {
-            state: seed.wrapping_mul(0x9e37_79b9_7f4a_7c15).wrapping_add(1),
-        }
-    }
-
-    /// A number below the count of sides.
-    pub fn roll(&mut self, sides: usize) -> usize
-        requires { 0 < sides }
-        ensures { result < sides }
-    {
-        self.state = self
-            .state
-            .wrapping_mul(6_364_136_223_846_793_005)
-            .wrapping_add(1_442_695_040_888_963_407);
-        (self.state >> 33) as usize % sides
-    }
-}
 
 /// A request, whole or in two pieces; now and then its end is missing.
 fn ask(

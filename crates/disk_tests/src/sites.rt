@@ -7,7 +7,7 @@ use host_types::{Card, CardBody, Selector, SiteKeeper, Stamp};
 use page_store::{CompactKeeper, Keeper, PinKeeper};
 use site_store::DiskSite;
 use std::alloc::Global;
-use word_index::SearchKeeper;
+use word_search::SearchKeeper;
 
 /// What sort of body it is.
 fn sort(body: &CardBody) -> &'static str {

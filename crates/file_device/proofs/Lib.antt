@@ -3,3 +3,4 @@ pub mod Opened
 pub mod Pages
 pub mod Pieces
 pub mod Shown
+pub mod PageCalls

@@ -1,8 +1,9 @@
 -- The calls that were made of a file, and the disk that they make.
-use Rattle.std.specs.Prelude.{◌≡◌, ◌⊎◌, ◌≤◌, ℕ, suc, Bool, true, false, if◌then◌else◌, Result, Ok, Err, List, [], ◌∷◌, ◌++◌, length}
+use Rattle.std.specs.Prelude.{◌≡◌, ◌⊎◌, ◌≤◌, ◌+◌, ◌*◌, ℕ, zero, suc, Bool, true, false, if◌then◌else◌, Result, Ok, Err, List, [], ◌∷◌, ◌++◌, length}
 use Rattle.sector_device.specs.Disk.{Disk, IsImage, written, listed, synced}
 use Rattle.sector_device.specs.CallsMade.{CallsMade, with_call}
 use Rattle.sector_device.specs.Device.{State}
+use Rattle.sector_device.specs.Steps.{chunk}
 use Rattle.sector_device.specs.declared.call_counts.CallKind.TheVariants as kinds
 use Rattle.file_device.specs.declared.file_call.FileCall.{FileCall}
 use Rattle.file_device.specs.declared.file_call.FileCall.TheVariants.{Open, OpenToRead, Create, Lock, SetLength, Sync, DropCache, ReadAhead, Length, Read, Write, FailedWrite, FailedSync}
@@ -58,6 +59,16 @@ after sound FailedSync d = d
 abbrev pub read_calls : ℕ → List (List ℕ) → List FileCall → List FileCall
 read_calls n [] earlier = earlier
 read_calls n (bytes ∷ sectors) earlier = read_calls (suc n) sectors (Read n bytes ∷ earlier)
+
+-- Such a call for each of so many sectors from this one on, with their parts of these bytes, and before them the earlier calls.
+unfoldable pub page_calls : (ℕ → List ℕ → FileCall) → ℕ → List ℕ → ℕ → List FileCall → List FileCall
+page_calls call first bytes zero earlier = earlier
+page_calls call first bytes (suc k) earlier = call (first + k) (chunk bytes k) ∷ page_calls call first bytes k earlier
+
+-- how the one call that writes a page is noted, by its answer
+abbrev pub noted_page : {T E : Type 0} → Result T E → ℕ → List ℕ → List FileCall → List FileCall
+noted_page (Ok _) n bytes earlier = page_calls Write (8 * n) bytes 8 earlier
+noted_page (Err _) n bytes earlier = page_calls FailedWrite (8 * n) bytes 8 earlier
 
 -- a disk without sectors
 abbrev pub no_sectors : Disk

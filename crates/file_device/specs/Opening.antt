@@ -2,7 +2,7 @@
 use Rattle.std.specs.Prelude.{◌≡◌, ℕ, zero, suc, ◌/◌, true, false, IsErr, Result, List, [], ◌∷◌}
 use Rattle.sector_device.specs.Sizes.{sector_size}
 use Rattle.sector_device.specs.CallsMade.{none_made}
-use Rattle.file_device.specs.FileCalls.{FileHistory, is_sound, no_sectors, disk_of, noted}
+use Rattle.file_device.specs.FileCalls.{FileHistory, is_sound, no_sectors, disk_of, noted, noted_page}
 use Rattle.file_device.specs.declared.file_call.FileCall.{FileCall}
 use Rattle.file_device.specs.declared.file_call.FileCall.TheVariants.{OpenToRead, Sync, DropCache, ReadAhead, Length, Read}
 
@@ -39,4 +39,9 @@ pub record IsUnused (d : FileHistory) : Type 0 where
 -- A write or a sync makes one call of the file, and its answer is that call's. Once one has failed it makes none, and is refused.
 pub record Asks {T E : Type 0} (result : Result T E) (done failed : FileCall) (old new : List FileCall) : Type 0 where
   pub asked : is_sound old ≡ true → new ≡ noted result done failed ∷ old
+  pub refused : is_sound old ≡ false → IsErr result × (new ≡ old)
+
+-- The same of a page that is written: one call of the file, noted as one for each sector.
+pub record AsksPage {T E : Type 0} (result : Result T E) (n : ℕ) (bytes : List ℕ) (old new : List FileCall) : Type 0 where
+  pub asked : is_sound old ≡ true → new ≡ noted_page result n bytes old
   pub refused : is_sound old ≡ false → IsErr result × (new ≡ old)

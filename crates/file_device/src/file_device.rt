@@ -4,17 +4,20 @@ ghost use Rattle.sector_device.specs.Sizes.{sector_size};
 ghost use Rattle.sector_device.specs.Disk.{written, synced, WriteFailed, SyncFailed};
 ghost use Rattle.sector_device.specs.Device.{Elapses};
 ghost use Rattle.sector_device.specs.Sectors.{page_of};
-ghost use Rattle.sector_device.specs.Effects.{ReadOutcome, WriteOutcome, MadeExactly};
+ghost use Rattle.sector_device.specs.CallsMade.{CallsMade};
+ghost use Rattle.sector_device.specs.DeviceEffects.{WritesDevice};
+ghost use Rattle.sector_device.specs.Effects.{ReadOutcome, WriteOutcome, MadeExactly, MadeIfOk};
+ghost use Rattle.sector_device.specs.Steps.{crash_states_of, AreWritten, MayBeAllWritten};
 ghost use Rattle.sector_device.specs.declared.device.DeviceFault.TheVariants.{Device as Failing, NoFile, Memory};
 ghost use Rattle.common_types.specs.Counts.{counted};
-ghost use Rattle.file_device.specs.FileCalls.{disk_of, file_state, asked, PossibleSince};
+ghost use Rattle.file_device.specs.FileCalls.{disk_of, file_state, asked, page_calls, PossibleSince};
 ghost use Rattle.file_device.specs.FileCallLaws.{good, only_images, all_images};
-ghost use Rattle.file_device.specs.Opening.{AreRead, IsUnread, IsOpened, IsOpenedToRead, IsUnused, Asks};
+ghost use Rattle.file_device.specs.Opening.{AreRead, IsUnread, IsOpened, IsOpenedToRead, IsUnused, Asks, AsksPage};
 ghost use Rattle.file_device.specs.declared.file_call.FileCall.{FileCall as CallValue};
 ghost use Rattle.file_device.specs.declared.file_call.FileCall.TheVariants.{Open, Create, Lock, SetLength, Sync, DropCache, ReadAhead, Length, Write, FailedWrite, FailedSync};
 
 use crate::image_file::ImageFile;
-use sector_device::{CallCounts, CallKind, Device, DeviceFault, PAGE_SIZE, SECTOR_SIZE};
+use sector_device::{CallCounts, CallKind, Device, DeviceFault, PAGE_SIZE, SECTOR_SIZE, sector_of};
 use std::alloc::Global;
 use std::fs::{File, Files};
 use std::io;
@@ -115,6 +118,26 @@ fn page_in(sectors: &[[u8; SECTOR_SIZE]], n: u32) -> Option<&[u8; PAGE_SIZE]>
     let first = PAGE_SECTORS * n as usize;
     let page = sectors.get(first..first + PAGE_SECTORS)?;
     page.as_flattened().as_array()
+}
+
+/// Puts a page's bytes into its place among some sectors.
+fn put_page(sectors: &mut Vec<[u8; SECTOR_SIZE]>, n: u32, bytes: &[u8; PAGE_SIZE])
+    requires { 8 * n + 8 ≤ length sectors.old.items }
+    ensures { (calls : List CallValue) → sectors.old.items ≡ (disk_of calls).view → sectors.new.items ≡ (disk_of (page_calls Write (8 * n) bytes.now 8 calls)).view }
+{
+    let first = PAGE_SECTORS * n as usize;
+    for k in 0..PAGE_SECTORS {
+        sectors[first + k] = sector_of(bytes, k);
+    }
+}
+
+/// Notes a write of each sector of a page.
+fn note_page(made: &mut CallCounts)
+    ensures { made.new.made ≡ record { reads = made.old.made.reads; writes = made.old.made.writes + 8; syncs = made.old.made.syncs } }
+{
+    for _ in 0..PAGE_SECTORS {
+        made.note(CallKind::Write);
+    }
 }
 
 /// Reads so many sectors from the first.
@@ -311,6 +334,27 @@ impl Device for FileDevice {
             return Ok(());
         }
         Err(gives_up(&mut self.is_sound, &mut self.failed_writes))
+    }
+
+    /// One call of the file, and none once a write or a sync has failed.
+    fn write_page(&mut self, n: u32, bytes: &[u8; PAGE_SIZE]) -> Result<(), DeviceFault>
+        requires { 8 * n + 8 ≤ (file_state self.old).size }
+        ensures sectors { WritesDevice file_state (crash_states_of (λ f. length f.calls) (λ f. PossibleSince f.calls)) self.old self.new result (AreWritten (8 * n) 8 bytes.now) (MayBeAllWritten (8 * n) 8 bytes.now) }
+        ensures page { IsTrue (file_state self.old).honest → OnOk result (page_of (file_state self.new).disk.view n ≡ bytes.now) }
+        ensures work { MadeIfOk result 0 8 0 (file_state self.old) (file_state self.new) }
+        ensures asks { AsksPage result n bytes.now self.old.calls self.new.calls }
+    {
+        note_page(&mut self.made);
+        if !self.is_sound {
+            return Err(gives_up(&mut self.is_sound, &mut self.failed_writes));
+        }
+        match self.file.write_page(n, bytes) {
+            Ok(()) => {
+                put_page(&mut self.view, n, bytes);
+                Ok(())
+            }
+            Err(_) => Err(gives_up(&mut self.is_sound, &mut self.failed_writes)),
+        }
     }
 
     /// One call of the file, and none once a write or a sync has failed.

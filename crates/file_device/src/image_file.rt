@@ -2,12 +2,12 @@
 // a file that grows as its length. That it makes the call which it notes, no clause can say: so each is short, and tests on a real file hold it.
 ghost use Rattle.std.specs.Prelude.{◌≡◌, ◌*◌, ◌+◌, ◌<◌, ◌^◌, [], ◌∷◌, IfOk, OnOk, length};
 ghost use Rattle.sector_device.specs.Sizes.{sector_size};
-ghost use Rattle.file_device.specs.FileCalls.{noted, read_calls};
+ghost use Rattle.file_device.specs.FileCalls.{noted, noted_page, page_calls, read_calls};
 ghost use Rattle.file_device.specs.declared.file_call.FileCall.TheVariants.{Open, OpenToRead, Create, Lock, SetLength, Sync, DropCache, ReadAhead, Length, Write, FailedWrite, FailedSync};
 
 use crate::FileCall;
 use crate::record::Record;
-use sector_device::SECTOR_SIZE;
+use sector_device::{PAGE_SIZE, SECTOR_SIZE, sector_of};
 use std::fs::{File, Files};
 use std::io;
 use std::os::fd::AsRawFd;
@@ -39,6 +39,26 @@ fn note_reads(made: &mut Record, first: u64, sectors: &[[u8; SECTOR_SIZE]])
     for bytes in sectors {
         made.note(FileCall::Read(n, *bytes));
         n += 1;
+    }
+}
+
+/// Notes a write of each sector of a page.
+fn note_written(made: &mut Record, n: u32, bytes: &[u8; PAGE_SIZE])
+    ensures { made.new.calls ≡ page_calls Write (8 * n) bytes.now 8 made.old.calls }
+{
+    let first = 8 * n as u64;
+    for k in 0..8 {
+        made.note(FileCall::Write(first + k as u64, sector_of(bytes, k)));
+    }
+}
+
+/// Notes a write of each sector of a page, of which nobody knows whether it was done.
+fn note_failed(made: &mut Record, n: u32, bytes: &[u8; PAGE_SIZE])
+    ensures { made.new.calls ≡ page_calls FailedWrite (8 * n) bytes.now 8 made.old.calls }
+{
+    let first = 8 * n as u64;
+    for k in 0..8 {
+        made.note(FileCall::FailedWrite(first + k as u64, sector_of(bytes, k)));
     }
 }
 
@@ -164,6 +184,18 @@ impl ImageFile {
             .read_exact_at(room.as_flattened_mut(), offset_of(first))?;
         note_reads(&mut self.made, first, room);
         Ok(())
+    }
+
+    /// Writes a page by one call. A write of each of its sectors is noted. It takes no memory.
+    pub(crate) fn write_page(&mut self, n: u32, bytes: &[u8; PAGE_SIZE]) -> io::Result<()>
+        ensures { self.new.made.calls ≡ noted_page result n bytes.now self.old.made.calls }
+    {
+        let answer = self.file.write_all_at(bytes, offset_of(8 * n as u64));
+        match answer {
+            Ok(()) => note_written(&mut self.made, n, bytes),
+            Err(_) => note_failed(&mut self.made, n, bytes),
+        }
+        answer
     }
 
     /// Writes a sector. It takes no memory.

@@ -1,7 +1,7 @@
 // What the lines of a run share, and which call a word names.
 use crate::trouble::Trouble;
 use file_device::{FileDevice, UsedFiles, what_was_synced_is_found, worked_examples};
-use sector_device::{Device, SECTOR_SIZE, store};
+use sector_device::{Device, PAGE_SIZE, SECTOR_SIZE, store};
 use std::fs;
 
 /// The number that decimal digits write.
@@ -18,6 +18,13 @@ fn sector_of(first: &str, rest: &str) -> Result<[u8; SECTOR_SIZE], Trouble> {
     let mut sector = [byte(rest)?; SECTOR_SIZE];
     sector[0] = byte(first)?;
     Ok(sector)
+}
+
+/// A page of its first byte and of the byte of all others.
+fn page_of(first: &str, rest: &str) -> Result<[u8; PAGE_SIZE], Trouble> {
+    let mut page = [byte(rest)?; PAGE_SIZE];
+    page[0] = byte(first)?;
+    Ok(page)
 }
 
 /// Adds a field to what is printed.
@@ -50,6 +57,17 @@ fn show_runs(rt: &HostRuntime, shown: &mut String, bytes: &[u8]) -> Result<(), T
     show_run(rt, shown, last, count)
 }
 
+/// Writes a page.
+fn write_page<D: Device>(device: &mut D, n: &str, first: &str, rest: &str) -> Result<(), Trouble> {
+    let Ok(n) = u32::try_from(number(n)?) else {
+        return Err(Trouble::Line);
+    };
+    if 8 * n as u64 + 8 > device.sectors() {
+        return Err(Trouble::Line);
+    }
+    Ok(device.write_page(n, &page_of(first, rest)?)?)
+}
+
 /// The calls of a device.
 fn call_device<D: Device>(
     rt: &HostRuntime,
@@ -63,6 +81,7 @@ fn call_device<D: Device>(
             show(shown, count.as_str())
         }
         ["sync"] => Ok(device.sync()?),
+        ["page", n, first, rest] => write_page(device, n, first, rest),
         [word, n, rest @ ..] => call_sector(rt, device, word, number(n)?, rest, shown),
         _ => Err(Trouble::Line),
     }

@@ -4,7 +4,7 @@
 //! - `create NAME SECTORS` and `open NAME` open a device, in the place of the one before. `close` lets go of it. `try_create NAME SECTORS` and `try_open
 //!   NAME` open a second one beside it, and let go of that at once.
 //! - `sectors`, `read N`, `write N FIRST REST`, `sync` and `store N FIRST REST` are the calls of the device. A sector is given by its first byte and by the byte
-//!   that the other 511 have. It is printed by runs: `7x512` is a byte of 7, 512 times.
+//!   that the other 511 have. It is printed by runs: `7x512` is a byte of 7, 512 times. `page N FIRST REST` writes a page, that is given so too.
 //! - `put NAME BYTE COUNT ..` writes a file of such runs, and `file NAME` prints one, without any device. `folder NAME` makes a folder, and `remove NAME`
 //!   takes a file away.
 //!

@@ -2,8 +2,8 @@
 use Rattle.std.specs.Prelude.{ℕ, List, [], ◌∷◌, ◌++◌, codes, decimal}
 use Rattle.gophermap.specs.declared.fault.LineFault.{LineFault}
 use Rattle.gophermap.specs.declared.fault.LineFault.TheVariants as lines
-use Rattle.printed_names.specs.Names.{refused_name}
-use Rattle.printed_names.specs.Shown.{shown}
+use Rattle.common_types.specs.PrintedNames.{refused_name}
+use Rattle.common_types.specs.Shown.{shown}
 use Rattle.folder_import.specs.declared.fault.ImportFault.{ImportFault}
 use Rattle.folder_import.specs.declared.fault.ImportFault.TheVariants as faults
 use Rattle.folder_import.specs.declared.found.Reason.{Reason}

@@ -4,9 +4,8 @@ ghost use Rattle.folder_import.specs.LeftOut as spec;
 
 use crate::ImportFault;
 use crate::found::Reason;
-use common_types::Refused;
+use common_types::{Refused, escaped, refused_name};
 use gophermap::LineFault;
-use printed_names::{escaped, refused_name};
 use std::alloc::{AllocError, Global};
 
 /// Adds the line of what is left out: its path, and why.

@@ -5,9 +5,9 @@ use Rattle.host_script.specs.declared.fault.ReplayFault.{ReplayFault as ScriptFa
 use Rattle.host_on_disk.specs.declared.open_fault.OpenFault.{OpenFault}
 use Rattle.image_commands.specs.Faults.{of_opening}
 use Rattle.image_commands.specs.declared.fault.ImageFault.{ImageFault}
-use Rattle.image_server.specs.Serving.{of_visits}
+use Rattle.image_server.specs.Serving.{of_daily}
 use Rattle.image_server.specs.declared.serving.ServingFault.{ServingFault}
-use Rattle.daily_server.specs.declared.room.VisitFault.{VisitFault}
+use Rattle.daily_server.specs.declared.service.DailyFault.{DailyFault}
 use Rattle.gopher_host.specs.Faults.{ended, output_fault, memory_fault}
 use Rattle.gopher_host.specs.declared.fault.Fault.{Fault}
 use Rattle.gopher_host.specs.declared.fault.Fault.TheVariants.{Image, Serving, Script}
@@ -47,12 +47,12 @@ GivesCount (Err e) line inner outer contents old new (Ok _) = ⊥
 GivesCount (Err e) line inner outer contents old new (Err fault) = (fault ≡ outer e) × (new ≡ old)
 
 -- clients were served until that could not go on
-abbrev pub visits_ended : {X : Type 0} → Result X VisitFault → Result X Fault
-visits_ended (Ok x) = Ok x
-visits_ended (Err fault) = Err (Serving (of_visits fault))
+abbrev pub daily_ended : {X : Type 0} → Result X DailyFault → Result X Fault
+daily_ended (Ok x) = Ok x
+daily_ended (Err fault) = Err (Serving (of_daily fault))
 
-abbrev pub serving_ended : {X : Type 0} → Result (Result X VisitFault) ServingFault → Result X Fault
-serving_ended (Ok given) = visits_ended given
+abbrev pub serving_ended : {X : Type 0} → Result (Result X DailyFault) ServingFault → Result X Fault
+serving_ended (Ok given) = daily_ended given
 serving_ended (Err fault) = Err (Serving fault)
 
 -- a script came to its end, or a fault ended it

@@ -16,7 +16,7 @@ use Rattle.page_store.specs.declared.fault.KeeperFault.{KeeperFault}
 use Rattle.page_store.specs.declared.fault.KeeperFault.TheVariants as store
 use Rattle.image_copies.specs.CopyFaults.{copy_fault_line, copy_advice}
 use Rattle.image_items.specs.ItemLines.{item_line}
-use Rattle.printed_names.specs.Names.{change_line, refused_name}
+use Rattle.common_types.specs.PrintedNames.{change_line, refused_name}
 use Rattle.image_server.specs.Lines.{serving_line, round_line}
 use Rattle.image_server.specs.declared.serving.ServingFault.TheVariants as serving
 use Rattle.daily_server.specs.declared.listen_fault.NetCause.{NetCause}

@@ -17,11 +17,11 @@ use Rattle.host_script.specs.declared.fault.ReplayFault.{ReplayFault as ScriptFa
 use Rattle.image_runs.specs.ImageRuns.{OnImage, OverSite, Replays}
 use Rattle.image_server.specs.Lines.{served_line}
 use Rattle.image_server.specs.Serving.{ServedImage, IsServingFault}
-use Rattle.image_server.specs.Visiting.{VisitedImage, IsListened, IsAskedInVain}
+use Rattle.image_server.specs.DailyServing.{ClientsServedOnImage, IsListened, IsAskedInVain}
 use Rattle.image_server.specs.declared.listening.ListenCall.{ListenCall}
 use Rattle.image_server.specs.declared.listening.ListenCall.TheVariants as listens
 use Rattle.image_server.specs.declared.serving.ServingFault.{ServingFault}
-use Rattle.daily_server.specs.DoorCalls.{DoorCall, Listened, NotListened}
+use Rattle.daily_server.specs.ListenerCalls.{ListenerCall, Listened, NotListened}
 use Rattle.change_file.specs.declared.fault.ApplyFault.{ApplyFault}
 use Rattle.admin_office.specs.Offices.{IsNewOffice, Works, pace_of}
 use Rattle.admin_office.specs.declared.office.AdminOffice.{AdminOffice}
@@ -32,7 +32,7 @@ use Rattle.admin_socket.specs.SocketCalls.{SocketCall}
 use Rattle.admin_socket.specs.declared.listening.SocketFault.{SocketFault}
 use Rattle.command_words.specs.declared.words.SocketPlace.{SocketPlace}
 use Rattle.command_words.specs.declared.words.SocketPlace.TheVariants as places
-use Rattle.daily_server.specs.declared.room.VisitFault.{VisitFault}
+use Rattle.daily_server.specs.declared.service.DailyFault.{DailyFault}
 use Rattle.daily_server.specs.declared.stopwatch.Reading.{Reading}
 use Rattle.daily_server.specs.declared.terms.Terms.{Terms}
 use Rattle.socket_wires.specs.declared.serving.ServeFault.{ServeFault}
@@ -68,8 +68,8 @@ HasGate (places.Named name) image before now result = IsGate name.now before now
 HasGate places.Beside image before now result = IsGate (socket_name None image) before now result ⊎ ((now ≡ before) × (result ≡ Err memory_fault))
 
 -- Clients were served as they came, on these terms, with an administrator's office at work on the hub, whose gate stands as asked; and the command answers how that ended. The device that was given back is the one that was left.
-pub record Visits {S L Log X : Type 0} (contents : Log → Option (List ℕ)) (device : S → FileHistory) (site_state : S → SiteState) (lacks : S → Changes → SiteFault → Type 0) (crash_states : S → CrashStates L) (stands : L → Site → Type 0) (listen : Option SocketAddr) (terms : Terms) (place : SocketPlace) (image : List ℕ) (sockets_before sockets_now : List SocketCall) (asked_before asked_now : List DoorCall) (log_before log_now : Log) (result : Result X Fault) (opened left : FileHistory) : Type 0 where
-  pub given : Result (Result X VisitFault × FileHistory) (ServingFault × FileHistory)
+pub record RunsDaily {S L Log X : Type 0} (contents : Log → Option (List ℕ)) (device : S → FileHistory) (site_state : S → SiteState) (lacks : S → Changes → SiteFault → Type 0) (crash_states : S → CrashStates L) (stands : L → Site → Type 0) (listen : Option SocketAddr) (terms : Terms) (place : SocketPlace) (image : List ℕ) (sockets_before sockets_now : List SocketCall) (asked_before asked_now : List ListenerCall) (log_before log_now : Log) (result : Result X Fault) (opened left : FileHistory) : Type 0 where
+  pub given : Result (Result X DailyFault × FileHistory) (ServingFault × FileHistory)
   pub handed : left ≡ device_beside given
   pub ended : result ≡ serving_ended (given_beside given)
   pub moments : List ℕ
@@ -80,13 +80,13 @@ pub record Visits {S L Log X : Type 0} (contents : Log → Option (List ℕ)) (d
   pub office_before : UnixOffice
   pub office_now : UnixOffice
   pub office : IsNewOffice gate texts office_before
-  pub served : IfOk given (λ r. VisitedImage contents pace_of (Works (λ wire. wire.made.calls) (λ gate. gate.made.answers) stopped_texts) file_state device site_state lacks crash_states stands file_crash_states terms listen r.0 opened r.1 (log_before, [], office_before) (log_now, read, office_now) [] moments)
+  pub served : IfOk given (λ r. ClientsServedOnImage contents pace_of (Works (λ wire. wire.made.calls) (λ gate. gate.made.answers) stopped_texts) file_state device site_state lacks crash_states stands file_crash_states terms listen r.0 opened r.1 (log_before, [], office_before) (log_now, read, office_now) [] moments)
   pub listened : OnOk given (IsListened Listened (file_state opened) listen asked_before asked_now)
   pub asked : IfErr given (λ e. IsAskedInVain Listened NotListened (file_state opened) listen asked_before asked_now e.0)
   pub refused : IfErr given (λ e. HandsBack IsServingFault file_state file_crash_states opened e.1 e.0)
 
 -- There is no gate, and that is answered. Nothing else is asked of the system, and nothing done with the image.
-pub record HasNoGate {Log X : Type 0} (place : SocketPlace) (image : List ℕ) (sockets_before sockets_now : List SocketCall) (asked_before asked_now : List DoorCall) (log_before log_now : Log) (result : Result X Fault) (opened left : FileHistory) : Type 0 where
+pub record HasNoGate {Log X : Type 0} (place : SocketPlace) (image : List ℕ) (sockets_before sockets_now : List SocketCall) (asked_before asked_now : List ListenerCall) (log_before log_now : Log) (result : Result X Fault) (opened left : FileHistory) : Type 0 where
   pub fault : Fault
   pub answered : result ≡ Err fault
   pub has_none : HasGate place image sockets_before sockets_now (Err fault)
@@ -94,9 +94,9 @@ pub record HasNoGate {Log X : Type 0} (place : SocketPlace) (image : List ℕ) (
   pub untold : log_now ≡ log_before
   pub left_is : left ≡ opened
 
-abbrev pub VisitsOrNoGate : {S L Log X : Type 0} → (Log → Option (List ℕ)) → (S → FileHistory) → (S → SiteState) → (S → Changes → SiteFault → Type 0) → (S → CrashStates L) → (L → Site → Type 0) → Option SocketAddr → Terms → SocketPlace → List ℕ → List SocketCall → List SocketCall → List DoorCall → List DoorCall → Log → Log → Result X Fault → FileHistory → FileHistory → Type 0
-VisitsOrNoGate contents device site_state lacks crash_states stands listen terms place image sockets_before sockets_now asked_before asked_now log_before log_now result opened left =
-    Visits contents device site_state lacks crash_states stands listen terms place image sockets_before sockets_now asked_before asked_now log_before log_now result opened left
+abbrev pub DailyOrNoGate : {S L Log X : Type 0} → (Log → Option (List ℕ)) → (S → FileHistory) → (S → SiteState) → (S → Changes → SiteFault → Type 0) → (S → CrashStates L) → (L → Site → Type 0) → Option SocketAddr → Terms → SocketPlace → List ℕ → List SocketCall → List SocketCall → List ListenerCall → List ListenerCall → Log → Log → Result X Fault → FileHistory → FileHistory → Type 0
+DailyOrNoGate contents device site_state lacks crash_states stands listen terms place image sockets_before sockets_now asked_before asked_now log_before log_now result opened left =
+    RunsDaily contents device site_state lacks crash_states stands listen terms place image sockets_before sockets_now asked_before asked_now log_before log_now result opened left
     ⊎ HasNoGate place image sockets_before sockets_now asked_before asked_now log_before log_now result opened left
 
 -- Rounds of connections were served, and it is printed how many replies were written whole.

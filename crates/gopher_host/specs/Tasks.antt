@@ -13,7 +13,7 @@ use Rattle.file_names.specs.NameCalls.{NameCall}
 use Rattle.image_commands.specs.declared.fault.ImageFault.{ImageFault}
 use Rattle.socket_wires.specs.declared.system_clock.ClockReading.{ClockReading}
 use Rattle.image_server.specs.declared.listening.ListenCall.{ListenCall}
-use Rattle.daily_server.specs.DoorCalls.{DoorCall}
+use Rattle.daily_server.specs.ListenerCalls.{ListenerCall}
 use Rattle.daily_server.specs.declared.terms.LogForm.{LogForm}
 use Rattle.daily_server.specs.declared.terms.LogForm.TheVariants.{Own, Common}
 use Rattle.daily_server.specs.declared.terms.Terms.{Terms}
@@ -31,7 +31,7 @@ use Rattle.gopher_host.specs.Items.{NamesItem, Gets, ListsPosts}
 use Rattle.gopher_host.specs.Kept.{ReadsThen, AppliesOrAsks, Drops}
 use Rattle.gopher_host.specs.Naming.{EndsNamed, file_line, names_line}
 use Rattle.gopher_host.specs.NewImages.{moment_of, Formats, Inits}
-use Rattle.gopher_host.specs.Served.{VisitsOrNoGate, RunsRounds, ReplaysFile, RepliesToAll}
+use Rattle.gopher_host.specs.Served.{DailyOrNoGate, RunsRounds, ReplaysFile, RepliesToAll}
 use Rattle.gopher_host.specs.declared.fault.Fault.{Fault}
 use Rattle.gopher_host.specs.declared.fault.Fault.TheVariants as faults
 
@@ -86,6 +86,6 @@ IfScript other Holds = Unit {0}
 -- What these tasks did with the image in a file, whatever they answer; `used` and `after` are what was done with files, `before` and `now` are the log, where clients are told of that have gone, and `first` and `asked` what was asked of the system for a listener.
 pub record RunsSessions {S L Pin W Log Sink : Type 0} (ghosts : _) (printed : W → Option (List ℕ)) (told : Log → Option (List ℕ)) (sunk : Sink → Option (List ℕ)) (device : S → FileHistory) (site_state : S → SiteState) (lacks : S → Changes → SiteFault → Type 0) (crash_states : S → CrashStates L) (stands : L → Site → Type 0) (done : Task) (used after : List FileUse) (old new : W) (before now : Log) (result : Result (Unit {0}) Fault) : Type 0 where
   pub rounds : IfRounds done (λ image together rounds. (first : List ListenCall) × (asked : List ListenCall) × (first ≡ []) × OpensThen image used after result ((asked ≡ first) × (new ≡ old)) (RunsRounds {Pin = Pin} ghosts printed device site_state lacks crash_states stands together rounds first asked old new result))
-  pub logged : IfClients done (λ image listen quiet terms place. quiet ≡ false → (first : List DoorCall) × (asked : List DoorCall) × (first ≡ []) × (none : List SocketCall) × (sockets : List SocketCall) × (none ≡ []) × OpensThen image used after result ((asked ≡ first) × (now ≡ before) × (sockets ≡ none)) (VisitsOrNoGate told device site_state lacks crash_states stands listen terms place image none sockets first asked before now result))
-  pub unlogged : IfClients done (λ image listen quiet terms place. quiet ≡ true → (now ≡ before) × (first : List DoorCall) × (asked : List DoorCall) × (first ≡ []) × (none : List SocketCall) × (sockets : List SocketCall) × (none ≡ []) × OpensThen image used after result ((asked ≡ first) × (sockets ≡ none)) (λ opened left. (from : Sink) × (to : Sink) × VisitsOrNoGate sunk device site_state lacks crash_states stands listen terms place image none sockets first asked from to result opened left))
+  pub logged : IfClients done (λ image listen quiet terms place. quiet ≡ false → (first : List ListenerCall) × (asked : List ListenerCall) × (first ≡ []) × (none : List SocketCall) × (sockets : List SocketCall) × (none ≡ []) × OpensThen image used after result ((asked ≡ first) × (now ≡ before) × (sockets ≡ none)) (DailyOrNoGate told device site_state lacks crash_states stands listen terms place image none sockets first asked before now result))
+  pub unlogged : IfClients done (λ image listen quiet terms place. quiet ≡ true → (now ≡ before) × (first : List ListenerCall) × (asked : List ListenerCall) × (first ≡ []) × (none : List SocketCall) × (sockets : List SocketCall) × (none ≡ []) × OpensThen image used after result ((asked ≡ first) × (sockets ≡ none)) (λ opened left. (from : Sink) × (to : Sink) × DailyOrNoGate sunk device site_state lacks crash_states stands listen terms place image none sockets first asked from to result opened left))
   pub script : IfScript done (λ image group. RepliesToAll (after ≡ used) (ReplaysFile group device site_state lacks crash_states stands image used after) result)

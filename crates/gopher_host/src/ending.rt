@@ -3,14 +3,14 @@ ghost use Rattle.std.specs.Prelude.{◌≡◌};
 ghost use Rattle.gopher_host.specs.Endings as spec;
 
 use crate::fault::Fault;
-use daily_server::VisitFault;
+use daily_server::DailyFault;
 use host_on_disk::OpenFault;
 use image_commands::ImageFault;
 use image_server::ServingFault;
 use std::io;
 
 /// Clients were served until that could not go on.
-pub fn serving_ended(given: Result<Result<(), VisitFault>, ServingFault>) -> Result<(), Fault>
+pub fn serving_ended(given: Result<Result<(), DailyFault>, ServingFault>) -> Result<(), Fault>
     ensures { result ≡ spec.serving_ended given }
 {
     match given {

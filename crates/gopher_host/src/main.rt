@@ -36,7 +36,7 @@ use admin_socket::SocketLog;
 use clock::{moment_now, seconds_of};
 use command_words::{Task, given, read};
 use cow_tree::TreeKeeper;
-use daily_server::{DoorLog, LogForm, Terms};
+use daily_server::{ListenerLog, LogForm, Terms};
 use fault::Fault;
 use file_device::{FileDevice, UsedFiles};
 use file_names::NameLog;
@@ -179,7 +179,7 @@ fn run<W: Write, L: Write>(
             terms_of(most, posts, old_clients, common_log),
             place,
             &mut SocketLog::new(),
-            &mut DoorLog::new(),
+            &mut ListenerLog::new(),
             log,
         ),
         Task::Copy { image, new, pages } => {

@@ -5,7 +5,7 @@ ghost use Rattle.cow_tree.specs.TreeSeen.{device_of};
 ghost use Rattle.site_store.specs.Seen.{keeper_of};
 ghost use Rattle.gopher_host.specs.Endings.{given_beside};
 ghost use Rattle.gopher_host.specs.ImageFiles.{OpensThen};
-ghost use Rattle.gopher_host.specs.Served.{HasGate, IsGate, RunsRounds, VisitsOrNoGate, ReplaysFile, ReplaysInMemory, IsPrintedWhole, RepliesToAll};
+ghost use Rattle.gopher_host.specs.Served.{HasGate, IsGate, RunsRounds, DailyOrNoGate, ReplaysFile, ReplaysInMemory, IsPrintedWhole, RepliesToAll};
 
 use crate::asking::socket_name;
 use crate::ending::{all_written, replay_ended, serving_ended};
@@ -17,7 +17,7 @@ use admin_office::{AdminOffice, UnixGate};
 use admin_socket::{SocketLog, listen_at};
 use command_words::SocketPlace;
 use cow_tree::TreeKeeper;
-use daily_server::{DoorLog, Stopwatch, Terms};
+use daily_server::{ListenerLog, Stopwatch, Terms};
 use file_device::{FileDevice, UsedFiles};
 use host_script::small_site;
 use host_types::SiteKeeper;
@@ -71,10 +71,10 @@ fn serve_logged<R: Files + Net + Time + AllocGlobal, L: Write>(
     terms: Terms,
     place: SocketPlace<'_>,
     sockets: &mut SocketLog,
-    asked: &mut DoorLog,
+    asked: &mut ListenerLog,
     log: &mut L,
 ) -> Result<(), Fault>
-    ensures { let k = ⟦<DiskSite<TreeKeeper<FileDevice>> as SiteKeeper>⟧ in OpensThen image.now used.old.log.uses used.new.log.uses result ((asked.new ≡ asked.old) × (log.new ≡ log.old) × (sockets.new ≡ sockets.old)) (VisitsOrNoGate L.contents (λ d. device_of (keeper_of d)) k.site_state k.lacks k.crash_states k.represents listen terms place.entry image.now sockets.old.calls sockets.new.calls asked.old.calls asked.new.calls log.old log.new result) }
+    ensures { let k = ⟦<DiskSite<TreeKeeper<FileDevice>> as SiteKeeper>⟧ in OpensThen image.now used.old.log.uses used.new.log.uses result ((asked.new ≡ asked.old) × (log.new ≡ log.old) × (sockets.new ≡ sockets.old)) (DailyOrNoGate L.contents (λ d. device_of (keeper_of d)) k.site_state k.lacks k.crash_states k.represents listen terms place.entry image.now sockets.old.calls sockets.new.calls asked.old.calls asked.new.calls log.old log.new result) }
 {
     let device = open(used, image)?;
     let gate = match gate_of(rt, sockets, place, image) {
@@ -112,12 +112,12 @@ pub fn serve<R: Files + Net + Time + AllocGlobal, L: Write>(
     terms: Terms,
     place: SocketPlace<'_>,
     sockets: &mut SocketLog,
-    asked: &mut DoorLog,
+    asked: &mut ListenerLog,
     log: &mut L,
 ) -> Result<(), Fault>
     ensures quiet { quiet ≡ true → log.new ≡ log.old }
-    ensures logged { let k = ⟦<DiskSite<TreeKeeper<FileDevice>> as SiteKeeper>⟧ in quiet ≡ false → OpensThen image.now used.old.log.uses used.new.log.uses result ((asked.new ≡ asked.old) × (log.new ≡ log.old) × (sockets.new ≡ sockets.old)) (VisitsOrNoGate L.contents (λ d. device_of (keeper_of d)) k.site_state k.lacks k.crash_states k.represents listen terms place.entry image.now sockets.old.calls sockets.new.calls asked.old.calls asked.new.calls log.old log.new result) }
-    ensures unlogged { let k = ⟦<DiskSite<TreeKeeper<FileDevice>> as SiteKeeper>⟧ in quiet ≡ true → OpensThen image.now used.old.log.uses used.new.log.uses result ((asked.new ≡ asked.old) × (sockets.new ≡ sockets.old)) (λ opened left. (before : Sink) × (now : Sink) × VisitsOrNoGate ⟦<Sink as Write>⟧.contents (λ d. device_of (keeper_of d)) k.site_state k.lacks k.crash_states k.represents listen terms place.entry image.now sockets.old.calls sockets.new.calls asked.old.calls asked.new.calls before now result opened left) }
+    ensures logged { let k = ⟦<DiskSite<TreeKeeper<FileDevice>> as SiteKeeper>⟧ in quiet ≡ false → OpensThen image.now used.old.log.uses used.new.log.uses result ((asked.new ≡ asked.old) × (log.new ≡ log.old) × (sockets.new ≡ sockets.old)) (DailyOrNoGate L.contents (λ d. device_of (keeper_of d)) k.site_state k.lacks k.crash_states k.represents listen terms place.entry image.now sockets.old.calls sockets.new.calls asked.old.calls asked.new.calls log.old log.new result) }
+    ensures unlogged { let k = ⟦<DiskSite<TreeKeeper<FileDevice>> as SiteKeeper>⟧ in quiet ≡ true → OpensThen image.now used.old.log.uses used.new.log.uses result ((asked.new ≡ asked.old) × (sockets.new ≡ sockets.old)) (λ opened left. (before : Sink) × (now : Sink) × DailyOrNoGate ⟦<Sink as Write>⟧.contents (λ d. device_of (keeper_of d)) k.site_state k.lacks k.crash_states k.represents listen terms place.entry image.now sockets.old.calls sockets.new.calls asked.old.calls asked.new.calls before now result opened left) }
 {
     if quiet {
         serve_logged(

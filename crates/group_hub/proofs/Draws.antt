@@ -58,7 +58,7 @@ never_drawn_fault drawn.Finished out fault is = cc is
 pub drawn_steady : {S : Type 0} (site_state : S → SiteState) (w : World) (k : S) (id room : ℕ) (v : World) (l : S) (phase : Phase) (result : Result Drawn HubFault) (out : List ℕ) →
     w.failed ≡ false → v.failed ≡ w.failed → v.next ≡ w.next → v.grouped ≡ w.grouped → OnErr result (v.sessions ≡ w.sessions) → IfErr result (IsDrawFault (site_state k) (site_state l) phase)
     → IsSteady site_state w k (Draw id room) (draw_outcome result out) v l
-drawn_steady site_state w k id room v l phase (Ok d) out off flags next groups seats is = record {
+drawn_steady site_state w k id room v l phase (Ok d) out off flags next groups all_sessions is = record {
   closed = λ shut. absurd (both w.failed w.failed off shut refl);
   shuts = λ no on. absurd (both w.failed v.failed no on (sym flags));
   failed = λ fails. absurd (never_drawn_fault d out hub.Failed fails);
@@ -67,12 +67,12 @@ drawn_steady site_state w k id room v l phase (Ok d) out off flags next groups s
   unknown = λ fails. absurd (never_drawn_fault d out hub.Unknown fails);
   grouped = groups;
 }
-drawn_steady site_state w k id room v l phase (Err fault) out off flags next groups seats is = record {
+drawn_steady site_state w k id room v l phase (Err fault) out off flags next groups all_sessions is = record {
   closed = λ shut. absurd (both w.failed w.failed off shut refl);
   shuts = λ no on. absurd (both w.failed v.failed no on (sym flags));
   failed = λ fails. (let same : fault ≡ hub.Failed = cc fails in let no : IsDrawFault (site_state k) (site_state l) phase hub.Failed = subst (IsDrawFault (site_state k) (site_state l) phase) same is in absurd no);
   next = λ any fails. next;
-  sessions = λ any fails whole. seats;
+  sessions = λ any fails whole. all_sessions;
   unknown = λ fails. (let same : fault ≡ hub.Unknown = cc fails in let no : IsDrawFault (site_state k) (site_state l) phase hub.Unknown = subst (IsDrawFault (site_state k) (site_state l) phase) same is in absurd no);
   grouped = groups;
 }
@@ -83,14 +83,14 @@ pub drawn_call : {S L : Type 0} (site_state : S → SiteState) (lacks : S → Ch
     → (IsTrue (site_state k).honest → Step w (Draw id room) (draw_outcome result out) v) → (site_state k).usable ≡ true → (site_state l).honest ≡ (site_state k).honest → (site_state l).usable ≡ (site_state k).usable
     → v.next ≡ w.next → v.grouped ≡ w.grouped → OnErr result (v.sessions ≡ w.sessions) → IfErr result (IsDrawFault (site_state k) (site_state l) phase) → CountsCall result (site_state k) (site_state l) → (IsTrue (site_state k).honest → AddsNone (crash_states k) (crash_states l))
     → w.site ≡ (site_state k).site → v.site ≡ (site_state l).site → v.failed ≡ not (site_state l).usable → w.failed ≡ not (site_state k).usable → CallOverKeeper site_state lacks crash_states stands w k (Draw id room) (draw_outcome result out) v l
-drawn_call site_state lacks crash_states stands w k id room v l phase result out old_represent represent step usable honest_is usable_is next groups seats is counts only was_site site flag was = record {
+drawn_call site_state lacks crash_states stands w k id room v l phase result out old_represent represent step usable honest_is usable_is next groups all_sessions is counts only was_site site flag was = record {
   step = step;
   cause = drawn_cause (site_state k) (site_state l) phase result out usable is;
   counts = (let c = drawn_counts result out (site_state k) (site_state l) counts in record { reads = c.reads; writes = c.writes });
   honest = honest_is;
   site = site;
   flag = flag;
-  steady = drawn_steady site_state w k id room v l phase result out (was ∙ ap not usable) (flag ∙ ap not usable_is ∙ sym was) next groups seats is;
+  steady = drawn_steady site_state w k id room v l phase result out (was ∙ ap not usable) (flag ∙ ap not usable_is ∙ sym was) next groups all_sessions is;
   acknowledged = λ honest. acknowledged_of site_state crash_states stands (draw_outcome result out) v l represent (subst IsTrue (sym honest_is) honest) site flag;
   leaves = λ honest. (
     nothing,

@@ -58,9 +58,9 @@ count_singles : (changes : Changes) → length (one_by_one changes) ≡ length c
 count_singles [] = refl
 count_singles (c ∷ changes) = (let rest = count_singles changes in omega (arith, rest))
 
-seats_without : (s : Site) (sessions : List (ℕ × Phase)) → length (without_forms s sessions) ≡ length sessions
-seats_without s [] = refl
-seats_without s (x ∷ sessions) = (let rest = seats_without s sessions in omega (arith, rest))
+sessions_without : (s : Site) (sessions : List (ℕ × Phase)) → length (without_forms s sessions) ≡ length sessions
+sessions_without s [] = refl
+sessions_without s (x ∷ sessions) = (let rest = sessions_without s sessions in omega (arith, rest))
 
 singles_both : (front more : Changes) → one_by_one (front ++ more) ≡ one_by_one front ++ one_by_one more
 singles_both [] more = refl
@@ -121,13 +121,13 @@ leaves_before stands s first mid now commits flying none so = record {
 }
 
 pub all_before : {L : Type 0} (stands : L → Site → Type 0) (s u t : Site) (first mid now : CrashStates L) (old seen new : List (ℕ × Phase)) (left : ℕ) → AddsNone first mid → u ≡ s → seen ≡ old → TakesAll stands u t mid now seen new left → TakesAll stands s t first now old new left
-all_before stands s u t first mid now old seen new left none site seats takes =
-    let here = subst (λ (l : List (ℕ × Phase)). TakesAll stands s t mid now l new left) seats (subst (λ (x : Site). TakesAll stands x t mid now seen new left) site takes) in
+all_before stands s u t first mid now old seen new left none site all_sessions takes =
+    let here = subst (λ (l : List (ℕ × Phase)). TakesAll stands s t mid now l new left) all_sessions (subst (λ (x : Site). TakesAll stands x t mid now seen new left) site takes) in
     record { choices = here.choices; all = here.all; so = here.so; waiting = here.waiting; leaves = leaves_before stands s first mid now (taken s here.choices old).changes [] none here.leaves }
 
 pub some_before : {L : Type 0} (stands : L → Site → Type 0) (s u t : Site) (first mid now : CrashStates L) (old seen new : List (ℕ × Phase)) → AddsNone first mid → u ≡ s → seen ≡ old → TakesUpTo stands u t mid now seen new → TakesUpTo stands s t first now old new
-some_before stands s u t first mid now old seen new none site seats takes =
-    let here = subst (λ (l : List (ℕ × Phase)). TakesUpTo stands s t mid now l new) seats (subst (λ (x : Site). TakesUpTo stands x t mid now seen new) site takes) in
+some_before stands s u t first mid now old seen new none site all_sessions takes =
+    let here = subst (λ (l : List (ℕ × Phase)). TakesUpTo stands s t mid now l new) all_sessions (subst (λ (x : Site). TakesUpTo stands x t mid now seen new) site takes) in
     record { choices = here.choices; flying = here.flying; one = here.one; next = here.next; so = here.so; leaves = leaves_before stands s first mid now (taken s here.choices old).changes here.flying none here.leaves }
 
 -- ---- counts of a flush that takes them one at a time
@@ -186,10 +186,10 @@ module _ {S L : Type 0} (site_state : S → SiteState) (lacks : S → Changes �
   pub whole_call : Begins → (waiting : ℕ) → waiting ≡ count_waiting old → (site_state l).usable ≡ true → (IsTrue (site_state k).honest → (site_state l).site ≡ (whole_group was).site) → (IsTrue (site_state k).honest → new ≡ (whole_group was).sessions)
       → (site_state l).failed_reads ≡ (site_state k).failed_reads → (site_state l).failed_writes ≡ (site_state k).failed_writes
       → (IsTrue (site_state k).honest → AddsOnly (crash_states k) (crash_states l) (λ c. stands c (site_state k).site ⊎ stands c (with_changes (site_state k).site all_changes))) → It (Flushed waiting 0)
-  whole_call b waiting is unchanged site seats reads writes crash =
+  whole_call b waiting is unchanged site all_sessions reads writes crash =
       let makes : with_changes (site_state k).site all_changes ≡ (whole_group was).site = right_make (site_state k).site (whole_group was).site all_changes (groups_are_right (site_state k).site (all_of old) (without_forms (site_state k).site old)) in
       let answers = λ (honest : IsTrue (site_state k).honest). is_answer was Flush (flushed was) (Flushed waiting 0) is_now (ap not b.usable) refl (ap (λ (n : ℕ). Flushed n 0) is)
-      (same_parts (site_state l).site (whole_group was).site (site_state l).usable (site_state k).usable next g new (whole_group was).sessions (site honest) (unchanged ∙ sym b.usable) (seats honest)) in
+      (same_parts (site_state l).site (whole_group was).site (site_state l).usable (site_state k).usable next g new (whole_group was).sessions (site honest) (unchanged ∙ sym b.usable) (all_sessions honest)) in
       let now = λ (honest : IsTrue (site_state k).honest). subst IsTrue (sym b.honest) honest in
       record {
         step = λ honest. answered_by was.failed was Flush (Flushed waiting 0) is_now (answers honest);
@@ -209,11 +209,11 @@ module _ {S L : Type 0} (site_state : S → SiteState) (lacks : S → Changes �
 
   -- nobody waits
   pub nobody_call : Begins → l ≡ k → new ≡ old → count_waiting old ≡ 0 → AddsNone (crash_states k) (crash_states l) → It (Flushed 0 0)
-  nobody_call b same seats none only =
+  nobody_call b same all_sessions none only =
       let nobody = nobody_taken (site_state k).site old none in
       let site : (site_state l).site ≡ (site_state k).site = ap (λ (x : S). (site_state x).site) same in
       let made : with_changes (site_state k).site all_changes ≡ (site_state k).site = ap (λ (x : Group). with_changes (site_state k).site x.changes) nobody in
-      whole_call b 0 (sym none) (ap (λ (x : S). (site_state x).usable) same ∙ b.usable) (λ honest. site ∙ sym (ap (λ (x : Group). x.site) nobody)) (λ honest. seats ∙ sym (ap (λ (x : Group). x.sessions) nobody))
+      whole_call b 0 (sym none) (ap (λ (x : S). (site_state x).usable) same ∙ b.usable) (λ honest. site ∙ sym (ap (λ (x : Group). x.site) nobody)) (λ honest. all_sessions ∙ sym (ap (λ (x : Group). x.sessions) nobody))
       (ap (λ (x : S). (site_state x).failed_reads) same) (ap (λ (x : S). (site_state x).failed_writes) same)
       (λ honest. weaker (crash_states k) (crash_states l) _ (λ c. stands c (site_state k).site ⊎ stands c (with_changes (site_state k).site all_changes)) only (λ c may. inl (b.represent c honest b.usable may)))
 
@@ -270,8 +270,8 @@ module _ {S L : Type 0} (site_state : S → SiteState) (lacks : S → Changes �
 
   pub kept_call : Begins → (fault : HubFault) → nat_lt 0 (count_waiting old) ≡ true → IsKept fault → CountsCall {T = Outcome} (Err fault) (site_state k) (site_state l) → (site_state l).usable ≡ true → (IsTrue (site_state k).honest → (site_state l).site ≡ (site_state k).site)
       → new ≡ old → (IsTrue (site_state k).honest → AddsNone (crash_states k) (crash_states l)) → It (Fault fault)
-  kept_call b fault some is counts unchanged site seats only =
-      let faulty = λ (honest : IsTrue (site_state k).honest). kept_faulty fault some honest is (same_parts (site_state l).site (site_state k).site (site_state l).usable (site_state k).usable next g new old (site honest) (unchanged ∙ sym b.usable) seats) in
+  kept_call b fault some is counts unchanged site all_sessions only =
+      let faulty = λ (honest : IsTrue (site_state k).honest). kept_faulty fault some honest is (same_parts (site_state l).site (site_state k).site (site_state l).usable (site_state k).usable next g new old (site honest) (unchanged ∙ sym b.usable) all_sessions) in
       record {
         step = λ honest. faulty_by was.failed was Flush (Fault fault) is_now (ap not b.usable) (faulty honest);
         cause = kept_cause fault b.usable is;
@@ -284,7 +284,7 @@ module _ {S L : Type 0} (site_state : S → SiteState) (lacks : S → Changes �
           shuts = λ no shut. absurd (both is_now.failed is_now.failed (ap not unchanged) shut refl);
           failed = λ fails. absurd (never_failed fault is (cc fails));
           next = λ any fails. refl;
-          sessions = λ any fails whole. seats;
+          sessions = λ any fails whole. all_sessions;
           unknown = λ fails. absurd (never_unknown fault is (cc fails));
           grouped = refl;
         };
@@ -311,8 +311,8 @@ module _ {S L : Type 0} (site_state : S → SiteState) (lacks : S → Changes �
   pub failed_call : Begins → (site_state l).usable ≡ false → (IsTrue (site_state k).honest → (site_state l).site ≡ (site_state k).site) → new ≡ old → (IsTrue (site_state k).honest → nat_lt 0 (length all_changes) ≡ true) → (IsTrue (site_state k).honest → Rose (site_state k).failed_writes (site_state l).failed_writes)
       → (site_state l).failed_reads ≡ (site_state k).failed_reads → (site_state l).failed_writes ≡ writes_after (site_state k).usable hub.Failed (site_state k).failed_writes
       → (IsTrue (site_state k).honest → AddsOnly (crash_states k) (crash_states l) (λ c. stands c (site_state k).site ⊎ stands c (with_changes (site_state k).site all_changes))) → It (Fault hub.Failed)
-  failed_call b shut site seats some rose reads writes crash =
-      let faulty : IsTrue (site_state k).honest → IsFaulty was Flush (Fault hub.Failed) is_now = λ honest. (some honest, same_parts (site_state l).site (site_state k).site (site_state l).usable false next g new old (site honest) shut seats) in
+  failed_call b shut site all_sessions some rose reads writes crash =
+      let faulty : IsTrue (site_state k).honest → IsFaulty was Flush (Fault hub.Failed) is_now = λ honest. (some honest, same_parts (site_state l).site (site_state k).site (site_state l).usable false next g new old (site honest) shut all_sessions) in
       record {
         step = λ honest. faulty_by was.failed was Flush (Fault hub.Failed) is_now (ap not b.usable) (faulty honest);
         cause = λ honest. inr (rose honest);
@@ -363,7 +363,7 @@ module _ {S L : Type 0} (site_state : S → SiteState) (lacks : S → Changes �
     where
       singly : (honest : IsTrue (site_state k).honest) → IsTakenSingly was (takes honest).choices (Flushed (waiting - left) left) is_now
       singly honest = (
-        (takes honest).all ∙ seats_without (site_state k).site old,
+        (takes honest).all ∙ sessions_without (site_state k).site old,
         (takes honest).waiting,
         omega (arith, is),
         same_parts (site_state l).site _ (site_state l).usable (site_state k).usable next g new _ (takes honest).so.site (unchanged ∙ sym b.usable) (takes honest).so.sessions,
@@ -416,7 +416,7 @@ module _ {S L : Type 0} (site_state : S → SiteState) (lacks : S → Changes �
   pub together_fault_call : Begins → (m : S) (fault : HubFault) → nat_lt 0 (count_waiting old) ≡ true → IsTogetherFault site_state lacks crash_states all_changes k m fault → CountsCall {T = Outcome} (Err fault) (site_state k) (site_state m)
       → (IsTrue (site_state k).honest → AddsOnly (crash_states k) (crash_states m) (λ c. stands c (site_state k).site ⊎ stands c (with_changes (site_state k).site all_changes)))
       → MayGiveBack (site_state m) (site_state l) → (IsTrue (site_state k).honest → AddsNone (crash_states m) (crash_states l)) → new ≡ old → It (Fault fault)
-  together_fault_call b m fault some is counts crash gives none seats = by fault is counts
+  together_fault_call b m fault some is counts crash gives none all_sessions = by fault is counts
     where
       site_is : (site_state l).site ≡ (site_state m).site
       site_is = ap (λ (h : SiteState). h.site) gives.same
@@ -434,13 +434,13 @@ module _ {S L : Type 0} (site_state : S → SiteState) (lacks : S → Changes �
       counted_at x c = record { reads = subst (λ (n : ℕ). IsHubReadCounted (site_state k).honest x (site_state k).failed_reads n) (sym reads_are) c.reads; writes = writes_are ∙ c.writes }
 
       kept : (x : HubFault) → IsKept x → CountsCall {T = Outcome} (Err x) (site_state k) (site_state m) → IsUntouched site_state crash_states k m → It (Fault x)
-      kept x why c u = kept_call b x some why (counted_at x c) (usable_is ∙ u.usable) (λ honest. site_is ∙ u.site honest) seats (λ honest. adds_none_again (crash_states k) (crash_states m) (crash_states l) (u.no_new_crash_state honest) (none honest))
+      kept x why c u = kept_call b x some why (counted_at x c) (usable_is ∙ u.usable) (λ honest. site_is ∙ u.site honest) all_sessions (λ honest. adds_none_again (crash_states k) (crash_states m) (crash_states l) (u.no_new_crash_state honest) (none honest))
 
       by : (x : HubFault) → IsTogetherFault site_state lacks crash_states all_changes k m x → CountsCall {T = Outcome} (Err x) (site_state k) (site_state m) → It (Fault x)
       by hub.Memory why c = kept hub.Memory tt c why
       by hub.Broken why c = kept hub.Broken (λ honest. subst (Rose (site_state k).failed_reads) (sym reads_are) (why.1 honest)) c why.0
       by hub.Spent why c = kept hub.Spent why.1 c why.0
-      by hub.Failed why c = failed_call b (usable_is ∙ why.shut) (λ honest. site_is ∙ why.site honest) seats why.some (λ honest. subst (Rose (site_state k).failed_writes) (sym writes_are) (why.cause honest)) (reads_are ∙ c.reads) (writes_are ∙ c.writes)
+      by hub.Failed why c = failed_call b (usable_is ∙ why.shut) (λ honest. site_is ∙ why.site honest) all_sessions why.some (λ honest. subst (Rose (site_state k).failed_writes) (sym writes_are) (why.cause honest)) (reads_are ∙ c.reads) (writes_are ∙ c.writes)
           (λ honest. adds_both (crash_states k) (crash_states m) (crash_states l) _ (may_crash_to (crash_states m)) (λ x. stands x (site_state k).site ⊎ stands x (with_changes (site_state k).site all_changes)) (crash honest) (none honest) (λ x p. p) (λ x left. (crash honest).now x left))
       by hub.Unknown why c = absurd why
       by hub.Crowded why c = absurd why

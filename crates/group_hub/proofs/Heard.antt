@@ -95,7 +95,7 @@ never_fault heard.Waiting fault is = cc is
 pub heard_steady : {S : Type 0} (site_state : S → SiteState) (lacks : Changes → SiteFault → Type 0) (w : World) (k : S) (e : Event) (v : World) (l : S) (changes : Changes) (result : Result InputStatus HubFault) →
     w.failed ≡ false → (site_state k).usable ≡ true → v.failed ≡ not (site_state l).usable → v.next ≡ w.next → v.grouped ≡ w.grouped → OnErr result (v.sessions ≡ w.sessions) → OnOk result ((site_state l).usable ≡ true) → IfErr result (IsPostFault lacks changes (site_state k) (site_state l))
     → IsSteady site_state w k e (bytes_outcome result) v l
-heard_steady site_state lacks w k e v l changes (Ok h) off usable flag next groups seats unchanged is = record {
+heard_steady site_state lacks w k e v l changes (Ok h) off usable flag next groups all_sessions unchanged is = record {
   closed = λ shut. absurd (both w.failed w.failed off shut refl);
   shuts = λ no shut. (let end : true ≡ false = sym unchanged ∙ not-true (site_state l).usable (sym flag ∙ shut) in absurd (cc end));
   failed = λ fails. absurd (never_fault h hub.Failed fails);
@@ -104,12 +104,12 @@ heard_steady site_state lacks w k e v l changes (Ok h) off usable flag next grou
   unknown = λ fails. absurd (never_fault h hub.Unknown fails);
   grouped = groups;
 }
-heard_steady site_state lacks w k e v l changes (Err fault) off usable flag next groups seats unchanged is = record {
+heard_steady site_state lacks w k e v l changes (Err fault) off usable flag next groups all_sessions unchanged is = record {
   closed = λ shut. absurd (both w.failed w.failed off shut refl);
   shuts = λ no shut. ap (λ (f : HubFault). Fault f) (shut_by (site_state k) (site_state l) lacks changes fault usable (not-true (site_state l).usable (sym flag ∙ shut)) is);
   failed = λ fails. (let same : fault ≡ hub.Failed = cc fails in flag ∙ ap not (subst (IsPostFault lacks changes (site_state k) (site_state l)) same is).shut);
   next = λ any fails. next;
-  sessions = λ any fails whole. seats;
+  sessions = λ any fails whole. all_sessions;
   unknown = λ fails. (let same : fault ≡ hub.Unknown = cc fails in let no : IsPostFault lacks changes (site_state k) (site_state l) hub.Unknown = subst (IsPostFault lacks changes (site_state k) (site_state l)) same is in absurd no);
   grouped = groups;
 }
@@ -272,7 +272,7 @@ module _ {S L P : Type 0} (site_state : S → SiteState) (lacks : S → Changes 
   -- one that leaves all as it was
   kept_call : Facts → (fault : HubFault) → result ≡ Err fault → (fault ≡ hub.Failed → ⊥) → IsCause site_state lacks w k e (Fault fault) l → CountsEvent w e (Fault fault) (site_state k) (site_state l) → new ≡ old
       → (IsTrue (site_state k).honest → IsAnswer w e (Fault fault) v ⊎ IsFaulty w e (Fault fault) v) → (IsTrue (site_state k).honest → Step w e (Fault fault) v) → It (Fault fault)
-  kept_call c fault is other cause counts seats steps step =
+  kept_call c fault is other cause counts all_sessions steps step =
       let post : IsPostFault (lacks k) made (site_state k) (site_state l) fault = subst (λ (r : Result InputStatus HubFault). IfErr r (IsPostFault (lacks k) made (site_state k) (site_state l))) is c.makes.fault in
       let unchanged : (site_state l).usable ≡ true = open_after (site_state k) (site_state l) (lacks k) made fault other post ∙ c.usable in
       record {
@@ -282,7 +282,7 @@ module _ {S L P : Type 0} (site_state : S → SiteState) (lacks : S → Changes 
         honest = c.makes.worked.honest;
         site = refl;
         flag = refl;
-        steady = heard_steady site_state (lacks k) w k e v l made (Err fault) (ap not c.usable) c.usable refl refl refl seats tt post;
+        steady = heard_steady site_state (lacks k) w k e v l made (Err fault) (ap not c.usable) c.usable refl refl refl all_sessions tt post;
         acknowledged = λ honest. tt;
         leaves = λ honest. (
           nothing,
@@ -298,15 +298,15 @@ module _ {S L P : Type 0} (site_state : S → SiteState) (lacks : S → Changes 
   post_of c fault is = subst (λ (r : Result InputStatus HubFault). IfErr r (IsPostFault (lacks k) made (site_state k) (site_state l))) is c.makes.fault
 
   faulty : Facts → (fault : HubFault) → result ≡ Err fault → (fault ≡ hub.Crowded → ⊥) → new ≡ old → is_hearing (Some p) ≡ true → IsTrue (site_state k).honest → IsFaulty w e (Fault fault) v
-  faulty c fault is room seats hearing honest = post_fault (site_state k) (site_state l) (lacks k) next g old new e made fault c.other room honest c.usable (works_so c hearing) (c.reads ∙ works_so c hearing) c.changes seats (post_of c fault is)
+  faulty c fault is room all_sessions hearing honest = post_fault (site_state k) (site_state l) (lacks k) next g old new e made fault c.other room honest c.usable (works_so c hearing) (c.reads ∙ works_so c hearing) c.changes all_sessions (post_of c fault is)
 
   in_place : Facts → (fault : HubFault) → result ≡ Err fault → (fault ≡ hub.Failed → ⊥) → (fault ≡ hub.Crowded → ⊥) → IsCause site_state lacks w k e (Fault fault) l → CountsEvent w e (Fault fault) (site_state k) (site_state l) → new ≡ old → is_hearing (Some p) ≡ true → It (Fault fault)
-  in_place c fault is other room cause counts seats hearing =
-      kept_call c fault is other cause counts seats (λ honest. inr (faulty c fault is room seats hearing honest)) (λ honest. faulty_by w.failed w e (Fault fault) v (ap not c.usable) (faulty c fault is room seats hearing honest))
+  in_place c fault is other room cause counts all_sessions hearing =
+      kept_call c fault is other cause counts all_sessions (λ honest. inr (faulty c fault is room all_sessions hearing honest)) (λ honest. faulty_by w.failed w e (Fault fault) v (ap not c.usable) (faulty c fault is room all_sessions hearing honest))
 
   -- no more may wait
   crowded_answer : Facts → result ≡ Err hub.Crowded → new ≡ old → is_hearing (Some p) ≡ true → IsTrue (site_state k).honest → IsAnswer w e (Fault hub.Crowded) v
-  crowded_answer c is seats hearing honest =
+  crowded_answer c is all_sessions hearing honest =
       let told = subst (λ (r : Result InputStatus HubFault). IfErr r (λ x. x ≡ hub.Crowded → (is_full posting ≡ true) × (IsTrue (site_state k).honest → (f p).outcome ≡ Waiting))) is c.hears.crowded refl in
       let come = coming p (f p).phase (comes_by f p c.tells (hears_none p hearing) (told.1 honest)) in
       let full : (g && nat_le 16 (count_waiting old)) ≡ true = sym c.full ∙ told.0 in
@@ -314,11 +314,11 @@ module _ {S L P : Type 0} (site_state : S → SiteState) (lacks : S → Changes 
       c.asks ∙ ap (at_hearing w id now f) c.there ∙ ap (λ (x : world.Phase). heard_by w id now (f p) x) come.heard ∙ ap (settled w id now (f p)) come.waits in
       let post = post_of c hub.Crowded is in
       is_answer w e (then_is (Fault hub.Crowded) w) (Fault hub.Crowded) v (is_open (site_state k) next g old c.usable) (asked ∙ crowds w id now (f p) come.request come.since (second g (nat_le most_waiting (count_waiting old)) full)) refl
-      (same_parts (site_state l).site (site_state k).site (site_state l).usable (site_state k).usable next g new old (post.site honest) post.usable seats)
+      (same_parts (site_state l).site (site_state k).site (site_state l).usable (site_state k).usable next g new old (post.site honest) post.usable all_sessions)
 
   failing_call : Facts → result ≡ Err hub.Failed → IsCause site_state lacks w k e (Fault hub.Failed) l → CountsEvent w e (Fault hub.Failed) (site_state k) (site_state l) → new ≡ old → is_hearing (Some p) ≡ true → It (Fault hub.Failed)
-  failing_call c is cause counts seats hearing =
-      let is_faulty = faulty c hub.Failed is (λ x. cc x) seats hearing in
+  failing_call c is cause counts all_sessions hearing =
+      let is_faulty = faulty c hub.Failed is (λ x. cc x) all_sessions hearing in
       record {
         step = λ honest. faulty_by w.failed w e (Fault hub.Failed) v (ap not c.usable) (is_faulty honest);
         cause = cause;
@@ -326,7 +326,7 @@ module _ {S L P : Type 0} (site_state : S → SiteState) (lacks : S → Changes 
         honest = c.makes.worked.honest;
         site = refl;
         flag = refl;
-        steady = heard_steady site_state (lacks k) w k e v l made (Err hub.Failed) (ap not c.usable) c.usable refl refl refl seats tt (post_of c hub.Failed is);
+        steady = heard_steady site_state (lacks k) w k e v l made (Err hub.Failed) (ap not c.usable) c.usable refl refl refl all_sessions tt (post_of c hub.Failed is);
         acknowledged = λ honest. tt;
         leaves = λ honest. (
           all_in_flight (changes_in w e),
@@ -336,17 +336,17 @@ module _ {S L P : Type 0} (site_state : S → SiteState) (lacks : S → Changes 
       }
 
   faulty_call : Facts → (fault : HubFault) → result ≡ Err fault → IsCause site_state lacks w k e (Fault fault) l → CountsEvent w e (Fault fault) (site_state k) (site_state l) → new ≡ old → is_hearing (Some p) ≡ true → It (Fault fault)
-  faulty_call c hub.Failed is cause counts seats hearing = failing_call c is cause counts seats hearing
-  faulty_call c hub.Crowded is cause counts seats hearing =
-      kept_call c hub.Crowded is (λ x. cc x) cause counts seats (λ honest. inl (crowded_answer c is seats hearing honest)) (λ honest. answered_by w.failed w e (Fault hub.Crowded) v (crowded_answer c is seats hearing honest))
-  faulty_call c hub.Unknown is cause counts seats hearing = in_place c hub.Unknown is (λ x. cc x) (λ x. cc x) cause counts seats hearing
-  faulty_call c hub.Spent is cause counts seats hearing = in_place c hub.Spent is (λ x. cc x) (λ x. cc x) cause counts seats hearing
-  faulty_call c hub.Deep is cause counts seats hearing = in_place c hub.Deep is (λ x. cc x) (λ x. cc x) cause counts seats hearing
-  faulty_call c (hub.Refused r) is cause counts seats hearing = in_place c (hub.Refused r) is (λ x. cc x) (λ x. cc x) cause counts seats hearing
-  faulty_call c (hub.Full need free) is cause counts seats hearing = in_place c (hub.Full need free) is (λ x. cc x) (λ x. cc x) cause counts seats hearing
-  faulty_call c hub.Broken is cause counts seats hearing = in_place c hub.Broken is (λ x. cc x) (λ x. cc x) cause counts seats hearing
-  faulty_call c hub.Memory is cause counts seats hearing = in_place c hub.Memory is (λ x. cc x) (λ x. cc x) cause counts seats hearing
-  faulty_call c hub.NotReady is cause counts seats hearing = in_place c hub.NotReady is (λ x. cc x) (λ x. cc x) cause counts seats hearing
+  faulty_call c hub.Failed is cause counts all_sessions hearing = failing_call c is cause counts all_sessions hearing
+  faulty_call c hub.Crowded is cause counts all_sessions hearing =
+      kept_call c hub.Crowded is (λ x. cc x) cause counts all_sessions (λ honest. inl (crowded_answer c is all_sessions hearing honest)) (λ honest. answered_by w.failed w e (Fault hub.Crowded) v (crowded_answer c is all_sessions hearing honest))
+  faulty_call c hub.Unknown is cause counts all_sessions hearing = in_place c hub.Unknown is (λ x. cc x) (λ x. cc x) cause counts all_sessions hearing
+  faulty_call c hub.Spent is cause counts all_sessions hearing = in_place c hub.Spent is (λ x. cc x) (λ x. cc x) cause counts all_sessions hearing
+  faulty_call c hub.Deep is cause counts all_sessions hearing = in_place c hub.Deep is (λ x. cc x) (λ x. cc x) cause counts all_sessions hearing
+  faulty_call c (hub.Refused r) is cause counts all_sessions hearing = in_place c (hub.Refused r) is (λ x. cc x) (λ x. cc x) cause counts all_sessions hearing
+  faulty_call c (hub.Full need free) is cause counts all_sessions hearing = in_place c (hub.Full need free) is (λ x. cc x) (λ x. cc x) cause counts all_sessions hearing
+  faulty_call c hub.Broken is cause counts all_sessions hearing = in_place c hub.Broken is (λ x. cc x) (λ x. cc x) cause counts all_sessions hearing
+  faulty_call c hub.Memory is cause counts all_sessions hearing = in_place c hub.Memory is (λ x. cc x) (λ x. cc x) cause counts all_sessions hearing
+  faulty_call c hub.NotReady is cause counts all_sessions hearing = in_place c hub.NotReady is (λ x. cc x) (λ x. cc x) cause counts all_sessions hearing
 
   -- ---- of each end of the call
 

@@ -1,8 +1,8 @@
 pub mod StoredPosts
 pub mod PinsMoved
-pub mod SeatPlaces
-pub mod SeatsMoved
-pub mod SeatsHeld
+pub mod SessionPlaces
+pub mod SessionsMoved
+pub mod SessionsHeld
 pub mod ViewsLeft
 pub mod WaitingSessions
 pub mod CountedCalls
@@ -13,8 +13,8 @@ pub mod Steps
 pub mod CallsMade
 pub mod Draws
 pub mod Heard
-pub mod SeatsLast
-pub mod SeatsPut
+pub mod SessionsLast
+pub mod SessionsPut
 pub mod ValidSites
 pub mod AnsweredAlone
 pub mod TakenSingly

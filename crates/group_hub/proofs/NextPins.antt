@@ -6,7 +6,7 @@ use Rattle.host_types.specs.SiteState.{SiteState}
 use Rattle.host_types.specs.Pins.{Pinned}
 use Rattle.group_world.specs.World as world
 use Rattle.group_hub.specs.HeldPins.{times, count_numbered, listed, MovesPins}
-use Rattle.group_hub.specs.Flushing.{next_pin, next_pins, IsNextSound, AreNextSound, IsForWaiting, AreForWaiting, put_one, put_seats, ArePrepared, StandsBeside}
+use Rattle.group_hub.specs.Flushing.{next_pin, next_pins, IsNextSound, AreNextSound, IsForWaiting, AreForWaiting, put_one, put_sessions, ArePrepared, StandsBeside}
 use Rattle.group_hub.specs.Sessions.{pin_of, pins_of, is_waiting}
 use Rattle.group_hub.specs.declared.next.Next.{Next}
 use Rattle.group_hub.specs.declared.next.Next.TheVariants as nexts
@@ -16,8 +16,8 @@ use Rattle.group_hub.specs.declared.session.Session.{Session}
 use Rattle.group_hub.specs.declared.session.Phase.{Phase}
 use Rattle.group_hub.specs.declared.session.Phase.TheVariants as phases
 use Rattle.group_hub.proofs.PinsMoved.{EachIs, each_on, others_are_apart, none_moves}
-use Rattle.group_hub.proofs.SeatsMoved.{SamePins, times_both, count_both, holds_same, front_of, Same, seen_same, sound_same, all_seen}
-use Rattle.group_hub.proofs.SeatsHeld.{few_listed, few_held}
+use Rattle.group_hub.proofs.SessionsMoved.{SamePins, times_both, count_both, holds_same, front_of, Same, seen_same, sound_same, all_seen}
+use Rattle.group_hub.proofs.SessionsHeld.{few_listed, few_held}
 
 module _ {P : Type 0} (pinned : P → Pinned) where
   -- ---- pins in another order
@@ -50,12 +50,12 @@ module _ {P : Type 0} (pinned : P → Pinned) where
   next_sound a b (nexts.Gone p) same sound = sound_same pinned a b p same sound
   next_sound a b (nexts.Replied p) same sound = sound_same pinned a b p same sound
 
-  all_put : (a b : SiteState) (putting : Putting) (xs : List (ℕ × world.Phase)) (ns : List (Next P)) → EachIs (Same pinned a b) (next_pins pinned ns) → put_seats putting pinned b xs ns ≡ put_seats putting pinned a xs ns
+  all_put : (a b : SiteState) (putting : Putting) (xs : List (ℕ × world.Phase)) (ns : List (Next P)) → EachIs (Same pinned a b) (next_pins pinned ns) → put_sessions putting pinned b xs ns ≡ put_sessions putting pinned a xs ns
   all_put a b putting [] ns same = refl
   all_put a b putting (x ∷ xs) [] same = refl
   all_put a b putting (x ∷ xs) (n ∷ ns) same =
       let parts = front_of pinned (Same pinned a b) (listed (next_pin pinned n)) (next_pins pinned ns) same in
-      ap (λ (p : world.Phase). (x.0, p) ∷ put_seats putting pinned b xs ns) (next_seen a b n parts.0 putting x.1)
+      ap (λ (p : world.Phase). (x.0, p) ∷ put_sessions putting pinned b xs ns) (next_seen a b n parts.0 putting x.1)
       ∙ ap (λ (l : List (ℕ × world.Phase)). (x.0, put_one putting pinned a x.1 n) ∷ l) (all_put a b putting xs ns parts.1)
 
   all_sound : (a b : SiteState) (ns : List (Next P)) → EachIs (Same pinned a b) (next_pins pinned ns) → AreNextSound pinned a ns → AreNextSound pinned b ns

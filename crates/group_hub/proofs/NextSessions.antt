@@ -18,7 +18,7 @@ use Rattle.group_world.specs.Laws.{all_made}
 use Rattle.group_world.proofs.LaterReplies.{later_replies_are_right}
 use Rattle.group_world.proofs.Groups.{groups_are_right}
 use Rattle.group_world.proofs.TakenMore.{one_more, taken_more, all_of_more}
-use Rattle.group_hub.specs.Flushing.{put_one, put_seats, IsNextReply, ArePrepared}
+use Rattle.group_hub.specs.Flushing.{put_one, put_sessions, IsNextReply, ArePrepared}
 use Rattle.group_hub.specs.Sessions.{phase_of, session_of, sessions_of}
 use Rattle.group_hub.specs.declared.next.Next.{Next}
 use Rattle.group_hub.specs.declared.next.Next.TheVariants as nexts
@@ -50,7 +50,7 @@ module _ {P : Type 0} (pinned : P → Pinned) where
   -- ---- of one session more
 
   put_more : (putting : Putting) (h : SiteState) (xs : List (ℕ × world.Phase)) (ns : List (Next P)) (x : ℕ × world.Phase) (n : Next P) → length ns ≡ length xs
-      → put_seats putting pinned h (xs ++ x ∷ []) (ns ++ n ∷ []) ≡ put_seats putting pinned h xs ns ++ (x.0, put_one putting pinned h x.1 n) ∷ []
+      → put_sessions putting pinned h (xs ++ x ∷ []) (ns ++ n ∷ []) ≡ put_sessions putting pinned h xs ns ++ (x.0, put_one putting pinned h x.1 n) ∷ []
   put_more putting h [] [] x n same = refl
   put_more putting h [] (m ∷ ns) x n same = absurd (omega (arith, same))
   put_more putting h (y ∷ xs) [] x n same = absurd (omega (arith, same))
@@ -91,5 +91,5 @@ module _ {P : Type 0} (pinned : P → Pinned) where
         posts = next.posts;
       }
 
-  pub seats_more : (k : SiteState) (ss : List (Session P)) (i : ℕ) (x : Session P) → i < length ss → x ≡ get_or ss i x → sessions_of pinned k (take (i + 1) ss) ≡ sessions_of pinned k (take i ss) ++ session_of pinned k x ∷ []
-  seats_more k ss i x within read = ap (sessions_of pinned k) (taken_one ss i x within read) ∙ map-append (session_of pinned k) (take i ss) (x ∷ [])
+  pub sessions_more : (k : SiteState) (ss : List (Session P)) (i : ℕ) (x : Session P) → i < length ss → x ≡ get_or ss i x → sessions_of pinned k (take (i + 1) ss) ≡ sessions_of pinned k (take i ss) ++ session_of pinned k x ∷ []
+  sessions_more k ss i x within read = ap (sessions_of pinned k) (taken_one ss i x within read) ∙ map-append (session_of pinned k) (take i ss) (x ∷ [])

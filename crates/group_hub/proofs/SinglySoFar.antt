@@ -26,8 +26,8 @@ use Rattle.group_hub.specs.Understood.{IsPostFault, HasFailedNow, HasWorked}
 use Rattle.group_hub.specs.declared.session.Session.{Session}
 use Rattle.group_hub.specs.declared.session.Phase.{Phase}
 use Rattle.group_hub.specs.declared.session.Phase.TheVariants as phases
-use Rattle.group_hub.proofs.SeatsMoved.{holds_same, back, parted, parted_set, others_stay, seen_set}
-use Rattle.group_hub.proofs.SeatsPut.{none_waits, seen_at, same_with}
+use Rattle.group_hub.proofs.SessionsMoved.{holds_same, back, parted, parted_set, others_stay, seen_set}
+use Rattle.group_hub.proofs.SessionsPut.{none_waits, seen_at, same_with}
 use Rattle.group_hub.proofs.TakenSingly.{TakenUpTo, none_taken, left_few, stays_answered, one_taken, one_left, one_fails, all_taken}
 use Rattle.group_hub.proofs.WaitingSessions.{one_of, behind_one}
 
@@ -185,11 +185,11 @@ module _ {P : Type 0} (pinned : P → Pinned) where
 
   module _ {K L : Type 0} (site_state : K → SiteState) (lacks : K → Changes → SiteFault → Type 0) (crash_states : K → CrashStates L) (represents : L → Site → Type 0)
       (stands : (k : K) (c : L) → IsTrue (site_state k).honest → (site_state k).usable ≡ true → may_crash_to (crash_states k) c → represents c (site_state k).site) (first : K) (start : List (Session P)) where
-    abbrev Seats : K → List (Session P) → List (ℕ × world.Phase)
-    Seats k items = sessions_of pinned (site_state k) items
+    abbrev SessionsIn : K → List (Session P) → List (ℕ × world.Phase)
+    SessionsIn k items = sessions_of pinned (site_state k) items
 
     abbrev Taken : K → List (ℕ × world.Phase) → ℕ → ℕ → Type 0
-    Taken k seats i left = TakenUpTo represents (site_state first).site (crash_states first) (Seats first start) (site_state k).site (crash_states k) seats i left
+    Taken k all_sessions i left = TakenUpTo represents (site_state first).site (crash_states first) (SessionsIn first start) (site_state k).site (crash_states k) all_sessions i left
 
     -- The first i sessions have had their turns, and so many of them are left.
     pub record IsSinglySo (k : K) (items : List (Session P)) (i left : ℕ) : Type 0 where
@@ -197,19 +197,19 @@ module _ {P : Type 0} (pinned : P → Pinned) where
       pub held : HoldsAll (site_state k) (pins_of pinned items)
       pub sound : IsTrue (site_state k).honest → AreSound pinned (site_state k) items
       pub valid : IsTrue (site_state first).honest → ∥ IsSite (site_state first).site ∥₁ → ∥ IsSite (site_state k).site ∥₁
-      pub so_far : IsTrue (site_state first).honest → Taken k (Seats k items) i left
+      pub so_far : IsTrue (site_state first).honest → Taken k (SessionsIn k items) i left
       pub few : left ≤ i
-      pub room : left + count_waiting (Seats first (drop i items)) ≤ count_waiting (Seats first start)
-      pub fewer : count_waiting (Seats k items) ≤ count_waiting (Seats first start)
+      pub room : left + count_waiting (SessionsIn first (drop i items)) ≤ count_waiting (SessionsIn first start)
+      pub fewer : count_waiting (SessionsIn k items) ≤ count_waiting (SessionsIn first start)
 
     -- What stands once the commit of one has failed.
     pub record FailsSo (then : K) (changed : List (Session P)) : Type 0 where
-      pub works : WorksSingly (site_state first) (site_state then) (count_waiting (Seats first start)) (Err hub.Failed)
+      pub works : WorksSingly (site_state first) (site_state then) (count_waiting (SessionsIn first start)) (Err hub.Failed)
       pub held : HoldsAll (site_state then) (pins_of pinned changed)
       pub sound : IsTrue (site_state then).honest → AreSound pinned (site_state then) changed
       pub valid : IsTrue (site_state first).honest → ∥ IsSite (site_state first).site ∥₁ → ∥ IsSite (site_state then).site ∥₁
-      pub fewer : count_waiting (Seats then changed) ≤ count_waiting (Seats first start)
-      pub fails : IsTrue (site_state first).honest → TakesUpTo represents (site_state first).site (site_state then).site (crash_states first) (crash_states then) (Seats first start) (Seats then changed)
+      pub fewer : count_waiting (SessionsIn then changed) ≤ count_waiting (SessionsIn first start)
+      pub fails : IsTrue (site_state first).honest → TakesUpTo represents (site_state first).site (site_state then).site (crash_states first) (crash_states then) (SessionsIn first start) (SessionsIn then changed)
 
     pub singly_none : (site_state first).usable ≡ true → HoldsAll (site_state first) (pins_of pinned start) → (IsTrue (site_state first).honest → AreSound pinned (site_state first) start) → IsSinglySo first start 0 0
     singly_none usable holds sound = record {
@@ -217,7 +217,7 @@ module _ {P : Type 0} (pinned : P → Pinned) where
       held = holds;
       sound = sound;
       valid = λ honest site. site;
-      so_far = λ honest. none_taken represents (site_state first).site (crash_states first) (Seats first start) (λ c left. stands first c honest usable left);
+      so_far = λ honest. none_taken represents (site_state first).site (crash_states first) (SessionsIn first start) (λ c left. stands first c honest usable left);
       few = omega arith;
       room = omega arith;
       fewer = omega arith;
@@ -230,21 +230,21 @@ module _ {P : Type 0} (pinned : P → Pinned) where
       honest_now : IsTrue (site_state first).honest → IsTrue a.honest
       honest_now honest = subst IsTrue (sym so.works.worked.honest) honest
 
-      seat_within : i < length (Seats k items)
-      seat_within = omega (arith, within, length-map items (session_of pinned a))
+      session_within : i < length (SessionsIn k items)
+      session_within = omega (arith, within, length-map items (session_of pinned a))
 
-      seat_read : session_of pinned a x ≡ get_or (Seats k items) i (session_of pinned a x)
-      seat_read = seen_at pinned a items i x within read
+      session_read : session_of pinned a x ≡ get_or (SessionsIn k items) i (session_of pinned a x)
+      session_read = seen_at pinned a items i x within read
 
       abbrev post : Changes
       post = post_from a.site (phase_of pinned a x.phase)
 
       -- those that wait behind it
-      behind : count_waiting (Seats first (drop i items)) ≡ one_if (is_waiting x.phase) + count_waiting (Seats first (drop (i + 1) items))
+      behind : count_waiting (SessionsIn first (drop i items)) ≡ one_if (is_waiting x.phase) + count_waiting (SessionsIn first (drop (i + 1) items))
       behind = behind_one pinned (site_state first) items i x within read
 
-      as_behind : (y : Session P) → count_waiting (Seats first (drop (i + 1) (set items i y))) ≡ count_waiting (Seats first (drop (i + 1) items))
-      as_behind y = ap (λ (l : List (Session P)). count_waiting (Seats first l)) (drop-set-lt (i + 1) items i y (omega arith))
+      as_behind : (y : Session P) → count_waiting (SessionsIn first (drop (i + 1) (set items i y))) ≡ count_waiting (SessionsIn first (drop (i + 1) items))
+      as_behind y = ap (λ (l : List (Session P)). count_waiting (SessionsIn first l)) (drop-set-lt (i + 1) items i y (omega arith))
 
       abbrev AloneMakes : K → Result Unit HubFault → Type 0
       AloneMakes then result = MakesChanges site_state lacks crash_states represents post k then result
@@ -259,9 +259,9 @@ module _ {P : Type 0} (pinned : P → Pinned) where
         so_far = λ honest. (
             let none = stays_answered a.site (phase_of pinned a x.phase) (one_waits a x.phase false stays) in
             let all_stand : (c : L) → may_crash_to (crash_states k) c → represents c a.site = λ c may. stands k c (honest_now honest) so.works.usable may in
-            let next = one_taken represents (site_state first).site (crash_states first) (Seats first start) a.site (crash_states k) (Seats k items) i left (session_of pinned a x) seat_within seat_read (so.so_far honest) a.site (crash_states k) (ap (with_changes a.site) (sym none.1))
+            let next = one_taken represents (site_state first).site (crash_states first) (SessionsIn first start) a.site (crash_states k) (SessionsIn k items) i left (session_of pinned a x) session_within session_read (so.so_far honest) a.site (crash_states k) (ap (with_changes a.site) (sym none.1))
             (weaker (crash_states k) (crash_states k) (may_crash_to (crash_states k)) _ (no_new_crash_state (crash_states k)) (λ c may. inl (all_stand c may))) all_stand in
-            subst (λ (l : List (ℕ × world.Phase)). Taken k l (i + 1) left) (ap (λ (p : world.Phase). set (Seats k items) i (x.id, p)) none.0 ∙ ap (set (Seats k items) i) seat_read ∙ set-get_or (Seats k items) i (session_of pinned a x)) next);
+            subst (λ (l : List (ℕ × world.Phase)). Taken k l (i + 1) left) (ap (λ (p : world.Phase). set (SessionsIn k items) i (x.id, p)) none.0 ∙ ap (set (SessionsIn k items) i) session_read ∙ set-get_or (SessionsIn k items) i (session_of pinned a x)) next);
         few = omega (arith, so.few);
         room = omega (arith, so.room, behind);
         fewer = so.fewer;
@@ -283,19 +283,19 @@ module _ {P : Type 0} (pinned : P → Pinned) where
             valid = λ honest site. valid (honest_now honest) (so.valid honest site);
             so_far = λ honest. (
                 let before = honest_now honest in
-                let next = one_taken represents (site_state first).site (crash_states first) (Seats first start) a.site (crash_states k) (Seats k items) i left (session_of pinned a x) seat_within seat_read (so.so_far honest) b.site (crash_states then) (makes.done before) (makes.at_crash before)
+                let next = one_taken represents (site_state first).site (crash_states first) (SessionsIn first start) a.site (crash_states k) (SessionsIn k items) i left (session_of pinned a x) session_within session_read (so.so_far honest) b.site (crash_states then) (makes.done before) (makes.at_crash before)
                 (λ c may. stands then c (subst IsTrue (sym makes.worked.honest) before) makes.still_usable may) in
-                subst (λ (l : List (ℕ × world.Phase)). Taken then l (i + 1) left) (ap (λ (p : world.Phase). set (Seats k items) i (x.id, p)) (sym (phase before)) ∙ ap (λ (n : ℕ). set (Seats k items) i (n, phase_of pinned b y.phase)) (sym same) ∙ sym moved.seen) next);
+                subst (λ (l : List (ℕ × world.Phase)). Taken then l (i + 1) left) (ap (λ (p : world.Phase). set (SessionsIn k items) i (x.id, p)) (sym (phase before)) ∙ ap (λ (n : ℕ). set (SessionsIn k items) i (n, phase_of pinned b y.phase)) (sym same) ∙ sym moved.seen) next);
             few = omega (arith, so.few);
             room = omega (arith, so.room, behind, as_behind y);
-            fewer = (let less = fewer_with (Seats k items) i (session_of pinned a x) (session_of pinned b y) seat_within seat_read (one_waits b y.phase false no_more) in omega (arith, so.fewer, less, ap count_waiting moved.seen));
+            fewer = (let less = fewer_with (SessionsIn k items) i (session_of pinned a x) (session_of pinned b y) session_within session_read (one_waits b y.phase false no_more) in omega (arith, so.fewer, less, ap count_waiting moved.seen));
           }
 
       -- a session that stays as it was, behind a fault
-      seats_still : (then : K) (y : Session P) → is_waiting x.phase ≡ true → y.id ≡ x.id → y.phase ≡ x.phase → MovedAt a (site_state then) items i y → Seats then (set items i y) ≡ Seats k items
-      seats_still then y waits same phase moved =
-          moved.seen ∙ ap (λ (n : ℕ). set (Seats k items) i (n, phase_of pinned (site_state then) y.phase)) same ∙ ap (λ (p : world.Phase). set (Seats k items) i (x.id, p)) (ap (phase_of pinned (site_state then)) phase ∙ waits_seen a (site_state then) x.phase waits)
-          ∙ ap (set (Seats k items) i) seat_read ∙ set-get_or (Seats k items) i (session_of pinned a x)
+      sessions_still : (then : K) (y : Session P) → is_waiting x.phase ≡ true → y.id ≡ x.id → y.phase ≡ x.phase → MovedAt a (site_state then) items i y → SessionsIn then (set items i y) ≡ SessionsIn k items
+      sessions_still then y waits same phase moved =
+          moved.seen ∙ ap (λ (n : ℕ). set (SessionsIn k items) i (n, phase_of pinned (site_state then) y.phase)) same ∙ ap (λ (p : world.Phase). set (SessionsIn k items) i (x.id, p)) (ap (phase_of pinned (site_state then)) phase ∙ waits_seen a (site_state then) x.phase waits)
+          ∙ ap (set (SessionsIn k items) i) session_read ∙ set-get_or (SessionsIn k items) i (session_of pinned a x)
 
       -- one that is left
       pub turn_left : (then : K) (y : Session P) (fault : HubFault) → (fault ≡ hub.Failed → ⊥) → is_waiting x.phase ≡ true → y.id ≡ x.id → y.phase ≡ x.phase → (IsTrue a.honest → IsSound pinned (site_state then) y.phase)
@@ -311,12 +311,12 @@ module _ {P : Type 0} (pinned : P → Pinned) where
             valid = λ honest site. valid (honest_now honest) (so.valid honest site);
             so_far = λ honest. (
                 let before = honest_now honest in
-                let next = one_left represents (site_state first).site (crash_states first) (Seats first start) a.site (crash_states k) (Seats k items) i left (session_of pinned a x) seat_within seat_read (so.so_far honest) b.site (crash_states then) (stays.site before) (makes.unchanged before (stays.usable ∙ so.works.usable))
+                let next = one_left represents (site_state first).site (crash_states first) (SessionsIn first start) a.site (crash_states k) (SessionsIn k items) i left (session_of pinned a x) session_within session_read (so.so_far honest) b.site (crash_states then) (stays.site before) (makes.unchanged before (stays.usable ∙ so.works.usable))
                 (one_waits a x.phase true waits) in
-                subst (λ (l : List (ℕ × world.Phase)). Taken then l (i + 1) (left + 1)) (sym (seats_still then y waits same phase moved)) next);
+                subst (λ (l : List (ℕ × world.Phase)). Taken then l (i + 1) (left + 1)) (sym (sessions_still then y waits same phase moved)) next);
             few = omega (arith, so.few);
             room = (let one : one_if (is_waiting x.phase) ≡ 1 = ap one_if waits in omega (arith, so.room, behind, as_behind y, one));
-            fewer = omega (arith, so.fewer, ap count_waiting (seats_still then y waits same phase moved));
+            fewer = omega (arith, so.fewer, ap count_waiting (sessions_still then y waits same phase moved));
           }
 
       pub turn_fails : (then : K) (y : Session P) → (site_state first).usable ≡ true → is_waiting x.phase ≡ true → y.id ≡ x.id → y.phase ≡ x.phase → (IsTrue a.honest → IsSound pinned (site_state then) y.phase)
@@ -325,24 +325,24 @@ module _ {P : Type 0} (pinned : P → Pinned) where
           let b = site_state then in
           let moved = place_moves a b items i x y within read (none_waits pinned x.phase waits) so.held moves in
           record {
-            works = works_fails {T = Unit} (site_state first) a b left (count_waiting (Seats first start)) post usable (λ honest. left_few represents (site_state first).site (crash_states first) (Seats first start) a.site (crash_states k) (Seats k items) i left (so.so_far honest)) so.works makes.worked makes.fault makes.counts;
+            works = works_fails {T = Unit} (site_state first) a b left (count_waiting (SessionsIn first start)) post usable (λ honest. left_few represents (site_state first).site (crash_states first) (SessionsIn first start) a.site (crash_states k) (SessionsIn k items) i left (so.so_far honest)) so.works makes.worked makes.fault makes.counts;
             held = moved.held;
             sound = λ honest. (let before : IsTrue a.honest = subst IsTrue makes.worked.honest honest in moved.sound (so.sound before) (own before));
             valid = λ honest site. valid (honest_now honest) (so.valid honest site);
-            fewer = omega (arith, so.fewer, ap count_waiting (seats_still then y waits same phase moved));
+            fewer = omega (arith, so.fewer, ap count_waiting (sessions_still then y waits same phase moved));
             fails = λ honest. (
                 let before = honest_now honest in
-                let next = one_fails represents (site_state first).site (crash_states first) (Seats first start) a.site (crash_states k) (Seats k items) i left (session_of pinned a x) seat_within seat_read (so.so_far honest) b.site (crash_states then) (makes.fault.site before) (makes.at_crash before) (makes.fault.change before) in
-                subst (λ (l : List (ℕ × world.Phase)). TakesUpTo represents (site_state first).site b.site (crash_states first) (crash_states then) (Seats first start) l) (sym (seats_still then y waits same phase moved)) next);
+                let next = one_fails represents (site_state first).site (crash_states first) (SessionsIn first start) a.site (crash_states k) (SessionsIn k items) i left (session_of pinned a x) session_within session_read (so.so_far honest) b.site (crash_states then) (makes.fault.site before) (makes.at_crash before) (makes.fault.change before) in
+                subst (λ (l : List (ℕ × world.Phase)). TakesUpTo represents (site_state first).site b.site (crash_states first) (crash_states then) (SessionsIn first start) l) (sym (sessions_still then y waits same phase moved)) next);
           }
 
     -- What stands once all have had their turns.
     pub record EndsSo (k : K) (items : List (Session P)) (left : ℕ) : Type 0 where
-      pub works : WorksSingly (site_state first) (site_state k) (count_waiting (Seats first start)) (Ok left)
-      pub takes : IsTrue (site_state first).honest → TakesAll represents (site_state first).site (site_state k).site (crash_states first) (crash_states k) (Seats first start) (Seats k items) left
+      pub works : WorksSingly (site_state first) (site_state k) (count_waiting (SessionsIn first start)) (Ok left)
+      pub takes : IsTrue (site_state first).honest → TakesAll represents (site_state first).site (site_state k).site (crash_states first) (crash_states k) (SessionsIn first start) (SessionsIn k items) left
 
     pub singly_all : (k : K) (items : List (Session P)) (i left : ℕ) → i ≡ length items → IsSinglySo k items i left → EndsSo k items left
     singly_all k items i left done so = record {
-      works = works_all (site_state first) (site_state k) left (count_waiting (Seats first start)) (omega (arith, so.room)) so.works;
-      takes = λ honest. all_taken represents (site_state first).site (crash_states first) (Seats first start) (site_state k).site (crash_states k) (Seats k items) i left (omega (arith, done, length-map items (session_of pinned (site_state k)))) (so.so_far honest);
+      works = works_all (site_state first) (site_state k) left (count_waiting (SessionsIn first start)) (omega (arith, so.room)) so.works;
+      takes = λ honest. all_taken represents (site_state first).site (crash_states first) (SessionsIn first start) (site_state k).site (crash_states k) (SessionsIn k items) i left (omega (arith, done, length-map items (session_of pinned (site_state k)))) (so.so_far honest);
     }

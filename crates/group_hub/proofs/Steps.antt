@@ -80,7 +80,7 @@ abbrev world_by_parts : Site → Bool → ℕ → Bool → List (ℕ × world.Ph
 world_by_parts site usable next g sessions = record { site = site; next = next; failed = not usable; grouped = g; sessions = sessions }
 
 pub same_parts : (s t : Site) (u v : Bool) (next : ℕ) (g : Bool) (ss ts : List (ℕ × world.Phase)) → s ≡ t → u ≡ v → ss ≡ ts → world_by_parts s u next g ss ≡ world_by_parts t v next g ts
-same_parts s t u v next g ss ts site flags seats = cc (site, flags, seats)
+same_parts s t u v next g ss ts site flags all_sessions = cc (site, flags, all_sessions)
 
 -- ---- faults
 
@@ -113,38 +113,38 @@ pub post_fault : (a b : SiteState) (lacks : Changes → SiteFault → Type 0) (n
     is_flush e ≡ false → (fault ≡ hub.Crowded → ⊥)
     → IsTrue a.honest → a.usable ≡ true → may_work (world_at a next g old) e ≡ true → may_read (world_at a next g old) e ≡ true → changes_in (world_at a next g old) e ≡ changes → new ≡ old → IsPostFault lacks changes a b fault
     → IsFaulty (world_at a next g old) e (Fault fault) (world_at b next g new)
-post_fault a b lacks next g old new e changes hub.Memory other room honest usable works reads are seats cause = (works, same_parts b.site a.site b.usable a.usable next g new old (cause.site honest) cause.usable seats)
-post_fault a b lacks next g old new e changes hub.Broken other room honest usable works reads are seats cause = (reads, same_parts b.site a.site b.usable a.usable next g new old (cause.0.site honest) cause.0.usable seats)
-post_fault a b lacks next g old new e changes (hub.Full need free) other room honest usable works reads are seats cause =
-    (comes_full (world_at a next g old) e need free other (ap (λ (l : Changes). nat_lt 0 (length l)) are ∙ only_changes lacks changes (faults.Full need free) (cause.2 honest).0), same_parts b.site a.site b.usable a.usable next g new old (cause.0.site honest) cause.0.usable seats)
-post_fault a b lacks next g old new e changes hub.Spent other room honest usable works reads are seats cause =
-    (ap (λ (l : Changes). nat_lt 0 (length l)) are ∙ only_changes lacks changes faults.Spent (cause.1 honest), same_parts b.site a.site b.usable a.usable next g new old (cause.0.site honest) cause.0.usable seats)
-post_fault a b lacks next g old new e changes hub.Deep other room honest usable works reads are seats cause =
-    (comes_deep (world_at a next g old) e other (ap (λ (l : Changes). nat_lt 0 (length l)) are ∙ only_changes lacks changes faults.Deep (cause.1 honest).0), same_parts b.site a.site b.usable a.usable next g new old (cause.0.site honest) cause.0.usable seats)
-post_fault a b lacks next g old new e changes hub.Failed other room honest usable works reads are seats cause =
-    (ap (λ (l : Changes). nat_lt 0 (length l)) are ∙ cause.change honest, same_parts b.site a.site b.usable false next g new old (cause.site honest) cause.shut seats)
-post_fault a b lacks next g old new e changes hub.Crowded other room honest usable works reads are seats cause = absurd (room refl)
-post_fault a b lacks next g old new e changes hub.Unknown other room honest usable works reads are seats cause = absurd cause
-post_fault a b lacks next g old new e changes (hub.Refused r) other room honest usable works reads are seats cause = absurd cause
-post_fault a b lacks next g old new e changes hub.NotReady other room honest usable works reads are seats cause = absurd cause
+post_fault a b lacks next g old new e changes hub.Memory other room honest usable works reads are all_sessions cause = (works, same_parts b.site a.site b.usable a.usable next g new old (cause.site honest) cause.usable all_sessions)
+post_fault a b lacks next g old new e changes hub.Broken other room honest usable works reads are all_sessions cause = (reads, same_parts b.site a.site b.usable a.usable next g new old (cause.0.site honest) cause.0.usable all_sessions)
+post_fault a b lacks next g old new e changes (hub.Full need free) other room honest usable works reads are all_sessions cause =
+    (comes_full (world_at a next g old) e need free other (ap (λ (l : Changes). nat_lt 0 (length l)) are ∙ only_changes lacks changes (faults.Full need free) (cause.2 honest).0), same_parts b.site a.site b.usable a.usable next g new old (cause.0.site honest) cause.0.usable all_sessions)
+post_fault a b lacks next g old new e changes hub.Spent other room honest usable works reads are all_sessions cause =
+    (ap (λ (l : Changes). nat_lt 0 (length l)) are ∙ only_changes lacks changes faults.Spent (cause.1 honest), same_parts b.site a.site b.usable a.usable next g new old (cause.0.site honest) cause.0.usable all_sessions)
+post_fault a b lacks next g old new e changes hub.Deep other room honest usable works reads are all_sessions cause =
+    (comes_deep (world_at a next g old) e other (ap (λ (l : Changes). nat_lt 0 (length l)) are ∙ only_changes lacks changes faults.Deep (cause.1 honest).0), same_parts b.site a.site b.usable a.usable next g new old (cause.0.site honest) cause.0.usable all_sessions)
+post_fault a b lacks next g old new e changes hub.Failed other room honest usable works reads are all_sessions cause =
+    (ap (λ (l : Changes). nat_lt 0 (length l)) are ∙ cause.change honest, same_parts b.site a.site b.usable false next g new old (cause.site honest) cause.shut all_sessions)
+post_fault a b lacks next g old new e changes hub.Crowded other room honest usable works reads are all_sessions cause = absurd (room refl)
+post_fault a b lacks next g old new e changes hub.Unknown other room honest usable works reads are all_sessions cause = absurd cause
+post_fault a b lacks next g old new e changes (hub.Refused r) other room honest usable works reads are all_sessions cause = absurd cause
+post_fault a b lacks next g old new e changes hub.NotReady other room honest usable works reads are all_sessions cause = absurd cause
 
 -- ---- sessions
 
 -- no session has the number
-pub unknown : (k : SiteState) (next : ℕ) (g : Bool) (seats : List (ℕ × world.Phase)) (id : ℕ) (e : Event) (f : world.Phase → StepResult) → k.usable ≡ true → phase_in seats id ≡ None
-    → answer (world_at k next g seats) e ≡ at_session (world_at k next g seats) id f (phase_in seats id)
-    → IsAnswer (world_at k next g seats) e (Fault hub.Unknown) (world_at k next g seats)
-unknown k next g seats id e f usable nobody asks =
-    let w = world_at k next g seats in
-    is_answer w e (then_is (Fault hub.Unknown) w) (Fault hub.Unknown) w (is_open k next g seats usable) (asks ∙ ap (at_session w id f) nobody) refl refl
+pub unknown : (k : SiteState) (next : ℕ) (g : Bool) (all_sessions : List (ℕ × world.Phase)) (id : ℕ) (e : Event) (f : world.Phase → StepResult) → k.usable ≡ true → phase_in all_sessions id ≡ None
+    → answer (world_at k next g all_sessions) e ≡ at_session (world_at k next g all_sessions) id f (phase_in all_sessions id)
+    → IsAnswer (world_at k next g all_sessions) e (Fault hub.Unknown) (world_at k next g all_sessions)
+unknown k next g all_sessions id e f usable nobody asks =
+    let w = world_at k next g all_sessions in
+    is_answer w e (then_is (Fault hub.Unknown) w) (Fault hub.Unknown) w (is_open k next g all_sessions usable) (asks ∙ ap (at_session w id f) nobody) refl refl
 
 -- the same of a session that should hear something
-pub unheard : (k : SiteState) (next : ℕ) (g : Bool) (seats : List (ℕ × world.Phase)) (id now : ℕ) (e : Event) (f : world.Phase → StepResult) → k.usable ≡ true → phase_in seats id ≡ None
-    → answer (world_at k next g seats) e ≡ at_hearing (world_at k next g seats) id now f (phase_in seats id)
-    → IsAnswer (world_at k next g seats) e (Fault hub.Unknown) (world_at k next g seats)
-unheard k next g seats id now e f usable nobody asks =
-    let w = world_at k next g seats in
-    is_answer w e (then_is (Fault hub.Unknown) w) (Fault hub.Unknown) w (is_open k next g seats usable) (asks ∙ ap (at_hearing w id now f) nobody) refl refl
+pub unheard : (k : SiteState) (next : ℕ) (g : Bool) (all_sessions : List (ℕ × world.Phase)) (id now : ℕ) (e : Event) (f : world.Phase → StepResult) → k.usable ≡ true → phase_in all_sessions id ≡ None
+    → answer (world_at k next g all_sessions) e ≡ at_hearing (world_at k next g all_sessions) id now f (phase_in all_sessions id)
+    → IsAnswer (world_at k next g all_sessions) e (Fault hub.Unknown) (world_at k next g all_sessions)
+unheard k next g all_sessions id now e f usable nobody asks =
+    let w = world_at k next g all_sessions in
+    is_answer w e (then_is (Fault hub.Unknown) w) (Fault hub.Unknown) w (is_open k next g all_sessions usable) (asks ∙ ap (at_hearing w id now f) nobody) refl refl
 
 -- a session draws
 drawn_well : (a b : SiteState) (next : ℕ) (g : Bool) (old new : List (ℕ × world.Phase)) (id room : ℕ) (p q : world.Phase) (o : Outcome) → a.usable ≡ true → b.site ≡ a.site → b.usable ≡ a.usable → phase_in old id ≡ Some p → new ≡ world.moved_in old id q
@@ -187,10 +187,10 @@ draws_so a b next g old new id buffer out p q (Ok d) honest usable site flags th
 draws_so a b next g old new id buffer out p q (Err fault) honest usable site flags there seen stays outcome moved same is = draw_fault a b next g old new id (length buffer) p q fault honest usable site flags there seen stays same is
 
 -- the sessions stay where one of them could not be answered
-pub seats_stay : {T : Type 0} (old new : List (ℕ × world.Phase)) (id : ℕ) (p q : world.Phase) (result : Result T HubFault) → new ≡ world.moved_in old id q → world.moved_in old id p ≡ old
+pub all_sessions_stay : {T : Type 0} (old new : List (ℕ × world.Phase)) (id : ℕ) (p q : world.Phase) (result : Result T HubFault) → new ≡ world.moved_in old id q → world.moved_in old id p ≡ old
     → OnErr result (q ≡ p) → OnErr result (new ≡ old)
-seats_stay old new id p q (Ok _) seen stays same = tt
-seats_stay old new id p q (Err _) seen stays same = seen ∙ ap (world.moved_in old id) same ∙ stays
+all_sessions_stay old new id p q (Ok _) seen stays same = tt
+all_sessions_stay old new id p q (Err _) seen stays same = seen ∙ ap (world.moved_in old id) same ∙ stays
 
 -- ---- joining and leaving
 
@@ -202,24 +202,24 @@ leaves a b next g old new id p site flags there seen =
     let asks : left w id (phase_in old id) ≡ next_is = ap (left w id) there in
     either_way w (Leave id) next_is Gone _ asks asks refl (same_parts b.site a.site b.usable a.usable next g _ _ site flags seen)
 
-pub nobody_leaves : (k : SiteState) (next : ℕ) (g : Bool) (seats : List (ℕ × world.Phase)) (id : ℕ) → phase_in seats id ≡ None
-    → IsAnswer (world_at k next g seats) (Leave id) (Fault hub.Unknown) (world_at k next g seats)
-nobody_leaves k next g seats id nobody =
-    let w = world_at k next g seats in
-    let asks : left w id (phase_in seats id) ≡ then_is (Fault hub.Unknown) w = ap (left w id) nobody in
+pub nobody_leaves : (k : SiteState) (next : ℕ) (g : Bool) (all_sessions : List (ℕ × world.Phase)) (id : ℕ) → phase_in all_sessions id ≡ None
+    → IsAnswer (world_at k next g all_sessions) (Leave id) (Fault hub.Unknown) (world_at k next g all_sessions)
+nobody_leaves k next g all_sessions id nobody =
+    let w = world_at k next g all_sessions in
+    let asks : left w id (phase_in all_sessions id) ≡ then_is (Fault hub.Unknown) w = ap (left w id) nobody in
     either_way w (Leave id) (then_is (Fault hub.Unknown) w) (Fault hub.Unknown) w asks asks refl refl
 
-pub crowded : (k : SiteState) (next : ℕ) (g : Bool) (seats : List (ℕ × world.Phase)) → k.usable ≡ true → 32 ≤ length seats
-    → IsAnswer (world_at k next g seats) Join (Fault hub.Crowded) (world_at k next g seats)
-crowded k next g seats usable full =
-    let w = world_at k next g seats in
-    is_answer w Join (then_is (Fault hub.Crowded) w) (Fault hub.Crowded) w (is_open k next g seats usable) (joined_crowded w full) refl refl
+pub crowded : (k : SiteState) (next : ℕ) (g : Bool) (all_sessions : List (ℕ × world.Phase)) → k.usable ≡ true → 32 ≤ length all_sessions
+    → IsAnswer (world_at k next g all_sessions) Join (Fault hub.Crowded) (world_at k next g all_sessions)
+crowded k next g all_sessions usable full =
+    let w = world_at k next g all_sessions in
+    is_answer w Join (then_is (Fault hub.Crowded) w) (Fault hub.Crowded) w (is_open k next g all_sessions usable) (joined_crowded w full) refl refl
 
-pub spent : (k : SiteState) (next : ℕ) (g : Bool) (seats : List (ℕ × world.Phase)) → k.usable ≡ true → length seats < 32 → next ≡ 2 ^ 64 - 1
-    → IsAnswer (world_at k next g seats) Join (Fault hub.Spent) (world_at k next g seats)
-spent k next g seats usable room is =
-    let w = world_at k next g seats in
-    is_answer w Join (then_is (Fault hub.Spent) w) (Fault hub.Spent) w (is_open k next g seats usable) (joined_spent w room is) refl refl
+pub spent : (k : SiteState) (next : ℕ) (g : Bool) (all_sessions : List (ℕ × world.Phase)) → k.usable ≡ true → length all_sessions < 32 → next ≡ 2 ^ 64 - 1
+    → IsAnswer (world_at k next g all_sessions) Join (Fault hub.Spent) (world_at k next g all_sessions)
+spent k next g all_sessions usable room is =
+    let w = world_at k next g all_sessions in
+    is_answer w Join (then_is (Fault hub.Spent) w) (Fault hub.Spent) w (is_open k next g all_sessions usable) (joined_spent w room is) refl refl
 
 pub joins : (k : SiteState) (next : ℕ) (g : Bool) (old new : List (ℕ × world.Phase)) → k.usable ≡ true → length old < 32 → (next ≡ 2 ^ 64 - 1 → ⊥) → new ≡ old ++ (next, world.Heard []) ∷ []
     → IsAnswer (world_at k next g old) Join (Joined next) (world_at k (next + 1) g new)

@@ -52,7 +52,7 @@ one_post s (Waits request now) some = by (reply s request now).post some
 one_post s (Reply rest) some = absurd (cc some)
 one_post s Early some = absurd (cc some)
 
--- ---- seats
+-- ---- sessions
 
 taken_length : (s : Site) (choices : List Bool) (xs : List (ℕ × Phase)) → length (taken s choices xs).sessions ≡ length xs
 taken_length s [] xs = refl
@@ -159,7 +159,7 @@ module _ {L : Type 0} (represents : L → Site → Type 0) where
 
     module _ (start : List (ℕ × Phase)) where
       -- The first i sessions have had their turns: some are answered, and so many are left.
-      pub record TakenUpTo (t : Site) (now : CrashStates L) (seats : List (ℕ × Phase)) (i left : ℕ) : Type 0 where
+      pub record TakenUpTo (t : Site) (now : CrashStates L) (all_sessions : List (ℕ × Phase)) (i left : ℕ) : Type 0 where
         pub front : List (ℕ × Phase)
         pub rest : List (ℕ × Phase)
         pub choices : List Bool
@@ -167,7 +167,7 @@ module _ {L : Type 0} (represents : L → Site → Type 0) where
         pub counted : i ≡ length front
         pub each : length choices ≡ length front
         pub site : t ≡ (taken s choices front).site
-        pub seen : seats ≡ (taken s choices front).sessions ++ rest
+        pub seen : all_sessions ≡ (taken s choices front).sessions ++ rest
         pub waiting : left ≡ count_waiting (taken s choices front).sessions
         pub few : left ≤ count_waiting front
         pub leaves : Leaves now (taken s choices front).changes []
@@ -190,10 +190,10 @@ module _ {L : Type 0} (represents : L → Site → Type 0) where
         };
       }
 
-      pub left_few : (t : Site) (now : CrashStates L) (seats : List (ℕ × Phase)) (i left : ℕ) → TakenUpTo t now seats i left → left ≤ count_waiting start
-      left_few t now seats i left so = omega (arith, so.few, ap count_waiting so.parts, waiting_both so.front so.rest)
+      pub left_few : (t : Site) (now : CrashStates L) (all_sessions : List (ℕ × Phase)) (i left : ℕ) → TakenUpTo t now all_sessions i left → left ≤ count_waiting start
+      left_few t now all_sessions i left so = omega (arith, so.few, ap count_waiting so.parts, waiting_both so.front so.rest)
 
-      module _ (t : Site) (now : CrashStates L) (seats : List (ℕ × Phase)) (i left : ℕ) (x : ℕ × Phase) (within : i < length seats) (read : x ≡ get_or seats i x) (so : TakenUpTo t now seats i left) where
+      module _ (t : Site) (now : CrashStates L) (all_sessions : List (ℕ × Phase)) (i left : ℕ) (x : ℕ × Phase) (within : i < length all_sessions) (read : x ≡ get_or all_sessions i x) (so : TakenUpTo t now all_sessions i left) where
         abbrev g : Group
         g = taken s so.choices so.front
 
@@ -222,7 +222,7 @@ module _ {L : Type 0} (represents : L → Site → Type 0) where
         few_more = omega (arith, waiting_both so.front (x ∷ []))
 
         -- it is answered
-        pub one_taken : (u : Site) (then : CrashStates L) → u ≡ with_changes t (post_from t x.1) → AddsOnly now then (OneOf t (post_from t x.1)) → ((c : L) → may_crash_to then c → represents c u) → TakenUpTo u then (set seats i (x.0, answered_from t x.1)) (i + 1) left
+        pub one_taken : (u : Site) (then : CrashStates L) → u ≡ with_changes t (post_from t x.1) → AddsOnly now then (OneOf t (post_from t x.1)) → ((c : L) → may_crash_to then c → represents c u) → TakenUpTo u then (set all_sessions i (x.0, answered_from t x.1)) (i + 1) left
         one_taken u then new only stands =
             let z : ℕ × Phase = (x.0, answered_from g.site x.1) in
             let z_is : (x.0, answered_from t x.1) ≡ z = ap (λ (v : Site). (x.0, answered_from v x.1)) so.site in
@@ -242,7 +242,7 @@ module _ {L : Type 0} (represents : L → Site → Type 0) where
             }
 
         -- it is left
-        pub one_left : (u : Site) (then : CrashStates L) → u ≡ t → AddsNone now then → one_waiting x.1 ≡ 1 → TakenUpTo u then seats (i + 1) (left + 1)
+        pub one_left : (u : Site) (then : CrashStates L) → u ≡ t → AddsNone now then → one_waiting x.1 ≡ 1 → TakenUpTo u then all_sessions (i + 1) (left + 1)
         one_left u then same none waits =
             let back = sym (more false) in
             record {
@@ -260,7 +260,7 @@ module _ {L : Type 0} (represents : L → Site → Type 0) where
             }
 
         -- its commit failed
-        pub one_fails : (u : Site) (then : CrashStates L) → u ≡ t → AddsOnly now then (OneOf t (post_from t x.1)) → nat_lt 0 (length (post_from t x.1)) ≡ true → TakesUpTo represents s u first then start seats
+        pub one_fails : (u : Site) (then : CrashStates L) → u ≡ t → AddsOnly now then (OneOf t (post_from t x.1)) → nat_lt 0 (length (post_from t x.1)) ≡ true → TakesUpTo represents s u first then start all_sessions
         one_fails u then same only some =
             let front_is = taken_front s so.choices so.front so.rest so.each in
             let whole : taken s so.choices start ≡ with_rest g so.rest = ap (taken s so.choices) so.parts ∙ front_is in
@@ -279,13 +279,13 @@ module _ {L : Type 0} (represents : L → Site → Type 0) where
             }
 
       -- all have had their turns
-      pub all_taken : (t : Site) (now : CrashStates L) (seats : List (ℕ × Phase)) (i left : ℕ) → i ≡ length seats → TakenUpTo t now seats i left → TakesAll represents s t first now start seats left
-      all_taken t now seats i left done so =
+      pub all_taken : (t : Site) (now : CrashStates L) (all_sessions : List (ℕ × Phase)) (i left : ℕ) → i ≡ length all_sessions → TakenUpTo t now all_sessions i left → TakesAll represents s t first now start all_sessions left
+      all_taken t now all_sessions i left done so =
           let h = taken s so.choices so.front in
           let none : so.rest ≡ [] = none_behind so.rest (omega (arith, done, so.counted, ap length so.seen, length-append h.sessions so.rest, taken_length s so.choices so.front)) in
           let all : start ≡ so.front = so.parts ∙ ap (λ (l : List (ℕ × Phase)). so.front ++ l) none ∙ append-nil so.front in
           let whole : taken s so.choices start ≡ h = ap (taken s so.choices) all in
-          let seen : seats ≡ h.sessions = so.seen ∙ ap (λ (l : List (ℕ × Phase)). h.sessions ++ l) none ∙ append-nil h.sessions in
+          let seen : all_sessions ≡ h.sessions = so.seen ∙ ap (λ (l : List (ℕ × Phase)). h.sessions ++ l) none ∙ append-nil h.sessions in
           record {
             choices = so.choices;
             all = so.each ∙ ap length (sym all);

@@ -95,8 +95,8 @@ Calls site_state lacks crash_states stands w k [] (o ∷ outcomes) v l = ⊥
 Calls site_state lacks crash_states stands w k (e ∷ events) [] v l = ⊥
 
 -- a call of a keeper with sessions over its site, whatever number comes next and whether posts wait
-abbrev pub SeatsCall : {S L P : Type 0} → (S → SiteState) → (S → Changes → SiteFault → Type 0) → (S → CrashStates L) → (L → Site → Type 0) → (P → Pinned) → S → List (Session P) → Event → Outcome → S → List (Session P) → Type 0
-SeatsCall site_state lacks crash_states stands pinned k olds e o l news = (next : ℕ) (grouped : Bool) →
+abbrev pub SessionsCall : {S L P : Type 0} → (S → SiteState) → (S → Changes → SiteFault → Type 0) → (S → CrashStates L) → (L → Site → Type 0) → (P → Pinned) → S → List (Session P) → Event → Outcome → S → List (Session P) → Type 0
+SessionsCall site_state lacks crash_states stands pinned k olds e o l news = (next : ℕ) (grouped : Bool) →
     CallOverKeeper site_state lacks crash_states stands (world_at (site_state k) next grouped (sessions_of pinned (site_state k) olds)) k e o (world_at (site_state l) next grouped (sessions_of pinned (site_state l) news)) l
 
 -- the same of a hub: its world, and the keeper that it has
@@ -105,6 +105,10 @@ HubCall site_state lacks crash_states stands old e o new = CallOverKeeper site_s
 
 abbrev pub HubCalls : {S L : Type 0} {bound : _} {ghosts : _} → (S → SiteState) → (S → Changes → SiteFault → Type 0) → (S → CrashStates L) → (L → Site → Type 0) → Hub S bound ghosts → List Event → List Outcome → Hub S bound ghosts → Type 0
 HubCalls site_state lacks crash_states stands old events outcomes new = Calls site_state lacks crash_states stands (world_of site_state old) (keeper_of old) events outcomes (world_of site_state new) (keeper_of new)
+
+-- a call of a hub over the keeper that it has
+abbrev pub CallsHub : {S : Type 0} {bound : _} {ghosts : _} → Hub S bound ghosts → Event → Outcome → Hub S bound ghosts → Type 0
+CallsHub {ghosts = ghosts} old e o new = HubCall ghosts.site_state ghosts.lacks ghosts.crash_states ghosts.represents old e o new
 
 -- the links of a run over an honest keeper
 abbrev pub links_of : {S L : Type 0} (site_state : S → SiteState) (lacks : S → Changes → SiteFault → Type 0) (crash_states : S → CrashStates L) (stands : L → Site → Type 0) (w : World) (k : S) (events : List Event) (outcomes : List Outcome) (v : World) (l : S) →
@@ -120,3 +124,7 @@ pub record HubRun {S L : Type 0} {bound : _} {ghosts : _} (site_state : S → Si
   pub calls : HubCalls site_state lacks crash_states stands old events outcomes new
   pub at_crash : (honest : IsTrue (site_state (keeper_of old)).honest) → (site_state (keeper_of old)).usable ≡ true →
       HasCrashStates stands (world_of site_state old).site (crash_states (keeper_of old)) (crash_states (keeper_of new)) (links_of site_state lacks crash_states stands (world_of site_state old) (keeper_of old) events outcomes (world_of site_state new) (keeper_of new) honest calls)
+
+-- a run of a hub over the keeper that it has
+abbrev pub RunsHub : {S : Type 0} {bound : _} {ghosts : _} → Hub S bound ghosts → List Event → List Outcome → Hub S bound ghosts → Type 0
+RunsHub {ghosts = ghosts} old events outcomes new = HubRun ghosts.site_state ghosts.lacks ghosts.crash_states ghosts.represents old events outcomes new

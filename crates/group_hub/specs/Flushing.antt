@@ -94,14 +94,14 @@ put_one puttings.All pinned h x (nexts.Replied p) = phase_of pinned h p
 put_one puttings.Gone pinned h x (nexts.Gone p) = phase_of pinned h p
 put_one puttings.Gone pinned h x (nexts.Replied p) = x
 
-abbrev pub put_seats : {P : Type 0} → Putting → (P → Pinned) → SiteState → List (ℕ × world.Phase) → List (Next P) → List (ℕ × world.Phase)
-put_seats putting pinned h [] ns = []
-put_seats putting pinned h (x ∷ xs) [] = x ∷ xs
-put_seats putting pinned h (x ∷ xs) (n ∷ ns) = (x.0, put_one putting pinned h x.1 n) ∷ put_seats putting pinned h xs ns
+abbrev pub put_sessions : {P : Type 0} → Putting → (P → Pinned) → SiteState → List (ℕ × world.Phase) → List (Next P) → List (ℕ × world.Phase)
+put_sessions putting pinned h [] ns = []
+put_sessions putting pinned h (x ∷ xs) [] = x ∷ xs
+put_sessions putting pinned h (x ∷ xs) (n ∷ ns) = (x.0, put_one putting pinned h x.1 n) ∷ put_sessions putting pinned h xs ns
 
 -- Sessions are put into their next phases, and the pins given back of those that are not put.
-pub record PutsSeats {P : Type 0} (putting : Putting) (pinned : P → Pinned) (old new : SiteState) (before after : List (Session P)) (next : List (Next P)) : Type 0 where
-  pub seats : sessions_of pinned new after ≡ put_seats putting pinned old (sessions_of pinned old before) next
+pub record PutsSessions {P : Type 0} (putting : Putting) (pinned : P → Pinned) (old new : SiteState) (before after : List (Session P)) (next : List (Next P)) : Type 0 where
+  pub sessions : sessions_of pinned new after ≡ put_sessions putting pinned old (sessions_of pinned old before) next
   pub held : HoldsAll new (pins_of pinned after)
   pub sound : IsTrue old.honest → AreNextSound pinned old next → AreSound pinned old before → AreSound pinned new after
   pub fewer : count_waiting (sessions_of pinned new after) ≤ count_waiting (sessions_of pinned old before)
@@ -136,8 +136,8 @@ pub record TakesNextPin {P : Type 0} (pinned : P → Pinned) (old new : SiteStat
 
 -- What the first sessions are to have by the site s, and the changes that they make; a flush takes them all.
 pub record ArePrepared {P : Type 0} (pinned : P → Pinned) (h : SiteState) (s : Site) (xs : List (ℕ × world.Phase)) (ns : List (Next P)) (made : Changes) : Type 0 where
-  pub put : put_seats puttings.All pinned h xs ns ≡ (taken s (all_of xs) (without_forms s xs)).sessions
-  pub gone : put_seats puttings.Gone pinned h xs ns ≡ without_forms s xs
+  pub put : put_sessions puttings.All pinned h xs ns ≡ (taken s (all_of xs) (without_forms s xs)).sessions
+  pub gone : put_sessions puttings.Gone pinned h xs ns ≡ without_forms s xs
   pub changes : made ≡ (taken s (all_of xs) (without_forms s xs)).changes
   pub posts : are_posts made ≡ true
 

@@ -10,8 +10,8 @@ use Rattle.group_hub.specs.declared.hub.Hub.{Hub}
 abbrev pub keeper_of : {S : Type 0} {bound : _} {ghosts : _} → Hub S bound ghosts → S
 keeper_of hub = hub.site
 
-abbrev pub seats_of : {S : Type 0} {bound : _} {ghosts : _} → Hub S bound ghosts → List (ℕ × Phase)
-seats_of {ghosts = ghosts} hub = sessions_of ghosts.pinned (ghosts.site_state hub.site) hub.sessions.items
+abbrev pub sessions_in_hub : {S : Type 0} {bound : _} {ghosts : _} → Hub S bound ghosts → List (ℕ × Phase)
+sessions_in_hub {ghosts = ghosts} hub = sessions_of ghosts.pinned (ghosts.site_state hub.site) hub.sessions.items
 
 -- whether posts wait in it to be made together
 abbrev pub is_grouped : {S : Type 0} {bound : _} {ghosts : _} → Hub S bound ghosts → Bool

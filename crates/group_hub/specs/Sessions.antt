@@ -85,12 +85,12 @@ AreSound pinned h [] = Unit {0}
 AreSound pinned h (s ∷ sessions) = IsSound pinned h s.phase × AreSound pinned h sessions
 
 -- Sessions over a site: they hold all pins that are out, and each draws what its pin keeps.
-pub record SeatsStand {P : Type 0} (pinned : P → Pinned) (h : SiteState) (items : List (Session P)) : Type 0 where
+pub record SessionsStand {P : Type 0} (pinned : P → Pinned) (h : SiteState) (items : List (Session P)) : Type 0 where
   pub held : HoldsAll h (pins_of pinned items)
   pub sound : IsTrue h.honest → AreSound pinned h items
 
 -- What a call leaves of sessions over a site: they stand, and no more of them wait than before.
-pub record KeepsSeats {P : Type 0} (pinned : P → Pinned) (old new : SiteState) (before after : List (Session P)) : Type 0 where
+pub record KeepsSessions {P : Type 0} (pinned : P → Pinned) (old new : SiteState) (before after : List (Session P)) : Type 0 where
   pub held : HoldsAll new (pins_of pinned after)
   pub sound : IsTrue new.honest → AreSound pinned new after
   pub fewer : count_waiting (sessions_of pinned new after) ≤ count_waiting (sessions_of pinned old before)

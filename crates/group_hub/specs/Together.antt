@@ -13,7 +13,7 @@ use Rattle.group_world.specs.Step.{Group, without_forms, taken, all_of}
 use Rattle.group_world.specs.declared.fault.HubFault.{HubFault}
 use Rattle.group_world.specs.declared.fault.HubFault.TheVariants as hub
 use Rattle.group_hub.specs.Counting.{CountsCall}
-use Rattle.group_hub.specs.Flushing.{next_pins, AreNextSound, AreForWaiting, StandsBeside, put_seats}
+use Rattle.group_hub.specs.Flushing.{next_pins, AreNextSound, AreForWaiting, StandsBeside, put_sessions}
 use Rattle.group_hub.specs.Sessions.{sessions_of}
 use Rattle.group_hub.specs.declared.group_commit.GroupCommit.{GroupCommit}
 use Rattle.group_hub.specs.declared.group_commit.GroupCommit.TheVariants as commits
@@ -56,8 +56,8 @@ pub record IsApart {S L : Type 0} (site_state : S → SiteState) (lacks : S → 
 pub record MakesTogether {S L P : Type 0} (site_state : S → SiteState) (lacks : S → Changes → SiteFault → Type 0) (crash_states : S → CrashStates L) (represents : L → Site → Type 0) (pinned : P → Pinned) (sessions : List (Session P)) (next : List (Next P)) (old new : S) (result : Result GroupCommit HubFault) : Type 0 where
   pub honest : (site_state new).honest ≡ (site_state old).honest
   pub whole : IsTrue (site_state old).honest → IfOk result (λ c. c ≡ commits.Whole → (site_state new).site ≡ (group_of pinned (site_state old) sessions).site)
-  pub put : IsTrue (site_state old).honest → OnOk result (put_seats puttings.All pinned (site_state new) (sessions_of pinned (site_state old) sessions) next ≡ (group_of pinned (site_state old) sessions).sessions)
-  pub gone : IsTrue (site_state old).honest → OnOk result (put_seats puttings.Gone pinned (site_state new) (sessions_of pinned (site_state old) sessions) next ≡ without_forms (site_state old).site (sessions_of pinned (site_state old) sessions))
+  pub put : IsTrue (site_state old).honest → OnOk result (put_sessions puttings.All pinned (site_state new) (sessions_of pinned (site_state old) sessions) next ≡ (group_of pinned (site_state old) sessions).sessions)
+  pub gone : IsTrue (site_state old).honest → OnOk result (put_sessions puttings.Gone pinned (site_state new) (sessions_of pinned (site_state old) sessions) next ≡ without_forms (site_state old).site (sessions_of pinned (site_state old) sessions))
   pub waiting : OnOk result (AreForWaiting sessions next)
   pub sound : IsTrue (site_state old).honest → AreNextSound pinned (site_state new) next
   pub stands : StandsBeside pinned (site_state old) (site_state new) (next_pins pinned next) sessions

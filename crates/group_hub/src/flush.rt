@@ -4,8 +4,8 @@ ghost use Rattle.host_types.specs.Site.{IsSite};
 ghost use Rattle.group_world.specs.World.{count_waiting};
 ghost use Rattle.group_world.specs.Outcomes.{flush_outcome};
 ghost use Rattle.group_world.specs.declared.event.Event.TheVariants.{Flush};
-ghost use Rattle.group_hub.specs.Calls.{SeatsCall};
-ghost use Rattle.group_hub.specs.Sessions.{sessions_of, SeatsStand, KeepsSeats};
+ghost use Rattle.group_hub.specs.Calls.{SessionsCall};
+ghost use Rattle.group_hub.specs.Sessions.{sessions_of, SessionsStand, KeepsSessions};
 
 use crate::group_commit::GroupCommit;
 use crate::next::Putting;
@@ -16,7 +16,7 @@ use crate::together::make_together;
 use crate::waiting::waiting_in;
 use group_world::{Flushed, HubFault};
 use std::alloc::Global;
-use word_index::SearchKeeper;
+use word_search::SearchKeeper;
 
 /// Makes the posts that wait, and answers their sessions.
 pub fn flush<S: SearchKeeper>(
@@ -26,10 +26,10 @@ pub fn flush<S: SearchKeeper>(
 ) -> Result<Flushed, HubFault>
     requires usable { (S.site_state site.old).usable ≡ true }
     requires few { vec_len sessions.old ≤ 32 }
-    requires stand { SeatsStand S.pinned (S.site_state site.old) sessions.old.items }
+    requires stand { SessionsStand S.pinned (S.site_state site.old) sessions.old.items }
     requires valid { 0 < count_waiting (sessions_of S.pinned (S.site_state site.old) sessions.old.items) → IsTrue (S.site_state site.old).honest → ∥ IsSite (S.site_state site.old).site ∥₁ }
-    ensures call { SeatsCall S.site_state S.lacks S.crash_states S.represents S.pinned site.old sessions.old.items Flush (flush_outcome result) site.new sessions.new.items }
-    ensures seats { KeepsSeats S.pinned (S.site_state site.old) (S.site_state site.new) sessions.old.items sessions.new.items }
+    ensures call { SessionsCall S.site_state S.lacks S.crash_states S.represents S.pinned site.old sessions.old.items Flush (flush_outcome result) site.new sessions.new.items }
+    ensures sessions { KeepsSessions S.pinned (S.site_state site.old) (S.site_state site.new) sessions.old.items sessions.new.items }
     ensures valid { (IsTrue (S.site_state site.old).honest → ∥ IsSite (S.site_state site.old).site ∥₁) → IsTrue (S.site_state site.new).honest → ∥ IsSite (S.site_state site.new).site ∥₁ }
     ensures places { (vec_len sessions.new ≡ vec_len sessions.old) × (vec_capacity sessions.old ≤ vec_capacity sessions.new) }
 {

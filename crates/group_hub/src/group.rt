@@ -26,7 +26,7 @@ use host_types::{Change, Stamp};
 use request_reader::{Request, StreamVerdict};
 use site_replies::{Answered, Reply, finds_form, later_reply, reply};
 use std::alloc::Global;
-use word_index::SearchKeeper;
+use word_search::SearchKeeper;
 
 /// The phase of a session that is sent a reply.
 fn sent<S: SearchKeeper>(site: &mut S, reply: Reply) -> Result<Phase<S::Pin>, HubFault>

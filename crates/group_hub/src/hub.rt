@@ -16,7 +16,7 @@ use crate::waiting::{comes_to_wait, place, waiting_in};
 use group_world::{Drawn, Flushed, HubFault, InputStatus};
 use host_types::{Change, Stamp, changes_keep_sites_valid};
 use std::alloc::Global;
-use word_index::SearchKeeper;
+use word_search::SearchKeeper;
 
 /// How many sessions may be there at one time.
 pub const MOST_SESSIONS: usize = 32;
@@ -65,9 +65,9 @@ impl<S: SearchKeeper> Hub<S> {
     ghost use Rattle.group_hub.specs.HeldPins.{HoldsForReplies, IsClosed};
     ghost use Rattle.group_hub.specs.SessionDraws.{OnlyReadsBreak};
     ghost use Rattle.group_hub.specs.Understood.{KeepsSite, FillsOut};
-    ghost use Rattle.group_hub.specs.Hub.{keeper_of, seats_of, world_of, is_grouped as groups};
+    ghost use Rattle.group_hub.specs.Hub.{keeper_of, sessions_in_hub, world_of, is_grouped as groups};
     ghost use Rattle.group_hub.specs.Hears.{is_grouped, is_full};
-    ghost use Rattle.group_hub.specs.Calls.{HubCall};
+    ghost use Rattle.group_hub.specs.Calls.{CallsHub};
 
     /// A hub without sessions, whose first has this number. Posts wait in it to be made together, or are made at once; where they wait, the site is a valid one. It makes room for all sessions, or hands the site back with `Memory`.
     pub fn started(
@@ -122,7 +122,7 @@ impl<S: SearchKeeper> Hub<S> {
     pub fn join(&mut self) -> Result<u64, HubFault>
         ensures step { Step (world_of S.site_state self.old) Join (join_outcome result) (world_of S.site_state self.new) }
         ensures keeper { keeper_of self.new ≡ keeper_of self.old }
-        ensures call { HubCall S.site_state S.lacks S.crash_states S.represents self.old Join (join_outcome result) self.new }
+        ensures call { CallsHub self.old Join (join_outcome result) self.new }
     {
         if !self.site.is_usable() {
             return Err(HubFault::Failed);
@@ -143,7 +143,7 @@ impl<S: SearchKeeper> Hub<S> {
     /// What becomes of a right post.
     fn posting(&self) -> Posting
         ensures grouped { is_grouped result ≡ groups self.now }
-        ensures full { is_full result ≡ (groups self.now && nat_le 16 (count_waiting (seats_of self.now))) }
+        ensures full { is_full result ≡ (groups self.now && nat_le 16 (count_waiting (sessions_in_hub self.now))) }
     {
         if !self.grouped {
             return Posting::AtOnce;
@@ -156,7 +156,7 @@ impl<S: SearchKeeper> Hub<S> {
 
     /// A piece of a session's input.
     pub fn bytes(&mut self, id: u64, piece: &[u8], now: Stamp) -> Result<InputStatus, HubFault>
-        ensures { HubCall S.site_state S.lacks S.crash_states S.represents self.old (Bytes id piece.now now) (bytes_outcome result) self.new }
+        ensures { CallsHub self.old (Bytes id piece.now now) (bytes_outcome result) self.new }
     {
         if !self.site.is_usable() {
             return Err(HubFault::Failed);
@@ -182,7 +182,7 @@ impl<S: SearchKeeper> Hub<S> {
 
     /// The end of a session's input.
     pub fn end(&mut self, id: u64, now: Stamp) -> Result<InputStatus, HubFault>
-        ensures { HubCall S.site_state S.lacks S.crash_states S.represents self.old (End id now) (bytes_outcome result) self.new }
+        ensures { CallsHub self.old (End id now) (bytes_outcome result) self.new }
     {
         if !self.site.is_usable() {
             return Err(HubFault::Failed);
@@ -203,7 +203,7 @@ impl<S: SearchKeeper> Hub<S> {
     ///
     /// `Broken` where a read failed: nothing is lost, and the same draw again goes on where it was. The front of the buffer may have some of the next bytes then.
     pub fn draw(&mut self, id: u64, out: &mut [u8]) -> Result<Drawn, HubFault>
-        ensures call { HubCall S.site_state S.lacks S.crash_states S.represents self.old (Draw id (length out.old)) (draw_outcome result out.new) self.new }
+        ensures call { CallsHub self.old (Draw id (length out.old)) (draw_outcome result out.new) self.new }
         ensures reply { OnlyReadsBreak (phase_of (world_of S.site_state self.old) id) (S.site_state (keeper_of self.old)) (S.site_state (keeper_of self.new)) result }
         ensures keeper { KeepsSite (S.site_state (keeper_of self.old)) (S.site_state (keeper_of self.new)) }
         ensures out { FillsOut (S.site_state (keeper_of self.old)).honest (phase_of (world_of S.site_state self.old) id) out.old out.new result }
@@ -222,7 +222,7 @@ impl<S: SearchKeeper> Hub<S> {
     /// The session is gone, and its pin given back. It takes no memory, and answers in a hub that has failed too.
     pub fn leave(&mut self, id: u64) -> Result<(), HubFault>
         ensures step { Step (world_of S.site_state self.old) (Leave id) (leave_outcome result) (world_of S.site_state self.new) }
-        ensures call { HubCall S.site_state S.lacks S.crash_states S.represents self.old (Leave id) (leave_outcome result) self.new }
+        ensures call { CallsHub self.old (Leave id) (leave_outcome result) self.new }
         ensures at_crash { IsTrue (S.site_state (keeper_of self.old)).honest → AddsNone (S.crash_states (keeper_of self.old)) (S.crash_states (keeper_of self.new)) }
     {
         let Some(at) = place_in(&self.sessions, id) else {
@@ -235,7 +235,7 @@ impl<S: SearchKeeper> Hub<S> {
 
     /// A change that the administrator asks for.
     pub fn admin(&mut self, change: Change, now: Stamp) -> Result<(), HubFault>
-        ensures { HubCall S.site_state S.lacks S.crash_states S.represents self.old (Admin change now) (admin_outcome result) self.new }
+        ensures { CallsHub self.old (Admin change now) (admin_outcome result) self.new }
     {
         if !self.site.is_usable() {
             return Err(HubFault::Failed);
@@ -254,7 +254,7 @@ impl<S: SearchKeeper> Hub<S> {
     /// Those that find no form any more are answered from the site as it stands. The others are made together; only where they may need more than is free, or too many levels, are they made one by one, and what is not made then still waits. Its
     /// contract doesn't say why one that is left could not be made. `Failed` behind some of these leaves those before as they are answered; every other fault leaves all as before.
     pub fn flush(&mut self) -> Result<Flushed, HubFault>
-        ensures { HubCall S.site_state S.lacks S.crash_states S.represents self.old Flush (flush_outcome result) self.new }
+        ensures { CallsHub self.old Flush (flush_outcome result) self.new }
     {
         if !self.site.is_usable() {
             return Err(HubFault::Failed);
@@ -275,7 +275,7 @@ impl<S: SearchKeeper> Hub<S> {
 
     /// Which pins of the site are out: at most one for each session that has bytes left to draw, and none of those that have left.
     pub fn pins_are_held(&self)
-        ensures { HoldsForReplies (S.site_state (keeper_of self.now)) (seats_of self.now) }
+        ensures { HoldsForReplies (S.site_state (keeper_of self.now)) (sessions_in_hub self.now) }
     {
         let _ = self.sessions.len();
     }
@@ -283,7 +283,7 @@ impl<S: SearchKeeper> Hub<S> {
     /// Ends the hub with all its sessions, and hands its site back with no pin out. It takes no memory.
     pub fn close(self) -> S
         ensures closed { IsClosed S.site_state S.crash_states (keeper_of self) result }
-        ensures none { seats_of self ≡ [] → result ≡ keeper_of self }
+        ensures none { sessions_in_hub self ≡ [] → result ≡ keeper_of self }
     {
         let Hub {
             alloc: _,

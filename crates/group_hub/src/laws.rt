@@ -1,7 +1,7 @@
 // What whole runs come to, as laws of the definitions.
 ghost use Rattle.group_hub.specs.Runs.{CallsJoin, CallsPart, CallsRun, CallsCrash, CallsMoments, CallsCountReads, CallsCountWrites, FaultsKeepTheWorld};
 
-use word_index::SearchKeeper;
+use word_search::SearchKeeper;
 
 /// Runs over any site join and part, and over an honest one each is a run of the world. What a crash leaves of one has each commit that was acknowledged by then.
 pub fn runs_join<S: SearchKeeper>()

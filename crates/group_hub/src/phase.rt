@@ -32,7 +32,7 @@ use site_replies::{Answered, Reply, ViewReply, bad_reply, reply};
 use std::alloc::Global;
 use std::mem;
 use view_draws::ViewDraw;
-use word_index::SearchKeeper;
+use word_search::SearchKeeper;
 
 /// What a request that is heard comes to.
 pub enum Concluded<P> {

@@ -2,7 +2,7 @@
 ghost use Rattle.std.specs.Prelude.{◌≡◌, ◌≤◌, ◌++◌, None, IfSome, IsTrue, vec_len, vec_capacity};
 ghost use Rattle.host_types.specs.CrashStates.{AddsNone};
 ghost use Rattle.host_types.specs.Pins.{is_out};
-ghost use Rattle.group_hub.specs.Flushing.{next_pins, given_back, put_phase, IsForWaiting, AreForWaiting, PutsSeats, GivesBackBeside};
+ghost use Rattle.group_hub.specs.Flushing.{next_pins, given_back, put_phase, IsForWaiting, AreForWaiting, PutsSessions, GivesBackBeside};
 ghost use Rattle.group_hub.specs.HeldPins.{HoldsAll, HoldsBeside, MovesPins, MayGiveBack};
 ghost use Rattle.group_hub.specs.Sessions.{pins_of};
 
@@ -10,7 +10,7 @@ use crate::next::{Next, Putting};
 use crate::phase::put;
 use crate::pins::give_back;
 use crate::session::{Phase, Session};
-use word_index::SearchKeeper;
+use word_search::SearchKeeper;
 
 /// Puts a session into its next phase, or gives the pin back that was taken for it.
 fn put_one<S: SearchKeeper>(
@@ -46,7 +46,7 @@ pub fn put_next<S: SearchKeeper>(
 )
     requires waiting { AreForWaiting sessions.old.items next.items }
     requires held { HoldsAll (S.site_state site.old) (next_pins S.pinned next.items ++ pins_of S.pinned sessions.old.items) }
-    ensures puts { PutsSeats putting S.pinned (S.site_state site.old) (S.site_state site.new) sessions.old.items sessions.new.items next.items }
+    ensures puts { PutsSessions putting S.pinned (S.site_state site.old) (S.site_state site.new) sessions.old.items sessions.new.items next.items }
     ensures at_crash { IsTrue (S.site_state site.old).honest → AddsNone (S.crash_states site.old) (S.crash_states site.new) }
     ensures places { (vec_len sessions.new ≡ vec_len sessions.old) × (vec_capacity sessions.old ≤ vec_capacity sessions.new) }
 {

@@ -7,7 +7,7 @@ use crate::{Hub, OutcomeList};
 use group_world::{Drawn, Event, Flushed, HubFault, InputStatus, Outcome};
 use host_types::{Bytes, Change, Stamp};
 use std::alloc::{AllocError, Global};
-use word_index::SearchKeeper;
+use word_search::SearchKeeper;
 
 /// Room for what each event may draw.
 fn rooms(alloc: Global, events: &[Event]) -> Result<Vec<Vec<u8>>, AllocError>
@@ -39,13 +39,13 @@ fn heard(answer: Result<InputStatus, HubFault>) -> Outcome
 
 impl<S: SearchKeeper> Hub<S> {
     ghost use Rattle.std.specs.Prelude.{OnErr, length};
-    ghost use Rattle.group_hub.specs.Calls.{HubCall, HubRun};
+    ghost use Rattle.group_hub.specs.Calls.{CallsHub, RunsHub};
     ghost use Rattle.group_hub.specs.Hub.{keeper_of};
     ghost use Rattle.group_world.specs.declared.event.Event.TheVariants as events;
 
     /// A draw into a buffer of its own.
     fn draw_into(&mut self, id: u64, room: Vec<u8>) -> Outcome
-        ensures { HubCall S.site_state S.lacks S.crash_states S.represents self.old (events.Draw id (vec_len room)) result self.new }
+        ensures { CallsHub self.old (events.Draw id (vec_len room)) result self.new }
     {
         let mut room = room;
         match self.draw(id, &mut room) {
@@ -60,7 +60,7 @@ impl<S: SearchKeeper> Hub<S> {
 
     /// A copy of a change is made.
     fn admin_by(&mut self, change: &Change, now: Stamp) -> Outcome
-        ensures { HubCall S.site_state S.lacks S.crash_states S.represents self.old (events.Admin change.now now) result self.new }
+        ensures { CallsHub self.old (events.Admin change.now now) result self.new }
     {
         if !self.is_usable() {
             return Outcome::Fault(HubFault::Failed);
@@ -77,7 +77,7 @@ impl<S: SearchKeeper> Hub<S> {
     /// One event, with room for what it may draw.
     fn step(&mut self, event: &Event, room: Vec<u8>) -> Outcome
         requires { vec_len room ≡ room_of event.now }
-        ensures { HubCall S.site_state S.lacks S.crash_states S.represents self.old event.now result self.new }
+        ensures { CallsHub self.old event.now result self.new }
     {
         match event {
             Event::Join => match self.join() {
@@ -101,7 +101,7 @@ impl<S: SearchKeeper> Hub<S> {
 
     /// Events in order, with one outcome for each. `Memory` comes before the first event, or as an event's own fault.
     pub fn run(&mut self, events: &[Event]) -> Result<OutcomeList, AllocError>
-        ensures run { IfOk result (λ outcomes. HubRun S.site_state S.lacks S.crash_states S.represents self.old events.now outcomes self.new) }
+        ensures run { IfOk result (λ outcomes. RunsHub self.old events.now outcomes self.new) }
         ensures each { IfOk result (λ outcomes. length outcomes ≡ length events.now) }
         ensures honest { (S.site_state (keeper_of self.new)).honest ≡ (S.site_state (keeper_of self.old)).honest }
         ensures err { OnErr result (self.new ≡ self.old) }

@@ -6,14 +6,14 @@ ghost use Rattle.group_world.specs.World.{count_waiting};
 ghost use Rattle.group_hub.specs.Flushing.{AnswersAlone, TakesSingly, WorksSingly};
 ghost use Rattle.group_hub.specs.HeldPins.{MayPin};
 ghost use Rattle.group_hub.specs.Hears.{MakesChanges};
-ghost use Rattle.group_hub.specs.Sessions.{phase_of, sessions_of, is_waiting, SeatsStand, KeepsSeats};
+ghost use Rattle.group_hub.specs.Sessions.{phase_of, sessions_of, is_waiting, SessionsStand, KeepsSessions};
 
 use crate::phase::{Concluded, conclude, put};
 use crate::posting::Posting;
 use crate::session::{Phase, Session};
 use group_world::HubFault;
 use std::alloc::Global;
-use word_index::SearchKeeper;
+use word_search::SearchKeeper;
 
 /// Makes the post of a session that waits, where it is a right one, and answers it. A fault leaves it waiting.
 fn answer_alone<S: SearchKeeper>(
@@ -54,10 +54,10 @@ pub fn answer_singly<S: SearchKeeper>(
 ) -> Result<usize, HubFault>
     requires usable { (S.site_state site.old).usable ≡ true }
     requires few { vec_len sessions.old ≤ 32 }
-    requires stand { SeatsStand S.pinned (S.site_state site.old) sessions.old.items }
+    requires stand { SessionsStand S.pinned (S.site_state site.old) sessions.old.items }
     ensures takes { TakesSingly S.site_state S.crash_states S.represents S.pinned site.old sessions.old.items site.new sessions.new.items result }
     ensures works { WorksSingly (S.site_state site.old) (S.site_state site.new) (count_waiting (sessions_of S.pinned (S.site_state site.old) sessions.old.items)) result }
-    ensures seats { KeepsSeats S.pinned (S.site_state site.old) (S.site_state site.new) sessions.old.items sessions.new.items }
+    ensures sessions { KeepsSessions S.pinned (S.site_state site.old) (S.site_state site.new) sessions.old.items sessions.new.items }
     ensures valid { IsTrue (S.site_state site.old).honest → ∥ IsSite (S.site_state site.old).site ∥₁ → ∥ IsSite (S.site_state site.new).site ∥₁ }
     ensures places { (vec_len sessions.new ≡ vec_len sessions.old) × (vec_capacity sessions.old ≤ vec_capacity sessions.new) }
 {

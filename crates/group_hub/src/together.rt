@@ -11,7 +11,7 @@ use crate::next::Next;
 use crate::session::Session;
 use group_world::HubFault;
 use std::alloc::Global;
-use word_index::SearchKeeper;
+use word_search::SearchKeeper;
 
 /// Prepares what all sessions are to have, and makes the changes of their posts in one step, where they fit.
 pub fn make_together<S: SearchKeeper>(

@@ -11,7 +11,7 @@ use group_world::{Drawn, Event, Flushed, HubFault, InputStatus};
 use host_types::{SiteKeeper, Stamp};
 use page_store::Keeper;
 use std::alloc::Global;
-use word_index::SearchKeeper;
+use word_search::SearchKeeper;
 
 /// How much of a reply is kept, and how many replies.
 const ROOM: usize = 160;

@@ -17,7 +17,7 @@ use page_store::{Keeper, LONGEST_KEY, LONGEST_VALUE};
 use sector_device::{Device, MemDisk, SECTOR_SIZE};
 use site_store::DiskSite;
 use std::alloc::Global;
-use word_index::SearchKeeper;
+use word_search::SearchKeeper;
 
 /// A site over a tree on a disk in memory, which fails after so many calls.
 pub(crate) type TreeSite = DiskSite<TreeKeeper<FusedDisk>>;

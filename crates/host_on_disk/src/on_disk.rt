@@ -17,7 +17,7 @@ use host_types::SiteKeeper;
 use sector_device::Device;
 use site_store::DiskSite;
 use std::alloc::Global;
-use word_index::SearchKeeper;
+use word_search::SearchKeeper;
 
 /// Runs events over a site of which no pin is out, in one hub whose first session has this number, and hands the site back, again with no pin out. Where posts are to wait in it for one another, the site is a valid one. `Memory` comes before the first event.
 pub fn run_over<S: SearchKeeper>(

@@ -124,6 +124,10 @@ pub record RunsTo (from to : LinePlace) (given took : Option (List ℕ)) (text r
 abbrev pub IsRunTo : {H : Type 0} → Ran H → H → H → LinePlace → LinePlace → Option (List ℕ) → Option (List ℕ) → List ℕ → List ℕ → Type 0
 IsRunTo ran old new from to given took text rest = RanBy ran old new (RunsTo from to given took text rest)
 
+-- Bytes more were taken behind a line without LF, and the lines that they end were run.
+abbrev pub TakesBytes : {H : Type 0} → Ran H → H → H → Standing → Standing → Option (List ℕ) → Option (List ℕ) → List ℕ → Type 0
+TakesBytes ran old new from to given took bytes = list_any is_lf from.line.items ≡ false → IsRunTo ran old new (place_of from) (place_of to) given took (from.line.items ++ bytes) to.line.items
+
 -- what stands behind the last LF is a line where it has bytes
 abbrev pub last_line : List ℕ → List (List ℕ)
 last_line [] = []

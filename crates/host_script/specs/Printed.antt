@@ -1,8 +1,8 @@
 -- Outcomes as a script's answers are printed, and faults by their names.
 use Rattle.std.specs.Prelude.{ℕ, List, ◌++◌, codes, decimal}
 use Rattle.common_types.specs.declared.refused.Refused.{Refused as Refusal}
-use Rattle.printed_names.specs.Shown.{shown}
-use Rattle.printed_names.specs.Names.{refused_name, full_name}
+use Rattle.common_types.specs.Shown.{shown}
+use Rattle.common_types.specs.PrintedNames.{refused_name, full_name}
 use Rattle.group_world.specs.declared.event.Outcome.{Outcome}
 use Rattle.group_world.specs.declared.event.Outcome.TheVariants.{Joined, More, Ready, Finished, Waiting, Drawn, Gone, Done, Flushed, Fault}
 use Rattle.group_world.specs.declared.fault.HubFault.{HubFault}

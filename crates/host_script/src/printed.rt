@@ -5,9 +5,9 @@ ghost use Rattle.host_script.specs.Printed as spec;
 ghost use Rattle.group_world.specs.declared.fault.HubFault.TheVariants.{Full};
 
 use crate::fault::ReplayFault;
+use common_types::{escaped, full_name, refused_name};
 use group_world::{HubFault, Outcome};
 use host_types::Refused;
-use printed_names::{escaped, full_name, refused_name};
 use std::alloc::{AllocError, Global};
 
 /// The line of a refusal, without its LF: `fault`, a space, and its name.

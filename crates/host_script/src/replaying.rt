@@ -3,9 +3,9 @@ ghost use Rattle.std.specs.Prelude.{◌≡◌, ℕ, false, List, [], ◌∷◌, 
 ghost use Rattle.std.specs.List.{list_any};
 ghost use Rattle.std.specs.Io.KnownBytes.{Appends};
 ghost use Rattle.std.specs.String.{string_bytes};
-ghost use Rattle.group_hub.specs.Calls.{HubRun};
+ghost use Rattle.group_hub.specs.Calls.{RunsHub};
 ghost use Rattle.host_script.specs.Script.{line_command};
-ghost use Rattle.host_script.specs.Lines.{RanBy, RanSo, Runs, place_at, place_of, IsLineAnswer, RunsLine, MayRun, IsRunTo, Stops, StopsIn, StopsAtEnd, IsScriptStopped, Halts, IsLastRun, IsReplayed, is_lf};
+ghost use Rattle.host_script.specs.Lines.{RanBy, RanSo, Runs, place_at, place_of, IsLineAnswer, RunsLine, MayRun, Stops, StopsIn, StopsAtEnd, IsScriptStopped, Halts, IsLastRun, IsReplayed, is_lf, TakesBytes};
 
 use crate::asking::{ParsedLine, ask};
 use crate::fault::ReplayFault;
@@ -17,7 +17,7 @@ use group_world::Event;
 use host_types::Stamp;
 use std::alloc::{AllocError, Global};
 use std::io::{Read, Write};
-use word_index::SearchKeeper;
+use word_search::SearchKeeper;
 
 /// How many bytes a read of a script asks for.
 const PIECE: usize = 4096;
@@ -31,8 +31,8 @@ fn answer<S: SearchKeeper>(
     hub: &mut Hub<S>,
     event: Event,
 ) -> Result<String, AllocError>
-    ensures answer { Runs (HubRun S.site_state S.lacks S.crash_states S.represents) hub.old hub.new result (λ ran a b printed. RanBy ran a b (IsLineAnswer event (string_bytes printed))) }
-    ensures lost { OnErr result ((printed : List ℕ) × RanBy (HubRun S.site_state S.lacks S.crash_states S.represents) hub.old hub.new (IsLineAnswer event printed)) }
+    ensures answer { Runs RunsHub hub.old hub.new result (λ ran a b printed. RanBy ran a b (IsLineAnswer event (string_bytes printed))) }
+    ensures lost { OnErr result ((printed : List ℕ) × RanBy RunsHub hub.old hub.new (IsLineAnswer event printed)) }
 {
     let Ok(outcomes) = hub.run(&[event]) else {
         return String::from_str(alloc, "fault Memory");
@@ -50,9 +50,9 @@ fn answer_line<S: SearchKeeper>(
     line: &[u8],
     now: Stamp,
 ) -> Result<(Stamp, String), ScriptLineFault>
-    ensures line { Runs (HubRun S.site_state S.lacks S.crash_states S.represents) hub.old hub.new result (λ ran a b (after, printed). RanBy ran a b (RunsLine now after line.now (string_bytes printed))) }
+    ensures line { Runs RunsHub hub.old hub.new result (λ ran a b (after, printed). RanBy ran a b (RunsLine now after line.now (string_bytes printed))) }
     ensures form { result ≡ Err ScriptLineFault.Form → (hub.new ≡ hub.old) × (IsUtf8 line.now → line_command line.now ≡ None) }
-    ensures lost { result ≡ Err ScriptLineFault.Memory → RanBy (HubRun S.site_state S.lacks S.crash_states S.represents) hub.old hub.new (MayRun now line.now) }
+    ensures lost { result ≡ Err ScriptLineFault.Memory → RanBy RunsHub hub.old hub.new (MayRun now line.now) }
 {
     match ask(alloc, parse(alloc, line)?, now)? {
         ParsedLine::Moment(moment) => Ok((moment, String::from_str(alloc, "ok")?)),
@@ -70,8 +70,8 @@ fn run_line<S: SearchKeeper, W: Write>(
     number: u64,
     line: &[u8],
 ) -> Result<Stamp, ReplayFault>
-    ensures line { Runs (HubRun S.site_state S.lacks S.crash_states S.represents) hub.old hub.new result (λ ran a b after. (printed : List ℕ) × RanBy ran a b (RunsLine now after line.now printed) × Appends (W.contents writer.old) (W.contents writer.new) (printed ++ 10 ∷ [])) }
-    ensures stops { IfErr result (λ fault. RanBy (HubRun S.site_state S.lacks S.crash_states S.represents) hub.old hub.new (Stops (W.contents writer.old) (W.contents writer.new) (place_at now number) line.now fault)) }
+    ensures line { Runs RunsHub hub.old hub.new result (λ ran a b after. (printed : List ℕ) × RanBy ran a b (RunsLine now after line.now printed) × Appends (W.contents writer.old) (W.contents writer.new) (printed ++ 10 ∷ [])) }
+    ensures stops { IfErr result (λ fault. RanBy RunsHub hub.old hub.new (Stops (W.contents writer.old) (W.contents writer.new) (place_at now number) line.now fault)) }
 {
     let (moment, printed) = match answer_line(alloc, hub, line, now) {
         Ok(answered) => answered,
@@ -98,8 +98,8 @@ fn run_byte<S: SearchKeeper, W: Write>(
     place: &mut Place,
     byte: u8,
 ) -> Result<(), ReplayFault>
-    ensures run { Runs (HubRun S.site_state S.lacks S.crash_states S.represents) hub.old hub.new result (λ ran a b _. list_any is_lf place.old.line.items ≡ false → IsRunTo ran a b (place_of place.old) (place_of place.new) (W.contents writer.old) (W.contents writer.new) (place.old.line.items ++ byte ∷ []) place.new.line.items) }
-    ensures stops { IfErr result (λ fault. RanBy (HubRun S.site_state S.lacks S.crash_states S.represents) hub.old hub.new (StopsIn (W.contents writer.old) (W.contents writer.new) (place_of place.old) place.old.line.items (byte ∷ []) fault)) }
+    ensures run { Runs RunsHub hub.old hub.new result (λ ran a b _. TakesBytes ran a b place.old place.new (W.contents writer.old) (W.contents writer.new) (byte ∷ [])) }
+    ensures stops { IfErr result (λ fault. RanBy RunsHub hub.old hub.new (StopsIn (W.contents writer.old) (W.contents writer.new) (place_of place.old) place.old.line.items (byte ∷ []) fault)) }
 {
     if byte != b'\n' {
         return match place.line.push(byte) {
@@ -121,8 +121,8 @@ fn run_piece<S: SearchKeeper, W: Write>(
     place: &mut Place,
     piece: &[u8],
 ) -> Result<(), ReplayFault>
-    ensures run { Runs (HubRun S.site_state S.lacks S.crash_states S.represents) hub.old hub.new result (λ ran a b _. list_any is_lf place.old.line.items ≡ false → IsRunTo ran a b (place_of place.old) (place_of place.new) (W.contents writer.old) (W.contents writer.new) (place.old.line.items ++ piece.now) place.new.line.items) }
-    ensures stops { list_any is_lf place.old.line.items ≡ false → IfErr result (λ fault. RanBy (HubRun S.site_state S.lacks S.crash_states S.represents) hub.old hub.new (IsScriptStopped fault (place_of place.old) (W.contents writer.old) (W.contents writer.new) place.old.line.items piece.now)) }
+    ensures run { Runs RunsHub hub.old hub.new result (λ ran a b _. TakesBytes ran a b place.old place.new (W.contents writer.old) (W.contents writer.new) piece.now) }
+    ensures stops { list_any is_lf place.old.line.items ≡ false → IfErr result (λ fault. RanBy RunsHub hub.old hub.new (IsScriptStopped fault (place_of place.old) (W.contents writer.old) (W.contents writer.new) place.old.line.items piece.now)) }
 {
     for byte in piece {
         run_byte(alloc, hub, writer, place, *byte)?;
@@ -137,8 +137,8 @@ fn run_last<S: SearchKeeper, W: Write>(
     writer: &mut W,
     place: &Place,
 ) -> Result<(), ReplayFault>
-    ensures run { Runs (HubRun S.site_state S.lacks S.crash_states S.represents) hub.old hub.new result (λ ran a b _. IsLastRun ran a b place.now.moment (W.contents writer.old) (W.contents writer.new) place.now.line.items) }
-    ensures stops { IfErr result (λ fault. RanBy (HubRun S.site_state S.lacks S.crash_states S.represents) hub.old hub.new (StopsAtEnd (W.contents writer.old) (W.contents writer.new) (place_of place.now) place.now.line.items fault)) }
+    ensures run { Runs RunsHub hub.old hub.new result (λ ran a b _. IsLastRun ran a b place.now.moment (W.contents writer.old) (W.contents writer.new) place.now.line.items) }
+    ensures stops { IfErr result (λ fault. RanBy RunsHub hub.old hub.new (StopsAtEnd (W.contents writer.old) (W.contents writer.new) (place_of place.now) place.now.line.items fault)) }
 {
     let line = place.line.as_slice();
     if line.is_empty() {
@@ -157,10 +157,10 @@ pub fn replay<R: Read, W: Write, S: SearchKeeper>(
     writer: &mut W,
     hub: &mut Hub<S>,
 ) -> Result<(), ReplayFault>
-    ensures run { OnOk result (IfSome (R.remaining reader.old) (IsReplayed (HubRun S.site_state S.lacks S.crash_states S.represents) hub.old hub.new (W.contents writer.old) (W.contents writer.new))) }
-    ensures halted { IfErr result (Halts (HubRun S.site_state S.lacks S.crash_states S.represents) hub.old hub.new (W.contents writer.old) (W.contents writer.new) (R.remaining reader.new) (R.remaining reader.old)) }
+    ensures run { OnOk result (IfSome (R.remaining reader.old) (IsReplayed RunsHub hub.old hub.new (W.contents writer.old) (W.contents writer.new))) }
+    ensures halted { IfErr result (Halts RunsHub hub.old hub.new (W.contents writer.old) (W.contents writer.new) (R.remaining reader.new) (R.remaining reader.old)) }
     // Whatever is answered, the hub was run by some events, so a crash at any moment leaves what a run of these may leave.
-    ensures ran { RanSo (HubRun S.site_state S.lacks S.crash_states S.represents) hub.old hub.new }
+    ensures ran { RanSo RunsHub hub.old hub.new }
 {
     let mut buffer = [0; PIECE];
     let mut place = Place {

@@ -8,7 +8,7 @@ use host_types::{
     SitePinFault, Stamp,
 };
 use mem_site::{MemPin, MemSite};
-use word_index::{FindList, SearchKeeper};
+use word_search::{FindList, SearchKeeper};
 
 /// A site of which one read fails, or a change.
 #[derive(Drop)]

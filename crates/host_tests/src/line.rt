@@ -1,8 +1,8 @@
 // Lines of the two files, as fields.
 use crate::trouble::Trouble;
 use bstr::ByteVec;
+use common_types::escaped;
 use host_types::LineList;
-use printed_names::escaped;
 use std::alloc::{AllocError, Global};
 
 /// A line that is printed: a word, and each field after a space, escaped.

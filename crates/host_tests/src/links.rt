@@ -10,7 +10,7 @@ use plus_blocks::{abstract_block, admin, head, info};
 use std::alloc::Global;
 use text_writer::text;
 use url_page::{escape, redirect, unescape};
-use word_index::{index_change, words_in};
+use word_search::{word_change, words_in};
 
 /// The laws of sessions whose posts wait for one another, and of runs of a hub.
 fn groups() {
@@ -50,7 +50,7 @@ fn laws() -> Result<(), Trouble> {
     ask_forms::worked_examples();
     url_page::reads_back();
     url_page::worked_examples();
-    word_index::worked_examples();
+    word_search::worked_examples();
     host_script::worked_examples();
     groups();
     Ok(())
@@ -72,7 +72,7 @@ fn named(alloc: Global, line: &mut Line, bytes: &[u8]) -> Result<(), Trouble> {
 
 /// `changed_words WORDS WORDS`: those that go, and those that come.
 fn changed_words(alloc: Global, line: &mut Line, old: &[u8], new: &[u8]) -> Result<(), Trouble> {
-    let change = index_change(alloc, &words_in(alloc, old)?, &words_in(alloc, new)?)?;
+    let change = word_change(alloc, &words_in(alloc, old)?, &words_in(alloc, new)?)?;
     line.word("drop")?;
     line.list(&change.drop)?;
     line.word("add")?;

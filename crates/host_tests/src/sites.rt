@@ -8,7 +8,7 @@ use host_types::{
     Admin, Bytes, Card, CardBody, Change, Host, Kind, Selector, SiteKeeper, Stamp, Title, is_over,
 };
 use mem_site::MemSite;
-use word_index::{SearchKeeper, card_words, words};
+use word_search::{SearchKeeper, card_words, words};
 
 /// `site HOST PORT KEEPER TITLE STAMP`: a fresh site.
 fn fresh(bench: &mut Bench, fields: &[Vec<u8>]) -> Result<(), Trouble> {

@@ -1,3 +1,4 @@
+pub mod SameBodies
 pub mod ShortViews
 pub mod FreshSite
 pub mod CutLines

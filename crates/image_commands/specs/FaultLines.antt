@@ -1,6 +1,6 @@
 -- What standard error gets of a command on an image that ends with a fault.
 use Rattle.std.specs.Prelude.{ℕ, List, [], ◌++◌, codes, decimal}
-use Rattle.printed_names.specs.Names.{refused_name, full_name, change_line}
+use Rattle.common_types.specs.PrintedNames.{refused_name, full_name, change_line}
 use Rattle.page_store.specs.declared.fault.KeeperFault.{KeeperFault}
 use Rattle.page_store.specs.declared.fault.KeeperFault.TheVariants as store
 use Rattle.image_commands.specs.declared.fault.ImageFault.{ImageFault}

@@ -11,7 +11,7 @@ use Rattle.site_store.specs.Walking.{card_after}
 use Rattle.host_on_disk.specs.ImageSites.{ImageRepresents}
 use Rattle.text_writer.specs.Menu.{is_moved, type_letter}
 use Rattle.plus_blocks.specs.Date.{listed_date}
-use Rattle.printed_names.specs.Shown.{shown}
+use Rattle.common_types.specs.Shown.{shown}
 use Rattle.image_commands.specs.declared.listing.ListForm.{ListForm}
 use Rattle.image_commands.specs.declared.listing.ListForm.TheVariants.{Short, Long}
 

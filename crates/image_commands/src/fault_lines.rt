@@ -4,8 +4,8 @@ ghost use Rattle.std.specs.String.{string_bytes};
 ghost use Rattle.image_commands.specs.FaultLines as spec;
 
 use crate::ImageFault;
+use common_types::{change_line, full_name, refused_name};
 use page_store::KeeperFault;
-use printed_names::{change_line, full_name, refused_name};
 use std::alloc::{AllocError, Global};
 
 fn store_line(alloc: Global, fault: KeeperFault) -> Result<String, AllocError>

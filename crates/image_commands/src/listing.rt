@@ -2,9 +2,9 @@
 ghost use Rattle.std.specs.Prelude.{◌≡◌, ◌++◌, IfOk, OnOk};
 ghost use Rattle.image_commands.specs.Listing as spec;
 
+use common_types::escaped;
 use host_types::{Card, CardBody, Selector};
 use plus_blocks::push_listed_date;
-use printed_names::escaped;
 use std::alloc::{AllocError, Global};
 
 /// How much the line of an item says.

@@ -11,7 +11,7 @@ use Rattle.page_store.specs.declared.fault.KeeperFault.TheVariants as store
 use Rattle.filled_images.specs.FilledImages.{pages_for}
 use Rattle.site_records.specs.Layout.{layout}
 use Rattle.host_on_disk.specs.ImageSites.{ImageRepresents}
-use Rattle.printed_names.specs.Names.{full_name}
+use Rattle.common_types.specs.PrintedNames.{full_name}
 use Rattle.image_commands.specs.Faults.{of_store, IsReadingFault}
 use Rattle.image_commands.specs.FaultLines.{fault_line, advice}
 use Rattle.image_commands.specs.declared.fault.ImageFault.TheVariants as image

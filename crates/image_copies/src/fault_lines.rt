@@ -4,8 +4,8 @@ ghost use Rattle.std.specs.String.{string_bytes};
 ghost use Rattle.image_copies.specs.CopyFaults as spec;
 
 use crate::CopyFault;
+use common_types::full_name;
 use image_commands::{advice, fault_line};
-use printed_names::full_name;
 use std::alloc::{AllocError, Global};
 
 /// What standard error gets of a copy that is not made, without its LF.

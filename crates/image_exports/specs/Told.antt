@@ -6,7 +6,7 @@ use Rattle.host_types.specs.declared.card.CardBody.{CardBody}
 use Rattle.host_types.specs.declared.change.Change.TheVariants.{Put}
 use Rattle.site_store.specs.Walking.{Entry}
 use Rattle.text_writer.specs.Menu.{is_moved}
-use Rattle.printed_names.specs.Shown.{shown}
+use Rattle.common_types.specs.Shown.{shown}
 use Rattle.change_file.specs.declared.fault.FileChange.{FileChange}
 use Rattle.change_file.specs.declared.fault.FileChange.TheVariants.{Change}
 use Rattle.change_writer.specs.Said.{IsSaid, read_back}

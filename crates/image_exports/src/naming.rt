@@ -5,8 +5,8 @@ ghost use Rattle.host_types.specs.declared.site_fault.SiteFault.TheVariants.{Mem
 ghost use Rattle.image_exports.specs.Told as spec;
 
 use change_writer::add_comment;
+use common_types::escaped;
 use host_types::{CardBody, Selector, SiteFault};
-use printed_names::escaped;
 use std::alloc::Global;
 
 /// Why no change puts an item.

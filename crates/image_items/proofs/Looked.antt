@@ -1,12 +1,14 @@
 -- A site that is read while it is pinned.
-use Rattle.std.proofs.Common.{◌≡◌, ◌≤◌, ℕ, Bool, true, false, List, [], ◌∷◌, length, refl, ap, sym, subst, ◌∙◌, arith, IsTrue}
+use Rattle.std.proofs.Common.{◌≡◌, ◌≤◌, ℕ, Bool, true, false, List, [], ◌∷◌, length, refl, ap, sym, subst, ◌∙◌, arith, IsTrue, take, Ok}
+use Rattle.std.proofs.Math.Seq.{take-length}
+use Rattle.std.proofs.lemmas.List.{length-take-le}
 use Rattle.host_types.specs.Site.{Items, Site}
 use Rattle.host_types.specs.Card.{viewed_at}
 use Rattle.host_types.specs.SiteState.{SiteState, HasRead, IsReadFault, Rose}
 use Rattle.host_types.specs.Pins.{Pinned, Copied, Numbered, items_or_none, pinned_items, viewed_among, IsPinned, IsUnpinned}
 use Rattle.host_types.specs.declared.site_fault.SiteFault.{SiteFault}
 use Rattle.host_types.specs.declared.site_fault.SiteFault.TheVariants as faults
-use Rattle.view_draws.specs.ViewDraw.{body_at}
+use Rattle.view_draws.specs.ViewDraw.{body_at, rest_of, IsOf, DrawsView}
 use Rattle.view_draws.specs.declared.view_draw.ViewDraw.{ViewDraw}
 use Rattle.image_items.specs.Looks.{HasLooked}
 
@@ -53,6 +55,22 @@ drawn_size a b pin d selector view size is same_selector same_view sized honest 
     ∙ ap (λ (s : List ℕ). length (viewed_at a.site s d.source.view)) same_selector
     ∙ ap (λ (v : ℕ). length (viewed_at a.site selector v)) same_view
     ∙ sized before
+
+-- a draw with room for the whole view gives the view as it was before the pin
+pub whole_drawn : (a b : SiteState) (pin : Pinned) (d new : ViewDraw) (selector : List ℕ) (view size n : ℕ) (out_old out_new : List ℕ) → IsPinned a b pin → d.source.selector ≡ selector → d.source.view ≡ view → IsTrue a.honest → length (viewed_at a.site selector view) ≡ size
+    → ((body : List ℕ) → rest_of d body ≡ body) → ((body : List ℕ) → length body ≡ size → IsOf body d) → DrawsView b pin d new out_old out_new (Ok n) → length out_old ≡ size → length out_new ≡ size → n ≤ length out_new → out_new ≡ viewed_at a.site selector view
+whole_drawn a b pin d new selector view size n out_old out_new is same_selector same_view honest sized rest of draws old_room new_room within =
+    let still : IsTrue b.honest = pinned_honest a b pin is ∙ honest in
+    let body = body_at b pin d in
+    let body_is : body ≡ viewed_at a.site selector view =
+    ap (λ (items : Items). viewed_among items d.source.selector d.source.view) (pinned_keeps a b pin is honest)
+    ∙ ap (λ (s : List ℕ). viewed_at a.site s d.source.view) same_selector
+    ∙ ap (λ (v : ℕ). viewed_at a.site selector v) same_view in
+    let long : length body ≡ size = ap (λ (l : List ℕ). length l) body_is ∙ sized in
+    let given = (draws.drawn still (of body long)).given in
+    let front : take n out_new ≡ body = given ∙ ap (take (length out_old)) (rest body) ∙ ap (λ (k : ℕ). take k body) (old_room ∙ sym long) ∙ take-length body in
+    let count : n ≡ length out_new = sym (length-take-le n out_new within) ∙ ap (λ (l : List ℕ). length l) front ∙ long ∙ sym new_room in
+    sym (take-length out_new) ∙ ap (λ (k : ℕ). take k out_new) (sym count) ∙ front ∙ body_is
 
 -- a fault of a read while the site is pinned
 pub read_fault : (a b c d : SiteState) (pin : Pinned) (fault : SiteFault) → IsPinned a b pin → IsUnpinned c d pin → IsReadFault false b c fault → IsReadFault true a d fault

@@ -1,6 +1,6 @@
 -- What standard error gets where an item is not what a command wants.
 use Rattle.std.specs.Prelude.{ℕ, List, ◌++◌, codes}
-use Rattle.printed_names.specs.Names.{refused_name}
+use Rattle.common_types.specs.PrintedNames.{refused_name}
 use Rattle.image_items.specs.declared.fault.ItemFault.{ItemFault}
 use Rattle.image_items.specs.declared.fault.ItemFault.TheVariants.{Refused, NotFound, NoDocument, NoView, NoBoard}
 

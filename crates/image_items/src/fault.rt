@@ -4,8 +4,8 @@ ghost use Rattle.std.specs.String.{string_bytes};
 ghost use Rattle.image_items.specs.ItemLines as spec;
 ghost use Rattle.image_items.specs.declared.fault.ItemFault.TheVariants.{Refused as RefusedName};
 
+use common_types::refused_name;
 use host_types::Refused;
-use printed_names::refused_name;
 use std::alloc::{AllocError, Global};
 use thiserror::Error;
 

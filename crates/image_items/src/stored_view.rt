@@ -25,7 +25,7 @@ pub fn view_bytes<S: SiteKeeper>(
     ensures counts { OnOk result ((S.site_state site.new).failed_reads ≡ (S.site_state site.old).failed_reads) }
 {
     let mut bytes = vec![in alloc; 0; size as usize]?;
-    let head = Bytes::from(Vec::new(alloc));
+    let head = Bytes::new(alloc);
     let mut draw = ViewDraw::new(head, selector.clone()?, view, size, false);
     let pin = match site.pin_site() {
         Ok(pin) => pin,

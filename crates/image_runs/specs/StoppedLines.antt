@@ -3,7 +3,7 @@ use Rattle.std.specs.Prelude.{ℕ, List}
 use Rattle.host_types.specs.declared.site_fault.SiteFault.{SiteFault}
 use Rattle.host_types.specs.declared.site_fault.SiteFault.TheVariants as site
 use Rattle.change_file.specs.declared.fault.ApplyFault.{ApplyFault}
-use Rattle.printed_names.specs.Names.{refused_name, change_line}
+use Rattle.common_types.specs.PrintedNames.{refused_name, change_line}
 use Rattle.image_commands.specs.Faults.{of_site}
 use Rattle.image_commands.specs.FaultLines.{fault_line}
 

@@ -4,9 +4,9 @@ ghost use Rattle.std.specs.String.{string_bytes};
 ghost use Rattle.image_runs.specs.StoppedLines as spec;
 
 use change_file::ApplyFault;
+use common_types::{change_line, refused_name};
 use host_types::SiteFault;
 use image_commands::{ImageFault, fault_line};
-use printed_names::{change_line, refused_name};
 use std::alloc::{AllocError, Global};
 
 /// The line of a change that was not made, without its LF: a refusal by its name and the change's number, and the image's own fault by its name.

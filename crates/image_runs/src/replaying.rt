@@ -17,7 +17,7 @@ use sector_device::Device;
 use site_store::DiskSite;
 use std::alloc::Global;
 use std::io::{Read, Write};
-use word_index::SearchKeeper;
+use word_search::SearchKeeper;
 
 /// Replays a script over a site in one hub, whose sessions count from 1, and hands the site back. Where posts are to wait in it for one another, the site is a valid one. What it answers beside that is what `replay` of `host_script`
 /// does. `Memory` comes before the script is read.

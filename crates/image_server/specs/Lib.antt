@@ -1,5 +1,5 @@
 pub mod Serving
 pub mod Starting
-pub mod Visiting
+pub mod DailyServing
 pub mod Lines
 pub mod Listening

@@ -18,8 +18,8 @@ use Rattle.host_on_disk.specs.ImageSites.{ImageRepresents}
 use Rattle.host_on_disk.specs.OpenFaults.{IsOpeningFault}
 use Rattle.host_on_disk.specs.declared.open_fault.OpenFault.TheVariants as opening
 use Rattle.page_store.specs.declared.fault.KeeperFault.TheVariants as keeper
-use Rattle.daily_server.specs.declared.room.VisitFault.{VisitFault}
-use Rattle.daily_server.specs.declared.room.VisitFault.TheVariants as visits
+use Rattle.daily_server.specs.declared.service.DailyFault.{DailyFault}
+use Rattle.daily_server.specs.declared.service.DailyFault.TheVariants as daily
 use Rattle.image_runs.specs.ImageRuns.{OverSite, OnImage}
 use Rattle.turns.specs.Runs.{HasRun}
 use Rattle.socket_wires.specs.Rounds.{IsServing}
@@ -61,7 +61,7 @@ IsServingFault old new (Listener at cause) = NothingCounted old new
 IsServingFault old new Net = ⊥
 
 -- what is known of serving that ended
-abbrev pub of_visits : VisitFault → ServingFault
-of_visits visits.Net = Net
-of_visits visits.Failed = Image (opening.Keeper keeper.Failed)
-of_visits visits.Memory = Image opening.Memory
+abbrev pub of_daily : DailyFault → ServingFault
+of_daily daily.Net = Net
+of_daily daily.Failed = Image (opening.Keeper keeper.Failed)
+of_daily daily.Memory = Image opening.Memory

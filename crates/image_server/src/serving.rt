@@ -6,11 +6,11 @@ ghost use Rattle.cow_tree.specs.TreeSeen.{device_of};
 ghost use Rattle.site_store.specs.Seen.{keeper_of};
 ghost use Rattle.host_on_disk.specs.OpenFaults.{HandsBack};
 ghost use Rattle.image_server.specs.Serving.{ServedOver, ServedImage, IsServingFault};
-ghost use Rattle.image_server.specs.Visiting.{IsListened, IsAskedInVain};
+ghost use Rattle.image_server.specs.DailyServing.{IsListened, IsAskedInVain};
 ghost use Rattle.image_server.specs.declared.listening.ListenCall.TheVariants.{Listened, NotListened};
 
+use crate::daily_serving::given_or_own;
 use crate::listening::{ListenLog, listen};
-use crate::visiting::given_or_own;
 use cow_tree::TreeKeeper;
 use daily_server::NetCause;
 use group_hub::Hub;
@@ -22,7 +22,7 @@ use socket_wires::{Gate, ServeFault, serve_on};
 use std::alloc::Global;
 use std::net::{Net, SocketAddr, TcpListener, TcpStream};
 use turns::Clock;
-use word_index::SearchKeeper;
+use word_search::SearchKeeper;
 
 /// Why nothing is served, or serving ended.
 #[derive(Clone, Copy, Debug, PartialEq, Eq)]

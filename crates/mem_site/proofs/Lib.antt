@@ -1,3 +1,4 @@
 pub mod ShortPairs
 pub mod CutNames
 pub mod WholeSites
+pub mod FoundEntries

@@ -6,6 +6,7 @@ mod keeper;
 mod lookup;
 mod mem_site;
 mod pin;
+mod searching;
 mod valid_site;
 
 pub use mem_site::MemSite;

@@ -1,18 +1,13 @@
 -- One call over a device after another.
-use Rattle.std.proofs.Common.{◌∙◌, IsTrue, sym, subst, Result}
+use Rattle.std.proofs.Common.{◌∙◌, Result}
 use Rattle.common_types.specs.CrashStates.{CrashStates, adds_none_again}
 use Rattle.sector_device.specs.Device.{State}
 use Rattle.sector_device.proofs.Works.{read_then}
-use Rattle.sector_device.specs.Effects.{IsSameDevice, OnlyReads}
+use Rattle.sector_device.specs.Effects.{OnlyReads}
 use Rattle.sector_device.specs.declared.device.DeviceFault.{DeviceFault}
+pub use Rattle.sector_device.proofs.SameDevices.{same_after, still_honest}
 use Rattle.page_store.specs.Sectors.{Image}
 use Rattle.page_store.specs.DeviceEffects.{KeepsDevice, IsReadCall, ReadsDevice}
-
-pub same_after : (a b c : State) → IsSameDevice a b → IsSameDevice b c → IsSameDevice a c
-same_after a b c first second = record { size = second.size ∙ first.size; honest = second.honest ∙ first.honest }
-
-pub still_honest : (a b : State) → IsSameDevice a b → IsTrue a.honest → IsTrue b.honest
-still_honest a b same honest = subst IsTrue (sym same.honest) honest
 
 only_then : (a b c : State) → OnlyReads a b → OnlyReads b c → OnlyReads a c
 only_then a b c first second = record {

@@ -1,9 +1,7 @@
 pub mod Fields
 pub mod ReachedPages
 pub mod UntouchedPages
-pub mod Images
 pub mod Switches
-pub mod Chunks
 pub mod DeviceSequences
 pub mod Commits
 pub mod CommitImages

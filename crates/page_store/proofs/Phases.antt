@@ -3,7 +3,7 @@ use Rattle.std.proofs.Common.{◌∷◌, ◌≡◌, ◌⊎◌, inl, inr, ⊎_eli
 use Rattle.std.specs.Prelude.{nat_lt, OnOk, Result, Ok, Err, ◌||◌, ◌==◌}
 use Rattle.std.proofs.lemmas.Bool.{cases_Bool, cases_lt, lt-ltb, le-ltb, eqb-false}
 use Rattle.common_types.specs.CrashStates.{CrashStates, AddsOnly, adds_both}
-use Rattle.page_store.proofs.Images.{weaker}
+use Rattle.sector_device.proofs.WrittenImages.{weaker}
 use Rattle.page_store.specs.Reading.{◌>>=◌}
 use Rattle.page_store.specs.Sectors.{Image, sector, page_of}
 use Rattle.page_store.specs.Roots.{shared_seal, record_from, root_at, seal_of, slot_of, current, newer, slot_in}

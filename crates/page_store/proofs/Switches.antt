@@ -9,7 +9,7 @@ use Rattle.page_store.specs.Sectors.{Image, sector}
 use Rattle.page_store.specs.Roots.{seal_of, shared_seal, record_from, root_at, slot_of, slot_in}
 use Rattle.page_store.specs.declared.slot.Slot.{Slot}
 use Rattle.common_types.specs.CrashStates.{CrashStates, AddsOnly, AddsNone, may_crash_to, adds_both}
-use Rattle.page_store.proofs.Images.{weaker}
+use Rattle.sector_device.proofs.WrittenImages.{weaker}
 use Rattle.page_store.specs.Steps.{chunk, AreWritten, MayBeAllWritten, Makes, AllAre, After}
 use Rattle.page_store.specs.Switch.{record_in, IsSlotPage, IsAbove, IsSwitching, IsSwitched}
 use Rattle.page_store.proofs.Fields.{bind_some, test_passed}

@@ -41,9 +41,7 @@ pub use laws::{
     a_greater_seal, a_valid_slot_has_one_seal, a_write_elsewhere, one_seal_makes_a_slot,
     pages_decide, seals_are_at_most_the_greatest, the_current_slot_is_the_newest, worked_examples,
 };
-pub use pages::{
-    fill_page, read_page, read_sector, switch_root, sync_all, write_page, write_sector,
-};
+pub use pages::{fill_page, read_page, read_sector, switch_root, sync_all, write_page};
 pub use pair::{Pair, keys_rise};
 pub use pin_fault::PinFault;
 pub use pin_keeper::PinKeeper;

@@ -4,21 +4,11 @@ ghost use Rattle.sector_device.specs.Effects.{WriteOutcome, MadeExactly, MadeIfO
 ghost use Rattle.common_types.specs.CrashStates.{AddsNone, AddsOnly};
 ghost use Rattle.page_store.specs.Sectors.{sector, page_of};
 ghost use Rattle.page_store.specs.Switch.{IsSlotPage, IsAbove, IsSwitching, IsSwitched};
-ghost use Rattle.page_store.specs.Steps.{crash_states_of, AllAre, IsWritten, MayBeWritten, AreWritten, MayBeAllWritten, chunk};
+ghost use Rattle.page_store.specs.Steps.{crash_states_of, AllAre, AreWritten, MayBeAllWritten};
 ghost use Rattle.page_store.specs.DeviceEffects.{ReadsDevice, WritesDevice};
 
 use crate::Slot;
 use sector_device::{Device, DeviceFault, PAGE_SIZE, SECTOR_SIZE};
-
-/// Bytes 512 * k and on.
-fn chunk_of(bytes: &[u8; PAGE_SIZE], k: usize) -> [u8; SECTOR_SIZE]
-    requires { k < 8 }
-    ensures { result ≡ chunk bytes.now k }
-{
-    let mut sector = [0; SECTOR_SIZE];
-    sector.copy_from_slice(&bytes[SECTOR_SIZE * k..SECTOR_SIZE * k + SECTOR_SIZE]);
-    sector
-}
 
 /// Reads one sector. A fault leaves the buffer. It takes no memory.
 pub fn read_sector<D: Device>(
@@ -70,19 +60,6 @@ pub fn read_page<D: Device>(
     Ok(())
 }
 
-/// Writes one sector.
-pub fn write_sector<D: Device>(
-    device: &mut D,
-    n: u64,
-    bytes: &[u8; SECTOR_SIZE],
-) -> Result<(), DeviceFault>
-    requires { n < (D.state device.old).size }
-    ensures sector { WritesDevice D.state (crash_states_of D.moment D.possible_since) device.old device.new result (IsWritten n bytes.now) (MayBeWritten n bytes.now) }
-    ensures work { MadeExactly 0 1 0 (D.state device.old) (D.state device.new) }
-{
-    device.write(n, bytes)
-}
-
 /// Makes sure of all that the view shows.
 pub fn sync_all<D: Device>(device: &mut D) -> Result<(), DeviceFault>
     ensures shows { IsTrue (D.state device.old).honest → OnOk result ((D.state device.new).disk.view ≡ (D.state device.old).disk.view) }
@@ -94,7 +71,7 @@ pub fn sync_all<D: Device>(device: &mut D) -> Result<(), DeviceFault>
     device.sync()
 }
 
-/// Writes the eight sectors of a page.
+/// Writes a page.
 pub fn write_page<D: Device>(
     device: &mut D,
     page: u32,
@@ -105,12 +82,7 @@ pub fn write_page<D: Device>(
     ensures page { IsTrue (D.state device.old).honest → OnOk result (page_of (D.state device.new).disk.view page ≡ bytes.now) }
     ensures work { MadeIfOk result 0 8 0 (D.state device.old) (D.state device.new) }
 {
-    let first = 8 * page as u64;
-    for k in 0..8 {
-        let sector = chunk_of(bytes, k);
-        write_sector(device, first + k as u64, &sector)?;
-    }
-    Ok(())
+    device.write_page(page, bytes)
 }
 
 /// Writes a slot's page over one of lesser generations, and makes sure of it. All else has to be sure before.

@@ -4,7 +4,7 @@ use group_hub::Hub;
 use group_world::{Drawn, InputStatus};
 use host_types::Stamp;
 use std::alloc::Global;
-use word_index::SearchKeeper;
+use word_search::SearchKeeper;
 
 /// A new session with a whole request.
 pub fn ask<S: SearchKeeper>(hub: &mut Hub<S>, request: &[u8]) -> Result<u64, Trouble> {

@@ -11,7 +11,7 @@ use page_store::{Banner, Edit, PinKeeper};
 use sector_device::MemDisk;
 use site_store::{DiskSite, first_pairs};
 use std::alloc::Global;
-use word_index::SearchKeeper;
+use word_search::SearchKeeper;
 
 /// A site over a tree on a disk in memory.
 pub(crate) type TreeSite = DiskSite<TreeKeeper<MemDisk>>;

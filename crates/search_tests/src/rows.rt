@@ -5,7 +5,7 @@ use crate::trouble::Trouble;
 use host_types::{Bytes, Change, Item, Selector, Stamp, Title};
 use std::alloc::Global;
 use std::fs;
-use word_index::FindList;
+use word_search::FindList;
 
 /// The number that decimal digits write.
 fn number(field: &str) -> Result<u32, Trouble> {

@@ -8,7 +8,7 @@ use site_store::search_by_filter;
 use std::alloc::Global;
 use std::cell::Cell;
 use std::rc::Rc;
-use word_index::{Find, FindList, SearchKeeper};
+use word_search::{Find, FindList, SearchKeeper};
 
 /// What is asked for: words within a scope, at a moment.
 #[derive(Drop)]

@@ -4,4 +4,7 @@ pub mod OneFails
 pub mod ReadBack
 pub mod Picks
 pub mod Time
+pub mod SameDevices
+pub mod WrittenImages
+pub mod WrittenPages
 pub mod Works

@@ -15,3 +15,5 @@ pub mod Once
 pub mod OnceState
 pub mod Sectors
 pub mod Sizes
+pub mod Steps
+pub mod DeviceEffects

@@ -1,13 +1,16 @@
 // A disk of sectors, as the layers above see it.
-ghost use Rattle.std.specs.Prelude.{◌≡◌, ◌<◌, List, ℕ, IfOk, OnOk, OnErr, IfErr, IfSome, IsTrue, length, slice_get, Some};
+ghost use Rattle.std.specs.Prelude.{◌≡◌, ◌<◌, ◌≤◌, ◌+◌, ◌*◌, List, ℕ, IfOk, OnOk, OnErr, IfErr, IfSome, IsTrue, length, slice_get, Some};
 ghost use Rattle.sector_device.specs.declared.device.DeviceFault.{DeviceFault as Fault};
 ghost use Rattle.sector_device.specs.declared.device.DeviceFault.TheVariants.{Device as Failing};
 ghost use Rattle.sector_device.specs.Disk.{Sectors, Disk, IsImage, written, synced, WriteFailed, SyncFailed};
 ghost use Rattle.common_types.specs.Counts.{counted, Counts};
 ghost use Rattle.sector_device.specs.Device.{State, Elapses};
 ghost use Rattle.sector_device.specs.Sectors.{page_of};
-ghost use Rattle.sector_device.specs.Effects.{ReadOutcome, WriteOutcome, MadeExactly};
+ghost use Rattle.sector_device.specs.DeviceEffects.{WritesDevice};
+ghost use Rattle.sector_device.specs.Effects.{ReadOutcome, WriteOutcome, MadeExactly, MadeIfOk};
+ghost use Rattle.sector_device.specs.Steps.{crash_states_of, AreWritten, MayBeAllWritten};
 
+use crate::chunks::sector_of;
 use crate::{PAGE_SIZE, SECTOR_SIZE};
 use thiserror::Error;
 
@@ -84,6 +87,21 @@ pub trait Device {
         ensures outcome { WriteOutcome result (state self.old) (state self.new) }
         ensures time { IsTrue (state self.old).honest → Elapses (moment self.old) (moment self.new) (possible_since self.old) (possible_since self.new) }
         ensures work { MadeExactly 0 1 0 (state self.old) (state self.new) };
+
+    /// Writes page n, the eight sectors from sector 8 n on. A crash may leave each of them or not until a sync succeeds, also where the call fails. It counts as eight writes.
+    fn write_page(&mut self, n: u32, bytes: &[u8; PAGE_SIZE]) -> Result<(), DeviceFault>
+        requires { 8 * n + 8 ≤ (state self.old).size }
+        ensures sectors { WritesDevice state (crash_states_of moment possible_since) self.old self.new result (AreWritten (8 * n) 8 bytes.now) (MayBeAllWritten (8 * n) 8 bytes.now) }
+        ensures page { IsTrue (state self.old).honest → OnOk result (page_of (state self.new).disk.view n ≡ bytes.now) }
+        ensures work { MadeIfOk result 0 8 0 (state self.old) (state self.new) }
+    {
+        let first = 8 * n as u64;
+        for k in 0..8 {
+            let sector = sector_of(bytes, k);
+            self.write(first + k as u64, &sector)?;
+        }
+        Ok(())
+    }
 
     /// Makes sure of all that reads give.
     fn sync(&mut self) -> Result<(), DeviceFault>

@@ -3,6 +3,7 @@
 
 mod call;
 mod call_counts;
+mod chunks;
 mod device;
 mod fuse_disk;
 mod laws;
@@ -13,6 +14,7 @@ mod sizes;
 
 pub use call::Call;
 pub use call_counts::{CallCounts, CallKind};
+pub use chunks::sector_of;
 pub use device::{Device, DeviceFault};
 pub use fuse_disk::FuseDisk;
 pub use laws::{

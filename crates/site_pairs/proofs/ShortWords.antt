@@ -8,7 +8,7 @@ use Rattle.host_types.specs.Words.{is_among, word_of, words_in, is_some_run, is_
 use Rattle.host_types.specs.Card.{card_of, viewed}
 use Rattle.host_types.specs.declared.card.Card.{Card}
 use Rattle.host_types.specs.declared.item.Item.{Item}
-use Rattle.word_index.specs.IndexChange.{dropped}
+use Rattle.word_search.specs.WordChange.{dropped}
 use Rattle.site_pairs.specs.Edits.{words_at}
 
 abbrev pub AreShort : List (List ℕ) → Type 0

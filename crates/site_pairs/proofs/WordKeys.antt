@@ -11,8 +11,8 @@ use Rattle.site_records.specs.Keys.{word_key}
 use Rattle.site_records.specs.Layout.{word_pairs, data_pairs, item_pairs, value_at, value_in, has_word}
 use Rattle.site_records.specs.LayoutLaws.{is_at-Decides, not_at, value_at-append, value_at-before}
 use Rattle.site_records.proofs.ChunkLaws.{among_words, no_word_among_data}
-use Rattle.word_index.specs.IndexChange.{dropped}
-use Rattle.word_index.proofs.Changes.{is_dropped}
+use Rattle.word_search.specs.WordChange.{dropped}
+use Rattle.word_search.proofs.Changes.{is_dropped}
 use Rattle.site_pairs.specs.Edits.{data_at, words_at, pairs_beside}
 
 -- the empty value, where a word is there

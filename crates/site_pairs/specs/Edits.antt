@@ -6,7 +6,7 @@ use Rattle.host_types.specs.Words.{words_of}
 use Rattle.host_types.specs.declared.item.Item.{Item}
 use Rattle.page_store.specs.declared.edit.Edit.{Edit}
 use Rattle.site_records.specs.Layout.{Pairs, data_pairs, word_pairs}
-use Rattle.word_index.specs.IndexChange.{dropped}
+use Rattle.word_search.specs.WordChange.{dropped}
 use Rattle.change_plan.specs.declared.replacement.Replacement.{Replacement}
 
 -- by their keys, in byte order: the value that comes, or none where the key is to go

@@ -21,7 +21,7 @@ use Rattle.host_types.specs.declared.item.Item.{Item}
 use Rattle.site_records.specs.Keys.{owner}
 use Rattle.site_records.specs.Layout.{Pairs, word_pairs, in_order, value_at}
 use Rattle.site_records.specs.LayoutLaws.{OwnedBy, OwnedBy-append, OwnedBy-data_pairs, OwnedBy-word_pairs, value_at-not_owned, is_sorted-in_order, value_at-in_order}
-use Rattle.word_index.specs.IndexChange.{dropped}
+use Rattle.word_search.specs.WordChange.{dropped}
 use Rattle.site_pairs.specs.Edits.{data_at, words_at, pairs_beside}
 use Rattle.site_pairs.specs.ChangeKeys.{keys_beside, keys_in, each_once}
 

@@ -8,20 +8,20 @@ ghost use Rattle.change_plan.specs.Replacements.{IsFit};
 ghost use Rattle.site_pairs.specs.ShortReplacements.{IsShortItem, AreShort};
 
 use crate::item_pairs::{put_data, put_words};
-use crate::piece::Piece;
+use crate::stored_value::StoredValue;
 use change_plan::Replacement;
 use host_types::{Bytes, Item, LineList, Selector};
 use page_store::Edit;
 use site_records::{Key, LONGEST_WORD};
 use std::alloc::{AllocError, Global};
 use std::collections::BTreeMap;
-use word_index::{index_change, words};
+use word_search::{word_change, words};
 
 /// All these keys go.
 #[tactic(auto, using(crate::proofs::ItemPairs::drop_last))]
 fn drop_all(
-    edits: &mut BTreeMap<Key, Option<Piece>>,
-    pairs: Vec<(Key, Piece)>,
+    edits: &mut BTreeMap<Key, Option<StoredValue>>,
+    pairs: Vec<(Key, StoredValue)>,
 ) -> Result<(), AllocError>
     ensures { OnOk result (edits.new.entries ≡ spec.without_all edits.old.entries pairs.items) }
 {
@@ -35,8 +35,8 @@ fn drop_all(
 /// All these pairs come.
 #[tactic(auto, using(crate::proofs::ItemPairs::put_last))]
 fn put_all(
-    edits: &mut BTreeMap<Key, Option<Piece>>,
-    pairs: Vec<(Key, Piece)>,
+    edits: &mut BTreeMap<Key, Option<StoredValue>>,
+    pairs: Vec<(Key, StoredValue)>,
 ) -> Result<(), AllocError>
     ensures { OnOk result (edits.new.entries ≡ spec.with_all edits.old.entries pairs.items) }
 {
@@ -62,7 +62,7 @@ fn data_at(
     alloc: Global,
     selector: &Selector,
     item: &Option<Item>,
-) -> Result<Vec<(Key, Piece)>, AllocError>
+) -> Result<Vec<(Key, StoredValue)>, AllocError>
     requires { IfSome item.now IsShortItem }
     ensures { IfOk result (λ pairs. pairs.items ≡ spec.data_at selector.now item.now) }
 {
@@ -79,7 +79,7 @@ fn pairs_with(
     selector: &Selector,
     item: &Option<Item>,
     words: &LineList,
-) -> Result<Vec<(Key, Piece)>, AllocError>
+) -> Result<Vec<(Key, StoredValue)>, AllocError>
     requires item { IfSome item.now IsShortItem }
     requires words { All (λ w. length w ≤ LONGEST_WORD) words.now }
     ensures { IfOk result (λ pairs. pairs.items ≡ spec.data_at selector.now item.now ++ word_pairs selector.now words.now) }
@@ -92,7 +92,7 @@ fn pairs_with(
 /// The old data goes and the new data comes. Of the words only those go and come that differ.
 fn put_replacement(
     alloc: Global,
-    edits: &mut BTreeMap<Key, Option<Piece>>,
+    edits: &mut BTreeMap<Key, Option<StoredValue>>,
     replacement: &Replacement,
 ) -> Result<(), AllocError>
     requires { IsFit IsShortItem replacement.now }
@@ -105,13 +105,13 @@ fn put_replacement(
     } = replacement;
     let old_words = words_at(alloc, before)?;
     let new_words = words_at(alloc, after)?;
-    let words = index_change(alloc, &old_words, &new_words)?;
+    let words = word_change(alloc, &old_words, &new_words)?;
     drop_all(edits, pairs_with(alloc, selector, before, &words.drop)?)?;
     put_all(edits, pairs_with(alloc, selector, after, &words.add)?)
 }
 
 #[tactic(auto, unfolding(page_store::specs::Batch::is_value))]
-fn edit_of(alloc: Global, key: &Key, value: &Option<Piece>) -> Result<Edit, AllocError>
+fn edit_of(alloc: Global, key: &Key, value: &Option<StoredValue>) -> Result<Edit, AllocError>
     ensures edit { IfOk result (λ edit. edit ≡ spec.edit_of (key.now, value.now)) }
     ensures sizes { IfOk result (λ edit. IsTrue (is_edit edit)) }
 {
@@ -125,15 +125,18 @@ fn edit_of(alloc: Global, key: &Key, value: &Option<Piece>) -> Result<Edit, Allo
 
 fn edits_in<'a>(
     alloc: Global,
-    edits: &'a BTreeMap<Key, Option<Piece>>,
-) -> Result<Vec<(&'a Key, &'a Option<Piece>)>, AllocError>
+    edits: &'a BTreeMap<Key, Option<StoredValue>>,
+) -> Result<Vec<(&'a Key, &'a Option<StoredValue>)>, AllocError>
     ensures { IfOk result (λ all. map (λ e. (e.0.now, e.1.now)) all.items ≡ edits.now.entries) }
 {
     edits.iter().collect(alloc)
 }
 
 /// The edits in the order of their keys.
-fn batch_in(alloc: Global, edits: &BTreeMap<Key, Option<Piece>>) -> Result<Vec<Edit>, AllocError>
+fn batch_in(
+    alloc: Global,
+    edits: &BTreeMap<Key, Option<StoredValue>>,
+) -> Result<Vec<Edit>, AllocError>
     ensures batch { IfOk result (λ batch. batch.items ≡ spec.batch_of edits.now.entries) }
     ensures sizes { IfOk result (λ batch. IsTrue (list_all is_edit batch.items)) }
 {

@@ -8,7 +8,7 @@ ghost use Rattle.site_records.specs.Layout.{layout};
 
 use crate::item_pairs::put_item;
 use crate::pairs_in_order::{entries_in, in_order};
-use crate::piece::Piece;
+use crate::stored_value::StoredValue;
 use host_types::{Item, Selector, Stamp, Title};
 use page_store::Pair;
 use site_records::Key;
@@ -16,7 +16,7 @@ use std::alloc::{AllocError, Global};
 use std::collections::BTreeMap;
 
 #[tactic(auto, unfolding(page_store::specs::Batch::is_value))]
-fn copy_of(alloc: Global, key: &Key, value: &Piece) -> Result<Pair, AllocError>
+fn copy_of(alloc: Global, key: &Key, value: &StoredValue) -> Result<Pair, AllocError>
     ensures pair { IfOk result (λ copy. copy ≡ (key.now, value.now)) }
     ensures sizes { IfOk result (λ copy. IsTrue (is_pair copy)) }
 {
@@ -26,7 +26,7 @@ fn copy_of(alloc: Global, key: &Key, value: &Piece) -> Result<Pair, AllocError>
 }
 
 /// Copies of these pairs, in the order of their keys.
-fn copies_of(alloc: Global, pairs: &BTreeMap<Key, Piece>) -> Result<Vec<Pair>, AllocError>
+fn copies_of(alloc: Global, pairs: &BTreeMap<Key, StoredValue>) -> Result<Vec<Pair>, AllocError>
     ensures copies { IfOk result (λ copies. copies.items ≡ pairs.now.entries) }
     ensures sizes { IfOk result (λ copies. IsTrue (list_all is_pair copies.items)) }
 {

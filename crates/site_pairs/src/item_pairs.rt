@@ -6,20 +6,20 @@ ghost use Rattle.site_records.specs.Limits.{is_short, is_short_body};
 ghost use Rattle.site_records.specs.Records.{parts_of};
 ghost use Rattle.site_records.specs.Layout as spec;
 
-use crate::piece::Piece;
+use crate::stored_value::StoredValue;
 use host_types::{Body, Bytes, Item, MOST_VIEW_BYTES, Selector, View, chunk_of};
 use site_records::{
     Key, LONGEST_WORD, chunk_count, chunk_key, entries_bytes, item_key, questions_bytes, record_of,
     word_key,
 };
 use std::alloc::{AllocError, Global};
-use word_index::words;
+use word_search::words;
 
 /// Adds the chunks of a part.
 #[tactic(auto, using(crate::proofs::ItemPairs::next_chunk), unfolding(site_records::specs::Layout::chunk_count))]
 fn put_part(
     alloc: Global,
-    pairs: &mut Vec<(Key, Piece)>,
+    pairs: &mut Vec<(Key, StoredValue)>,
     selector: &Selector,
     part: u8,
     bytes: &[u8],
@@ -31,7 +31,7 @@ fn put_part(
     for k in 0..count {
         let key = chunk_key(selector, part, k as u16);
         let value = Bytes::from_slice(alloc, chunk_of(bytes, k))?;
-        pairs.push((key, Piece::new(value)))?;
+        pairs.push((key, StoredValue::new(value)))?;
     }
     Ok(())
 }
@@ -39,7 +39,7 @@ fn put_part(
 /// Adds the chunks of all parts.
 fn put_parts(
     alloc: Global,
-    pairs: &mut Vec<(Key, Piece)>,
+    pairs: &mut Vec<(Key, StoredValue)>,
     selector: &Selector,
     parts: &[Bytes],
 ) -> Result<(), AllocError>
@@ -56,7 +56,7 @@ fn put_parts(
 /// Adds the keys of some words.
 pub fn put_words(
     alloc: Global,
-    pairs: &mut Vec<(Key, Piece)>,
+    pairs: &mut Vec<(Key, StoredValue)>,
     selector: &Selector,
     words: &[Bytes],
 ) -> Result<(), AllocError>
@@ -65,7 +65,7 @@ pub fn put_words(
 {
     for word in words {
         let key = word_key(word.as_slice(), selector);
-        pairs.push((key, Piece::new(Bytes::new(alloc))))?;
+        pairs.push((key, StoredValue::new(Bytes::new(alloc))))?;
     }
     Ok(())
 }
@@ -115,14 +115,14 @@ fn parts_of(alloc: Global, body: &Body) -> Result<Vec<Bytes>, AllocError>
 /// Adds the pairs of an item's data: its record, and the chunks of its parts.
 pub fn put_data(
     alloc: Global,
-    pairs: &mut Vec<(Key, Piece)>,
+    pairs: &mut Vec<(Key, StoredValue)>,
     selector: &Selector,
     item: &Item,
 ) -> Result<(), AllocError>
     requires { IsTrue (is_short item.now) }
     ensures { OnOk result (pairs.new.items ≡ pairs.old.items ++ spec.data_pairs selector.now item.now) }
 {
-    let record = Piece::new(record_of(alloc, item)?);
+    let record = StoredValue::new(record_of(alloc, item)?);
     pairs.push((item_key(selector), record))?;
     let parts = parts_of(alloc, &item.body)?;
     put_parts(alloc, pairs, selector, &parts)
@@ -132,7 +132,7 @@ pub fn put_data(
 #[tactic(auto, using(crate::proofs::ShortWords::short_words), unfolding(site_records::specs::Layout::item_pairs))]
 pub fn put_item(
     alloc: Global,
-    pairs: &mut Vec<(Key, Piece)>,
+    pairs: &mut Vec<(Key, StoredValue)>,
     selector: &Selector,
     item: &Item,
 ) -> Result<(), AllocError>

@@ -6,10 +6,10 @@ mod first_site;
 mod item_pairs;
 mod laws;
 mod pairs_in_order;
-mod piece;
+mod stored_value;
 
 pub use edits::batch_of;
 pub use first_site::first_pairs;
 pub use item_pairs::put_data;
 pub use laws::{changed_words_are_written, changes_have_keys, worked_examples};
-pub use piece::Piece;
+pub use stored_value::StoredValue;

@@ -3,7 +3,7 @@ use Rattle.std.proofs.Common.{◌≡◌, ℕ, zero, suc, Bool, List, [], ◌∷�
 use Rattle.std.specs.Prelude.{All, filter_map, Result, Ok, Err, OnOk}
 use Rattle.std.specs.List.{cons_option}
 use Rattle.std.specs.Option.{option_map}
-use Rattle.host_types.specs.Address.{Address, address}
+use Rattle.host_types.specs.Address.{address}
 use Rattle.host_types.specs.Card.{card_of, card_at}
 use Rattle.host_types.specs.Fronts.{front_of, front_at}
 use Rattle.host_types.specs.Site.{Site, item_at}
@@ -12,9 +12,9 @@ use Rattle.host_types.specs.declared.front.CardFront.{CardFront}
 use Rattle.host_types.specs.declared.item.Item.{Item}
 use Rattle.host_types.specs.declared.menu.Entry.TheVariants.{Local}
 use Rattle.text_writer.specs.Menu.{found_line, entry_line, line_bytes, menu}
-use Rattle.word_index.specs.Finds.{find_by, find_at, finds_of}
-use Rattle.word_index.specs.Search.{search_of}
-use Rattle.word_index.specs.declared.find.Find.{Find}
+use Rattle.word_search.specs.Finds.{find_by, find_at, finds_of}
+use Rattle.word_search.specs.Search.{search_of}
+use Rattle.word_search.specs.declared.find.Find.{Find}
 use Rattle.site_replies.specs.Finds.{IsFindOf, found_names}
 use Rattle.site_replies.specs.Reply.{locals, menu_reply, as_text}
 use Rattle.site_replies.proofs.VisibleCards.{line_shown}
@@ -29,10 +29,10 @@ on_more (Ok x) p more = more p
 on_more (Err e) p more = tt
 
 -- the line of a find
-pub find_line : {E X : Type 0} (result : Result X E) (s : Site) (a : Address) (find : Find) (new old : List ℕ) → a ≡ address s → IsFindOf s find → ((card : Card) → find.front ≡ front_of card → OnOk result (new ≡ old ++ line_bytes (found_line a find.selector (Some card)))) → OnOk result (new ≡ old ++ line_bytes (entry_line s (Local find.selector)))
-find_line result s a find new old at found line =
+pub find_line : {E X : Type 0} (result : Result X E) (s : Site) (find : Find) (new old : List ℕ) → IsFindOf s find → ((card : Card) → find.front ≡ front_of card → OnOk result (new ≡ old ++ line_bytes (found_line (address s) find.selector (Some card)))) → OnOk result (new ≡ old ++ line_bytes (entry_line s (Local find.selector)))
+find_line result s find new old found line =
     let there = stands_by find.selector find (card_at s find.selector) found in
-    on_more result (line there.0 there.2) (λ is. line_shown a (address s) find.selector there.0 (card_at s find.selector) new old at there.1 is)
+    on_more result (line there.0 there.2) (λ is. line_shown (address s) (address s) find.selector there.0 (card_at s find.selector) new old refl there.1 is)
 
 -- ---- the names
 

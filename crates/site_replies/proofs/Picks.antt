@@ -4,7 +4,8 @@ use Rattle.std.specs.Prelude.{Option, Some, None, filter_map, flat_map, IsTrue}
 use Rattle.std.specs.Option.{option_to_list}
 use Rattle.std.proofs.lemmas.Grind.{flat_map-append}
 use Rattle.std.proofs.lemmas.List.Elements.{filter_map-append}
-use Rattle.text_writer.specs.Menu.{line_bytes}
+use Rattle.text_writer.specs.Menu.{address_fields, line_bytes}
+use Rattle.host_types.specs.Address.{Address, address}
 use Rattle.host_types.specs.Site.{Site}
 use Rattle.host_types.specs.SiteState.{SiteState, HasRead}
 use Rattle.site_replies.proofs.AfterReads.{still_honest}
@@ -48,3 +49,7 @@ line_next a b h xs front x before after kept honest so_far is longer =
     ∙ ap (λ s. flat_map (λ line. line) (filter_map (h a.site) front) ++ line_bytes (h s x)) (kept.site honest)
     ∙ sym (line_push (h a.site) front x)
     ∙ ap (λ l. flat_map (λ line. line) (filter_map (h a.site) l)) (sym longer)
+
+-- the fields of the site's address are the same after reads
+pub still_fields : (a b : SiteState) (fields : List ℕ) (front : Address) → HasRead a b → IsTrue a.honest → fields ≡ address_fields front → (IsTrue a.honest → front ≡ address a.site) → fields ≡ address_fields (address b.site)
+still_fields a b fields front kept honest is same = is ∙ ap address_fields (same honest) ∙ ap (λ (s : Site). address_fields (address s)) (sym (kept.site honest))

@@ -1,8 +1,8 @@
 -- What a search has found of a site.
 use Rattle.std.specs.Prelude.{◌≡◌, ℕ, List, Some, map}
 use Rattle.host_types.specs.Site.{Site}
-use Rattle.word_index.specs.Finds.{find_at}
-use Rattle.word_index.specs.declared.find.Find.{Find}
+use Rattle.word_search.specs.Finds.{find_at}
+use Rattle.word_search.specs.declared.find.Find.{Find}
 
 -- it stands there as it was found
 abbrev pub IsFindOf : Site → Find → Type 0

@@ -32,7 +32,7 @@ use Rattle.ask_forms.specs.Post.{post_title, post_text}
 use Rattle.ask_forms.specs.declared.answer.Answer.{Answer}
 use Rattle.ask_forms.specs.declared.ask_fault.AskFault.{AskFault}
 use Rattle.ask_forms.specs.declared.ask_fault.AskFault.TheVariants as asks
-use Rattle.word_index.specs.Search.{search_of}
+use Rattle.word_search.specs.Search.{search_of}
 use Rattle.request_reader.specs.Request.{Request, RequestedView, Plus, Fetch, Attributes, EntryAttributes}
 use Rattle.request_reader.specs.declared.cause.Cause.{Cause}
 use Rattle.request_reader.specs.declared.cause.Cause.TheVariants.{TooLong, NotUnderstood}

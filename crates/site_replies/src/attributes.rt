@@ -1,10 +1,13 @@
 // Attributes of what stands in a site.
 ghost use Rattle.std.specs.Prelude.{◌≡◌, ◌++◌, true, filter_map, OnOk, IfOk, IfErr, IsTrue};
 ghost use Rattle.std.specs.Option.{option_to_list};
+ghost use Rattle.host_types.specs.Address.{address};
 ghost use Rattle.host_types.specs.Card.{card_at};
 ghost use Rattle.host_types.specs.Visible.{visible};
 ghost use Rattle.host_types.specs.SiteState.{HasRead, LacksTheSame, IsReadFault};
 ghost use Rattle.host_types.specs.CrashStates.{AddsNone};
+ghost use Rattle.plus_blocks.specs.Blocks.{attributes};
+ghost use Rattle.request_reader.specs.Seen.{names_in};
 ghost use Rattle.site_replies.specs.Reads.{ReadsSite};
 ghost use Rattle.site_replies.specs.Reply as spec;
 ghost use Rattle.site_replies.specs.Reply.{found_blocks, entry_block, attributes_of};
@@ -12,11 +15,12 @@ ghost use Rattle.site_replies.specs.Reply.{found_blocks, entry_block, attributes
 use crate::entries::{locals, post_names};
 use crate::looking::card_at;
 use crate::posts::error_reply_of;
-use host_types::{Bytes, CardBody, Entry, LineList, Selector, SiteFault, Stamp};
-use plus_blocks::{entry_attributes, info, item_blocks};
+use host_types::{Bytes, Card, CardBody, Entry, LineList, Selector, SiteFault, Stamp};
+use plus_blocks::{attributes, entry_attributes, info, item_blocks};
+use request_reader::Names;
 use std::alloc::{AllocError, Global};
 use text_writer::{ErrorText, link_line};
-use word_index::SearchKeeper;
+use word_search::SearchKeeper;
 
 /// The blocks of what stands at a selector, where clients find it.
 #[tactic(auto, using(crate::proofs::AfterReads::same_address))]
@@ -108,8 +112,8 @@ fn attributes_of<S: SearchKeeper>(
     Ok(entry_attributes(alloc, &blocks)?)
 }
 
-/// The reply to `$`: the attributes of the entries of a menu or of a board.
-pub fn entries_reply<S: SearchKeeper>(
+/// The attributes of the entries of a menu or of a board.
+fn entries_attributes<S: SearchKeeper>(
     alloc: Global,
     site: &mut S,
     names: &LineList,
@@ -128,4 +132,33 @@ pub fn entries_reply<S: SearchKeeper>(
         }
         _ => Ok(error_reply_of(alloc, true, ErrorText::NotAMenu)?),
     }
+}
+
+/// The reply to `$`: the attributes of the entries of a menu or of a board.
+pub fn entries_reply<S: SearchKeeper>(
+    alloc: Global,
+    site: &mut S,
+    names: Names<'_>,
+    selector: &Selector,
+    body: &CardBody,
+    now: Stamp,
+) -> Result<Bytes, SiteFault>
+    ensures reply { ReadsSite S.site_state S.lacks S.crash_states site.old site.new result (λ s reply. reply ≡ spec.entries_reply (visible s now) (names_in names.entry) selector.now body.now) }
+{
+    let names = names.to_list(alloc)?;
+    entries_attributes(alloc, site, &names, selector, body, now)
+}
+
+/// The reply to `!`: the attributes of an item of which the card is known.
+pub fn item_reply<S: SearchKeeper>(
+    alloc: Global,
+    site: &S,
+    names: Names<'_>,
+    selector: &Selector,
+    card: &Card,
+) -> Result<Bytes, AllocError>
+    ensures { IsTrue (S.site_state site.now).honest → IfOk result (λ reply. reply ≡ attributes (address (S.site_state site.now).site) (names_in names.entry) selector.now card.now) }
+{
+    let names = names.to_list(alloc)?;
+    attributes(alloc, &site.front(), &names, selector, card)
 }

@@ -5,7 +5,7 @@ ghost use Rattle.site_replies.specs.Reply.{locals, post_names};
 
 use host_types::{Entry, EntryList, Selector};
 use std::alloc::{AllocError, Global};
-use word_index::SelectorList;
+use word_search::SelectorList;
 
 /// The entries of items of this site.
 pub fn locals(alloc: Global, selectors: &[Selector]) -> Result<EntryList, AllocError>

@@ -11,7 +11,7 @@ ghost use Rattle.site_replies.specs.Reads.{ReadsSite};
 
 use host_types::{Card, CardBody, CardFront, Selector, SiteFault, Stamp, is_over};
 use request_reader::Request;
-use word_index::SearchKeeper;
+use word_search::SearchKeeper;
 
 /// A card, unless its item has expired.
 fn unless_expired(card: Option<Card>, now: Stamp) -> Option<Card>

@@ -7,8 +7,8 @@ ghost use Rattle.host_types.specs.Site.{Site};
 ghost use Rattle.host_types.specs.declared.menu.Entry.TheVariants.{Local};
 ghost use Rattle.host_types.specs.SiteState.{HasRead, LacksTheSame, IsReadFault};
 ghost use Rattle.host_types.specs.CrashStates.{AddsNone};
-ghost use Rattle.text_writer.specs.Menu.{found_line, entry_line, line_bytes};
-ghost use Rattle.word_index.specs.Search.{search_of};
+ghost use Rattle.text_writer.specs.Menu.{address_fields, found_line, entry_line, line_bytes};
+ghost use Rattle.word_search.specs.Search.{search_of};
 ghost use Rattle.site_replies.specs.Finds.{IsFindOf, found_names};
 ghost use Rattle.site_replies.specs.Reply.{locals};
 ghost use Rattle.site_replies.specs.Reads.{ReadsSite};
@@ -19,37 +19,38 @@ use crate::entries::post_names;
 use crate::looking::front_at;
 use host_types::{Address, Bytes, Entry, Selector, SiteFault, Stamp};
 use std::alloc::{AllocError, Global};
-use text_writer::{add_link_line, add_menu_line, ended_menu};
-use word_index::{Find, SearchKeeper};
+use text_writer::{add_link_line, add_menu_line, address_fields, ended_menu};
+use word_search::{Find, SearchKeeper};
 
-/// Adds the line of what stands at a selector, where it has one.
-#[tactic(auto, using(crate::proofs::AfterReads::same_address))]
+/// Adds the line of what stands at a selector, where it has one, by the fields of the site's address.
 fn add_line_at<S: SearchKeeper>(
     lines: &mut Vec<u8>,
     site: &mut S,
+    fields: &[u8],
     selector: &Selector,
     now: Stamp,
 ) -> Result<(), SiteFault>
-    ensures line { ReadsSite S.site_state S.lacks S.crash_states site.old site.new result (λ s _. lines.new.items ≡ lines.old.items ++ line_bytes (found_line (address s) selector.now (card_at (visible s now) selector.now))) }
+    ensures line { ReadsSite S.site_state S.lacks S.crash_states site.old site.new result (λ s _. fields.now ≡ address_fields (address s) → lines.new.items ≡ lines.old.items ++ line_bytes (found_line (address s) selector.now (card_at (visible s now) selector.now))) }
 {
     let Some(front) = front_at(site, selector, now)? else {
         return Ok(());
     };
-    Ok(add_menu_line(lines, &site.front(), selector, &front)?)
+    Ok(add_menu_line(lines, fields, selector, &front)?)
 }
 
-/// Adds the line of an entry of a menu, where it has one.
+/// Adds the line of an entry of a menu, where it has one, by the fields of the site's address.
 fn add_line_of<S: SearchKeeper>(
     alloc: Global,
     lines: &mut Vec<u8>,
     site: &mut S,
+    fields: &[u8],
     entry: &Entry,
     now: Stamp,
 ) -> Result<(), SiteFault>
-    ensures line { ReadsSite S.site_state S.lacks S.crash_states site.old site.new result (λ s _. lines.new.items ≡ lines.old.items ++ line_bytes (entry_line (visible s now) entry.now)) }
+    ensures line { ReadsSite S.site_state S.lacks S.crash_states site.old site.new result (λ s _. fields.now ≡ address_fields (address s) → lines.new.items ≡ lines.old.items ++ line_bytes (entry_line (visible s now) entry.now)) }
 {
     if let Entry::Local(selector) = entry {
-        return add_line_at(lines, site, selector, now);
+        return add_line_at(lines, site, fields, selector, now);
     }
     Ok(add_link_line(alloc, lines, &site.front(), entry)?)
 }
@@ -63,9 +64,11 @@ fn lines_of<S: SearchKeeper>(
 ) -> Result<Vec<u8>, SiteFault>
     ensures lines { ReadsSite S.site_state S.lacks S.crash_states site.old site.new result (λ s lines. lines.items ≡ flat_map (λ line. line) (filter_map (entry_line (visible s now)) entries.now)) }
 {
+    let address = address_fields(alloc, &site.front())?;
+    let fields = address.as_slice();
     let mut lines = Vec::new(alloc);
     for entry in entries {
-        add_line_of(alloc, &mut lines, site, entry, now)?;
+        add_line_of(alloc, &mut lines, site, fields, entry, now)?;
     }
     Ok(lines)
 }
@@ -79,9 +82,11 @@ fn lines_at<S: SearchKeeper>(
 ) -> Result<Vec<u8>, SiteFault>
     ensures lines { ReadsSite S.site_state S.lacks S.crash_states site.old site.new result (λ s lines. lines.items ≡ flat_map (λ line. line) (filter_map (entry_line (visible s now)) (locals selectors.now))) }
 {
+    let address = address_fields(alloc, &site.front())?;
+    let fields = address.as_slice();
     let mut lines = Vec::new(alloc);
     for selector in selectors {
-        add_line_at(&mut lines, site, selector, now)?;
+        add_line_at(&mut lines, site, fields, selector, now)?;
     }
     Ok(lines)
 }
@@ -142,20 +147,22 @@ fn words_asked(search: Option<&[u8]>) -> &[u8]
     }
 }
 
-/// Adds the line of a find, where it has one.
-fn add_find_line(lines: &mut Vec<u8>, front: &Address<'_>, find: &Find) -> Result<(), AllocError>
-    ensures line { (s : Site) → front.now ≡ address s → IsFindOf s find.now → OnOk result (lines.new.items ≡ lines.old.items ++ line_bytes (entry_line s (Local find.now.selector))) }
+/// Adds the line of a find, where it has one, by the fields of the site's address.
+fn add_find_line(lines: &mut Vec<u8>, fields: &[u8], find: &Find) -> Result<(), AllocError>
+    ensures line { (s : Site) → fields.now ≡ address_fields (address s) → IsFindOf s find.now → OnOk result (lines.new.items ≡ lines.old.items ++ line_bytes (entry_line s (Local find.now.selector))) }
 {
-    add_menu_line(lines, front, &find.selector, &find.front)
+    add_menu_line(lines, fields, &find.selector, &find.front)
 }
 
 /// The lines of finds that have one, in a row.
 fn lines_of_finds(alloc: Global, front: &Address<'_>, finds: &[Find]) -> Result<Vec<u8>, AllocError>
     ensures lines { (s : Site) → front.now ≡ address s → All (IsFindOf s) finds.now → IfOk result (λ lines. lines.items ≡ flat_map (λ line. line) (filter_map (entry_line s) (locals (found_names finds.now)))) }
 {
+    let address = address_fields(alloc, front)?;
+    let fields = address.as_slice();
     let mut lines = Vec::new(alloc);
     for find in finds {
-        add_find_line(&mut lines, front, find)?;
+        add_find_line(&mut lines, fields, find)?;
     }
     Ok(lines)
 }

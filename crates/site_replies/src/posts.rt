@@ -25,7 +25,7 @@ use host_types::{
 use request_reader::Request;
 use std::alloc::{AllocError, Global};
 use text_writer::{ErrorText, error_reply, item_line, menu};
-use word_index::SearchKeeper;
+use word_search::SearchKeeper;
 
 /// A reply that tells an error and names no new place.
 pub fn error_reply_of(alloc: Global, is_plus: bool, error: ErrorText) -> Result<Bytes, AllocError>

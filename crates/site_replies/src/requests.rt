@@ -15,19 +15,18 @@ ghost use Rattle.site_replies.specs.Replies.{answer_of, IsSized, PostsNoView};
 ghost use Rattle.site_replies.specs.Reply as spec;
 
 use crate::answered::{Answered, without_post};
-use crate::attributes::entries_reply;
+use crate::attributes::{entries_reply, item_reply};
 use crate::documents::as_bytes;
 use crate::looking::card_at;
 use crate::menus::{board_reply, menu_reply, search_reply};
 use crate::posts::{error_reply_of, form_reply};
 use crate::views::{moved_reply, view_reply};
 use host_types::{Bytes, Card, CardBody, Change, Selector, SiteFault, Stamp};
-use plus_blocks::attributes;
 use request_reader::{Cause, Plus, Request};
 use std::alloc::{AllocError, Global};
 use text_writer::ErrorText;
 use url_page::{UrlFault, redirect};
-use word_index::SearchKeeper;
+use word_search::SearchKeeper;
 
 /// The reply to what is no request.
 pub fn bad_reply(alloc: Global, cause: Cause) -> Result<Bytes, AllocError>
@@ -88,13 +87,9 @@ fn card_reply<S: SearchKeeper>(
     let bytes = match (&card.body, request.plus) {
         // A moved item is reported before attributes are scanned.
         (CardBody::Moved { target }, _) => moved_reply(alloc, site, is_plus, target, now)?,
-        (_, Some(Plus::Attributes(names))) => {
-            let names = names.to_list(alloc)?;
-            attributes(alloc, &site.front(), &names, selector, card)?
-        }
+        (_, Some(Plus::Attributes(names))) => item_reply(alloc, site, names, selector, card)?,
         (body, Some(Plus::EntryAttributes(names))) => {
-            let names = names.to_list(alloc)?;
-            entries_reply(alloc, site, &names, selector, body, now)?
+            entries_reply(alloc, site, names, selector, body, now)?
         }
         (CardBody::Form { board, questions }, _) => {
             return form_reply(alloc, site, board, questions, request, before, now);

@@ -22,7 +22,7 @@ use plus_blocks::head;
 use request_reader::Plus;
 use std::alloc::{AllocError, Global};
 use text_writer::{ErrorText, error_reply, item_line};
-use word_index::SearchKeeper;
+use word_search::SearchKeeper;
 
 /// Where an item that has moved went, one step on.
 #[tactic(auto, using(crate::proofs::AfterReads::same_address))]

@@ -9,7 +9,7 @@ use group_world::Event;
 use host_script::{ParsedLine, ScriptLineFault, ask, fault_line, line_of, parse};
 use host_types::Stamp;
 use std::alloc::Global;
-use word_index::SearchKeeper;
+use word_search::SearchKeeper;
 
 /// The size of the one piece of a whole request.
 const WHOLE: usize = 1_000_000;

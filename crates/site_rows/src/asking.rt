@@ -1,12 +1,12 @@
 // Sessions that ask, and what they are answered.
 use crate::fault::RowFault;
+use common_types::escaped;
 use group_hub::Hub;
 use group_world::{Drawn, Event, InputStatus, Outcome};
 use host_script::line_of;
 use host_types::{Bytes, Stamp};
-use printed_names::escaped;
 use std::alloc::Global;
-use word_index::SearchKeeper;
+use word_search::SearchKeeper;
 
 /// The room of each draw of a run that asks for a reply at once.
 pub const ROOM: usize = 16_384;

@@ -14,7 +14,7 @@ use mem_site::MemSite;
 use sector_device::MemDisk;
 use site_store::DiskSite;
 use std::alloc::Global;
-use word_index::SearchKeeper;
+use word_search::SearchKeeper;
 
 /// The small site on a disk of so many pages. No pin of it is out.
 fn small_disk_site(alloc: Global, pages: u16) -> Result<DiskSite<TreeKeeper<MemDisk>>, RowFault>

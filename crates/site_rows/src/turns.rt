@@ -6,7 +6,7 @@ use group_hub::Hub;
 use group_world::Drawn;
 use host_types::{Bytes, Stamp};
 use std::alloc::Global;
-use word_index::SearchKeeper;
+use word_search::SearchKeeper;
 
 /// How many turns a request or a reply takes at most.
 const MOST_TURNS: usize = 4096;

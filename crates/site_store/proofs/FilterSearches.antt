@@ -8,10 +8,10 @@ use Rattle.host_types.specs.Site.{Site, IsSite, item_after}
 use Rattle.host_types.specs.Visible.{visible}
 use Rattle.host_types.specs.Words.{words_in}
 use Rattle.host_types.specs.declared.item.Item.{Item}
-use Rattle.word_index.specs.Gathered.{searched_at}
-use Rattle.word_index.specs.Finds.{find_of, finds_of}
-use Rattle.word_index.specs.declared.find.Find.{Find}
-use Rattle.word_index.proofs.FoundEntries.{found_all, search_at}
+use Rattle.word_search.specs.Gathered.{searched_at}
+use Rattle.word_search.specs.Finds.{find_of, finds_of}
+use Rattle.word_search.specs.declared.find.Find.{Find}
+use Rattle.mem_site.proofs.FoundEntries.{found_all, search_at}
 use Rattle.site_store.specs.FilterSearch.{all_found, IsLeftToFilter}
 use Rattle.site_store.specs.Walking.{Entry, selector_after}
 use Rattle.site_store.proofs.FoundItems.{kept_sorted}

@@ -11,10 +11,10 @@ use Rattle.host_types.specs.Visible.{is_fresh}
 use Rattle.host_types.specs.Words.{words_of, is_among}
 use Rattle.host_types.specs.declared.item.Item.{Item}
 use Rattle.site_records.specs.Layout.{has_word}
-use Rattle.word_index.specs.Finds.{find_of}
-use Rattle.word_index.specs.Gathered.{searched_at}
-use Rattle.word_index.specs.declared.find.Find.{Find}
-use Rattle.word_index.specs.Search.{holds, is_found}
+use Rattle.word_search.specs.Finds.{find_of}
+use Rattle.word_search.specs.Gathered.{searched_at}
+use Rattle.word_search.specs.declared.find.Find.{Find}
+use Rattle.word_search.specs.Search.{holds, is_found}
 use Rattle.site_store.specs.FilterSearch.{all_found}
 use Rattle.site_store.specs.Walking.{Entry}
 use Rattle.site_store.specs.WordWalks.{is_with, items_with, next_with}

@@ -3,8 +3,8 @@ use Rattle.std.specs.Prelude.{◌≡◌, ℕ, Bool, true, false, List, [], ◌�
 use Rattle.std.specs.Ordering.{is_lt}
 use Rattle.host_types.specs.Site.{Site, byte_cmp, item_at}
 use Rattle.host_types.specs.declared.item.Item.{Item}
-use Rattle.word_index.specs.Gathered.{searched_at}
-use Rattle.word_index.specs.declared.find.Find.{Find}
+use Rattle.word_search.specs.Gathered.{searched_at}
+use Rattle.word_search.specs.declared.find.Find.{Find}
 
 -- what is found at a moment where all items are examined
 abbrev pub all_found : ℕ → Site → List ℕ → List (List ℕ) → List Find

@@ -10,9 +10,9 @@ use Rattle.host_types.specs.declared.front.CardFront.{CardFront}
 use Rattle.host_types.specs.Words.{words_of, is_among}
 use Rattle.host_types.specs.declared.item.Item.{Item}
 use Rattle.site_records.specs.Keys.{word_key}
-use Rattle.word_index.specs.Finds.{find_of}
-use Rattle.word_index.specs.Gathered.{searched_at}
-use Rattle.word_index.specs.declared.find.Find.{Find}
+use Rattle.word_search.specs.Finds.{find_of}
+use Rattle.word_search.specs.Gathered.{searched_at}
+use Rattle.word_search.specs.declared.find.Find.{Find}
 use Rattle.site_store.specs.FilterSearch.{all_found}
 use Rattle.site_store.specs.declared.word_keys.WordKeys.{WordKeys}
 use Rattle.site_store.specs.WordWalks.{items_with}

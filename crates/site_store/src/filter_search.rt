@@ -4,8 +4,8 @@ ghost use Rattle.site_store.specs.Represented.{RepresentedBy};
 ghost use Rattle.site_store.specs.StoreReads.{StandsAt};
 ghost use Rattle.site_store.specs.Reads.{ReadsKnown};
 ghost use Rattle.site_store.specs.FilterSearch as spec;
-ghost use Rattle.word_index.specs.Gathered.{searched_at};
-ghost use Rattle.word_index.specs.Finds.{finds_of};
+ghost use Rattle.word_search.specs.Gathered.{searched_at};
+ghost use Rattle.word_search.specs.Finds.{finds_of};
 ghost use Rattle.host_types.specs.Visible.{visible};
 ghost use Rattle.host_types.specs.Words as words;
 
@@ -15,7 +15,7 @@ use crate::walking::selector_after;
 use host_types::{LineList, Selector, Stamp};
 use page_store::Keeper;
 use std::alloc::Global;
-use word_index::{FindList, MOST_FOUND, look_at, words_in};
+use word_search::{FindList, MOST_FOUND, look_at, words_in};
 
 /// Looks at the item that is to stand at a selector: it is read where the selector begins with the scope.
 #[tactic(auto, using(crate::proofs::FilterSearches::out_of_scope))]

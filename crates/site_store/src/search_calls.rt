@@ -4,7 +4,7 @@ use crate::searching::search_all;
 use crate::to_site_fault::to_site_fault;
 use host_types::{Selector, SiteFault, Stamp};
 use page_store::PinKeeper;
-use word_index::{FindList, SearchKeeper};
+use word_search::{FindList, SearchKeeper};
 
 impl<K: PinKeeper> SearchKeeper for DiskSite<K> {
     fn search(

@@ -8,7 +8,7 @@ ghost use Rattle.site_store.specs.Reads.{ReadsKnown};
 ghost use Rattle.site_store.specs.FilterSearch.{all_found};
 ghost use Rattle.site_store.specs.WordWalks.{IsKeyOf, StandsWith};
 ghost use Rattle.site_store.specs.Searching as spec;
-ghost use Rattle.word_index.specs.Finds.{finds_of};
+ghost use Rattle.word_search.specs.Finds.{finds_of};
 
 use crate::SiteOpenFault;
 use crate::longest::longest;
@@ -19,7 +19,7 @@ use host_types::{Bytes, CardFront, Selector, Stamp, is_over};
 use page_store::{Keeper, LONGEST_VALUE};
 use site_records::{Key, LONGEST_WORD};
 use std::alloc::Global;
-use word_index::{Find, FindList, MOST_FOUND, words_in};
+use word_search::{Find, FindList, MOST_FOUND, words_in};
 
 /// What the line of a menu says of an item, unless it has expired.
 fn unless_over(front: CardFront, now: Stamp) -> Option<CardFront>

@@ -8,13 +8,13 @@ ghost use Rattle.site_store.specs.Opening.{AreCounted, CountsItem, ItemsAreShort
 use crate::read_pairs::ReadPairs;
 use host_types::{Bytes, Item, Selector};
 use mem_site::MemSite;
-use site_pairs::{Piece, put_data};
+use site_pairs::{StoredValue, put_data};
 use site_records::{Key, LONGEST_WORD, word_key};
 use std::alloc::{AllocError, Global};
-use word_index::words;
+use word_search::words;
 
 /// Whether each of these entries is one of the pairs.
-fn are_among(read: &mut ReadPairs<'_>, entries: &[(Key, Piece)]) -> bool
+fn are_among(read: &mut ReadPairs<'_>, entries: &[(Key, StoredValue)]) -> bool
     ensures among { Decides result (All (λ p. value_at read.old.0 p.0 ≡ Some p.1) entries.now) }
     ensures same { read.new ≡ read.old }
 {
@@ -45,7 +45,7 @@ fn are_words_among(read: &mut ReadPairs<'_>, selector: &Selector, words: &[Bytes
 fn count_of(
     alloc: Global,
     read: &mut ReadPairs<'_>,
-    entries: &mut Vec<(Key, Piece)>,
+    entries: &mut Vec<(Key, StoredValue)>,
     selector: &Selector,
     item: &Item,
 ) -> Result<Option<usize>, AllocError>

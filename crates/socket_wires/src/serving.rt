@@ -9,7 +9,7 @@ use group_hub::Hub;
 use std::alloc::Global;
 use thiserror::Error;
 use turns::{Clock, Connection, take_turns};
-use word_index::SearchKeeper;
+use word_search::SearchKeeper;
 
 /// Why serving ends early.
 #[derive(Clone, Copy, Debug, PartialEq, Eq, Error)]

@@ -1,3 +1,4 @@
+pub mod ItemLines
 pub mod ClientReads
 pub mod Joins
 pub mod MenuLines

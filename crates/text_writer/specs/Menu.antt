@@ -65,6 +65,10 @@ sort_sign other = codes "+"
 abbrev pub front_line : Address → List ℕ → List ℕ → CardSort → List ℕ
 front_line a selector title sort = fields_line ((sort_letter sort ∷ title) ∷ selector ∷ a.host ∷ decimal a.port ∷ sort_sign sort ∷ [])
 
+-- host and port as they stand in each of its lines, with a TAB before each
+abbrev pub address_fields : Address → List ℕ
+address_fields a = 9 ∷ a.host ++ 9 ∷ decimal a.port
+
 -- the line of an item of the site with this address
 abbrev pub item_line : Address → List ℕ → Card → List ℕ
 item_line a selector card = fields_line ((type_letter card.body ∷ card.title) ∷ selector ∷ a.host ∷ decimal a.port ∷ plus_sign card.body ∷ [])

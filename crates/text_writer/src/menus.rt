@@ -1,8 +1,9 @@
 // Menus.
 ghost use Rattle.std.specs.Prelude.{◌≡◌, ◌∷◌, ◌++◌, Some, IfOk, OnOk, decimal};
+ghost use Rattle.host_types.specs.Address.{Address as AddressValue};
 ghost use Rattle.host_types.specs.Fronts.{front_of};
 ghost use Rattle.host_types.specs.declared.card.Card.{Card as CardValue};
-ghost use Rattle.text_writer.specs.Text.{text_end};
+ghost use Rattle.text_writer.specs.Text.{line_end, text_end};
 ghost use Rattle.text_writer.specs.Menu as spec;
 ghost use Rattle.text_writer.specs.Menu.{line_bytes};
 
@@ -30,12 +31,13 @@ fn type_letter(sort: CardSort) -> u8
     }
 }
 
-fn plus_sign(sort: CardSort) -> &'static [u8]
-    ensures { result.now ≡ spec.sort_sign sort }
+/// How the line of an item ends: a TAB, the sign of Gopher+, CR and LF.
+fn line_ending(sort: CardSort) -> &'static [u8]
+    ensures { result.now ≡ 9 ∷ spec.sort_sign sort ++ line_end }
 {
     match sort {
-        CardSort::Form => b"?",
-        _ => b"+",
+        CardSort::Form => b"\t?\r\n",
+        _ => b"\t+\r\n",
     }
 }
 
@@ -66,27 +68,37 @@ fn add_four_fields(
     Ok(())
 }
 
+/// Host and port as they stand in each line of a site's items, with a TAB before each. They are written out once a menu.
+pub fn address_fields(alloc: Global, address: &Address<'_>) -> Result<Bytes, AllocError>
+    ensures fields { IfOk result (λ fields. fields ≡ spec.address_fields address.now) }
+{
+    let mut fields = Vec::new(alloc);
+    fields.push(b'\t')?;
+    fields.extend_from_slice(address.host.as_bytes())?;
+    fields.push(b'\t')?;
+    fields.extend_from_slice(Buffer::new().format(address.port).as_bytes())?;
+    Ok(Bytes::from(fields))
+}
+
 /// Adds the line of an item of this site: its letter and title, selector, host, port, and the sign of Gopher+ (RFC 1436, section 3.8).
 fn add_item_line(
     line: &mut Vec<u8>,
-    address: &Address<'_>,
+    address: &[u8],
     selector: &Selector,
     title: &Title,
     sort: CardSort,
 ) -> Result<(), AllocError>
-    ensures { OnOk result (line.new.items ≡ line.old.items ++ spec.front_line address.now selector.now title.now sort) }
+    ensures { (a : AddressValue) → address.now ≡ spec.address_fields a → OnOk result (line.new.items ≡ line.old.items ++ spec.front_line a selector.now title.now sort) }
 {
-    add_four_fields(
-        line,
-        type_letter(sort),
-        title.as_bytes(),
-        selector.as_bytes(),
-        address.host.as_bytes(),
-        address.port,
-    )?;
+    let (title, selector) = (title.as_bytes(), selector.as_bytes());
+    let names = title.len().saturating_add(selector.len());
+    line.reserve(names.saturating_add(address.len()).saturating_add(BESIDE))?;
+    line.push(type_letter(sort))?;
+    line.extend_from_slice(title)?;
     line.push(b'\t')?;
-    line.extend_from_slice(plus_sign(sort))?;
-    line.extend_from_slice(b"\r\n")?;
+    line.extend_from_slice(selector)?;
+    line.extend_from_slice(address)?;
+    line.extend_from_slice(line_ending(sort))?;
     Ok(())
 }
 
@@ -100,7 +112,9 @@ pub fn item_line(
     ensures line { IfOk result (λ line. line ≡ spec.item_line address.now selector.now card.now) }
 {
     let mut line = Vec::new(alloc);
-    add_item_line(&mut line, address, selector, &card.title, card.body.sort())?;
+    let address = address_fields(alloc, address)?;
+    let sort = card.body.sort();
+    add_item_line(&mut line, address.as_slice(), selector, &card.title, sort)?;
     Ok(Bytes::from(line))
 }
 
@@ -126,14 +140,14 @@ pub fn menu_line(
     Ok(Some(item_line(alloc, address, selector, card)?))
 }
 
-/// Adds to the lines of a menu the one of what stands at a selector; none for an item that has moved.
+/// Adds to the lines of a menu the one of what stands at a selector; none for an item that has moved. The site's address is given by its fields.
 pub fn add_menu_line(
     lines: &mut Vec<u8>,
-    address: &Address<'_>,
+    address: &[u8],
     selector: &Selector,
     front: &CardFront,
 ) -> Result<(), AllocError>
-    ensures line { (card : CardValue) → front.now ≡ front_of card → OnOk result (lines.new.items ≡ lines.old.items ++ line_bytes (spec.found_line address.now selector.now (Some card))) }
+    ensures line { (a : AddressValue) (card : CardValue) → address.now ≡ spec.address_fields a → front.now ≡ front_of card → OnOk result (lines.new.items ≡ lines.old.items ++ line_bytes (spec.found_line a selector.now (Some card))) }
 {
     if front.sort == CardSort::Moved {
         return Ok(());

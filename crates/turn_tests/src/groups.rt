@@ -7,7 +7,7 @@ use host_types::{Body, Bytes, Item, Stamp, Title};
 use std::alloc::Global;
 use std::io;
 use turns::{Connection, take_turns, try_again_later};
-use word_index::SearchKeeper;
+use word_search::SearchKeeper;
 
 /// The name of the test.
 pub const GROUP: &str = "17 posts in one pass";

@@ -3,6 +3,7 @@
 #![tactic(auto)]
 
 mod crowd;
+mod daily_clients;
 mod groups;
 mod memory_wire;
 mod old_wires;
@@ -10,9 +11,9 @@ mod place;
 mod shy_wire;
 mod site;
 mod tree;
-mod visits;
 
 use crowd::CROWD;
+use daily_clients::{all_passes, show_clients, show_log_line};
 use group_hub::Hub;
 use groups::{GROUP, show_no_room};
 use memory_wire::{MemoryWire, StandingClock};
@@ -26,8 +27,7 @@ use std::io::{Read, Write};
 use std::net::{OpenListener, OpenStream, TcpListener, TcpStream};
 use tree::tree_hub;
 use turns::{Connection, take_turns};
-use visits::{all_passes, show_log_line, show_visits};
-use word_index::SearchKeeper;
+use word_search::SearchKeeper;
 
 /// A wire on which a post comes.
 fn poster(alloc: Global) -> Result<MemoryWire, NotReady> {
@@ -230,10 +230,10 @@ fn show_turns(rt: &HostRuntime) -> io::Result<()> {
 }
 
 /// The same over wires that never wait.
-fn show_all_visits(rt: &HostRuntime) -> io::Result<()> {
+fn show_all_clients(rt: &HostRuntime) -> io::Result<()> {
     let alloc = rt.alloc();
     for name in NAMES {
-        show_visits(
+        show_clients(
             rt,
             name,
             rounds_of(alloc, name),
@@ -241,14 +241,14 @@ fn show_all_visits(rt: &HostRuntime) -> io::Result<()> {
             Place::MEMORY,
         )?;
     }
-    show_visits(
+    show_clients(
         rt,
         "time over",
         rounds_of(alloc, "writes in part"),
         4,
         Place::MEMORY,
     )?;
-    show_visits(
+    show_clients(
         rt,
         CROWD,
         rounds_of(alloc, CROWD),
@@ -256,7 +256,7 @@ fn show_all_visits(rt: &HostRuntime) -> io::Result<()> {
         Place::DISK,
     )?;
     for name in GROUPED {
-        show_visits(
+        show_clients(
             rt,
             name,
             rounds_of(alloc, name),
@@ -265,7 +265,7 @@ fn show_all_visits(rt: &HostRuntime) -> io::Result<()> {
         )?;
     }
     for name in GROUPED {
-        show_visits(
+        show_clients(
             rt,
             name,
             rounds_of(alloc, name),
@@ -278,7 +278,7 @@ fn show_all_visits(rt: &HostRuntime) -> io::Result<()> {
 
 fn main(rt: HostRuntime) -> io::Result<()> {
     show_turns(&rt)?;
-    show_all_visits(&rt)?;
+    show_all_clients(&rt)?;
     show_old_clients(&rt)?;
     show_no_room(&rt)?;
     show_log_line(&rt)?;

@@ -1,8 +1,8 @@
 // Wires on which the University of Minnesota's client asks.
+use crate::daily_clients::{all_passes, show_clients};
 use crate::memory_wire::MemoryWire;
 use crate::place::Place;
 use crate::site::NotReady;
-use crate::visits::{all_passes, show_visits};
 use std::alloc::Global;
 use std::io;
 
@@ -36,7 +36,7 @@ fn rounds(alloc: Global, name: &str) -> Result<Vec<Vec<MemoryWire>>, NotReady> {
 /// The same wires over a host that serves old clients, and over one that doesn't.
 pub fn show_old_clients(rt: &HostRuntime) -> io::Result<()> {
     for name in OLD {
-        show_visits(
+        show_clients(
             rt,
             name,
             rounds(rt.alloc(), name),
@@ -44,7 +44,7 @@ pub fn show_old_clients(rt: &HostRuntime) -> io::Result<()> {
             Place::MEMORY.of_old_clients(),
         )?;
     }
-    show_visits(
+    show_clients(
         rt,
         OLD[0],
         rounds(rt.alloc(), OLD[0]),

@@ -9,7 +9,7 @@ use host_types::{
 };
 use mem_site::MemSite;
 use std::alloc::{AllocError, AllocFailed, Global};
-use word_index::SearchKeeper;
+use word_search::SearchKeeper;
 
 /// A test could not be made ready.
 #[derive(Clone, Copy, Debug, PartialEq, Eq)]

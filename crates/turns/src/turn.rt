@@ -2,7 +2,7 @@
 ghost use Rattle.std.specs.Prelude.{◌≡◌, ◌⊎◌, Bool, true, List, [], ◌++◌};
 ghost use Rattle.text_writer.specs.Errors.{error_reply};
 ghost use Rattle.text_writer.specs.declared.error.ErrorText.TheVariants.{TryAgainLater};
-ghost use Rattle.group_hub.specs.Calls.{HubCall, HubRun};
+ghost use Rattle.group_hub.specs.Calls.{CallsHub, RunsHub};
 ghost use Rattle.group_world.specs.Outcomes.{bytes_outcome, heard_outcome};
 ghost use Rattle.group_world.specs.declared.event.Outcome.TheVariants.{Fault};
 ghost use Rattle.turns.specs.Runs.{HasRun};
@@ -15,7 +15,7 @@ use crate::{Clock, Wire};
 use group_hub::Hub;
 use group_world::{Drawn, HubFault, InputStatus};
 use host_types::Stamp;
-use word_index::SearchKeeper;
+use word_search::SearchKeeper;
 
 /// How many bytes are read or drawn in a turn, at most.
 pub const PIECE: usize = 512;
@@ -73,7 +73,7 @@ fn tell_at<S: SearchKeeper>(
     piece: &[u8],
     now: Stamp,
 ) -> Result<InputStatus, HubFault>
-    ensures { HubCall S.site_state S.lacks S.crash_states S.represents hub.old (heard_event id piece.now now) (bytes_outcome result) hub.new }
+    ensures { CallsHub hub.old (heard_event id piece.now now) (bytes_outcome result) hub.new }
 {
     if piece.is_empty() {
         hub.end(id, now)
@@ -89,7 +89,7 @@ pub fn tell<S: SearchKeeper, C: Clock>(
     piece: &[u8],
     clock: &mut C,
 ) -> Result<InputStatus, HubFault>
-    ensures { HasRun (HubRun S.site_state S.lacks S.crash_states S.represents) hub.old hub.new (C.given clock.old) (C.given clock.new) (λ es os. IsTold id piece.now es os (bytes_outcome result)) }
+    ensures { HasRun RunsHub hub.old hub.new (C.given clock.old) (C.given clock.new) (λ es os. IsTold id piece.now es os (bytes_outcome result)) }
 {
     match tell_at(hub, id, piece, clock.now()) {
         Ok(status) => Ok(status),
@@ -110,7 +110,7 @@ fn hear<S: SearchKeeper, W: Wire, C: Clock>(
     clock: &mut C,
     id: u64,
 ) -> Stage
-    ensures { HasRun (HubRun S.site_state S.lacks S.crash_states S.represents) hub.old hub.new (C.given clock.old) (C.given clock.new) (λ es os. HasMade (W.calls wire.old) (W.calls wire.new) (λ made. HearsOneRead id (trace made es os) result ⊎ HearsNothing (trace made es os) result)) }
+    ensures { HasRun RunsHub hub.old hub.new (C.given clock.old) (C.given clock.new) (λ es os. HasMade (W.calls wire.old) (W.calls wire.new) (λ made. HearsOneRead id (trace made es os) result ⊎ HearsNothing (trace made es os) result)) }
 {
     let mut buffer = [0; PIECE];
     let Ok(count) = wire.read(&mut buffer) else {
@@ -122,7 +122,7 @@ fn hear<S: SearchKeeper, W: Wire, C: Clock>(
 
 /// One draw, with its writes.
 fn reply<S: SearchKeeper, W: Wire>(hub: &mut Hub<S>, wire: &mut W, id: u64) -> Stage
-    ensures { HasRun (HubRun S.site_state S.lacks S.crash_states S.represents) hub.old hub.new [] [] (λ es os. HasMade (W.calls wire.old) (W.calls wire.new) (λ made. DrawsAndSends id (trace made es os) result)) }
+    ensures { HasRun RunsHub hub.old hub.new [] [] (λ es os. HasMade (W.calls wire.old) (W.calls wire.new) (λ made. DrawsAndSends id (trace made es os) result)) }
 {
     let mut buffer = [0; PIECE];
     match hub.draw(id, &mut buffer) {
@@ -140,7 +140,7 @@ fn reply<S: SearchKeeper, W: Wire>(hub: &mut Hub<S>, wire: &mut W, id: u64) -> S
 
 /// Where a session is whose post waited, once the posts were made: its reply stands, or its post is left, and its client hears of that.
 fn ask<S: SearchKeeper, W: Wire>(hub: &mut Hub<S>, wire: &mut W, id: u64) -> Stage
-    ensures { HasRun (HubRun S.site_state S.lacks S.crash_states S.represents) hub.old hub.new [] [] (λ es os. HasMade (W.calls wire.old) (W.calls wire.new) (λ made. AsksForReply id (trace made es os) result)) }
+    ensures { HasRun RunsHub hub.old hub.new [] [] (λ es os. HasMade (W.calls wire.old) (W.calls wire.new) (λ made. AsksForReply id (trace made es os) result)) }
 {
     match hub.draw(id, &mut []) {
         Ok(_) => Stage::Replying(id),
@@ -153,7 +153,7 @@ fn ask<S: SearchKeeper, W: Wire>(hub: &mut Hub<S>, wire: &mut W, id: u64) -> Sta
 
 /// The session leaves, and its wire is closed.
 fn leave<S: SearchKeeper, W: Wire>(hub: &mut Hub<S>, wire: &mut W, id: u64)
-    ensures { HasRun (HubRun S.site_state S.lacks S.crash_states S.represents) hub.old hub.new [] [] (λ es os. HasMade (W.calls wire.old) (W.calls wire.new) (λ made. LeavesAndCloses id (trace made es os))) }
+    ensures { HasRun RunsHub hub.old hub.new [] [] (λ es os. HasMade (W.calls wire.old) (W.calls wire.new) (λ made. LeavesAndCloses id (trace made es os))) }
 {
     let _ = hub.leave(id);
     wire.close();
@@ -161,7 +161,7 @@ fn leave<S: SearchKeeper, W: Wire>(hub: &mut Hub<S>, wire: &mut W, id: u64)
 
 /// A session joins on a connection that is new, or its wire is closed.
 pub(crate) fn join<S: SearchKeeper, W: Wire>(hub: &mut Hub<S>, connection: &mut Connection<W>)
-    ensures { HasRun (HubRun S.site_state S.lacks S.crash_states S.represents) hub.old hub.new [] [] (λ es os. For W.calls Joins connection.old es os connection.new) }
+    ensures { HasRun RunsHub hub.old hub.new [] [] (λ es os. For W.calls Joins connection.old es os connection.new) }
 {
     match connection.stage {
         Stage::New => match hub.join() {
@@ -182,7 +182,7 @@ fn go_on<S: SearchKeeper, W: Wire>(
     id: u64,
     after: Stage,
 )
-    ensures run { HasRun (HubRun S.site_state S.lacks S.crash_states S.represents) hub.old hub.new [] [] (λ es os. HasMade (W.calls connection.old.wire) (W.calls connection.new.wire) (λ made. Follows id (is_closed after) (trace made es os))) }
+    ensures run { HasRun RunsHub hub.old hub.new [] [] (λ es os. HasMade (W.calls connection.old.wire) (W.calls connection.new.wire) (λ made. Follows id (is_closed after) (trace made es os))) }
     ensures stage { connection.new.stage ≡ after }
 {
     connection.stage = after;
@@ -197,7 +197,7 @@ pub(crate) fn take_turn<S: SearchKeeper, W: Wire, C: Clock>(
     connection: &mut Connection<W>,
     clock: &mut C,
 )
-    ensures { HasRun (HubRun S.site_state S.lacks S.crash_states S.represents) hub.old hub.new (C.given clock.old) (C.given clock.new) (λ es os. For W.calls Turn connection.old es os connection.new) }
+    ensures { HasRun RunsHub hub.old hub.new (C.given clock.old) (C.given clock.new) (λ es os. For W.calls Turn connection.old es os connection.new) }
 {
     match connection.stage {
         Stage::Listening(id) => {
@@ -214,7 +214,7 @@ pub(crate) fn take_turn<S: SearchKeeper, W: Wire, C: Clock>(
 
 /// A session whose post waited learns what came of it. One that doesn't go on leaves the hub, and its wire is closed.
 pub(crate) fn learn<S: SearchKeeper, W: Wire>(hub: &mut Hub<S>, connection: &mut Connection<W>)
-    ensures { HasRun (HubRun S.site_state S.lacks S.crash_states S.represents) hub.old hub.new [] [] (λ es os. For W.calls Learns connection.old es os connection.new) }
+    ensures { HasRun RunsHub hub.old hub.new [] [] (λ es os. For W.calls Learns connection.old es os connection.new) }
 {
     match connection.stage {
         Stage::Waiting(id) => {
@@ -227,7 +227,7 @@ pub(crate) fn learn<S: SearchKeeper, W: Wire>(hub: &mut Hub<S>, connection: &mut
 
 /// A session that is still open leaves, and its wire is closed.
 pub(crate) fn end<S: SearchKeeper, W: Wire>(hub: &mut Hub<S>, connection: &mut Connection<W>)
-    ensures { HasRun (HubRun S.site_state S.lacks S.crash_states S.represents) hub.old hub.new [] [] (λ es os. For W.calls EndsConnection connection.old es os connection.new) }
+    ensures { HasRun RunsHub hub.old hub.new [] [] (λ es os. For W.calls EndsConnection connection.old es os connection.new) }
 {
     match connection.stage {
         Stage::Listening(id) | Stage::Waiting(id) | Stage::Replying(id) => {

@@ -1,6 +1,6 @@
 // Sessions over wires, which are served in turns.
 ghost use Rattle.std.specs.Prelude.{◌≡◌, [], length, filter, true};
-ghost use Rattle.group_hub.specs.Calls.{HubRun};
+ghost use Rattle.group_hub.specs.Calls.{RunsHub};
 ghost use Rattle.turns.specs.Runs.{HasRun};
 ghost use Rattle.turns.specs.Turns.{For, Joins, Turn, Learns, EndsConnection, StepsInOrder, Pass, MakesPasses, Serves, AreClosed, is_served};
 
@@ -8,14 +8,14 @@ use crate::connection::Connection;
 use crate::turn::{end, join, learn, take_turn};
 use crate::{Clock, Wire};
 use group_hub::Hub;
-use word_index::SearchKeeper;
+use word_search::SearchKeeper;
 
 /// How many passes are made over the connections, at most.
 pub const MOST_PASSES: u32 = 1_000_000;
 
 /// A session joins on each connection that is new.
 fn join_all<S: SearchKeeper, W: Wire>(hub: &mut Hub<S>, connections: &mut [Connection<W>])
-    ensures { HasRun (HubRun S.site_state S.lacks S.crash_states S.represents) hub.old hub.new [] [] (λ es os. StepsInOrder (For W.calls Joins) connections.old es os connections.new) }
+    ensures { HasRun RunsHub hub.old hub.new [] [] (λ es os. StepsInOrder (For W.calls Joins) connections.old es os connections.new) }
 {
     for connection in connections.iter_mut() {
         join(hub, connection);
@@ -28,7 +28,7 @@ fn give_turns<S: SearchKeeper, W: Wire, C: Clock>(
     connections: &mut [Connection<W>],
     clock: &mut C,
 )
-    ensures { HasRun (HubRun S.site_state S.lacks S.crash_states S.represents) hub.old hub.new (C.given clock.old) (C.given clock.new) (λ es os. StepsInOrder (For W.calls Turn) connections.old es os connections.new) }
+    ensures { HasRun RunsHub hub.old hub.new (C.given clock.old) (C.given clock.new) (λ es os. StepsInOrder (For W.calls Turn) connections.old es os connections.new) }
 {
     for connection in connections.iter_mut() {
         take_turn(hub, connection, clock);
@@ -37,7 +37,7 @@ fn give_turns<S: SearchKeeper, W: Wire, C: Clock>(
 
 /// Each session whose post waited learns what came of it, in order.
 fn learn_all<S: SearchKeeper, W: Wire>(hub: &mut Hub<S>, connections: &mut [Connection<W>])
-    ensures { HasRun (HubRun S.site_state S.lacks S.crash_states S.represents) hub.old hub.new [] [] (λ es os. StepsInOrder (For W.calls Learns) connections.old es os connections.new) }
+    ensures { HasRun RunsHub hub.old hub.new [] [] (λ es os. StepsInOrder (For W.calls Learns) connections.old es os connections.new) }
 {
     for connection in connections.iter_mut() {
         learn(hub, connection);
@@ -50,7 +50,7 @@ fn pass<S: SearchKeeper, W: Wire, C: Clock>(
     connections: &mut [Connection<W>],
     clock: &mut C,
 )
-    ensures { HasRun (HubRun S.site_state S.lacks S.crash_states S.represents) hub.old hub.new (C.given clock.old) (C.given clock.new) (λ es os. Pass W.calls connections.old es os connections.new) }
+    ensures { HasRun RunsHub hub.old hub.new (C.given clock.old) (C.given clock.new) (λ es os. Pass W.calls connections.old es os connections.new) }
 {
     give_turns(hub, connections, clock);
     let _ = hub.flush();
@@ -70,7 +70,7 @@ fn pass_on<S: SearchKeeper, W: Wire, C: Clock>(
     connections: &mut [Connection<W>],
     clock: &mut C,
 )
-    ensures { HasRun (HubRun S.site_state S.lacks S.crash_states S.represents) hub.old hub.new (C.given clock.old) (C.given clock.new) (λ es os. MakesPasses W.calls connections.old es os connections.new) }
+    ensures { HasRun RunsHub hub.old hub.new (C.given clock.old) (C.given clock.new) (λ es os. MakesPasses W.calls connections.old es os connections.new) }
 {
     for _pass in 0..MOST_PASSES {
         if are_closed(connections) {
@@ -82,7 +82,7 @@ fn pass_on<S: SearchKeeper, W: Wire, C: Clock>(
 
 /// Who is still open leaves.
 fn end_all<S: SearchKeeper, W: Wire>(hub: &mut Hub<S>, connections: &mut [Connection<W>])
-    ensures { HasRun (HubRun S.site_state S.lacks S.crash_states S.represents) hub.old hub.new [] [] (λ es os. StepsInOrder (For W.calls EndsConnection) connections.old es os connections.new) }
+    ensures { HasRun RunsHub hub.old hub.new [] [] (λ es os. StepsInOrder (For W.calls EndsConnection) connections.old es os connections.new) }
 {
     for connection in connections.iter_mut() {
         end(hub, connection);
@@ -97,7 +97,7 @@ pub fn take_turns<S: SearchKeeper, W: Wire, C: Clock>(
     connections: &mut [Connection<W>],
     clock: &mut C,
 ) -> u64
-    ensures serves { HasRun (HubRun S.site_state S.lacks S.crash_states S.represents) hub.old hub.new (C.given clock.old) (C.given clock.new) (λ es os. Serves W.calls connections.old es os connections.new) }
+    ensures serves { HasRun RunsHub hub.old hub.new (C.given clock.old) (C.given clock.new) (λ es os. Serves W.calls connections.old es os connections.new) }
     ensures closed { AreClosed connections.new }
     ensures count { result ≡ length (filter (λ c. is_served c.stage) connections.new) }
 {

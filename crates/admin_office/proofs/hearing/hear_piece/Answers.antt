@@ -1,6 +1,6 @@
 use Rattle.std.proofs.Common.{ap, inl, inr}
 use Rattle.admin_office.specs.Tasks.{Telling}
-use Rattle.daily_turns.proofs.SeatsMade.{some_left}
+use Rattle.daily_turns.proofs.ConnectionsMade.{some_left}
 use Rattle.admin_office.proofs.Steps.{all_gone, hears_end, hears_more}
 use Rattle.admin_office.proofs.hearing.hear_piece.Goals as goal
 

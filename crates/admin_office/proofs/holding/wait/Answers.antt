@@ -1,6 +1,6 @@
 use Rattle.std.proofs.Common.{take, ap, ◌∙◌, ◌++◌, arith, length-take, ◌∷◌, []}
 use Rattle.turns.specs.WireCalls.{Read, ReadFailed, ReadWaited}
-use Rattle.daily_turns.proofs.SeatsMade.{read_is, no_read_is}
+use Rattle.daily_turns.proofs.ConnectionsMade.{read_is, no_read_is}
 use Rattle.admin_office.proofs.Steps.{waited_well, waited_in_vain, waited_badly}
 use Rattle.admin_office.proofs.holding.wait.Goals as goal
 

@@ -1,6 +1,6 @@
 use Rattle.std.proofs.Common.{ap, sym, subst, ◌∙◌, ◌∷◌, [], ◌++◌, ◌≤◌, length}
 use Rattle.turns.specs.WireCalls.{Wrote, WriteWaited, WriteFailed}
-use Rattle.daily_turns.proofs.SeatsMade.{some_left, wrote_is, within_some}
+use Rattle.daily_turns.proofs.ConnectionsMade.{some_left, wrote_is, within_some}
 use Rattle.admin_office.specs.Tasks.{unsent_bytes}
 use Rattle.admin_office.proofs.Steps.{all_gone, no_write_is, told_all, told_some, told_later, told_none, told_badly}
 use Rattle.admin_office.proofs.telling.tell.Goals as goal

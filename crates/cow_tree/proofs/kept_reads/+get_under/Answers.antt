@@ -9,12 +9,14 @@ use Rattle.page_store.specs.Batch.{value_at}
 use Rattle.page_store.specs.Content.{walk}
 use Rattle.page_store.proofs.DeviceSequences.{still_honest}
 use Rattle.tree_nodes.specs.PageViews.{bounds_of}
+use Rattle.cow_tree.specs.KeptPlaces.{IsLeafUnder}
 use Rattle.cow_tree.proofs.AnswersGiven.{answer_is, answer_err}
+use Rattle.cow_tree.proofs.ValuesInLeaves.{leaf_alone, leaf_of_part, on_any, on_err, on_more}
 use Rattle.cow_tree.proofs.kept_reads.+get_under.Goals as goal
 
 pub returns-then-level-eq0 : goal.returns-then-level-eq0
 returns-then-level-eq0 g t c =
-    let here = c.get_in_leaf.ensures.found in
+    let here = c.get_in_leaf-found.ensures.found in
     record {
       found = record {
         within = here.within;
@@ -23,8 +25,12 @@ returns-then-level-eq0 g t c =
         buffer = here.buffer;
         reads = here.reads;
       };
-      kept = c.get_in_leaf.ensures.kept;
-      work = subst (λ (n : ℕ). MadeAtMost (8 * (n + 1)) 0 0 (g.D.Device.state c.args.device.now) (g.D.Device.state c.get_in_leaf.new.device)) (sym c.if-level-eq0.true) c.get_in_leaf.ensures.work;
+      kept = λ keeps. c.looked_into.ensures.kept (page_of (g.D.Device.state c.get_in_leaf-found.new.device).disk.view) (c.get_in_leaf-found.ensures.kept keeps);
+      leaf = λ keeps found walked.
+          let view = page_of (g.D.Device.state c.args.device.now).disk.view in
+          let there = subst (λ (n : ℕ). walk view (bounds_of c.args.bounds) n c.args.page [] None ≡ Some found) c.if-level-eq0.true walked in
+          on_any c.get_in_leaf-found.result (subst (λ (n : ℕ). IsLeafUnder view (bounds_of c.args.bounds) n found) (sym c.looked_into.ensures.leaf) (leaf_alone view (bounds_of c.args.bounds) c.args.page found there));
+      work = subst (λ (n : ℕ). MadeAtMost (8 * (n + 1)) 0 0 (g.D.Device.state c.args.device.now) (g.D.Device.state c.get_in_leaf-found.new.device)) (sym c.if-level-eq0.true) c.get_in_leaf-found.ensures.work;
     }
 
 pub returns-in_err-child : goal.returns-in_err-child
@@ -38,6 +44,7 @@ returns-in_err-child g t c =
         reads = search rules;
       };
       kept = c.in_err-child.ensures.kept;
+      leaf = λ keeps found walked. on_err _ c.from_residual.result p.0 p.1;
       work = no_more_than c.page_around.ensures.work (omega arith) (omega arith) (omega arith);
     }
 
@@ -58,6 +65,15 @@ returns g t c =
         reads = search rules;
       };
       kept = c.get_under.ensures.kept;
+      leaf = λ keeps found walked.
+          let w = c.in_ok-child.ensures.way keeps found walked in
+          let keeps1 = still_honest (d.state c.args.device.now) (d.state c.page_around.new.device) read.device.only.same keeps in
+          let here = subst (λ (x : Disk). walk (page_of x.view) (bounds_of c.args.bounds) (c.args.level - 1) c.in_ok-child.child [] None ≡ Some w.here) (sym (read.device.only.disk keeps)) w.here_is in
+          let leaf = c.get_under.new.places.leaf in
+          on_more c.get_under.result (c.get_under.ensures.leaf keeps1 w.here here)
+          (λ l.
+          leaf_of_part (page_of (d.state c.args.device.now).disk.view) (bounds_of c.args.bounds) leaf w.here found w.part
+          (subst (λ (x : Disk). IsLeafUnder (page_of x.view) (bounds_of c.args.bounds) leaf w.here) (read.device.only.disk keeps) l));
       work =
           let ne = c.if-level-eq0.false in
           let more : 8 + 8 * (c.args.level - 1 + 1) ≡ 8 * (c.args.level + 1) = omega (arith, ne) in

@@ -1,30 +1,30 @@
 use Rattle.std.proofs.Common.{◌≡◌, Bool, true, false, not, ◌&&◌, ◌||◌, refl}
-use Rattle.daily_turns.specs.Seats.{acts}
-use Rattle.daily_server.specs.Visits.{is_called, woken_where, IsSameClient}
-use Rattle.daily_server.specs.declared.visit.Visit.{Visit}
+use Rattle.daily_turns.specs.ReadyConnections.{acts}
+use Rattle.daily_server.specs.DailyClients.{is_called, woken_where, IsSameClient}
+use Rattle.daily_server.specs.declared.daily_client.DailyClient.{DailyClient}
 use Rattle.daily_server.proofs.laws.wait_keeps_clients.Goals as goal
 
 later_too : (rests acts : Bool) → (not rests && acts) ≡ true → (not false && acts) ≡ true
 later_too true acts had = cc
 later_too false acts had = had
 
-kept : (wakes : Bool) (visit : Visit) → IsSameClient visit (woken_where wakes visit)
-kept true visit = record {
+kept : (wakes : Bool) (client : DailyClient) → IsSameClient client (woken_where wakes client)
+kept true client = record {
   wire = refl;
   stage = refl;
   unsent = refl;
-  client = refl;
+  adapter = refl;
   from = refl;
   token = refl;
   came = refl;
   moved = refl;
-  turn = later_too visit.seat.waits (acts visit.seat.stage);
+  turn = later_too client.connection.waits (acts client.connection.stage);
 }
-kept false visit = record {
+kept false client = record {
   wire = refl;
   stage = refl;
   unsent = refl;
-  client = refl;
+  adapter = refl;
   from = refl;
   token = refl;
   came = refl;
@@ -33,4 +33,4 @@ kept false visit = record {
 }
 
 pub returns : goal.returns
-returns c = λ all events visit. kept (all || is_called events visit.token) visit
+returns c = λ all events client. kept (all || is_called events client.token) client

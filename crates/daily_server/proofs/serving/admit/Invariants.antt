@@ -9,6 +9,6 @@ abbrev pub invariant-loop-client : goal.invariant-loop-client
 invariant-loop-client g l =
     let s = g.S.SiteKeeper in
     record {
-      run : HasRun (HubRun s.site_state s.lacks s.crash_states s.represents) l.fn.hub l.hub [] [] (λ es os. IsLettingIn l.terms l.now l._client l.fn.room es os l.room l.crowd.items);
+      run : HasRun (HubRun s.site_state s.lacks s.crash_states s.represents) l.fn.hub l.hub [] [] (λ es os. IsLettingIn l.terms l.now l._client l.fn.service es os l.service l.crowd.items);
       turned_away : length l.crowd.items ≤ l._client;
     }

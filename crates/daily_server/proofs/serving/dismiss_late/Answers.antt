@@ -4,15 +4,15 @@ use Rattle.turns.proofs.Passing.{done_none, done_next}
 use Rattle.daily_server.proofs.SameClients.{same_clients}
 use Rattle.daily_server.proofs.serving.dismiss_late.Goals as goal
 
-pub loop-visit-init : goal.loop-visit-init
-loop-visit-init g c = record {
+pub loop-client-init : goal.loop-client-init
+loop-client-init g c = record {
   run = run_none _ _ _ _ g.met.S.SiteKeeper.crash_states_represent _ _ _ (done_none _ _);
-  clients = refl;
+  same_who = refl;
 }
 
-pub loop-visit-preserved : goal.loop-visit-preserved
-loop-visit-preserved g c = record {
-  run = run_both _ _ _ _ g.met.S.SiteKeeper.crash_states_represent _ _ _ _ _ _ _ _ _ c.loop-visit.invariant.run c.dismiss_if_over.ensures.run
-      (λ es fs os ps p q. done_next _ c.loop-visit.visit-index _ c.loop-visit.visits c.visit-item.result c.dismiss_if_over.new.visit es fs os ps p (omega (arith, c.loop-visit-test.true, c.loop-visit.auto.visits)) c.visit-item.is q);
-  clients = same_clients _ c.loop-visit.visits c.loop-visit.visit-index c.visit-item.result c.dismiss_if_over.new.visit c.loop-visit.invariant.clients c.dismiss_if_over.ensures.who;
+pub loop-client-preserved : goal.loop-client-preserved
+loop-client-preserved g c = record {
+  run = run_both _ _ _ _ g.met.S.SiteKeeper.crash_states_represent _ _ _ _ _ _ _ _ _ c.loop-client.invariant.run c.dismiss_if_over.ensures.run
+      (λ es fs os ps p q. done_next _ c.loop-client.client-index _ c.loop-client.clients c.client-item.result c.dismiss_if_over.new.client es fs os ps p (omega (arith, c.loop-client-test.true, c.loop-client.auto.clients)) c.client-item.is q);
+  same_who = same_clients _ c.loop-client.clients c.loop-client.client-index c.client-item.result c.dismiss_if_over.new.client c.loop-client.invariant.same_who c.dismiss_if_over.ensures.who;
 }

@@ -3,14 +3,14 @@ use Rattle.group_hub.specs.Calls.{HubRun}
 use Rattle.turns.specs.Runs.{HasRun}
 use Rattle.turns.proofs.Passing.{IsDoneTo}
 use Rattle.daily_server.specs.Rounds.{who}
-use Rattle.daily_server.specs.Visits.{Learned}
+use Rattle.daily_server.specs.DailyClients.{Learned}
 use Rattle.daily_server.proofs.serving.learn_all.Given as goal
 
 -- so many of them are done, and they are who they were
-abbrev pub invariant-loop-visit : goal.invariant-loop-visit
-invariant-loop-visit g l =
+abbrev pub invariant-loop-client : goal.invariant-loop-client
+invariant-loop-client g l =
     let s = g.S.SiteKeeper in
     record {
-      run : HasRun (HubRun s.site_state s.lacks s.crash_states s.represents) l.fn.hub l.hub [] [] (λ es os. IsDoneTo Learned l.visit-index l.fn.visits es os l.visits);
-      clients : map who l.visits ≡ map who l.fn.visits;
+      run : HasRun (HubRun s.site_state s.lacks s.crash_states s.represents) l.fn.hub l.hub [] [] (λ es os. IsDoneTo Learned l.client-index l.fn.clients es os l.clients);
+      same_who : map who l.clients ≡ map who l.fn.clients;
     }

@@ -2,13 +2,13 @@ use Rattle.std.proofs.Common.{refl, sym, subst, ◌∙◌, arith}
 use Rattle.std.proofs.lemmas.Grind.{common_steps}
 use Rattle.daily_server.proofs.SameClients.{all_kept}
 use Rattle.daily_server.specs.Logged.{AreTold, nobody, at}
-use Rattle.daily_server.specs.Visits.{has_gone}
+use Rattle.daily_server.specs.DailyClients.{has_gone}
 use Rattle.daily_server.proofs.serving.see_off.Goals as goal
 
 pub returns-else-has_closed-clause-gone : goal.returns-else-has_closed-clause-gone
 returns-else-has_closed-clause-gone g c = record {
-  visits = all_kept has_gone c.args.room.now.visits.items (sym c.has_closed.ensures ∙ c.if-has_closed.false);
-  door = refl;
+  clients = all_kept has_gone c.args.service.now.clients.items (sym c.has_closed.ensures ∙ c.if-has_closed.false);
+  listener = refl;
   may_accept = refl;
   lost = refl;
   posts = refl;
@@ -19,4 +19,4 @@ returns-else-has_closed-clause-logged g c = nobody (grind (arith, common_steps, 
 
 pub returns-then-not-is_empty-clause-logged : goal.returns-then-not-is_empty-clause-logged
 returns-then-not-is_empty-clause-logged g c = at c.now-moment.result (c.tell_crowd.new.log, c.tell_crowd.new.written.calls) c.now-moment.ensures c.tell_crowd.ensures
-    (subst (λ visits. AreTold g.L.Write.contents c.args.form c.now-moment.result visits (c.tell_crowd.new.log, c.tell_crowd.new.written.calls) (c.tell_gone.new.log, c.tell_gone.new.written.calls)) c.deref.ensures.value c.tell_gone.ensures)
+    (subst (λ clients. AreTold g.L.Write.contents c.args.form c.now-moment.result clients (c.tell_crowd.new.log, c.tell_crowd.new.written.calls) (c.tell_gone.new.log, c.tell_gone.new.written.calls)) c.deref.ensures.value c.tell_gone.ensures)

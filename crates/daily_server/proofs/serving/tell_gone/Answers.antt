@@ -4,11 +4,11 @@ use Rattle.daily_server.specs.Logged.{IsTold, AreTold}
 use Rattle.daily_server.proofs.ToldOnes.{one_more_told}
 use Rattle.daily_server.proofs.serving.tell_gone.Goals as goal
 
-pub loop-visit-init : goal.loop-visit-init
-loop-visit-init g c = refl
+pub loop-client-init : goal.loop-client-init
+loop-client-init g c = refl
 
-pub loop-visit-preserved : goal.loop-visit-preserved
-loop-visit-preserved g c = one_more_told g.L.Write.contents (IsTold g.L.Write.contents c.args.form c.args.moment) c.args.visits.now c.loop-visit.visit-index c.visit-item.result c.visit-item.result _ (c.loop-visit.log, c.loop-visit.written.calls) (c.tell_if_gone.new.log, c.tell_if_gone.new.written.calls) (c.loop-visit-test.true) c.visit-item.is c.loop-visit.invariant c.tell_if_gone.ensures
+pub loop-client-preserved : goal.loop-client-preserved
+loop-client-preserved g c = one_more_told g.L.Write.contents (IsTold g.L.Write.contents c.args.form c.args.moment) c.args.clients.now c.loop-client.client-index c.client-item.result c.client-item.result _ (c.loop-client.log, c.loop-client.written.calls) (c.tell_if_gone.new.log, c.tell_if_gone.new.written.calls) (c.loop-client-test.true) c.client-item.is c.loop-client.invariant c.tell_if_gone.ensures
 
 pub returns : goal.returns
-returns g c = subst (λ visits. AreTold g.L.Write.contents c.args.form c.args.moment visits (c.args.log.now, c.args.written.now.calls) (c.loop-visit.log, c.loop-visit.written.calls)) (take_all c.loop-visit.visit-index c.args.visits.now (let t = c.loop-visit-test.false in omega (arith, t))) c.loop-visit.invariant
+returns g c = subst (λ clients. AreTold g.L.Write.contents c.args.form c.args.moment clients (c.args.log.now, c.args.written.now.calls) (c.loop-client.log, c.loop-client.written.calls)) (take_all c.loop-client.client-index c.args.clients.now (let t = c.loop-client-test.false in omega (arith, t))) c.loop-client.invariant

@@ -1,5 +1,5 @@
 use Rattle.std.proofs.Common.{sym, ap, ◌∙◌}
-use Rattle.daily_turns.specs.Seats.{ending_of}
+use Rattle.daily_turns.specs.ReadyConnections.{ending_of}
 use Rattle.daily_server.specs.Logged.{told}
 use Rattle.daily_server.proofs.serving.tell_if_gone.Goals as goal
 

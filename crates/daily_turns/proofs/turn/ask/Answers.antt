@@ -2,7 +2,7 @@ use Rattle.std.proofs.Common.{refl}
 use Rattle.group_world.specs.Outcomes.{draw_outcome}
 use Rattle.group_world.specs.declared.event.Event.TheVariants.{Draw}
 use Rattle.turns.proofs.Runnings.{run_one}
-use Rattle.daily_turns.proofs.SeatsMade.{learned_well, learned_fault}
+use Rattle.daily_turns.proofs.ConnectionsMade.{learned_well, learned_fault}
 use Rattle.daily_turns.proofs.turn.ask.Goals as goal
 
 pub returns-in-Ok-clause-run : goal.returns-in-Ok-clause-run

@@ -3,7 +3,7 @@ use Rattle.group_world.specs.Outcomes.{leave_outcome}
 use Rattle.group_world.specs.declared.event.Event.TheVariants.{Leave}
 use Rattle.turns.specs.Turns.{trace, nothing}
 use Rattle.turns.proofs.Runnings.{run_none, run_one}
-use Rattle.daily_turns.specs.Seats.{LeavesIfOver}
+use Rattle.daily_turns.specs.ReadyConnections.{LeavesIfOver}
 use Rattle.daily_turns.proofs.turn.follow.Goals as goal
 
 pub returns-then-has_left : goal.returns-then-has_left

@@ -1,4 +1,4 @@
-use Rattle.daily_turns.proofs.SeatsMade.{later_fits}
+use Rattle.daily_turns.proofs.ConnectionsMade.{later_fits}
 use Rattle.daily_turns.proofs.turn.refused.Goals as goal
 
 pub become_stage-requires : goal.become_stage-requires

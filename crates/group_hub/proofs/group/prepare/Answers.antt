@@ -6,7 +6,7 @@ use Rattle.host_types.specs.SiteState.{SiteState}
 use Rattle.group_world.specs.Laws.{all_made}
 use Rattle.group_hub.specs.Flushing.{next_pins, IsNextReply, AreNextSound, AreForWaiting, ArePrepared, StandsBeside}
 use Rattle.group_hub.specs.Sessions.{phase_of, session_of, sessions_of}
-use Rattle.group_hub.proofs.NextSessions.{taken_one, group_of, prepared_made, prepared_more, seats_more}
+use Rattle.group_hub.proofs.NextSessions.{taken_one, group_of, prepared_made, prepared_more, sessions_more}
 use Rattle.group_hub.proofs.NextPins.{one_beside, none_beside, room_beside, sound_more, for_more}
 use Rattle.group_hub.proofs.PreparesThen.{done, not_ok, prepares_then, prepares_as, prepares_on}
 use Rattle.group_hub.proofs.group.prepare.Goals as goal
@@ -48,7 +48,7 @@ loop-session-preserved g c =
     let n = c.in_ok-made.made in
     let before = c.loop-session.changes.items in
     let after = c.next_for.new.changes.items in
-    let seats = sessions_of s.pinned k (take i ss) in
+    let all_sessions = sessions_of s.pinned k (take i ss) in
     let within = c.loop-session-test.true in
     let more : c.push.new.self.items ≡ ns ++ n ∷ [] = grind (arith, common_steps) in
     let one = one_beside s.pinned k m h ss ns n inv.stands c.in_ok-made.ensures.takes_pin.pins in
@@ -59,10 +59,10 @@ loop-session-preserved g c =
       room = omega (arith, inv.room, c.push.ensures.capacity);
       prepared = λ honest.
           let next = subst (λ (u : Site). (g : SiteState) (t : Site) → all_made u before ≡ Some t → IsNextReply s.pinned h u t before after (phase_of s.pinned g x.phase) n) (inv.prepares.site honest) (λ g t made. c.in_ok-made.ensures.next g t made (on honest)) in
-          let still = one.prepared k.site seats before (inv.prepared honest) in
-          let lengths : length ns ≡ length seats = inv.as_many ∙ grind (arith, common_steps) in
-          let all = prepared_more s.pinned h k.site seats ns before after (session_of s.pinned k x) n lengths still (next k (group_of s.pinned k.site seats).site (prepared_made s.pinned h k.site seats ns before still)) in
-          subst (λ l. ArePrepared s.pinned h k.site l c.push.new.self.items after) (sym (seats_more s.pinned k ss i x within c.session-item.is)) (subst (λ l. ArePrepared s.pinned h k.site (seats ++ session_of s.pinned k x ∷ []) l after) (sym more) all);
+          let still = one.prepared k.site all_sessions before (inv.prepared honest) in
+          let lengths : length ns ≡ length all_sessions = inv.as_many ∙ grind (arith, common_steps) in
+          let all = prepared_more s.pinned h k.site all_sessions ns before after (session_of s.pinned k x) n lengths still (next k (group_of s.pinned k.site all_sessions).site (prepared_made s.pinned h k.site all_sessions ns before still)) in
+          subst (λ l. ArePrepared s.pinned h k.site l c.push.new.self.items after) (sym (sessions_more s.pinned k ss i x within c.session-item.is)) (subst (λ l. ArePrepared s.pinned h k.site (all_sessions ++ session_of s.pinned k x ∷ []) l after) (sym more) all);
       sound = λ honest. subst (λ l. AreNextSound s.pinned h l) (sym more) (sound_more s.pinned h ns n (one.sound (inv.sound honest)) (c.in_ok-made.ensures.takes_pin.sound (on honest)));
       waiting = subst (λ l. AreForWaiting l c.push.new.self.items) (sym taken) (subst (λ l. AreForWaiting (take i ss ++ x ∷ []) l) (sym more) (for_more s.pinned (take i ss) ns x n inv.waiting c.in_ok-made.ensures.waiting));
       stands = subst (λ l. StandsBeside s.pinned k h (next_pins s.pinned l) ss) (sym more) one.stands;

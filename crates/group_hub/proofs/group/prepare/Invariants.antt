@@ -12,11 +12,11 @@ invariant-loop-session g l =
     let s = g.S.SiteKeeper in
     let before = s.site_state l.fn.site in
     let now = s.site_state l.site in
-    let seats = sessions_of s.pinned before (take l.session-index l.sessions) in
+    let all_sessions = sessions_of s.pinned before (take l.session-index l.sessions) in
     record {
       as_many : length l.next.items ≡ l.session-index;
       room : length l.sessions ≤ vec_capacity l.next;
-      prepared : IsTrue before.honest → ArePrepared s.pinned now before.site seats l.next.items l.changes.items;
+      prepared : IsTrue before.honest → ArePrepared s.pinned now before.site all_sessions l.next.items l.changes.items;
       sound : IsTrue before.honest → AreNextSound s.pinned now l.next.items;
       waiting : AreForWaiting (take l.session-index l.sessions) l.next.items;
       stands : StandsBeside s.pinned before now (next_pins s.pinned l.next.items) l.sessions;

@@ -6,8 +6,8 @@ use Rattle.group_hub.specs.HeldPins.{HoldsAll}
 use Rattle.group_hub.specs.Sessions.{pins_of}
 use Rattle.group_hub.specs.declared.session.Session.{Session}
 use Rattle.group_hub.proofs.PinsMoved.{gives_again, none_out, no_length}
-use Rattle.group_hub.proofs.SeatsMoved.{own_pin_is_held}
-use Rattle.group_hub.proofs.SeatsHeld.{out_at}
+use Rattle.group_hub.proofs.SessionsMoved.{own_pin_is_held}
+use Rattle.group_hub.proofs.SessionsHeld.{out_at}
 use Rattle.group_hub.proofs.pins.end_all.Goals as goal
 
 pub loop-sessions-init : goal.loop-sessions-init

@@ -3,7 +3,7 @@ use Rattle.std.proofs.lemmas.Grind.{common_steps}
 use Rattle.host_types.specs.CrashStates.{no_new_crash_state, adds_none_again}
 use Rattle.group_hub.specs.declared.session.Session.{Session}
 use Rattle.group_hub.proofs.PinsMoved.{gives_again, still_honest}
-use Rattle.group_hub.proofs.SeatsPut.{put_nothing, some_left, none_left, turn_waits, turn_out, turn, all_put, written_back}
+use Rattle.group_hub.proofs.SessionsPut.{put_nothing, some_left, none_left, turn_waits, turn_out, turn, all_put, written_back}
 use Rattle.group_hub.proofs.putting.put_next.Goals as goal
 
 pub remove-requires : goal.remove-requires
@@ -55,4 +55,4 @@ destroy_empty-requires g c =
 pub returns-clause-puts : goal.returns-clause-puts
 returns-clause-puts g c =
     let all = all_put g.S.SiteKeeper.pinned c.args.putting _ _ _ _ _ _ c.loop-session.session-index c.requires.waiting (omega arith) c.loop-session.invariant.put in
-    rw (written_back c.args.sessions.now.items c.loop-session.session-items c.args.sessions.now.len (omega arith)) (record { seats = all.seats; held = all.held; sound = λ honest. all.sound; fewer = all.fewer; keeper = c.loop-session.invariant.keeper })
+    rw (written_back c.args.sessions.now.items c.loop-session.session-items c.args.sessions.now.len (omega arith)) (record { sessions = all.sessions; held = all.held; sound = λ honest. all.sound; fewer = all.fewer; keeper = c.loop-session.invariant.keeper })

@@ -1,7 +1,7 @@
 use Rattle.std.specs.Prelude.{IsTrue}
 use Rattle.host_types.specs.CrashStates.{AddsNone}
 use Rattle.group_hub.specs.HeldPins.{MayGiveBack}
-use Rattle.group_hub.proofs.SeatsPut.{IsPutSo}
+use Rattle.group_hub.proofs.SessionsPut.{IsPutSo}
 use Rattle.group_hub.proofs.putting.put_next.Given as goal
 
 -- So many sessions are put, and those behind them are as before.

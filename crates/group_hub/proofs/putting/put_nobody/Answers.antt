@@ -4,7 +4,7 @@ use Rattle.host_types.specs.CrashStates.{no_new_crash_state, adds_none_again}
 use Rattle.group_hub.specs.Flushing.{next_pin}
 use Rattle.group_hub.specs.Sessions.{pin_of}
 use Rattle.group_hub.proofs.PinsMoved.{gives_again, still_honest}
-use Rattle.group_hub.proofs.SeatsPut.{beside_front, beside_back, front_held, front_out, front_back}
+use Rattle.group_hub.proofs.SessionsPut.{beside_front, beside_back, front_held, front_out, front_back}
 use Rattle.group_hub.proofs.putting.put_nobody.Goals as goal
 
 pub loop-next-init : goal.loop-next-init

@@ -1,7 +1,7 @@
 use Rattle.std.proofs.Common.{◌≡◌, ◌+◌, ◌<◌, ◌++◌, List, length, length-set, get_or, set, take, drop, refl, sym, ap, ◌∙◌, arith, rules}
 use Rattle.group_hub.specs.declared.session.Session.{Session}
-use Rattle.group_hub.proofs.SeatsHeld.{room_beside}
-use Rattle.group_hub.proofs.SeatsPut.{none_waits, written_back}
+use Rattle.group_hub.proofs.SessionsHeld.{room_beside}
+use Rattle.group_hub.proofs.SessionsPut.{none_waits, written_back}
 use Rattle.group_hub.proofs.SinglySoFar.{FailsSo, singly_none, turn_none, turn_done, turn_left, turn_fails, singly_all}
 use Rattle.group_hub.proofs.singly.answer_singly.Given.{Over}
 use Rattle.group_hub.proofs.singly.answer_singly.Goals as goal
@@ -77,8 +77,8 @@ returns-in-Failed-clause-takes g c = record { takes = search rules; fails = rw (
 pub returns-in-Failed-clause-works : goal.returns-in-Failed-clause-works
 returns-in-Failed-clause-works g c = (failed g c.before).works
 
-pub returns-in-Failed-clause-seats : goal.returns-in-Failed-clause-seats
-returns-in-Failed-clause-seats g c = let f = failed g c.before in rw (written g c.before) (record { held = f.held; sound = f.sound; fewer = f.fewer })
+pub returns-in-Failed-clause-sessions : goal.returns-in-Failed-clause-sessions
+returns-in-Failed-clause-sessions g c = let f = failed g c.before in rw (written g c.before) (record { held = f.held; sound = f.sound; fewer = f.fewer })
 
 pub returns-clause-takes : goal.returns-clause-takes
 returns-clause-takes g c =

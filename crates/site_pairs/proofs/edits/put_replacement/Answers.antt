@@ -1,5 +1,5 @@
 use Rattle.std.proofs.Common.{◌∙◌}
-use Rattle.word_index.specs.IndexChange.{dropped}
+use Rattle.word_search.specs.WordChange.{dropped}
 use Rattle.site_pairs.proofs.ShortWords.{short_dropped}
 use Rattle.site_pairs.proofs.edits.put_replacement.Goals as goal
 

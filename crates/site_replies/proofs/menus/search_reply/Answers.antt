@@ -1,7 +1,7 @@
 use Rattle.std.proofs.Common.{List, ℕ, ◌≡◌, ◌∙◌, ap}
 use Rattle.host_types.specs.Visible.{visible}
-use Rattle.word_index.specs.Search.{search_of}
-use Rattle.word_index.specs.Finds.{finds_of}
+use Rattle.word_search.specs.Search.{search_of}
+use Rattle.word_search.specs.Finds.{finds_of}
 use Rattle.site_replies.specs.Reply.{menu_reply, locals}
 use Rattle.site_replies.proofs.AfterReads.{same_address}
 use Rattle.site_replies.proofs.FoundMenus.{all_found, found_menu}

@@ -1,5 +1,5 @@
 use Rattle.std.proofs.Common.{◌≡◌, ◌≤◌, List, Some, None, length, sym, subst, ◌∙◌}
-use Rattle.word_index.specs.declared.find.Find.{Find}
+use Rattle.word_search.specs.declared.find.Find.{Find}
 use Rattle.site_store.specs.ReadLaws.{kept_after, none_later}
 use Rattle.site_store.specs.Walking.{selector_after}
 use Rattle.site_store.proofs.AfterReads.{done, read_on}

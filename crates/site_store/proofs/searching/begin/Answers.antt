@@ -1,6 +1,6 @@
 use Rattle.std.proofs.Common.{ℕ, List, [], ap, sym, ◌∙◌}
 use Rattle.host_types.specs.Site.{item_at}
-use Rattle.word_index.specs.declared.find.Find.{Find}
+use Rattle.word_search.specs.declared.find.Find.{Find}
 use Rattle.site_store.specs.ReadLaws.{kept_after, none_later}
 use Rattle.site_store.specs.Searching.{found_with}
 use Rattle.site_store.proofs.AfterReads.{done, read_on}

@@ -13,7 +13,7 @@ use Rattle.group_hub.specs.Worlds.{world_at}
 use Rattle.group_hub.proofs.AdminCalls.{made_call, not_made_call, keeps_valid}
 use Rattle.group_hub.proofs.CallsMade.{shut_call}
 use Rattle.group_hub.proofs.CountedCalls.{shut_counts, change_fault_counts}
-use Rattle.group_hub.proofs.SeatsMoved.{sessions_stay}
+use Rattle.group_hub.proofs.SessionsMoved.{sessions_stay}
 use Rattle.group_hub.proofs.hub.Hub.admin.Goals as goal
 
 pub returns-then-not-is_usable : goal.returns-then-not-is_usable
@@ -60,10 +60,10 @@ returns-in-Err g c =
     let hub = c.args.self.now in
     let made = c.change.new.self in
     let usable : (s.site_state hub.site).usable ≡ true = search rules in
-    let seats = sessions_of s.pinned (s.site_state hub.site) hub.sessions.items in
+    let all_sessions = sessions_of s.pinned (s.site_state hub.site) hub.sessions.items in
     let stayed = sessions_stay s.pinned (s.site_state hub.site) (s.site_state made) hub.sessions.items c.change.ensures.counts.tried.pins hub.held in
     subst (λ (sessions : List (ℕ × Phase)). CallOverKeeper s.site_state s.lacks s.crash_states s.represents (world_of s.site_state hub) hub.site (Admin c.args.change c.args.now) (Fault c.of_site.result) (world_at (s.site_state made) hub.next hub.grouped sessions) made) (sym stayed.seen)
-    (subst (λ (fault : HubFault). CallOverKeeper s.site_state s.lacks s.crash_states s.represents (world_of s.site_state hub) hub.site (Admin c.args.change c.args.now) (Fault fault) (world_at (s.site_state made) hub.next hub.grouped seats) made) (sym c.of_site.ensures)
-    (not_made_call s.site_state s.lacks s.crash_states s.represents hub.site made hub.next hub.grouped seats c.args.change c.args.now c.in-Err.fault
+    (subst (λ (fault : HubFault). CallOverKeeper s.site_state s.lacks s.crash_states s.represents (world_of s.site_state hub) hub.site (Admin c.args.change c.args.now) (Fault fault) (world_at (s.site_state made) hub.next hub.grouped all_sessions) made) (sym c.of_site.ensures)
+    (not_made_call s.site_state s.lacks s.crash_states s.represents hub.site made hub.next hub.grouped all_sessions c.args.change c.args.now c.in-Err.fault
     (change_fault_counts {T = Outcome} c.in-Err.fault (fault_of c.in-Err.fault) (s.site_state hub.site) (s.site_state made) refl c.in-Err.ensures.counts.reads c.in-Err.ensures.counts.writes) usable c.change.ensures.counts.tried.honest
     (g.met.S.SiteKeeper.crash_states_represent hub.site) (λ honest. c.change.ensures.at_crash.at_crash honest usable) (λ honest. c.in-Err.ensures.at_crash.no_new_crash_state honest) c.in-Err.ensures.fault (c.in-Err.ensures.ended.spent usable)))

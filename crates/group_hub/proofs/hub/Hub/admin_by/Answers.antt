@@ -3,7 +3,7 @@ use Rattle.host_types.specs.CrashStates.{no_new_crash_state}
 use Rattle.host_types.specs.declared.change.Change.{Change}
 use Rattle.host_types.specs.declared.site_fault.SiteFault.TheVariants as faults
 use Rattle.group_hub.specs.Calls.{HubCall}
-use Rattle.group_hub.specs.Hub.{world_of, seats_of}
+use Rattle.group_hub.specs.Hub.{world_of, sessions_in_hub}
 use Rattle.group_world.proofs.Leaving.{weaker}
 use Rattle.group_world.specs.declared.event.Event.TheVariants.{Admin}
 use Rattle.group_world.specs.declared.event.Outcome.{Outcome}
@@ -27,7 +27,7 @@ returns-in_default g c =
     let hub = c.args.self.now in
     let usable : (s.site_state hub.site).usable ≡ true = search rules in
     let stays = no_new_crash_state (s.crash_states hub.site) in
-    not_made_call s.site_state s.lacks s.crash_states s.represents hub.site hub.site hub.next hub.grouped (seats_of hub) c.args.change.now c.args.now faults.Memory (record { reads = refl; writes = refl }) usable refl
+    not_made_call s.site_state s.lacks s.crash_states s.represents hub.site hub.site hub.next hub.grouped (sessions_in_hub hub) c.args.change.now c.args.now faults.Memory (record { reads = refl; writes = refl }) usable refl
     (g.met.S.SiteKeeper.crash_states_represent hub.site) (λ honest. weaker _ _ _ _ stays (λ x may. inl (g.met.S.SiteKeeper.crash_states_represent hub.site x honest usable may))) (λ honest up. stays)
     (record { site = λ honest. refl; usable = refl; free = refl }) tt
 

@@ -12,10 +12,10 @@ use Rattle.group_hub.specs.declared.session.Session.{Session}
 use Rattle.group_hub.specs.Sessions.{phase_of, sessions_of}
 use Rattle.group_world.specs.Outcomes.{draw_outcome}
 use Rattle.group_world.specs.declared.fault.HubFault.TheVariants.{Unknown}
-use Rattle.group_hub.proofs.SeatPlaces.{seat, seat_below, nobody}
-use Rattle.group_hub.proofs.SeatsMoved.{session_moves}
-use Rattle.group_hub.proofs.SeatsHeld.{own_is_out, sound_at}
-use Rattle.group_hub.proofs.Steps.{draws_so, draw_breaks, seats_stay, unknown, same_phase, begun_at}
+use Rattle.group_hub.proofs.SessionPlaces.{place_found, place_below, nobody}
+use Rattle.group_hub.proofs.SessionsMoved.{session_moves}
+use Rattle.group_hub.proofs.SessionsHeld.{own_is_out, sound_at}
+use Rattle.group_hub.proofs.Steps.{draws_so, draw_breaks, all_sessions_stay, unknown, same_phase, begun_at}
 use Rattle.group_hub.proofs.CallsMade.{quiet, shut_call}
 use Rattle.group_hub.proofs.Draws.{drawn_call, drawn_waits, untouched_at}
 use Rattle.group_hub.proofs.Waits.{count_moved}
@@ -67,7 +67,7 @@ draw-requires-clause-sound g c = λ honest.
     let s = g.S.SiteKeeper in
     let items = c.args.self.now.sessions.items in
     let found = ap (position (λ (x : Session g.row.S-Pin.Denot). x.id == c.args.id)) (sym c.deref.ensures.value) ∙ sym c.in-Some.ensures.place in
-    sound_at s.pinned (s.site_state c.args.self.now.site) items c.in-Some.at c.index_mut-session.result.now (seat_below s.pinned items c.args.id c.in-Some.at found) c.index_mut-session.ensures.value (c.args.self.now.sound honest)
+    sound_at s.pinned (s.site_state c.args.self.now.site) items c.in-Some.at c.index_mut-session.result.now (place_below s.pinned items c.args.id c.in-Some.at found) c.index_mut-session.ensures.value (c.args.self.now.sound honest)
 
 pub invariant_of-self-2 : goal.invariant_of-self-2
 invariant_of-self-2 g c =
@@ -85,7 +85,7 @@ invariant_of-self-2 g c =
       valid = λ groups honest. (let before = subst IsTrue c.draw.ensures.draws.kept.honest honest in subst (λ (t : Site). ∥ IsSite t ∥₁) (sym (c.draw.ensures.draws.kept.site before)) (c.args.self.now.valid groups before));
       alone = λ plain honest.
           let before = subst IsTrue c.draw.ensures.draws.kept.honest honest in
-          let there = (seat s.pinned k items c.args.id c.in-Some.at c.index_mut-session.result.now found c.index_mut-session.ensures.value).there in
+          let there = (place_found s.pinned k items c.args.id c.in-Some.at c.index_mut-session.result.now found c.index_mut-session.ensures.value).there in
           let one = drawn_waits (length c.args.out.now) (phase_of s.pinned k c.index_mut-session.result.now.phase) (phase_of s.pinned l c.draw.new.phase) c.draw.result (c.draw.ensures.draws.phase before) c.draw.ensures.draws.err in
           ap count_waiting moved.seen ∙ omega (arith, c.args.self.now.alone plain before, count_moved (sessions_of s.pinned k items) c.args.id (phase_of s.pinned k c.index_mut-session.result.now.phase) (phase_of s.pinned l c.draw.new.phase) there, one);
     }
@@ -98,7 +98,7 @@ returns-clause-reply g c = λ honest usable rest has.
     let items = c.args.self.now.sessions.items in
     let x = c.index_mut-session.result.now in
     let found = ap (position (λ (x : Session g.row.S-Pin.Denot). x.id == c.args.id)) (sym c.deref.ensures.value) ∙ sym c.in-Some.ensures.place in
-    let there = (seat s.pinned k items c.args.id c.in-Some.at x found c.index_mut-session.ensures.value).there in
+    let there = (place_found s.pinned k items c.args.id c.in-Some.at x found c.index_mut-session.ensures.value).there in
     draw_breaks k l rest c.draw.result honest (subst (λ (p : world.Phase). IfErr c.draw.result (IsDrawFault k l p)) (same_phase _ _ _ there has) c.draw.ensures.draws.fault)
 
 pub returns-clause-out : goal.returns-clause-out
@@ -108,7 +108,7 @@ returns-clause-out g c =
     let items = c.args.self.now.sessions.items in
     let x = c.index_mut-session.result.now in
     let found = ap (position (λ (x : Session g.row.S-Pin.Denot). x.id == c.args.id)) (sym c.deref.ensures.value) ∙ sym c.in-Some.ensures.place in
-    let there = (seat s.pinned k items c.args.id c.in-Some.at x found c.index_mut-session.ensures.value).there in
+    let there = (place_found s.pinned k items c.args.id c.in-Some.at x found c.index_mut-session.ensures.value).there in
     record {
       within = c.draw.ensures.draws.within;
       behind = c.draw.ensures.draws.behind;
@@ -127,11 +127,11 @@ returns-clause-call g c =
     let v = world_at l c.args.self.now.next c.args.self.now.grouped (sessions_of s.pinned l (set items c.in-Some.at (record { id = x.id; phase = c.draw.new.phase }))) in
     let usable : k.usable ≡ true = search rules in
     let found = ap (position (λ (x : Session g.row.S-Pin.Denot). x.id == c.args.id)) (sym c.deref.ensures.value) ∙ sym c.in-Some.ensures.place in
-    let place = seat s.pinned k items c.args.id c.in-Some.at x found c.index_mut-session.ensures.value in
+    let place = place_found s.pinned k items c.args.id c.in-Some.at x found c.index_mut-session.ensures.value in
     let moved = session_moves s.pinned k l items c.args.id c.in-Some.at x c.draw.new.phase found c.index_mut-session.ensures.value c.args.self.now.held c.draw.ensures.pins in
     let step : IsTrue k.honest → Step w (Draw c.args.id (length c.args.out.now)) (draw_outcome c.draw.result c.draw.new.out) v = λ honest. draws_so k l c.args.self.now.next c.args.self.now.grouped (sessions_of s.pinned k items) _ c.args.id c.args.out.now c.draw.new.out (phase_of s.pinned k x.phase) (phase_of s.pinned l c.draw.new.phase) c.draw.result honest usable
     (c.draw.ensures.draws.kept.site honest) c.draw.ensures.draws.kept.usable place.there moved.seen place.stays (c.draw.ensures.draws.gives honest) (c.draw.ensures.draws.phase honest) c.draw.ensures.draws.err c.draw.ensures.draws.fault in
-    let kept = seats_stay (sessions_of s.pinned k items) _ c.args.id (phase_of s.pinned k x.phase) (phase_of s.pinned l c.draw.new.phase) c.draw.result moved.seen place.stays c.draw.ensures.draws.err in
+    let kept = all_sessions_stay (sessions_of s.pinned k items) _ c.args.id (phase_of s.pinned k x.phase) (phase_of s.pinned l c.draw.new.phase) c.draw.result moved.seen place.stays c.draw.ensures.draws.err in
     drawn_call s.site_state s.lacks s.crash_states s.represents w c.args.self.now.site c.args.id (length c.args.out.now) v c.draw.new.site (phase_of s.pinned k x.phase) c.draw.result c.draw.new.out
     (g.met.S.SiteKeeper.crash_states_represent c.args.self.now.site) (g.met.S.SiteKeeper.crash_states_represent c.draw.new.site)
     step usable c.draw.ensures.draws.kept.honest c.draw.ensures.draws.kept.usable refl refl kept c.draw.ensures.draws.fault c.draw.ensures.draws.counts c.draw.ensures.draws.at_crash refl refl refl refl

@@ -17,9 +17,9 @@ use Rattle.group_hub.specs.declared.session.Session.{Session}
 use Rattle.group_hub.proofs.CallsMade.{quiet, shut_call}
 use Rattle.group_hub.proofs.CountedCalls.{shut_counts, heard_counts}
 use Rattle.group_hub.proofs.Heard.{Facts, whole_call, site_stays, nobody_comes, heard_cause, heard_fault, goes_without_pin}
-use Rattle.group_hub.proofs.SeatPlaces.{seat, seat_below, nobody}
-use Rattle.group_hub.proofs.SeatsHeld.{sound_at, room_at}
-use Rattle.group_hub.proofs.SeatsLast.{session_places}
+use Rattle.group_hub.proofs.SessionPlaces.{place_found, place_below, nobody}
+use Rattle.group_hub.proofs.SessionsHeld.{sound_at, room_at}
+use Rattle.group_hub.proofs.SessionsLast.{session_places}
 use Rattle.group_hub.proofs.Steps.{unheard}
 use Rattle.group_hub.proofs.Waits.{ends_tells, ends_nothing, ends_posts, ends_plain}
 use Rattle.group_hub.proofs.hub.Hub.end.Goals as goal
@@ -66,7 +66,7 @@ invariant_of-self-3 g c =
     let placed = session_places s.pinned k l items final c.args.id c.in-Some.at x c.hear_end-heard.new.phase c.comes_to_wait-goes.result found read hub.held heard.hears.pins
     (goes_without_pin s.pinned (is_waiting x.phase) c.hear_end-heard.new.phase c.hear_end-heard.result c.comes_to_wait-goes.result heard.hears.status tells) c.place.ensures.items in
     let usable : k.usable ≡ true = search rules in
-    let there = seat s.pinned k items c.args.id c.in-Some.at x found read in
+    let there = place_found s.pinned k items c.args.id c.in-Some.at x found read in
     let f = ends hub.grouped k.site c.args.now in
     let known : Facts s.site_state s.lacks s.crash_states s.represents s.pinned hub.site c.hear_end-heard.new.site hub.next hub.grouped (sessions_of s.pinned k items) (sessions_of s.pinned l final) c.args.id c.args.now (End c.args.id c.args.now) f c.posting-posting.result x.phase c.hear_end-heard.new.phase c.hear_end-heard.result =
     record {
@@ -92,7 +92,7 @@ invariant_of-self-3 g c =
       held = placed.held;
       sound = λ honest.
           let before = subst IsTrue heard.site.worked.honest honest in
-          placed.sound (hub.sound before) (heard.hears.sound before (sound_at s.pinned k items c.in-Some.at x (seat_below s.pinned items c.args.id c.in-Some.at found) read (hub.sound before)));
+          placed.sound (hub.sound before) (heard.hears.sound before (sound_at s.pinned k items c.in-Some.at x (place_below s.pinned items c.args.id c.in-Some.at found) read (hub.sound before)));
       valid = λ groups honest.
           let before = subst IsTrue heard.site.worked.honest honest in
           subst (λ (t : Site). ∥ IsSite t ∥₁) (sym (site_stays s.site_state s.lacks s.crash_states s.represents s.pinned hub.site c.hear_end-heard.new.site hub.next hub.grouped _ _ c.args.id c.args.now (End c.args.id c.args.now) f c.posting-posting.result x.phase c.hear_end-heard.new.phase c.hear_end-heard.result known (ends_posts hub.grouped k.site c.args.now (phase_of s.pinned k x.phase) groups) before)) (hub.valid groups before);
@@ -118,7 +118,7 @@ returns g c =
     let placed = session_places s.pinned k l items final c.args.id c.in-Some.at x c.hear_end-heard.new.phase c.comes_to_wait-goes.result found read hub.held heard.hears.pins
     (goes_without_pin s.pinned (is_waiting x.phase) c.hear_end-heard.new.phase c.hear_end-heard.result c.comes_to_wait-goes.result heard.hears.status tells) c.place.ensures.items in
     let usable : k.usable ≡ true = search rules in
-    let there = seat s.pinned k items c.args.id c.in-Some.at x found read in
+    let there = place_found s.pinned k items c.args.id c.in-Some.at x found read in
     let f = ends hub.grouped k.site c.args.now in
     let known : Facts s.site_state s.lacks s.crash_states s.represents s.pinned hub.site c.hear_end-heard.new.site hub.next hub.grouped (sessions_of s.pinned k items) (sessions_of s.pinned l final) c.args.id c.args.now (End c.args.id c.args.now) f c.posting-posting.result x.phase c.hear_end-heard.new.phase c.hear_end-heard.result =
     record {

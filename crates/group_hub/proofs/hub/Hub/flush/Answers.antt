@@ -31,10 +31,10 @@ invariant_of-self g c =
     record {
       room = omega (arith, hub.room, c.flush.ensures.places.1);
       few = omega (arith, hub.few, c.flush.ensures.places.0);
-      held = c.flush.ensures.seats.held;
-      sound = c.flush.ensures.seats.sound;
+      held = c.flush.ensures.sessions.held;
+      sound = c.flush.ensures.sessions.sound;
       valid = λ groups honest. c.flush.ensures.valid (hub.valid groups) honest;
-      alone = λ single honest. omega (arith, hub.alone single (was honest), c.flush.ensures.seats.fewer);
+      alone = λ single honest. omega (arith, hub.alone single (was honest), c.flush.ensures.sessions.fewer);
     }
 
 pub returns : goal.returns

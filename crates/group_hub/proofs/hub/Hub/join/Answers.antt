@@ -11,7 +11,7 @@ use Rattle.group_hub.specs.HeldPins.{HoldsAll}
 use Rattle.group_hub.specs.Hub.{world_of}
 use Rattle.group_hub.specs.Sessions.{sessions_of, pins_of, AreSound}
 use Rattle.group_hub.specs.declared.session.Session.{Session}
-use Rattle.group_hub.proofs.SeatsHeld.{none_added, sound_added, seen_added, seen_length}
+use Rattle.group_hub.proofs.SessionsHeld.{none_added, sound_added, seen_added, seen_length}
 use Rattle.group_hub.proofs.Steps.{answered_by, crowded, spent, joins}
 use Rattle.group_hub.proofs.CallsMade.{quiet, shut_answer}
 use Rattle.group_hub.proofs.Waits.{count_more}

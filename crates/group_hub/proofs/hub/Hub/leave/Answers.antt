@@ -12,9 +12,9 @@ use Rattle.group_hub.specs.Hub.{world_of}
 use Rattle.group_hub.specs.Sessions.{phase_of, sessions_of, pins_of, AreSound}
 use Rattle.group_hub.specs.Worlds.{IsValidWhereGrouped}
 use Rattle.group_hub.specs.declared.session.Session.{Session}
-use Rattle.group_hub.proofs.SeatPlaces.{seat, nobody}
-use Rattle.group_hub.proofs.SeatsMoved.{session_goes}
-use Rattle.group_hub.proofs.SeatsHeld.{own_is_out}
+use Rattle.group_hub.proofs.SessionPlaces.{place_found, nobody}
+use Rattle.group_hub.proofs.SessionsMoved.{session_goes}
+use Rattle.group_hub.proofs.SessionsHeld.{own_is_out}
 use Rattle.group_hub.proofs.Steps.{answered_by, leaves, nobody_leaves}
 use Rattle.group_hub.proofs.CallsMade.{quiet, left_call}
 use Rattle.group_hub.proofs.Waits.{count_gone}
@@ -48,7 +48,7 @@ invariant_of-self g c =
     let items = c.args.self.now.sessions.items in
     let found = ap (position (λ (x : Session g.row.S-Pin.Denot). x.id == c.args.id)) (sym c.deref.ensures.value) ∙ sym c.in-Some.ensures.place in
     let gone = session_goes s.pinned k l items c.args.id c.in-Some.at c.remove-phase.result found c.remove-phase.ensures.value c.args.self.now.held c.give_back.ensures.pins in
-    let there = (seat s.pinned k items c.args.id c.in-Some.at c.remove-phase.result found c.remove-phase.ensures.value).there in
+    let there = (place_found s.pinned k items c.args.id c.in-Some.at c.remove-phase.result found c.remove-phase.ensures.value).there in
     let honest_is : l.honest ≡ k.honest = ap (λ (h : SiteState). h.honest) c.give_back.ensures.only.same in
     record {
       room = search rules;
@@ -70,7 +70,7 @@ returns g c =
     let x = c.remove-phase.result in
     let found = ap (position (λ (x : Session g.row.S-Pin.Denot). x.id == c.args.id)) (sym c.deref.ensures.value) ∙ sym c.in-Some.ensures.place in
     let gone = session_goes s.pinned k l items c.args.id c.in-Some.at x found c.remove-phase.ensures.value c.args.self.now.held c.give_back.ensures.pins in
-    let there = (seat s.pinned k items c.args.id c.in-Some.at x found c.remove-phase.ensures.value).there in
+    let there = (place_found s.pinned k items c.args.id c.in-Some.at x found c.remove-phase.ensures.value).there in
     let answers = leaves k l c.args.self.now.next c.args.self.now.grouped (sessions_of s.pinned k items) (sessions_of s.pinned l c.remove-phase.new.self.items) c.args.id (phase_of s.pinned k x.phase)
     (ap (λ (h : SiteState). h.site) c.give_back.ensures.only.same) (ap (λ (h : SiteState). h.usable) c.give_back.ensures.only.same) there
     (ap (λ (xs : List (Session g.row.S-Pin.Denot)). sessions_of s.pinned l xs) c.remove-phase.ensures.items ∙ gone.seen) in

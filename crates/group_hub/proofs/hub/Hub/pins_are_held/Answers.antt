@@ -1,4 +1,4 @@
-use Rattle.group_hub.proofs.SeatsHeld.{holds_for_replies}
+use Rattle.group_hub.proofs.SessionsHeld.{holds_for_replies}
 use Rattle.group_hub.proofs.hub.Hub.pins_are_held.Goals as goal
 
 pub returns : goal.returns

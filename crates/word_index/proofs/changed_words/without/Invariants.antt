@@ -1,6 +1,0 @@
-use Rattle.std.proofs.Common.{◌≡◌, take}
-use Rattle.word_index.specs.IndexChange.{dropped}
-use Rattle.word_index.proofs.changed_words.without.Given as goal
-
-abbrev pub invariant-loop-word : goal.invariant-loop-word
-invariant-loop-word l = l.left ≡ dropped (take l.word-index l.words) l.others

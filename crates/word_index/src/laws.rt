@@ -1,7 +1,0 @@
-// Worked examples.
-ghost use Rattle.word_index.specs.SearchExamples.{SearchExamples};
-
-/// Worked examples of words and searches.
-pub fn worked_examples()
-    ensures { SearchExamples }
-{}

@@ -1,0 +1,4 @@
+pub mod Distinct
+pub mod Runs
+pub mod Changes
+pub mod SameWords
