@@ -8,7 +8,7 @@ use Rattle.page_store.specs.Roots.{current, greatest_seal}
 use Rattle.page_store.specs.Keys.{rises, is_between}
 use Rattle.page_store.specs.Pages.{Pair, key_of, leaf_of, are_leaf}
 use Rattle.page_store.specs.Batch.{is_map, is_pair}
-use Rattle.page_store.specs.Content.{tree_as, is_tree_version, Found, Bounds, is_among, place_in, walk, tree_of, tree_found, content_under, found_as, pairs_and_banner, HasContent}
+use Rattle.page_store.specs.Content.{tree_as, is_tree_version, Found, Bounds, is_among, place_in, walk, tree_of, tree_found, content_under, pairs_and_banner, HasContent}
 use Rattle.page_store.specs.Switch.{IsSlotPage, IsSwitched}
 use Rattle.page_store.specs.Commit.{numbers, patched}
 use Rattle.page_store.specs.Formatting.{IsFirst}

@@ -1,24 +1,17 @@
 -- What a keeper of a tree is after its device was read.
-use Rattle.std.proofs.Common.{◌∙◌, List, length, ◌≡◌, ℕ, ◌≤◌, Bool, true, false, Option, Err, Some, refl, sym, ap, subst, arith, IsTrue}
+use Rattle.std.proofs.Common.{List, ◌≡◌, ℕ, ◌≤◌, Bool, true, false, Option, Err, refl, sym, ap, subst, arith, IsTrue}
 use Rattle.common_types.specs.Counts.{counted_rises}
 use Rattle.sector_device.specs.Device.{State}
 use Rattle.sector_device.specs.Disk.{Disk}
 use Rattle.sector_device.specs.Effects.{OnlyReads}
 use Rattle.page_alloc.specs.LedgerState.{LedgerState}
-use Rattle.std.specs.Prelude.{◌&&◌, ◌==◌}
-use Rattle.std.proofs.lemmas.Bool.{eqb-true}
-use Rattle.page_store.specs.Reading.{where_true}
-use Rattle.page_store.proofs.Fields.{bind_some, test_passed}
-use Rattle.tree_nodes.proofs.KeyOrder.{both_true}
-use Rattle.tree_nodes.proofs.WalksWithinBounds.{some_is}
-use Rattle.page_store.specs.Content.{Found, tree_of, tree_found, are_distinct}
 use Rattle.page_store.specs.StoreState.{NeedsTheSame, StoreHasRead, IsStoreReadFault}
 use Rattle.page_store.specs.Compaction.{CompactsTheSame}
 use Rattle.page_store.specs.Counting.{CountsStoreReads}
 use Rattle.page_store.specs.declared.slot.Slot.{Slot}
 use Rattle.cow_tree.specs.Walks.{CountsPages}
 use Rattle.cow_tree.specs.Ways.{AnswersBy}
-use Rattle.cow_tree.specs.Opening.{fault_of, bounds_under}
+use Rattle.cow_tree.specs.Opening.{fault_of}
 use Rattle.cow_tree.specs.Needs.{MayNeed, NeedsThis}
 use Rattle.cow_tree.specs.Compacting.{MayNeedFilled, NeedsFilled}
 use Rattle.cow_tree.specs.PinnedTrees.{pins_from}

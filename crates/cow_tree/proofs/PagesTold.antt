@@ -1,6 +1,6 @@
 -- What is read of a page of a tree by its head alone.
 use Rattle.std.proofs.Common.{◌≡◌, ℕ, zero, suc, ◌-◌, ◌<◌, ◌≤◌, Bool, true, false, List, [], ◌∷◌, length, map, Option, Some, None, refl, sym, ap, subst, ◌∙◌, arith}
-use Rattle.std.specs.Prelude.{IfSome, IfOk, IfErr, Result, Ok, Err, nat_lt, nat_le, ◌&&◌}
+use Rattle.std.specs.Prelude.{IfSome, IfOk, IfErr, Result, Ok, Err, nat_lt}
 use Rattle.std.proofs.lemmas.Bool.{ltb-true, lt-ltb, le-leb}
 use Rattle.std.specs.List.{list_all}
 use Rattle.page_store.specs.Keys.{rises, is_between}

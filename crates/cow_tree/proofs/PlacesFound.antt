@@ -1,8 +1,8 @@
 -- Where the entries of pages are found, and what is kept of that.
-use Rattle.std.proofs.Common.{◌≡◌, ◌≢◌, ℕ, zero, suc, ◌+◌, ◌≤◌, ◌<◌, ◌⊎◌, inl, inr, Bool, true, false, List, [], ◌∷◌, length, drop, Option, Some, None, refl, sym, ap, subst, ◌∙◌, arith, length-drop, length-set, get_or-set_same, get_or-set_other, eqb-true, eq-eqb, slice_index_or, slice_set}
+use Rattle.std.proofs.Common.{◌≡◌, ◌≢◌, ℕ, zero, suc, ◌+◌, ◌≤◌, ◌<◌, ◌⊎◌, inl, inr, true, false, List, [], ◌∷◌, length, drop, Option, Some, None, refl, sym, ap, subst, ◌∙◌, arith, length-drop, length-set, get_or-set_same, get_or-set_other, eqb-true, eq-eqb, slice_index_or, slice_set}
 use Rattle.std.specs.Prelude.{slice_get, option_map, nat_eq, nat_lt, map, IfSome}
 use Rattle.page_store.specs.Pages.{Pair, Child, key_of, child_key, pair_at, child_at}
-use Rattle.tree_nodes.specs.PageViews.{in_row, then_more, pairs_in, children_in, entries_by_head, row_behind, begins_page, has_head}
+use Rattle.tree_nodes.specs.PageViews.{in_row, then_more, pairs_in, children_in, entries_by_head}
 use Rattle.tree_nodes.proofs.KeyOrder.{by_bool}
 use Rattle.std.proofs.lemmas.Bool.{ltb-true, ltb-false}
 use Rattle.cow_tree.proofs.LeafPlaces.{out_of_page as pairs_out}

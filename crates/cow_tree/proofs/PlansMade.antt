@@ -11,7 +11,7 @@ use Rattle.page_store.specs.Counting.{reads_after}
 use Rattle.page_alloc.specs.LedgerState.{LedgerState, has_page, has_page_next, is_alive, is_free, is_held, is_retired, mark_of, free_count}
 use Rattle.page_store.specs.Sectors.{Image, page_of}
 use Rattle.page_store.specs.Pages.{Pair}
-use Rattle.page_store.specs.Content.{tree_as, is_tree_version, Found, content_under, found_as, tree_found, nothing_found, is_among}
+use Rattle.page_store.specs.Content.{tree_as, is_tree_version, Found, content_under, tree_found, nothing_found, is_among}
 use Rattle.page_store.specs.Commit.{numbers, patched, AreFree}
 use Rattle.page_store.specs.declared.commit.NewPage.{NewPage}
 use Rattle.page_store.specs.declared.slot.Slot.{Slot}

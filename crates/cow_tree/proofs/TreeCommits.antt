@@ -1,7 +1,6 @@
 -- A commit of a keeper of a tree, before, in between and after.
 use Rattle.std.proofs.Common.{◌≡◌, ◌≤◌, ◌<◌, ◌⊎◌, ⊎_elim, ℕ, suc, Bool, true, false, List, [], ◌∷◌, length, Option, Some, Err, refl, sym, ap, subst, ◌∙◌, arith, IsTrue}
 use Rattle.std.specs.Prelude.{◌&&◌, not}
-use Rattle.std.proofs.lemmas.Bool.{eqb-true}
 use Rattle.common_types.specs.Counts.{counted_rises}
 use Rattle.common_types.specs.CrashStates.{CrashStates}
 use Rattle.sector_device.specs.Disk.{Disk}
@@ -14,7 +13,7 @@ use Rattle.page_store.specs.Batch.{is_map}
 use Rattle.page_store.specs.Same.{Agree}
 use Rattle.page_store.specs.Steps.{AllAre}
 use Rattle.page_store.specs.Counting.{CountsStoreReads, reads_after, writes_after}
-use Rattle.page_store.specs.Content.{tree_as, Found, content_under, found_as, tree_found, is_among}
+use Rattle.page_store.specs.Content.{tree_as, Found, content_under, tree_found, is_among}
 use Rattle.page_store.specs.StoreState.{StoreState, CommitNeed, SoManyPages, TooManyLevels, HasStayed, IsCommitFault, MayBeDeep}
 use Rattle.page_store.specs.Compaction.{IsCompactFault}
 use Rattle.page_store.specs.declared.banner.Banner.{Banner}

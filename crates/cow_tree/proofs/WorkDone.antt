@@ -1,11 +1,11 @@
 -- How many calls walks, searches and commits make.
-use Rattle.std.proofs.Common.{inl, inr, ◌<◌, ◌≡◌, ◌≤◌, ◌+◌, ◌-◌, ◌*◌, ◌^◌, ℕ, zero, suc, Bool, true, false, Option, Some, None, Result, Ok, Err, cond, ap, ◌∙◌, subst, arith, refl, sym, length, if◌then◌else◌}
+use Rattle.std.proofs.Common.{inl, inr, ◌<◌, ◌≡◌, ◌≤◌, ◌+◌, ◌-◌, ◌*◌, ℕ, zero, suc, Bool, true, false, Option, Some, None, Result, Ok, Err, cond, ap, ◌∙◌, subst, arith, refl, sym, length, if◌then◌else◌}
 use Rattle.std.proofs.lemmas.Bool.{cases_lt}
 use Rattle.std.proofs.Math.Nat.{two-pow-succ}
 use Rattle.std.proofs.Math.Pow.{pow_mono, suc_ones}
 use Rattle.sector_device.specs.Device.{State}
 use Rattle.sector_device.specs.Effects.{MadeReads, MadeExactly, MadeAtMost, MadeIfOk}
-use Rattle.sector_device.proofs.Works.{at_most, no_more_than}
+use Rattle.sector_device.proofs.Works.{at_most}
 use Rattle.page_alloc.specs.LedgerState.{LedgerState, is_free, free_count, count_below}
 use Rattle.page_alloc.specs.Calls.{fresh}
 use Rattle.page_store.specs.Opening.{MadeToOpen}

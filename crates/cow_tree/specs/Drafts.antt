@@ -108,6 +108,14 @@ pub record ReadsToDraft {T D : Type 0} (state : D → State) (crash_states : D �
   pub ledger : OnlyRetires before after
   pub fault : IfErr result IsDraftFault
 
+-- One page more is read into the tree of a draft.
+abbrev pub ReadsOneMore : {T : Type 0} → Slot → Image → LedgerState → RootState → LedgerState → RootState → Result T KeeperFault → Type 0
+ReadsOneMore slot view before old after new result = (edits read : ℕ) (pairs : List Pair) → IsDraft slot view edits read pairs before old → TellsDraft ⊥ result (λ done. IsDraft slot view edits (read + 1) pairs after new)
+
+-- As many pages as a slot's tree has levels are read into the tree of a draft, at most.
+abbrev pub ReadsOneWay : {T : Type 0} → Slot → Image → LedgerState → RootState → LedgerState → RootState → Result T KeeperFault → Type 0
+ReadsOneWay slot view before old after new result = (edits : ℕ) (pairs : List Pair) → IsDraft slot view edits 0 pairs before old → TellsDraft ⊥ result (λ done. IsDraft slot view edits slot.root.height pairs after new)
+
 -- the faults of a put into a tree that then stands so
 abbrev pub IsPutFault : RootState → KeeperFault → Type 0
 IsPutFault now faults.Deep = most_levels < now.height

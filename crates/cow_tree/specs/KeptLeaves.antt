@@ -8,6 +8,7 @@ use Rattle.page_store.specs.Batch.{pair_after}
 use Rattle.page_store.specs.Content.{Found, Bounds, place_in, is_among}
 use Rattle.page_store.specs.StoreState.{IsFilled}
 use Rattle.tree_nodes.specs.PageViews.{pairs_in}
+use Rattle.cow_tree.specs.declared.kept_leaf.Place.{Place}
 use Rattle.cow_tree.specs.declared.page_fault.PageFault.{PageFault}
 
 -- Pairs that stand one after another among others.
@@ -67,6 +68,10 @@ pub record IsWalkedPast (key : List ℕ) (later pairs : List Pair) : Type 0 wher
 -- The first of these pairs isn't above a key, and the later ones are those behind it.
 abbrev pub IsBehind : List ℕ → List Pair → List Pair → Type 0
 IsBehind key later pairs = IsTrue (begins_by key pairs) × (later ≡ drop 1 pairs)
+
+-- the same of the pairs from two places of a page on
+abbrev pub IsPlaceBehind : List ℕ → List ℕ → Place → Place → Type 0
+IsPlaceBehind bytes key later place = IsBehind key (pairs_from bytes later.at later.left) (pairs_from bytes place.at place.left)
 
 -- The later ones begin with the pair after the key.
 pub record IsReachedAfter (key : List ℕ) (found : Pair) (later pairs : List Pair) : Type 0 where

@@ -1,13 +1,16 @@
 -- Where the entries of a page begin, kept so that the page is searched by halves.
-use Rattle.std.specs.Prelude.{◌≡◌, ◌≤◌, ◌<◌, ℕ, zero, suc, List, [], ◌∷◌, length, drop, Option, Some, None, IfSome, option_map, slice_get, slice_index_or, if◌then◌else◌}
+use Rattle.std.specs.Prelude.{◌≡◌, ◌≤◌, ◌<◌, ◌-◌, ℕ, zero, suc, List, [], ◌∷◌, length, take, drop, Option, Some, None, Result, OnOk, IfSome, option_map, slice_get, slice_index_or, if◌then◌else◌}
 use Rattle.page_store.specs.Keys.{precedes}
 use Rattle.page_store.specs.Pages.{key_of, child_key, pair_at, child_at}
+use Rattle.page_store.specs.Batch.{value_at}
 use Rattle.page_store.specs.Content.{Found, Bounds, walk}
 use Rattle.tree_nodes.specs.PageViews.{pairs_in, children_in, entries_by_head}
 use Rattle.cow_tree.specs.KeptLeaves.{IsPart}
 use Rattle.cow_tree.specs.PinnedTrees.{bounds_at, tree_at}
+use Rattle.cow_tree.specs.Ways.{AnswersBy, IsOnWay}
 use Rattle.cow_tree.specs.declared.kept_places.KeptPlaces.{KeptPlaces}
 use Rattle.cow_tree.specs.declared.kept_places.PagePlaces.{PagePlaces}
+use Rattle.cow_tree.specs.declared.page_fault.PageFault.{PageFault}
 use Rattle.cow_tree.specs.declared.tree_root.TreeRoot.{TreeRoot}
 
 -- the entry that begins at a place of a page, where one has the form there
@@ -37,6 +40,14 @@ pub record ArePlaces (level : ℕ) (bytes : List ℕ) (count : ℕ) (at : List �
   pub pairs : level ≡ 0 → AreFoundAt (entry_from pair_at bytes) (entries_by_head pair_at bytes) count at
   pub children : 0 < level → AreFoundAt (entry_from child_at bytes) (entries_by_head child_at bytes) count at
 
+-- By the bytes of a page and the places of its entries the way of a key from there is answered, in any image that has the page so.
+abbrev pub AnswersWayBy : List ℕ → PagePlaces → Bounds → ℕ → ℕ → List ℕ → Result (ℕ × Option ℕ) PageFault → Type 0
+AnswersWayBy bytes places bounds level page key result = (view : ℕ → List ℕ) (found : Found) → view page ≡ bytes → ArePlaces level bytes places.count places.at → walk view bounds level page [] None ≡ Some found → AnswersBy result (IsOnWay view bounds (level - 1) key found)
+
+-- likewise the size of a key's value, which stands in front of a buffer
+abbrev pub AnswersValueBy : List ℕ → PagePlaces → Bounds → ℕ → List ℕ → List ℕ → Result (Option ℕ) PageFault → Type 0
+AnswersValueBy bytes places bounds page key buffer result = (view : ℕ → List ℕ) (found : Found) → view page ≡ bytes → ArePlaces 0 bytes places.count places.at → walk view bounds 0 page [] None ≡ Some found → AnswersBy result (λ size. option_map (λ n. take n buffer) size ≡ value_at found.pairs key)
+
 -- so many entries stand behind the head of a page of a level, and they are those that the head counts
 abbrev pub HasSoManyEntries : ℕ → List ℕ → ℕ → Type 0
 HasSoManyEntries zero bytes count = pairs_in count (drop 24 bytes) ≡ entries_by_head pair_at bytes
@@ -60,6 +71,10 @@ pub record IsLeafUnder (bytes : ℕ → List ℕ) (bounds : Bounds) (page : ℕ)
   pub leaf : Found
   pub stands : walk bytes bounds 0 page [] None ≡ Some leaf
   pub part : IsPart leaf tree
+
+-- The page that is named is such a leaf of what stands at another page.
+abbrev pub NamesLeafUnder : {T : Type 0} → (ℕ → List ℕ) → Bounds → ℕ → ℕ → ℕ → Result T PageFault → Type 0
+NamesLeafUnder bytes bounds level page leaf result = (found : Found) → walk bytes bounds level page [] None ≡ Some found → OnOk result (IsLeafUnder bytes bounds leaf found)
 
 -- A page is a leaf of the tree at a root, where such a tree stands.
 abbrev pub IsLeafAt : (ℕ → List ℕ) → TreeRoot → ℕ → Type 0

@@ -1,5 +1,5 @@
 -- What looking pairs up in a tree does to a device, and what it answers.
-use Rattle.std.specs.Prelude.{◌≡◌, ◌≤◌, ℕ, Bool, List, [], Option, Some, Result, IsTrue, IfOk, OnOk, IfSome, option_map, take}
+use Rattle.std.specs.Prelude.{◌≡◌, ◌≤◌, ℕ, Bool, List, [], Option, Some, None, Result, IsTrue, IfOk, OnOk, IfSome, option_map, take}
 use Rattle.std.specs.Option.{is_some}
 use Rattle.page_store.specs.Sizes.{longest_key, longest_value}
 use Rattle.common_types.specs.CrashStates.{CrashStates}
@@ -7,12 +7,30 @@ use Rattle.sector_device.specs.Device.{State}
 use Rattle.page_store.specs.Sectors.{Image, page_of}
 use Rattle.page_store.specs.Pages.{Pair}
 use Rattle.page_store.specs.Batch.{value_at, pair_after}
-use Rattle.page_store.specs.Content.{Found, Bounds}
+use Rattle.page_store.specs.Content.{Found, Bounds, tree_found, walk}
 use Rattle.page_store.specs.StoreState.{IsFilled}
+use Rattle.page_store.specs.declared.slot.Slot.{Slot}
 use Rattle.cow_tree.specs.KeptLeaves.{IsNextLeaf, IsKeptLeaf}
+use Rattle.cow_tree.specs.Opening.{bounds_under}
 use Rattle.cow_tree.specs.Walks.{ReadsTreePages}
 use Rattle.cow_tree.specs.Ways.{AnswersBy}
 use Rattle.cow_tree.specs.declared.page_fault.PageFault.{PageFault}
+
+-- This is the tree of a slot, and a leaf of it is kept, or nothing.
+abbrev pub IsKeptUnder : Slot → List Pair → (ℕ → List ℕ) → Found → Type 0
+IsKeptUnder slot kept bytes found = (tree_found slot bytes ≡ Some found) × IsKeptLeaf bytes (bounds_under slot) found kept
+
+-- of such a tree this holds
+abbrev pub WhereKept : Slot → List Pair → (ℕ → List ℕ) → (Found → Type 0) → Type 0
+WhereKept slot kept bytes Holds = (found : Found) → tree_found slot bytes ≡ Some found → IsKeptLeaf bytes (bounds_under slot) found kept → Holds found
+
+-- This stands at a page, and has a pair after a key.
+abbrev pub HasNextAt : Bounds → ℕ → ℕ → List ℕ → (ℕ → List ℕ) → Found → Type 0
+HasNextAt bounds level page key bytes found = (walk bytes bounds level page [] None ≡ Some found) × (pair_after found.pairs key ≡ None → ⊥)
+
+-- the pair of which two buffers have this much in front
+abbrev pub pair_in_front : List ℕ → List ℕ → Option (ℕ × ℕ) → Option Pair
+pair_in_front key value sizes = option_map (λ n. (take n.0 key, take n.1 value)) sizes
 
 -- A call that looks up the value at a key: it only reads pages, an honest device's tree has the value that it answers, and it fills the buffer with it from the front.
 pub record LooksUpValue {D : Type 0} (state : D → State) (crash_states : D → CrashStates Image) (tree : (ℕ → List ℕ) → Option Found) (key : List ℕ) (old new : D) (before after : List ℕ) (result : Result (Option ℕ) PageFault) : Type 0 where

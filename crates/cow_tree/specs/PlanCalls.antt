@@ -5,24 +5,27 @@ use Rattle.sector_device.specs.Device.{State}
 use Rattle.sector_device.specs.declared.device.DeviceFault.{DeviceFault}
 use Rattle.page_alloc.specs.Calls.{abandoned, advanced}
 use Rattle.page_alloc.specs.LedgerState.{LedgerState}
-use Rattle.page_store.specs.Batch.{is_map}
+use Rattle.page_store.specs.Batch.{is_map, updated}
 use Rattle.page_store.specs.Commit.{IsBetween}
+use Rattle.page_store.specs.Content.{is_tree_version}
 use Rattle.page_store.specs.Pages.{Pair}
 use Rattle.page_store.specs.Same.{Agree}
 use Rattle.page_store.specs.Sectors.{Image, page_of}
 use Rattle.page_store.specs.Switch.{IsSlotPage}
 use Rattle.page_store.specs.declared.banner.Banner.{Banner}
+use Rattle.page_store.specs.declared.edit.Edit.{Edit}
 use Rattle.page_store.specs.declared.slot.Slot.{Slot}
 use Rattle.page_store.specs.declared.fault.KeeperFault.{KeeperFault}
 use Rattle.tree_loading.specs.Filled.{filled}
 use Rattle.tree_nodes.specs.Growth.{owned_under}
 use Rattle.tree_nodes.specs.OwnedTrees.{state_of}
 use Rattle.cow_tree.specs.Committed.{MayWritePlan, IsCommitted}
-use Rattle.cow_tree.specs.Compacting.{most_pairs}
-use Rattle.cow_tree.specs.Drafts.{OnlyMarks}
+use Rattle.cow_tree.specs.Compacting.{most_pairs, NeedsFilled, IsFillPlan}
+use Rattle.cow_tree.specs.Drafts.{OnlyMarks, IsCounted, TellsDraft, MayBeTooDeep}
+use Rattle.cow_tree.specs.Needs.{NeedsTreePages, GetsTooDeep}
 use Rattle.cow_tree.specs.PinnedTrees.{HeldPagesStay, PinnedStay}
-use Rattle.cow_tree.specs.Plans.{levels_of, tree_commit, IsMade}
-use Rattle.cow_tree.specs.TreeState.{FitsTree, IsFittedSlot, found_under}
+use Rattle.cow_tree.specs.Plans.{levels_of, tree_commit, IsHeld, IsMade, IsPlanned, Starts}
+use Rattle.cow_tree.specs.TreeState.{FitsTree, IsFittedSlot, IsThere, found_under}
 use Rattle.cow_tree.specs.declared.drafts.Draft.{Draft}
 use Rattle.cow_tree.specs.declared.plans.Plan.{Plan}
 
@@ -79,6 +82,25 @@ pub record PlansPairs (slot : Slot) (seal : ℕ) (pairs : List Pair) (free : ℕ
   pub count : length plan.pages.items ≡ owned_under (filled pairs).root
   pub levels : plan.slot.root.height ≡ (filled pairs).height
   pub keys : plan.slot.root.keys ≡ length pairs
+
+-- A draft over the tree of the current slot is planned: pages for the nodes that it owns, and a root over them.
+abbrev pub PlansPages : Slot → ℕ → Banner → Draft → LedgerState → LedgerState → Result Plan KeeperFault → Type 0
+PlansPages slot seal given draft before after result = (view : Image) (top edits : ℕ) (pairs : List Pair) → IsHeld view slot top before → IsCounted slot view edits pairs before draft → seal ≡ top + 1 → IsTrue (is_tree_version given.version) →
+    TellsDraft (Unit {0}) result (IsPlanned view slot top pairs after)
+
+-- A batch on the tree of the current slot is planned, with as many pages as it needs; or it gives the tree too many levels.
+abbrev pub PlansBatch : Slot → Image → ℕ → Banner → List Edit → LedgerState → LedgerState → Result Plan KeeperFault → Type 0
+PlansBatch slot view seal given batch before after result = (top : ℕ) (pairs : List Pair) → IsHeld view slot top before → Starts slot view pairs before → seal ≡ top + 1 → IsTrue (is_tree_version given.version) →
+    TellsDraft (MayBeTooDeep slot (length batch) × GetsTooDeep slot view batch) result (λ plan. IsPlanned view slot top (updated pairs batch) after plan × NeedsTreePages slot view batch (length plan.pages.items))
+
+-- so many pages does a batch need on the tree under a slot
+abbrev pub NeedsFromStart : Slot → Image → List Edit → LedgerState → ℕ → Type 0
+NeedsFromStart slot view batch before need = (pairs : List Pair) → Starts slot view pairs before → NeedsTreePages slot view batch need
+
+-- All pairs of the tree of the current slot are planned anew, in filled pages.
+abbrev pub PlansFilled : Slot → Image → ℕ → LedgerState → LedgerState → Result Plan KeeperFault → Type 0
+PlansFilled slot view seal before after result = (top : ℕ) → IsHeld view slot top before → IsThere view slot before → seal ≡ top + 1 →
+    TellsDraft ⊥ result (λ plan. IsFillPlan view slot top after plan × NeedsFilled slot view (length plan.pages.items))
 
 -- Of a ledger only marks have changed, and nothing where the plan is refused.
 pub record MarksOrStays {T : Type 0} (old new : LedgerState) (result : Result T KeeperFault) : Type 0 where

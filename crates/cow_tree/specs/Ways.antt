@@ -1,5 +1,5 @@
 -- The way of a key through a tree of pages, and what reading along it answers.
-use Rattle.std.specs.Prelude.{◌≡◌, ◌&&◌, nat_lt, nat_le, length, drop, ℕ, Bool, true, List, [], ◌∷◌, Option, Some, None, Result, Ok, Err, if◌then◌else◌}
+use Rattle.std.specs.Prelude.{◌≡◌, ◌-◌, ◌&&◌, nat_lt, nat_le, length, drop, ℕ, Bool, true, List, [], ◌∷◌, Option, Some, None, Result, Ok, Err, if◌then◌else◌}
 use Rattle.std.specs.Option.{option_or}
 use Rattle.page_store.specs.Reading.{◌>>=◌, where_true}
 use Rattle.page_store.specs.Keys.{precedes}
@@ -59,3 +59,7 @@ pub record IsOnWay (bytes : ℕ → List ℕ) (bounds : Bounds) (level : ℕ) (k
   pub rest : Option Pair
   pub after : pair_after whole.pairs key ≡ option_or (pair_after here.pairs key) rest
   pub next : IsNext bytes bounds level key around.1 whole rest
+
+-- Where a tree of these levels stands at a page, the way of a key from there is answered.
+abbrev pub AnswersWay : (ℕ → List ℕ) → Bounds → ℕ → ℕ → List ℕ → Result (ℕ × Option ℕ) PageFault → Type 0
+AnswersWay bytes bounds level page key result = (found : Found) → walk bytes bounds level page [] None ≡ Some found → AnswersBy result (IsOnWay bytes bounds (level - 1) key found)

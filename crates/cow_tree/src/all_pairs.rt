@@ -8,6 +8,7 @@ ghost use Rattle.page_store.specs.Batch.{is_pair, is_map, pair_after};
 ghost use Rattle.page_store.specs.PairsInOrder.{last_key};
 ghost use Rattle.cow_tree.specs.Drafts.{TellsDraft};
 ghost use Rattle.cow_tree.specs.KeptLeaves.{IsKeptLeaf};
+ghost use Rattle.cow_tree.specs.LookUps.{WhereKept};
 ghost use Rattle.cow_tree.specs.Opening.{IsRooted, bounds_under};
 ghost use Rattle.cow_tree.specs.Compacting.{most_pairs, ReadsPairs};
 
@@ -40,10 +41,8 @@ fn pair_behind<D: Device>(
 ) -> Result<Option<Pair>, KeeperFault>
     requires fits { 8 * slot.now.root.pages ≤ (D.state device.old).size }
     requires rooted { IsRooted slot.now.root }
-    ensures pair { IsTrue (D.state device.old).honest → (found : Found) → tree_found slot.now (page_of (D.state device.old).disk.view) ≡ Some found → IsKeptLeaf (page_of (D.state device.old).disk.view) (bounds_under slot.now) found kept.old →
-        TellsDraft ⊥ result (λ next. next ≡ pair_after found.pairs (last_key pairs.now)) }
-    ensures kept { IsTrue (D.state device.old).honest → (found : Found) → tree_found slot.now (page_of (D.state device.old).disk.view) ≡ Some found → IsKeptLeaf (page_of (D.state device.old).disk.view) (bounds_under slot.now) found kept.old →
-        IsKeptLeaf (page_of (D.state device.old).disk.view) (bounds_under slot.now) found kept.new }
+    ensures pair { IsTrue (D.state device.old).honest → WhereKept slot.now kept.old (page_of (D.state device.old).disk.view) (λ found. TellsDraft ⊥ result (λ next. next ≡ pair_after found.pairs (last_key pairs.now))) }
+    ensures kept { IsTrue (D.state device.old).honest → WhereKept slot.now kept.old (page_of (D.state device.old).disk.view) (λ found. IsKeptLeaf (page_of (D.state device.old).disk.view) (bounds_under slot.now) found kept.new) }
     ensures rises { IfOk result (λ next. IfSome next (λ p. (precedes (last_key pairs.now) p.0 ≡ true) × (is_pair p ≡ true))) }
     ensures reads { ReadsPairs D.state (crash_states_of D.moment D.possible_since) device.old device.new result }
 {

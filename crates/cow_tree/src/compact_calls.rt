@@ -1,5 +1,5 @@
 // A keeper of a tree is written anew.
-ghost use Rattle.std.specs.Prelude.{◌≡◌, ℕ, true, OnOk, IfErr};
+ghost use Rattle.std.specs.Prelude.{true, OnOk, IfErr};
 ghost use Rattle.page_store.specs.CommitCalls.{CommitsNoMore};
 ghost use Rattle.page_store.specs.CompactCalls.{WritesAnew, FailsToCompact, CountsCompaction, CompactionCrashes};
 ghost use Rattle.cow_tree.specs.Compacting.{MayNeedFilled, IsFilledTree};

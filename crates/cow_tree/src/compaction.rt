@@ -1,15 +1,15 @@
 // What writing all pairs of a tree anew is to write.
-ghost use Rattle.std.specs.Prelude.{◌≡◌, ◌≤◌, ◌<◌, ◌+◌, ℕ, true, false, IsTrue, OnErr, IfOk, IfErr, length};
+ghost use Rattle.std.specs.Prelude.{◌≡◌, ◌<◌, ◌+◌, ℕ, false, IsTrue, IfOk, IfErr, length};
 ghost use Rattle.page_alloc.specs.LedgerState.{free_count, is_alive, is_taken, mark_of};
 ghost use Rattle.page_store.specs.Sectors.{Image};
 ghost use Rattle.page_store.specs.Steps.{crash_states_of};
 ghost use Rattle.tree_nodes.specs.Growth.{owned_under};
 ghost use Rattle.tree_loading.specs.Filled.{filled};
-ghost use Rattle.cow_tree.specs.PlanCalls.{HasMarksOf, MayBeFilled, PlansPairs, PlansWithin, MarksOrStays};
+ghost use Rattle.cow_tree.specs.PlanCalls.{HasMarksOf, MayBeFilled, PlansPairs, PlansFilled, PlansWithin, MarksOrStays};
 ghost use Rattle.cow_tree.specs.TreeState.{FitsTree, IsThere};
 ghost use Rattle.cow_tree.specs.Drafts.{IsCountedRead, OnlyMarks, OnlyRetires, TellsDraft};
 ghost use Rattle.cow_tree.specs.Plans.{IsHeld, IsPlanned, IsRoomFault};
-ghost use Rattle.cow_tree.specs.Compacting.{NeedsFilled, IsFillPlan, IsFillFault};
+ghost use Rattle.cow_tree.specs.Compacting.{NeedsFilled, IsFillFault};
 
 use crate::all_pairs::all_pairs;
 use crate::drafts::Draft;
@@ -73,8 +73,7 @@ pub(crate) fn plan_compaction<D: Device>(
     requires later { slot.now.seal < seal }
     ensures made { IfOk result (PlansWithin slot.now seal slot.now.root.banner (free_count ledger.old)) }
     ensures keys { IfOk result (λ plan. plan.slot.root.keys ≡ slot.now.root.keys) }
-    ensures planned { IsTrue (D.state device.old).honest → (top : ℕ) → IsHeld (D.state device.old).disk.view slot.now top ledger.old → IsThere (D.state device.old).disk.view slot.now ledger.old → seal ≡ top + 1 →
-        TellsDraft ⊥ result (λ plan. IsFillPlan (D.state device.old).disk.view slot.now top ledger.new plan × NeedsFilled slot.now (D.state device.old).disk.view (length plan.pages.items)) }
+    ensures planned { IsTrue (D.state device.old).honest → PlansFilled slot.now (D.state device.old).disk.view seal ledger.old ledger.new result }
     ensures ledger { MarksOrStays ledger.old ledger.new result }
     ensures fault { IfErr result (IsFillFault (free_count ledger.old) (λ need. IsTrue (D.state device.old).honest → IsThere (D.state device.old).disk.view slot.now ledger.old → NeedsFilled slot.now (D.state device.old).disk.view need)) }
     ensures reads { IsCountedRead D.state (crash_states_of D.moment D.possible_since) device.old device.new result }

@@ -1,20 +1,18 @@
 // A tree that a commit changes, before anything is written.
-ghost use Rattle.std.specs.Prelude.{◌≡◌, ◌≢◌, ◌≤◌, ◌<◌, ◌+◌, ◌-◌, ◌*◌, ◌^◌, ℕ, List, None, Some, true, IsTrue, OnOk, IfOk, IfErr, length};
+ghost use Rattle.std.specs.Prelude.{◌≡◌, ◌≢◌, ◌≤◌, ◌<◌, ◌-◌, ◌*◌, None, Some, true, IsTrue, OnOk, IfOk, IfErr, length};
 ghost use Rattle.sector_device.specs.Effects.{MadeAtMost};
 ghost use Rattle.page_alloc.specs.LedgerState.{is_alive};
 ghost use Rattle.page_store.specs.Sectors.{Image, page_of};
-ghost use Rattle.page_store.specs.Pages.{Pair};
-ghost use Rattle.page_store.specs.Batch.{edited, updated, is_edit, is_batch, is_map};
+ghost use Rattle.page_store.specs.Batch.{is_edit, is_batch};
 ghost use Rattle.page_store.specs.Steps.{crash_states_of};
 ghost use Rattle.page_store.specs.StoreState.{most_levels};
 ghost use Rattle.page_store.specs.declared.fault.KeeperFault.TheVariants.{Deep, Device as NoRead};
 ghost use Rattle.tree_nodes.specs.Steps.{needed_under, put_under, delete_under, supply_step, stepped};
 ghost use Rattle.tree_nodes.specs.Keys.{has_under};
-ghost use Rattle.tree_nodes.specs.Needs.{needed_level};
 ghost use Rattle.tree_nodes.specs.OwnedTrees.{state_of};
 ghost use Rattle.cow_tree.specs.Opening.{IsRooted};
-ghost use Rattle.cow_tree.specs.Needs.{path_read, edit_made, drafted, StaysLow, GetsTooDeep};
-ghost use Rattle.cow_tree.specs.Drafts.{old_under, IsDraft, IsCounted, ReadsToDraft, TellsDraft, IsPutFault, IsDraftFault, OnlyRetires, HasImageOf, GoesDown, MayBeTooDeep, keys_with, keys_without, root_under};
+ghost use Rattle.cow_tree.specs.Needs.{ReadsPath, MakesEdit, GivesEdited, MakesBatch, GivesDrafted};
+ghost use Rattle.cow_tree.specs.Drafts.{old_under, ReadsOneMore, ReadsOneWay, ReadsToDraft, IsPutFault, IsDraftFault, OnlyRetires, HasImageOf, GoesDown, keys_with, keys_without, root_under};
 
 use crate::opening_walk::load_page;
 use crate::page_bounds::bounds_of;
@@ -47,8 +45,7 @@ fn take_needed(
     requires needed { needed_under key.now (state_of tree.old).root ≡ Some page }
     requires alive { is_alive ledger.old page ≡ true }
     // Of any image with these bytes at that page.
-    ensures draft { (view : Image) → page_of view page ≡ bytes.now → (edits read : ℕ) (pairs : List Pair) → IsDraft slot.now view edits read pairs ledger.old (state_of tree.old) →
-        TellsDraft ⊥ result (λ done. IsDraft slot.now view edits (read + 1) pairs ledger.new (state_of tree.new)) }
+    ensures draft { (view : Image) → page_of view page ≡ bytes.now → ReadsOneMore slot.now view ledger.old (state_of tree.old) ledger.new (state_of tree.new) result }
     ensures read { (view : Image) → page_of view page ≡ bytes.now → OnOk result (state_of tree.new ≡ stepped (old_under slot.now view) (state_of tree.old) (supply_step key.now)) }
     ensures goes { OnOk result (GoesDown key.now (state_of tree.old) (state_of tree.new)) }
     ensures ledger { OnlyRetires ledger.old ledger.new }
@@ -77,8 +74,7 @@ fn load_needed<D: Device>(
     requires alive { is_alive ledger.old page ≡ true }
     requires needed { needed_under key.now (state_of tree.old).root ≡ Some page }
     requires image { HasImageOf (D.state device.old).size slot.now ledger.old }
-    ensures draft { IsTrue (D.state device.old).honest → (edits read : ℕ) (pairs : List Pair) → IsDraft slot.now (D.state device.old).disk.view edits read pairs ledger.old (state_of tree.old) →
-        TellsDraft ⊥ result (λ done. IsDraft slot.now (D.state device.old).disk.view edits (read + 1) pairs ledger.new (state_of tree.new)) }
+    ensures draft { IsTrue (D.state device.old).honest → ReadsOneMore slot.now (D.state device.old).disk.view ledger.old (state_of tree.old) ledger.new (state_of tree.new) result }
     ensures read { IsTrue (D.state device.old).honest → OnOk result (state_of tree.new ≡ stepped (old_under slot.now (D.state device.old).disk.view) (state_of tree.old) (supply_step key.now)) }
     ensures goes { OnOk result (GoesDown key.now (state_of tree.old) (state_of tree.new)) }
     ensures reads { ReadsToDraft D.state (crash_states_of D.moment D.possible_since) device.old device.new ledger.old ledger.new result }
@@ -103,8 +99,7 @@ fn read_needed<D: Device>(
 ) -> Result<(), KeeperFault>
     requires needed { needed_under key.now (state_of tree.old).root ≡ Some page }
     requires image { HasImageOf (D.state device.old).size slot.now ledger.old }
-    ensures draft { IsTrue (D.state device.old).honest → (edits read : ℕ) (pairs : List Pair) → IsDraft slot.now (D.state device.old).disk.view edits read pairs ledger.old (state_of tree.old) →
-        TellsDraft ⊥ result (λ done. IsDraft slot.now (D.state device.old).disk.view edits (read + 1) pairs ledger.new (state_of tree.new)) }
+    ensures draft { IsTrue (D.state device.old).honest → ReadsOneMore slot.now (D.state device.old).disk.view ledger.old (state_of tree.old) ledger.new (state_of tree.new) result }
     ensures read { IsTrue (D.state device.old).honest → OnOk result (state_of tree.new ≡ stepped (old_under slot.now (D.state device.old).disk.view) (state_of tree.old) (supply_step key.now)) }
     ensures goes { OnOk result (GoesDown key.now (state_of tree.old) (state_of tree.new)) }
     ensures reads { ReadsToDraft D.state (crash_states_of D.moment D.possible_since) device.old device.new ledger.old ledger.new result }
@@ -130,11 +125,9 @@ fn own_path<D: Device>(
 ) -> Result<(), KeeperFault>
     requires image { HasImageOf (D.state device.old).size slot.now ledger.old }
     requires low { (state_of tree.old).height ≤ most_levels }
-    ensures draft { IsTrue (D.state device.old).honest → (edits : ℕ) (pairs : List Pair) → IsDraft slot.now (D.state device.old).disk.view edits 0 pairs ledger.old (state_of tree.old) →
-        TellsDraft ⊥ result (λ done. IsDraft slot.now (D.state device.old).disk.view edits slot.now.root.height pairs ledger.new (state_of tree.new)) }
+    ensures draft { IsTrue (D.state device.old).honest → ReadsOneWay slot.now (D.state device.old).disk.view ledger.old (state_of tree.old) ledger.new (state_of tree.new) result }
     ensures owned { OnOk result (needed_under key.now (state_of tree.new).root ≡ None) }
-    ensures path { IsTrue (D.state device.old).honest → (edits : ℕ) (pairs : List Pair) → IsDraft slot.now (D.state device.old).disk.view edits 0 pairs ledger.old (state_of tree.old) →
-        OnOk result (state_of tree.new ≡ path_read (old_under slot.now (D.state device.old).disk.view) key.now slot.now.root.height (state_of tree.old)) }
+    ensures path { IsTrue (D.state device.old).honest → ReadsPath slot.now (D.state device.old).disk.view key.now ledger.old (state_of tree.old) (state_of tree.new) result }
     ensures height { OnOk result ((state_of tree.new).height ≡ (state_of tree.old).height) }
     ensures reads { ReadsToDraft D.state (crash_states_of D.moment D.possible_since) device.old device.new ledger.old ledger.new result }
     ensures work { MadeAtMost (8 * most_levels) 0 0 (D.state device.old) (D.state device.new) }
@@ -223,11 +216,8 @@ impl Draft {
         requires image { HasImageOf (D.state device.old).size slot.now ledger.old }
         requires low { (state_of self.tree).height ≤ most_levels }
         requires sizes { IsTrue (is_edit edit.now) }
-        ensures draft { IsTrue (D.state device.old).honest → (edits : ℕ) (pairs : List Pair) → IsCounted slot.now (D.state device.old).disk.view edits pairs ledger.old self →
-            length pairs < 2 ^ 64 - 1 → TellsDraft (MayBeTooDeep slot.now (edits + 1) × (most_levels < (edit_made (old_under slot.now (D.state device.old).disk.view) slot.now.root.height (state_of self.tree) edit.now).height)) result
-            (IsCounted slot.now (D.state device.old).disk.view (edits + 1) (edited pairs edit.now) ledger.new) }
-        ensures made { IsTrue (D.state device.old).honest → (edits : ℕ) (pairs : List Pair) → IsCounted slot.now (D.state device.old).disk.view edits pairs ledger.old self →
-            IfOk result (λ draft. state_of draft.tree ≡ edit_made (old_under slot.now (D.state device.old).disk.view) slot.now.root.height (state_of self.tree) edit.now) }
+        ensures draft { IsTrue (D.state device.old).honest → MakesEdit slot.now (D.state device.old).disk.view edit.now ledger.old self ledger.new result }
+        ensures made { IsTrue (D.state device.old).honest → GivesEdited slot.now (D.state device.old).disk.view edit.now ledger.old self result }
         ensures low { IfOk result (λ draft. (state_of draft.tree).height ≤ most_levels) }
         ensures reads { ReadsToDraft D.state (crash_states_of D.moment D.possible_since) device.old device.new ledger.old ledger.new result }
         ensures work { MadeAtMost (8 * most_levels) 0 0 (D.state device.old) (D.state device.new) }
@@ -255,11 +245,8 @@ pub(crate) fn draft_batch<D: Device>(
     requires image { HasImageOf (D.state device.old).size slot.now ledger.old }
     requires rooted { IsRooted slot.now.root }
     requires batch { IsTrue (is_batch batch.now) }
-    ensures draft { IsTrue (D.state device.old).honest → (pairs : List Pair) → IsDraft slot.now (D.state device.old).disk.view 0 0 pairs ledger.old (root_under slot.now) → slot.now.root.keys ≡ length pairs → is_map pairs ≡ true →
-        length pairs + length batch.now < 2 ^ 64 → TellsDraft (MayBeTooDeep slot.now (length batch.now) × GetsTooDeep slot.now (D.state device.old).disk.view batch.now) result
-        (IsCounted slot.now (D.state device.old).disk.view (length batch.now) (updated pairs batch.now) ledger.new) }
-    ensures made { IsTrue (D.state device.old).honest → (pairs : List Pair) → IsDraft slot.now (D.state device.old).disk.view 0 0 pairs ledger.old (root_under slot.now) → slot.now.root.keys ≡ length pairs → is_map pairs ≡ true →
-        length pairs + length batch.now < 2 ^ 64 → IfOk result (λ draft. (state_of draft.tree ≡ drafted slot.now (D.state device.old).disk.view batch.now) × StaysLow slot.now (D.state device.old).disk.view batch.now) }
+    ensures draft { IsTrue (D.state device.old).honest → MakesBatch slot.now (D.state device.old).disk.view batch.now ledger.old ledger.new result }
+    ensures made { IsTrue (D.state device.old).honest → GivesDrafted slot.now (D.state device.old).disk.view batch.now ledger.old result }
     ensures low { IfOk result (λ draft. (state_of draft.tree).height ≤ most_levels) }
     ensures reads { ReadsToDraft D.state (crash_states_of D.moment D.possible_since) device.old device.new ledger.old ledger.new result }
     ensures work { MadeAtMost (8 * (most_levels * length batch.now)) 0 0 (D.state device.old) (D.state device.new) }

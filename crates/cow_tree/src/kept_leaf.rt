@@ -1,5 +1,5 @@
 // The leaf that a next pair was last read from.
-ghost use Rattle.std.specs.Prelude.{◌≡◌, ◌≤◌, ◌<◌, ◌*◌, ◌∷◌, ◌⊎◌, false, List, [], None, Some, Ok, IsTrue, OnOk, IfSome, IsSomeAnd, MatchOption, option_map, length, take, drop};
+ghost use Rattle.std.specs.Prelude.{◌≡◌, ◌≤◌, ◌<◌, ◌*◌, ◌∷◌, ◌⊎◌, false, List, [], None, Some, Ok, IsTrue, OnOk, IfSome, IsSomeAnd, MatchOption, length, take, drop};
 ghost use Rattle.sector_device.specs.Effects.{MadeAtMost};
 ghost use Rattle.std.specs.Option.{is_some};
 ghost use Rattle.page_store.specs.Sizes.{longest_key, longest_value};
@@ -10,7 +10,7 @@ ghost use Rattle.page_store.specs.Batch.{pair_after};
 ghost use Rattle.page_store.specs.StoreState.{IsFilled};
 ghost use Rattle.page_store.specs.Content.{place_in};
 ghost use Rattle.tree_nodes.specs.PageViews.{bounds_of, pairs_in};
-ghost use Rattle.cow_tree.specs.KeptLeaves.{begins_by, next_in, pairs_from, CopiesPair, IsBehind, IsReachedAfter};
+ghost use Rattle.cow_tree.specs.KeptLeaves.{begins_by, next_in, pairs_from, CopiesPair, IsBehind, IsPlaceBehind, IsReachedAfter};
 ghost use Rattle.cow_tree.specs.Ways.{AnswersBy};
 ghost use Rattle.cow_tree.specs.Walks.{ReadsTreePages};
 ghost use Rattle.cow_tree.specs.declared.page_fault.PageFault.{PageFault as PageFaultValue};
@@ -219,7 +219,7 @@ fn place_after<'a>(
 /// The place behind the one of two pairs that isn't above a key, the second only where the first is above it.
 fn place_by(bytes: &[u8; PAGE_SIZE], one: Place, other: Place, key: &[u8]) -> Option<Place>
     ensures first { IsTrue (begins_by key.now (pairs_from bytes.now one.at one.left)) → IsSomeAnd result (λ place. pairs_from bytes.now place.at place.left ≡ drop 1 (pairs_from bytes.now one.at one.left)) }
-    ensures place { MatchOption result (begins_by key.now (pairs_from bytes.now other.at other.left) ≡ false) (λ place. IsBehind key.now (pairs_from bytes.now place.at place.left) (pairs_from bytes.now one.at one.left) ⊎ IsBehind key.now (pairs_from bytes.now place.at place.left) (pairs_from bytes.now other.at other.left)) }
+    ensures place { MatchOption result (begins_by key.now (pairs_from bytes.now other.at other.left) ≡ false) (λ place. IsPlaceBehind bytes.now key.now place one ⊎ IsPlaceBehind bytes.now key.now place other) }
 {
     if let Some(place) = place_behind(bytes, one, key) {
         return Some(place);

@@ -1,6 +1,6 @@
 // Where the entries of pages begin: kept of pages that were looked into lately, so that these are searched by halves. Where memory lacks for it, they are searched from the front. And in which leaf a value was found last, so that the next one is found there.
-ghost use Rattle.std.specs.Prelude.{◌≡◌, ◌<◌, ◌≤◌, ℕ, List, IfSome, length, slice_index_or};
-ghost use Rattle.cow_tree.specs.KeptPlaces.{ArePlaces, HasSoManyEntries, IsKeptOf, AreKeptOf, IsKeptTruly, IsLeafAt};
+ghost use Rattle.std.specs.Prelude.{◌≡◌, ◌<◌, ℕ, List, IfSome};
+ghost use Rattle.cow_tree.specs.KeptPlaces.{ArePlaces, HasSoManyEntries, IsKeptOf, IsKeptTruly, IsLeafAt};
 
 use crate::page_places::{MOST_PLACES, places_in};
 use crate::tree_root::TreeRoot;

@@ -1,5 +1,5 @@
 // Looking a value up: where the device lends the pages on its way, the places of their entries are kept, and they are searched by halves.
-ghost use Rattle.std.specs.Prelude.{◌≡◌, true, ◌≤◌, ◌<◌, ◌-◌, ◌+◌, ◌*◌, ℕ, List, [], None, Some, Ok, IsTrue, IfOk, IfErr, OnOk, IfSome, length, option_map, slice_get, drop, take};
+ghost use Rattle.std.specs.Prelude.{◌≡◌, true, ◌≤◌, ◌<◌, ◌-◌, ◌+◌, ◌*◌, ℕ, List, [], None, Some, Ok, IsTrue, IfOk, IfErr, IfSome, length, option_map, slice_get, drop, take};
 ghost use Rattle.sector_device.specs.Effects.{MadeAtMost};
 ghost use Rattle.page_store.specs.Sizes.{longest_value};
 ghost use Rattle.page_store.specs.Sectors.{page_of};
@@ -9,10 +9,10 @@ ghost use Rattle.page_store.specs.StoreState.{IsFilled};
 ghost use Rattle.page_store.specs.Content.{Found, place_in, walk};
 ghost use Rattle.tree_nodes.specs.PageViews.{bounds_of, children_in, has_head};
 ghost use Rattle.cow_tree.specs.LookUps.{LooksUpValue};
-ghost use Rattle.cow_tree.specs.KeptPlaces.{ArePlaces, IsKeptTruly, IsLeafUnder};
+ghost use Rattle.cow_tree.specs.KeptPlaces.{AnswersValueBy, AnswersWayBy, ArePlaces, IsKeptTruly, NamesLeafUnder};
 ghost use Rattle.cow_tree.specs.PinnedTrees.{tree_at};
 ghost use Rattle.cow_tree.specs.Walks.{IsPageInside, ReadsTreePages};
-ghost use Rattle.cow_tree.specs.Ways.{AnswersBy, IsOnWay};
+ghost use Rattle.cow_tree.specs.Ways.{AnswersBy, AnswersWay, IsOnWay};
 ghost use Rattle.cow_tree.specs.declared.page_fault.PageFault.{PageFault as PageFaultValue};
 ghost use Rattle.cow_tree.specs.declared.page_fault.PageFault.TheVariants.{Damaged};
 
@@ -76,7 +76,7 @@ fn around_kept(
     key: &[u8],
 ) -> Result<(u32, Option<u32>), PageFault>
     requires { 0 < level }
-    ensures way { (view : ℕ → List ℕ) (found : Found) → view page ≡ bytes.now → ArePlaces level bytes.now places.now.count places.now.at → walk view (bounds_of bounds) level page [] None ≡ Some found → AnswersBy result (IsOnWay view (bounds_of bounds) (level - 1) key.now found) }
+    ensures way { AnswersWayBy bytes.now places.now (bounds_of bounds) level page key.now result }
     ensures first { IfOk result (λ around. around.0 < bounds.pages) }
     ensures second { IfOk result (λ around. IfSome around.1 (λ page. page < bounds.pages)) }
     ensures head { IfOk result (λ around. has_head (place_in (bounds_of bounds) level page) bytes.now ≡ true) }
@@ -128,8 +128,7 @@ fn page_around<D: Device>(
     requires level { 0 < level }
     requires inside { IsPageInside (D.state device.old).size bounds.pages page }
     requires kept { IsTrue (D.state device.old).honest → IsKeptTruly (page_of (D.state device.old).disk.view) places.old }
-    ensures way { IsTrue (D.state device.old).honest → (found : Found) → walk (page_of (D.state device.old).disk.view) (bounds_of bounds) level page [] None ≡ Some found →
-        AnswersBy result (IsOnWay (page_of (D.state device.old).disk.view) (bounds_of bounds) (level - 1) key.now found) }
+    ensures way { IsTrue (D.state device.old).honest → AnswersWay (page_of (D.state device.old).disk.view) (bounds_of bounds) level page key.now result }
     ensures first { IfOk result (λ around. around.0 < bounds.pages) }
     ensures reads { ReadsTreePages D.state (crash_states_of D.moment D.possible_since) device.old device.new result }
     ensures kept { IsTrue (D.state device.new).honest → IsKeptTruly (page_of (D.state device.new).disk.view) places.new }
@@ -161,8 +160,7 @@ fn copy_kept_value(
     buffer: &mut [u8; LONGEST_VALUE],
 ) -> Result<Option<usize>, PageFault>
     ensures within { IfOk result (λ found. IfSome found (λ n. n ≤ longest_value)) }
-    ensures value { (view : ℕ → List ℕ) (found : Found) → view page ≡ bytes.now → ArePlaces 0 bytes.now places.now.count places.now.at → walk view (bounds_of bounds) 0 page [] None ≡ Some found →
-        AnswersBy result (λ size. option_map (λ n. take n buffer.new) size ≡ value_at found.pairs key.now) }
+    ensures value { AnswersValueBy bytes.now places.now (bounds_of bounds) page key.now buffer.new result }
     ensures buffer { IsFilled (λ n. n) result buffer.old buffer.new }
     ensures head { IfOk result (λ found. has_head (place_in (bounds_of bounds) 0 page) bytes.now ≡ true) }
     ensures fault { IfErr result (λ e. e ≡ Damaged page) }
@@ -285,8 +283,7 @@ pub(crate) fn get_under<D: Device>(
     ensures found { LooksUpValue D.state (crash_states_of D.moment D.possible_since) (λ pages. walk pages (bounds_of bounds) level page [] None) key.now device.old device.new buffer.old buffer.new result }
     ensures kept { IsTrue (D.state device.new).honest → IsKeptTruly (page_of (D.state device.new).disk.view) places.new }
     // The leaf in which it looked is a part of what stands there.
-    ensures leaf { IsTrue (D.state device.old).honest → (found : Found) → walk (page_of (D.state device.old).disk.view) (bounds_of bounds) level page [] None ≡ Some found →
-        OnOk result (IsLeafUnder (page_of (D.state device.old).disk.view) (bounds_of bounds) places.new.leaf found) }
+    ensures leaf { IsTrue (D.state device.old).honest → NamesLeafUnder (page_of (D.state device.old).disk.view) (bounds_of bounds) level page places.new.leaf result }
     ensures work { MadeAtMost (8 * (level + 1)) 0 0 (D.state device.old) (D.state device.new) }
 {
     if level == 0 {

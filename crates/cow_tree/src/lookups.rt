@@ -3,12 +3,11 @@ ghost use Rattle.std.specs.Prelude.{◌≡◌, ◌≤◌, ◌<◌, ◌*◌, [], 
 ghost use Rattle.sector_device.specs.Effects.{MadeAtMost};
 ghost use Rattle.page_store.specs.Sectors.{page_of};
 ghost use Rattle.page_store.specs.Steps.{crash_states_of};
-ghost use Rattle.page_store.specs.Content.{tree_found};
 ghost use Rattle.page_store.specs.Batch.{pair_after};
 ghost use Rattle.page_store.specs.Work.{pages_tried};
-ghost use Rattle.cow_tree.specs.LookUps.{LooksUpValue, FillsFronts, KeepsNext};
+ghost use Rattle.cow_tree.specs.LookUps.{LooksUpValue, FillsFronts, IsKeptUnder, KeepsNext, pair_in_front};
 ghost use Rattle.cow_tree.specs.KeptPlaces.{IsKeptTruly};
-ghost use Rattle.cow_tree.specs.KeptLeaves.{IsKeptLeaf, has_next};
+ghost use Rattle.cow_tree.specs.KeptLeaves.{has_next};
 ghost use Rattle.cow_tree.specs.Opening.{IsRooted, bounds_under};
 ghost use Rattle.cow_tree.specs.PinnedTrees.{IsRootedAt, bounds_at, tree_at};
 
@@ -102,8 +101,7 @@ pub(crate) fn find_next<D: Device>(
     requires fits { 8 * slot.now.root.pages ≤ (D.state device.old).size }
     requires rooted { IsRooted slot.now.root }
     ensures fills { FillsFronts result key.old key.new value.old value.new }
-    ensures next { KeepsNext D.state (crash_states_of D.moment D.possible_since) (λ pages found. (tree_found slot.now pages ≡ Some found) × IsKeptLeaf pages (bounds_under slot.now) found kept.old)
-        (bounds_under slot.now) after.now device.old device.new kept.new (λ sizes. option_map (λ n. (take n.0 key.new, take n.1 value.new)) sizes) result }
+    ensures next { KeepsNext D.state (crash_states_of D.moment D.possible_since) (IsKeptUnder slot.now kept.old) (bounds_under slot.now) after.now device.old device.new kept.new (pair_in_front key.new value.new) result }
     ensures from_kept { IfOk result (λ sizes. option_map (λ n. (take n.0 key.new, take n.1 value.new)) sizes ≡ pair_after kept.new after.now) }
     ensures some { OnOk result (0 < slot.now.root.height → kept.new ≡ [] → ⊥) }
     ensures work { MadeAtMost (8 * pages_tried slot.now.root.height) 0 0 (D.state device.old) (D.state device.new) }

@@ -10,7 +10,7 @@ ghost use Rattle.page_store.specs.Content.{place_in, walk};
 ghost use Rattle.page_store.specs.Pages.{pair_at};
 ghost use Rattle.page_store.specs.Work.{pages_tried};
 ghost use Rattle.tree_nodes.specs.PageViews.{bounds_of, pairs_in, entries_by_head};
-ghost use Rattle.cow_tree.specs.LookUps.{LooksUpNext};
+ghost use Rattle.cow_tree.specs.LookUps.{HasNextAt, LooksUpNext};
 ghost use Rattle.cow_tree.specs.Ways.{begins_leaf};
 ghost use Rattle.cow_tree.specs.declared.page_fault.PageFault.TheVariants.{Damaged};
 
@@ -126,7 +126,7 @@ fn next_in_sibling<D: Device>(
 ) -> Result<Option<(usize, usize)>, PageFault>
     requires fits { 8 * bounds.pages ≤ (D.state device.old).size }
     requires most { page < bounds.pages }
-    ensures next { LooksUpNext D.state (crash_states_of D.moment D.possible_since) (λ pages found. (walk pages (bounds_of bounds) level page [] None ≡ Some found) × (pair_after found.pairs after.now ≡ None → ⊥)) after.now device.old device.new key.old key.new value.old value.new result }
+    ensures next { LooksUpNext D.state (crash_states_of D.moment D.possible_since) (HasNextAt (bounds_of bounds) level page after.now) after.now device.old device.new key.old key.new value.old value.new result }
     ensures some { IfOk result (λ found. found ≡ None → ⊥) }
     ensures work { MadeAtMost (8 * pages_tried (level + 1)) 0 0 (D.state device.old) (D.state device.new) }
 {

@@ -1,5 +1,5 @@
 // The walk of an opening: each page once, with all that is tested of it.
-ghost use Rattle.std.specs.Prelude.{◌≡◌, ◌≤◌, ◌<◌, ◌*◌, ◌+◌, ℕ, true, IsTrue, IfOk, IfErr, None, Some, length, option_copied, not, if◌then◌else◌};
+ghost use Rattle.std.specs.Prelude.{◌≡◌, ◌≤◌, ◌<◌, ◌*◌, ◌+◌, true, IsTrue, IfOk, IfErr, None, Some, length, option_copied, if◌then◌else◌};
 ghost use Rattle.sector_device.specs.Effects.{MadeIfOk};
 ghost use Rattle.std.specs.List.{list_all};
 ghost use Rattle.page_alloc.specs.LedgerState.{is_free, free_count};

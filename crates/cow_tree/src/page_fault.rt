@@ -1,6 +1,5 @@
 // Faults of pages that are read.
 ghost use Rattle.std.specs.Prelude.{◌≡◌};
-ghost use Rattle.page_store.specs.declared.fault.KeeperFault.{KeeperFault as KeeperFaultValue};
 ghost use Rattle.cow_tree.specs.Opening.{fault_of};
 
 use page_store::KeeperFault;

@@ -5,15 +5,15 @@ ghost use Rattle.sector_device.specs.Sizes.{page_size};
 ghost use Rattle.sector_device.specs.Effects.{MadeAtMost, MadeIfOk};
 ghost use Rattle.page_store.specs.Sectors.{page_of};
 ghost use Rattle.page_store.specs.Steps.{crash_states_of};
-ghost use Rattle.page_store.specs.Batch.{value_at, pair_after};
+ghost use Rattle.page_store.specs.Batch.{value_at};
 ghost use Rattle.page_store.specs.StoreState.{IsFilled};
-ghost use Rattle.page_store.specs.Content.{Found, place_in, walk};
+ghost use Rattle.page_store.specs.Content.{place_in, walk};
 ghost use Rattle.page_store.specs.Pages.{pair_at};
 ghost use Rattle.tree_nodes.specs.PageViews.{bounds_of, pairs_in, children_in, entries_by_head, has_head};
-ghost use Rattle.cow_tree.specs.LookUps.{LooksUpValue, ReadsNextLeaf};
+ghost use Rattle.cow_tree.specs.LookUps.{HasNextAt, LooksUpValue, ReadsNextLeaf};
 ghost use Rattle.page_store.specs.Work.{pages_tried};
 ghost use Rattle.cow_tree.specs.Walks.{ReadsTreePages};
-ghost use Rattle.cow_tree.specs.Ways.{pages_around, are_inside, around_in, AnswersBy, IsOnWay};
+ghost use Rattle.cow_tree.specs.Ways.{pages_around, are_inside, around_in, AnswersWay};
 ghost use Rattle.cow_tree.specs.declared.page_fault.PageFault.TheVariants.{Damaged};
 
 use crate::kept_leaf::KeptLeaf;
@@ -87,8 +87,7 @@ pub(crate) fn read_around<D: Device>(
     requires level { 0 < level }
     requires fits { 8 * bounds.pages ≤ (D.state device.old).size }
     requires most { page < bounds.pages }
-    ensures way { IsTrue (D.state device.old).honest → (found : Found) → walk (page_of (D.state device.old).disk.view) (bounds_of bounds) level page [] None ≡ Some found →
-        AnswersBy result (IsOnWay (page_of (D.state device.old).disk.view) (bounds_of bounds) (level - 1) key.now found) }
+    ensures way { IsTrue (D.state device.old).honest → AnswersWay (page_of (D.state device.old).disk.view) (bounds_of bounds) level page key.now result }
     ensures first { IfOk result (λ around. around.0 < bounds.pages) }
     ensures second { IfOk result (λ around. IfSome around.1 (λ page. page < bounds.pages)) }
     ensures reads { ReadsTreePages D.state (crash_states_of D.moment D.possible_since) device.old device.new result }
@@ -110,8 +109,7 @@ pub(crate) fn children_around<D: Device>(
     requires level { 0 < level }
     requires fits { 8 * bounds.pages ≤ (D.state device.old).size }
     requires most { page < bounds.pages }
-    ensures way { IsTrue (D.state device.old).honest → (found : Found) → walk (page_of (D.state device.old).disk.view) (bounds_of bounds) level page [] None ≡ Some found →
-        AnswersBy result (IsOnWay (page_of (D.state device.old).disk.view) (bounds_of bounds) (level - 1) key.now found) }
+    ensures way { IsTrue (D.state device.old).honest → AnswersWay (page_of (D.state device.old).disk.view) (bounds_of bounds) level page key.now result }
     ensures first { IfOk result (λ around. around.0 < bounds.pages) }
     ensures second { IfOk result (λ around. IfSome around.1 (λ page. page < bounds.pages)) }
     ensures reads { ReadsTreePages D.state (crash_states_of D.moment D.possible_since) device.old device.new result }
@@ -202,8 +200,7 @@ fn leaf_in_sibling<D: Device>(
 ) -> Result<bool, PageFault>
     requires fits { 8 * bounds.pages ≤ (D.state device.old).size }
     requires most { page < bounds.pages }
-    ensures next { ReadsNextLeaf D.state (crash_states_of D.moment D.possible_since) (λ pages found. (walk pages (bounds_of bounds) level page [] None ≡ Some found) × (pair_after found.pairs after.now ≡ None → ⊥))
-        (bounds_of bounds) after.now device.old device.new kept.new result }
+    ensures next { ReadsNextLeaf D.state (crash_states_of D.moment D.possible_since) (HasNextAt (bounds_of bounds) level page after.now) (bounds_of bounds) after.now device.old device.new kept.new result }
     ensures work { MadeAtMost (8 * pages_tried (level + 1)) 0 0 (D.state device.old) (D.state device.new) }
 {
     if !leaf_after(device, bounds, level, page, after, kept)? {

@@ -1,11 +1,8 @@
 // What a commit is to write, worked out whole before anything is written.
-ghost use Rattle.std.specs.Prelude.{◌≡◌, ◌≤◌, ◌<◌, ◌+◌, ◌-◌, ◌*◌, ◌^◌, ℕ, List, IsTrue, OnErr, IfOk, IfErr, All, length, min};
+ghost use Rattle.std.specs.Prelude.{◌≡◌, ◌≤◌, ◌<◌, ◌-◌, ◌*◌, ◌^◌, ℕ, IsTrue, IfOk, IfErr, All, length, min};
 ghost use Rattle.sector_device.specs.Effects.{MadeAtMost};
-ghost use Rattle.page_store.specs.Content.{is_tree_version};
 ghost use Rattle.page_alloc.specs.LedgerState.{free_count, is_alive};
-ghost use Rattle.page_store.specs.Sectors.{Image};
-ghost use Rattle.page_store.specs.Pages.{Pair};
-ghost use Rattle.page_store.specs.Batch.{updated, is_batch};
+ghost use Rattle.page_store.specs.Batch.{is_batch};
 ghost use Rattle.page_store.specs.Steps.{crash_states_of};
 ghost use Rattle.page_store.specs.StoreState.{most_levels};
 ghost use Rattle.page_store.specs.declared.fault.KeeperFault.TheVariants.{Memory};
@@ -14,10 +11,9 @@ ghost use Rattle.tree_nodes.specs.Steps.{IsValidRoot};
 ghost use Rattle.tree_nodes.specs.OwnedTrees.{state_of};
 ghost use Rattle.tree_nodes.specs.Growth.{owned_under};
 ghost use Rattle.tree_pages.specs.Written.{IsTreePage};
-ghost use Rattle.cow_tree.specs.Drafts.{IsCountedRead, IsCounted, OnlyMarks, TellsDraft, MayBeTooDeep};
-ghost use Rattle.cow_tree.specs.Needs.{NeedsTreePages, GetsTooDeep};
-ghost use Rattle.cow_tree.specs.PlanCalls.{HasLedgerOf, IsNextRoot, MayPlan, PlansDraft, PlansWithin, MarksOrStays};
-ghost use Rattle.cow_tree.specs.Plans.{IsHeld, Starts, IsPlanned, IsTreePlanFault, IsRoomFault, IsTreeFault, IsRootWritten, IsRootInside};
+ghost use Rattle.cow_tree.specs.Drafts.{IsCountedRead, OnlyMarks};
+ghost use Rattle.cow_tree.specs.PlanCalls.{HasLedgerOf, IsNextRoot, MayPlan, PlansDraft, PlansPages, PlansWithin, PlansBatch, NeedsFromStart, MarksOrStays};
+ghost use Rattle.cow_tree.specs.Plans.{IsTreePlanFault, IsRoomFault, IsTreeFault, IsRootWritten, IsRootInside};
 
 use crate::drafts::{Draft, draft_batch};
 use crate::taking::take_pages;
@@ -80,8 +76,7 @@ pub(crate) fn plan_draft(
     requires next { IsNextRoot slot.now seal banner }
     ensures made { IfOk result (PlansDraft slot.now seal banner draft.now (free_count ledger.old)) }
     ensures alive { (n : ℕ) → length ledger.old.marks ≡ length ledger.old.lives → IfOk result (λ plan. is_alive ledger.new n ≡ is_alive ledger.old n) }
-    ensures planned { (view : Image) (top edits : ℕ) (pairs : List Pair) → IsHeld view slot.now top ledger.old → IsCounted slot.now view edits pairs ledger.old draft.now → seal ≡ top + 1 → IsTrue (is_tree_version banner.version) →
-        TellsDraft (Unit {0}) result (IsPlanned view slot.now top pairs ledger.new) }
+    ensures planned { PlansPages slot.now seal banner draft.now ledger.old ledger.new result }
     ensures marks { OnlyMarks ledger.old ledger.new }
     ensures fault { IfErr result (IsRoomFault (free_count ledger.old) (λ need. need ≡ min (owned_under (state_of draft.now.tree).root) (2 ^ 64 - 1))) }
 {
@@ -122,11 +117,9 @@ pub(crate) fn plan_commit<D: Device>(
     requires may { MayPlan (D.state device.old).size slot.now ledger.old seal banner }
     requires batch { IsTrue (is_batch batch.now) }
     ensures made { IfOk result (PlansWithin slot.now seal banner (free_count ledger.old)) }
-    ensures planned { IsTrue (D.state device.old).honest → (top : ℕ) (pairs : List Pair) → IsHeld (D.state device.old).disk.view slot.now top ledger.old → Starts slot.now (D.state device.old).disk.view pairs ledger.old → seal ≡ top + 1 → IsTrue (is_tree_version banner.version) →
-        TellsDraft (MayBeTooDeep slot.now (length batch.now) × GetsTooDeep slot.now (D.state device.old).disk.view batch.now) result
-        (λ plan. IsPlanned (D.state device.old).disk.view slot.now top (updated pairs batch.now) ledger.new plan × NeedsTreePages slot.now (D.state device.old).disk.view batch.now (length plan.pages.items)) }
+    ensures planned { IsTrue (D.state device.old).honest → PlansBatch slot.now (D.state device.old).disk.view seal banner batch.now ledger.old ledger.new result }
     ensures ledger { MarksOrStays ledger.old ledger.new result }
-    ensures fault { IfErr result (IsTreePlanFault (free_count ledger.old) (λ need. IsTrue (D.state device.old).honest → (pairs : List Pair) → Starts slot.now (D.state device.old).disk.view pairs ledger.old → NeedsTreePages slot.now (D.state device.old).disk.view batch.now need)) }
+    ensures fault { IfErr result (IsTreePlanFault (free_count ledger.old) (λ need. IsTrue (D.state device.old).honest → NeedsFromStart slot.now (D.state device.old).disk.view batch.now ledger.old need)) }
     ensures reads { IsCountedRead D.state (crash_states_of D.moment D.possible_since) device.old device.new result }
     // For each edit a page of each level is read at most.
     ensures work { MadeAtMost (8 * (most_levels * length batch.now)) 0 0 (D.state device.old) (D.state device.new) }

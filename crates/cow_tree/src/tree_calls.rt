@@ -1,5 +1,5 @@
 // The calls of a keeper of a tree.
-ghost use Rattle.std.specs.Prelude.{◌≡◌, ◌≤◌, ◌<◌, IsTrue, OnOk, IfOk, IfErr, length};
+ghost use Rattle.std.specs.Prelude.{◌≡◌, ◌<◌, IsTrue, OnOk, IfOk, IfErr, length};
 ghost use Rattle.page_store.specs.Work.{ReadsPages, pages_tried};
 ghost use Rattle.page_store.specs.Sectors.{Image, page_of};
 ghost use Rattle.page_store.specs.Batch.{is_batch};

@@ -10,8 +10,8 @@ use Rattle.page_store.specs.Steps.{AllAre, crash_states_of}
 use Rattle.file_device.specs.FileCalls.{FileHistory, file_state, PossibleSince}
 use Rattle.file_device.specs.FileUses.{FileUse, Opened, NotOpened, Left}
 use Rattle.file_device.specs.Opening.{IsOpened, IsUnused}
-use Rattle.file_device.specs.declared.file_call.FileCall.TheVariants.{Create, Lock, Open, SetLength}
-use Rattle.file_names.specs.NameCalls.{NameCall, Looked, Renamed, Synced}
+use Rattle.file_device.specs.declared.file_call.FileCall.TheVariants.{Create, Lock, SetLength}
+use Rattle.file_names.specs.NameCalls.{NameCall, Renamed, Synced}
 use Rattle.file_names.specs.declared.names.Look.{Look}
 use Rattle.file_names.specs.declared.names.Look.TheVariants as looks
 use Rattle.host_on_disk.specs.ImageSites.{ImageRepresents}

@@ -1,9 +1,6 @@
 // The image on a device, copied to a new file.
-ghost use Rattle.std.specs.Prelude.{◌≡◌, ◌⊎◌, ◌++◌, ◌∷◌, [], ℕ};
+ghost use Rattle.std.specs.Prelude.{◌≡◌};
 ghost use Rattle.std.specs.String.{string_bytes};
-ghost use Rattle.file_device.specs.FileCalls.{FileHistory};
-ghost use Rattle.file_device.specs.FileUses.{Left};
-ghost use Rattle.common_types.specs.CrashStates.{AddsNone};
 ghost use Rattle.file_copies.specs.FileCopies.{part_of, text_of, ComesOfOld};
 
 use crate::new_file::make_new;

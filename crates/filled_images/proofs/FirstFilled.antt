@@ -1,15 +1,14 @@
 -- A new image in filled pages.
-use Rattle.std.proofs.Common.{◌≡◌, ◌≤◌, ◌<◌, ◌+◌, ◌-◌, ◌*◌, ◌^◌, inr, ℕ, suc, true, false, List, [], ◌∷◌, length, replicate, Option, Some, None, refl, sym, ap, subst, ◌∙◌, arith, IsTrue}
+use Rattle.std.proofs.Common.{◌≡◌, ◌≤◌, ◌+◌, ◌-◌, ◌*◌, ◌^◌, inr, ℕ, suc, true, false, List, [], ◌∷◌, length, replicate, Option, Some, None, refl, sym, ap, subst, ◌∙◌, arith, IsTrue}
 use Rattle.std.specs.Prelude.{min}
 use Rattle.page_store.specs.Flat.{numbers_from}
 use Rattle.page_store.specs.Sectors.{Image, page_of}
 use Rattle.page_store.specs.Roots.{current, greatest_seal}
 use Rattle.page_store.specs.Pages.{Pair}
 use Rattle.page_store.specs.Batch.{is_map}
-use Rattle.page_store.specs.Content.{tree_as, is_tree_version, Found, Bounds, nothing_found, is_among, tree_found, content_under, found_as, pairs_and_banner, HasContent}
+use Rattle.page_store.specs.Content.{tree_as, is_tree_version, Found, Bounds, nothing_found, is_among, tree_found, content_under, pairs_and_banner}
 use Rattle.page_store.specs.Switch.{IsSlotPage, IsSwitched}
 use Rattle.page_store.specs.Commit.{numbers, patched}
-use Rattle.page_store.specs.Formatting.{IsFirst}
 use Rattle.page_store.specs.declared.banner.Banner.{Banner}
 use Rattle.page_store.specs.declared.commit.NewPage.{NewPage}
 use Rattle.page_store.specs.declared.slot.Slot.{Slot}
@@ -18,23 +17,23 @@ use Rattle.page_store.proofs.OtherHalfCommits.{before_first}
 use Rattle.page_store.proofs.Phases.{content-of}
 use Rattle.page_store.proofs.Switches.{switched}
 use Rattle.page_store.proofs.UntouchedPages.{page_of-same}
-use Rattle.tree_nodes.specs.Tree.{Tree, OldPages, page, leaf, branch, pairs_of, pages_of, owned_nodes}
+use Rattle.tree_nodes.specs.Tree.{Tree, OldPages, page, leaf, branch, pairs_of, pages_of}
 use Rattle.tree_nodes.specs.Image.{old_of}
 use Rattle.tree_nodes.specs.Growth.{owned_under}
 use Rattle.tree_nodes.specs.Steps.{RootState, IsValidRoot, root_pairs}
-use Rattle.tree_nodes.specs.Valid.{IsValid, left_pages}
+use Rattle.tree_nodes.specs.Valid.{left_pages}
 use Rattle.tree_pages.specs.Reached.{times, reached, AreKept, IsLater, FindsTree, HoldsTree, all_under}
-use Rattle.tree_pages.specs.Written.{IsWritten, ArePut, AllFit, IsTreePage, AreTreePages, AddsTree}
+use Rattle.tree_pages.specs.Written.{IsWritten, ArePut, IsTreePage, AreTreePages}
 use Rattle.tree_pages.proofs.PagesPut.{pages_are_put, all_used}
 use Rattle.tree_pages.proofs.FoundTrees.{found_tree}
 use Rattle.tree_pages.proofs.RootsWritten.{holds_tree}
 use Rattle.tree_loading.specs.Filled.{filled}
-use Rattle.tree_loading.proofs.RootsMade.{filled_pages, filled_valid, filled_pairs, filled_height, filled_owned}
+use Rattle.tree_loading.proofs.RootsMade.{filled_pages, filled_valid, filled_pairs, filled_height}
 use Rattle.cow_tree.specs.Formatting.{IsFirstWritten}
-use Rattle.cow_tree.specs.TreeState.{found_under, unreached}
+use Rattle.cow_tree.specs.TreeState.{found_under}
 use Rattle.cow_tree.specs.PinnedTrees.{or_nothing}
 use Rattle.cow_tree.specs.Plans.{IsRootInside}
-use Rattle.cow_tree.specs.Compacting.{most_pairs, IsFilledTree}
+use Rattle.cow_tree.specs.Compacting.{most_pairs}
 use Rattle.cow_tree.proofs.AllRetired.{filled_bounded}
 use Rattle.cow_tree.proofs.PageCounts.{numbers_length, same_length, all_pages}
 use Rattle.cow_tree.proofs.RootsPlaced.{valid_root_fits, root_inside}

@@ -1,12 +1,15 @@
 -- An image of some pairs in filled pages, the first of its generations.
-use Rattle.std.specs.Prelude.{◌≡◌, ◌⊎◌, ◌≤◌, ◌<◌, ◌+◌, ◌-◌, ◌*◌, ℕ, List, [], length, Option, None, Some}
+use Rattle.std.specs.Prelude.{◌≡◌, ◌⊎◌, ◌≤◌, ◌<◌, ◌+◌, ◌-◌, ◌*◌, ℕ, true, List, [], length, Option, None, Some, IsTrue}
 use Rattle.page_store.specs.Sizes.{least_pages, most_pages}
 use Rattle.common_types.specs.Counts.{counted}
+use Rattle.common_types.specs.CrashStates.{CrashStates}
 use Rattle.sector_device.specs.Device.{State}
 use Rattle.page_store.specs.Flat.{numbers_from}
 use Rattle.page_store.specs.Sectors.{Image}
 use Rattle.page_store.specs.Pages.{Pair}
-use Rattle.page_store.specs.Content.{HasContent}
+use Rattle.page_store.specs.Batch.{is_map}
+use Rattle.page_store.specs.Steps.{AllAre}
+use Rattle.page_store.specs.Content.{HasContent, is_tree_version}
 use Rattle.page_store.specs.Formatting.{IsFirst}
 use Rattle.page_store.specs.Switch.{IsSlotPage}
 use Rattle.page_store.specs.declared.banner.Banner.{Banner}
@@ -20,7 +23,8 @@ use Rattle.tree_nodes.specs.Tree.{Tree}
 use Rattle.tree_pages.specs.Written.{AddsTree, AllFit}
 use Rattle.tree_loading.specs.Filled.{filled}
 use Rattle.cow_tree.specs.TreeState.{unreached}
-use Rattle.cow_tree.specs.Compacting.{IsFilledTree}
+use Rattle.cow_tree.specs.Compacting.{IsFilledTree, most_pairs}
+use Rattle.cow_tree.specs.Formatting.{IsFirstWritten}
 use Rattle.filled_images.specs.declared.filled_image.FilledImage.{FilledImage}
 
 -- how many pages these pairs take, filled
@@ -65,6 +69,14 @@ pub record HasFilled (count : ℕ) (banner : Banner) (pairs : List Pair) (free :
   pub first : IsFirst count image
   pub filled_is : IsFilledTree first.slot image
   pub free_is : free ≡ unreached first.slot [] image
+
+-- Its pages and its first slot are written, and a crash leaves just that.
+abbrev pub IsSurelyWritten : FilledImage → Image → Image → CrashStates Image → Type 0
+IsSurelyWritten filled old new crash_states = IsFirstWritten filled.pages.items filled.root old new × AllAre crash_states new
+
+-- Of whatever pairs it is, and however many pages these leave: an image of them is there.
+abbrev pub GivesFilled : FilledImage → Image → Type 0
+GivesFilled filled image = (count free : ℕ) (banner : Banner) (pairs : List Pair) → is_map pairs ≡ true → length pairs ≤ most_pairs → IsTrue (is_tree_version banner.version) → IsImageOf count banner pairs filled → free + pages_for pairs + 2 ≡ count → HasFilled count banner pairs free image
 
 -- Why it is not written: the device is too small for so many pages, or a write or a sync failed.
 abbrev pub IsNotWritten : ℕ → State → State → KeeperFault → Type 0

@@ -1,16 +1,12 @@
 // Writing an image in filled pages.
-ghost use Rattle.std.specs.Prelude.{◌≡◌, ◌≢◌, ◌≤◌, ◌+◌, ◌*◌, ℕ, List, true, IsTrue, OnOk, IfErr, length};
+ghost use Rattle.std.specs.Prelude.{◌≡◌, ◌≢◌, ◌≤◌, ◌+◌, ◌*◌, ℕ, List, IsTrue, OnOk, IfErr, length};
 ghost use Rattle.sector_device.specs.Device.{NothingCounted};
 ghost use Rattle.sector_device.specs.Effects.{IsSameDevice, WriteOutcome, MadeIfOk};
 ghost use Rattle.page_store.specs.Pages.{Pair};
-ghost use Rattle.page_store.specs.Batch.{is_map};
-ghost use Rattle.page_store.specs.Content.{is_tree_version};
 ghost use Rattle.page_store.specs.Steps.{crash_states_of, AllAre};
 ghost use Rattle.page_store.specs.declared.banner.Banner.{Banner};
 ghost use Rattle.page_store.specs.declared.fault.KeeperFault.TheVariants.{Failed};
-ghost use Rattle.cow_tree.specs.Compacting.{most_pairs};
-ghost use Rattle.cow_tree.specs.Formatting.{IsFirstWritten};
-ghost use Rattle.filled_images.specs.FilledImages.{pages_for, IsImageOf, HasFilled, IsNotWritten};
+ghost use Rattle.filled_images.specs.FilledImages.{pages_for, IsImageOf, IsSurelyWritten, GivesFilled, IsNotWritten};
 
 use crate::FilledImage;
 use page_store::{KeeperFault, sync_all, write_page, write_pages};
@@ -20,7 +16,7 @@ impl FilledImage {
     /// Clears the second slot, writes the pages and that of the first slot, and makes sure of them.
     fn write_all<D: Device>(&self, device: &mut D) -> Result<(), DeviceFault>
         requires fits { 8 * self.now.slot.root.pages ≤ (D.state device.old).size }
-        ensures written { IsTrue (D.state device.old).honest → OnOk result (IsFirstWritten self.now.pages.items self.now.root (D.state device.old).disk.view (D.state device.new).disk.view × AllAre (crash_states_of D.moment D.possible_since device.new) (D.state device.new).disk.view) }
+        ensures written { IsTrue (D.state device.old).honest → OnOk result (IsSurelyWritten self.now (D.state device.old).disk.view (D.state device.new).disk.view (crash_states_of D.moment D.possible_since device.new)) }
         ensures outcome { WriteOutcome result (D.state device.old) (D.state device.new) }
         ensures work { MadeIfOk result 0 (16 + 8 * length self.now.pages.items) 1 (D.state device.old) (D.state device.new) }
     {
@@ -35,8 +31,7 @@ impl FilledImage {
     ///
     /// `Small` where the device hasn't eight sectors for each page: it is left as it is. `Failed` where a write or a sync failed. A crash within the call may leave anything.
     pub fn write<D: Device>(&self, device: &mut D) -> Result<(), KeeperFault>
-        ensures written { IsTrue (D.state device.old).honest → (count free : ℕ) (banner : Banner) (pairs : List Pair) → is_map pairs ≡ true → length pairs ≤ most_pairs → IsTrue (is_tree_version banner.version) → IsImageOf count banner pairs self.now →
-            free + pages_for pairs + 2 ≡ count → OnOk result (HasFilled count banner pairs free (D.state device.new).disk.view) }
+        ensures written { IsTrue (D.state device.old).honest → OnOk result (GivesFilled self.now (D.state device.new).disk.view) }
         ensures sure { IsTrue (D.state device.old).honest → OnOk result (AllAre (crash_states_of D.moment D.possible_since device.new) (D.state device.new).disk.view) }
         ensures fault { (count : ℕ) (banner : Banner) (pairs : List Pair) → IsImageOf count banner pairs self.now → IfErr result (IsNotWritten count (D.state device.old) (D.state device.new)) }
         ensures counts { OnOk result (NothingCounted (D.state device.old) (D.state device.new)) }

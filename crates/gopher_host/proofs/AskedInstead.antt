@@ -1,22 +1,19 @@
 -- A server that was asked in place of an image.
-use Rattle.std.proofs.Common.{Bor, ◌≡◌, ◌⊎◌, inl, inr, ℕ, Bool, true, false, List, [], ◌∷◌, ◌++◌, Option, Ok, Err, refl, sym, ap, ◌∙◌, subst, length, map}
+use Rattle.std.proofs.Common.{Bor, ◌≡◌, ◌⊎◌, inl, inr, ℕ, Bool, true, false, List, [], ◌∷◌, ◌++◌, Option, Ok, Err, refl, ap, ◌∙◌, subst, length, map}
 use Rattle.std.specs.Prelude.{Result, Some, string_bytes, if◌then◌else◌}
 use Rattle.std.specs.declared.alloc.Global.{Global}
 use Rattle.std.specs.declared.string.String.{String}
 use Rattle.file_device.specs.FileCalls.{FileHistory}
 use Rattle.file_device.specs.FileUses.{FileUse, NotOpened}
 use Rattle.change_file.specs.Changes.{read}
-use Rattle.admin_socket.specs.SocketCalls.{SocketCall, Connected}
-use Rattle.image_commands.specs.declared.fault.ImageFault.{ImageFault}
-use Rattle.image_commands.specs.declared.fault.ImageFault.TheVariants.{Memory}
+use Rattle.admin_socket.specs.SocketCalls.{SocketCall}
 use Rattle.turns.specs.WireCalls.{WireCall, HasMade}
 use Rattle.admin_lines.specs.Replies.{reply}
 use Rattle.admin_lines.specs.declared.reply.ReplyFault.{ReplyFault}
 use Rattle.admin_client.specs.Asking.{IsAsked, IsAnsweredInVain}
 use Rattle.admin_client.specs.declared.answer.AdminAnswer.{AdminAnswer}
-use Rattle.gopher_host.specs.Asked.{answer_of, AsksInstead, AsksServer, GivesAnswer, IsNobody, OpensUnasked, PrintsAnswer}
-use Rattle.gopher_host.specs.ImageFiles.{IsNotThere}
-use Rattle.gopher_host.specs.Kept.{Drops, DropsInstead, MakesEach, dropped_line, removal}
+use Rattle.gopher_host.specs.Asked.{answer_of, AsksInstead, AsksServer, GivesAnswer, OpensUnasked, PrintsAnswer}
+use Rattle.gopher_host.specs.Kept.{Drops, DropsInstead, dropped_line, removal}
 use Rattle.gopher_host.specs.declared.fault.Fault.{Fault}
 use Rattle.gopher_host.specs.declared.fault.Fault.TheVariants as faults
 

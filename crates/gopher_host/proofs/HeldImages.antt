@@ -1,11 +1,11 @@
 -- An image that a command reads where a server has it, put together.
-use Rattle.std.proofs.Common.{◌≡◌, ◌⊎◌, inl, inr, ℕ, Bool, true, false, List, [], ◌∷◌, ◌++◌, Ok, Err, refl, sym, ap, ◌∙◌, subst}
+use Rattle.std.proofs.Common.{◌≡◌, inl, inr, ℕ, Bool, true, false, List, [], ◌∷◌, ◌++◌, Ok, Err, refl, sym, subst}
 use Rattle.std.specs.Prelude.{Result}
 use Rattle.file_device.specs.FileCalls.{FileHistory}
 use Rattle.file_device.specs.FileUses.{FileUse, Opened, NotOpened, Left}
 use Rattle.file_device.specs.Opening.{IsOpenedToRead, IsUnused}
 use Rattle.image_commands.specs.declared.fault.ImageFault.{ImageFault}
-use Rattle.image_commands.specs.declared.fault.ImageFault.TheVariants.{NoFile, Memory}
+use Rattle.image_commands.specs.declared.fault.ImageFault.TheVariants.{NoFile}
 use Rattle.turns.specs.WireCalls.{WireCall, HasMade}
 use Rattle.admin_client.specs.Holding.{IsHoldAsked}
 use Rattle.admin_socket.specs.SocketCalls.{SocketCall}

@@ -1,5 +1,5 @@
 -- From what the function gave that read an item to how the command ends.
-use Rattle.std.proofs.Common.{◌≡◌, ℕ, Bool, true, false, List, Option, Ok, Err, length, nat_lt, if◌then◌else◌, refl, sym, subst}
+use Rattle.std.proofs.Common.{◌≡◌, ℕ, Bool, true, false, List, Option, Ok, Err, length, nat_lt, if◌then◌else◌, subst}
 use Rattle.std.specs.Prelude.{Result, IfOk, IfErr}
 use Rattle.common_types.specs.Names.{is_field}
 use Rattle.common_types.specs.declared.refused.Refused.TheVariants.{BadName, TooLong}

@@ -4,7 +4,6 @@ pub mod AskedInstead
 pub mod Moments
 pub mod Readings
 pub mod Written
-pub mod Opens
 pub mod Formatted
 pub mod Scripts
 pub mod ItemsRead

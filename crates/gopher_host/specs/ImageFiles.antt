@@ -1,5 +1,5 @@
 -- What commands do with the image in a file, and what they print.
-use Rattle.std.specs.Prelude.{◌≡◌, ◌⊎◌, ◌++◌, ℕ, Bool, true, false, List, [], ◌∷◌, Option, Result, Ok, Err, IfOk, IfErr}
+use Rattle.std.specs.Prelude.{◌≡◌, ◌⊎◌, ◌++◌, ℕ, Bool, true, false, List, [], ◌∷◌, Option, Result, Err, IfOk, IfErr}
 use Rattle.common_types.specs.CrashStates.{CrashStates, AddsNone}
 use Rattle.page_store.specs.Sectors.{Image}
 use Rattle.page_store.specs.Steps.{crash_states_of}

@@ -21,6 +21,7 @@ use Rattle.gopher_host.specs.Faults.{memory_fault}
 use Rattle.admin_socket.specs.SocketCalls.{SocketCall, Connected}
 use Rattle.gopher_host.specs.Asked.{AsksServer, GivesAnswer, IsNobody, OpensUnasked, PrintsAnswer}
 use Rattle.gopher_host.specs.ImageFiles.{IsNotThere, file_crash_states}
+use Rattle.gopher_host.specs.Naming.{EndsNamed, file_line, names_line}
 use Rattle.gopher_host.specs.Unread.{IsUnsaid}
 use Rattle.gopher_host.specs.declared.fault.Fault.{Fault}
 use Rattle.gopher_host.specs.declared.fault.Fault.TheVariants as faults
@@ -50,6 +51,11 @@ AppliesOrAsks contents image name now before after none sockets old new file cha
     OpensUnasked image name before after none sockets old new result (Applies contents now old new result changes)
     ⊎ AsksServer image name file (λ text. text) contents before after none sockets old new result
 
+-- Changes were read from a file, and made so; or it gives none, and nothing is done. A fault of one of them is told with its line.
+abbrev pub AppliesFile : {W X : Type 0} → (W → Option (List ℕ)) → List ℕ → List ℕ → ℕ → List FileUse → List FileUse → List SocketCall → List SocketCall → W → W → Result X Fault → Type 0
+AppliesFile contents image name now before after none sockets old new result =
+    ReadsThen result ((new ≡ old) × (after ≡ before) × (sockets ≡ none)) (λ file changes. EndsNamed (file_line file) (AppliesOrAsks contents image name now before after none sockets old new file changes) result)
+
 -- ---- items that are removed
 
 -- the change that removes the item of this name, as a table of a file of changes says it
@@ -72,3 +78,7 @@ Drops contents image name names now before after none sockets old new result =
     ((result ≡ Err memory_fault) × (new ≡ old) × (after ≡ before) × (sockets ≡ none))
     ⊎ (OpensUnasked image name before after none sockets old new result (MakesEach dropped_line contents now old new result (map removal names))
     ⊎ ((bytes : List ℕ) × (file.read bytes ≡ Some (Ok (map removal names))) × AsksServer image name bytes (λ text. dropped_line (length names)) contents before after none sockets old new result))
+
+-- A fault of one of them is told with its line.
+abbrev pub Removes : {W X : Type 0} → (W → Option (List ℕ)) → List ℕ → List ℕ → List (List ℕ) → ℕ → List FileUse → List FileUse → List SocketCall → List SocketCall → W → W → Result X Fault → Type 0
+Removes contents image name names now before after none sockets old new result = EndsNamed (names_line names) (Drops contents image name names now before after none sockets old new) result

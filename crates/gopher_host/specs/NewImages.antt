@@ -95,12 +95,18 @@ IsNoNewImage asked image pages before after fault =
     (((asked ≡ Err fault) ⊎ (fault ≡ Memory)) × (after ≡ before))
     ⊎ ((IsNotThere fault × (after ≡ before ++ NotOpened image ∷ [])) ⊎ IsNotFormatted image pages before after fault)
 
+-- Why there is no line: an image was made, and standard output took no more; or it was not, for its cause, and nothing is printed.
+abbrev pub IsFormatEnd : {W : Type 0} → List ℕ → NewSite → ℕ → ℕ → List FileUse → List FileUse → W → W → Fault → Type 0
+IsFormatEnd image site pages now before after old new fault =
+    ((fault ≡ output_fault) × IsNewImage image site pages now before after)
+    ⊎ ((new ≡ old) × (cause : ImageFault) × (fault ≡ faults.Image cause) × IsNoNewImage (asked_at site pages now) image pages before after cause)
+
 -- Nothing is done where what is asked for is wrong. Else an image was made, and the line of its pages is printed or standard output took no more; or it was not, for its cause, and nothing is printed.
 pub record Formats {W X : Type 0} (contents : W → Option (List ℕ)) (image : List ℕ) (site : NewSite) (pages now : ℕ) (before after : List FileUse) (old new : W) (result : Result X Fault) : Type 0 where
   pub asked : (e : ImageFault) → asked_at site pages now ≡ Err e → (result ≡ Err (faults.Image e)) × (new ≡ old) × (after ≡ before)
   pub made : OnOk result (IsNewImage image site pages now before after)
   pub printed : OnOk result (Appends (contents old) (contents new) (ended (formatted_line pages)))
-  pub fault : IfErr result (λ e. ((e ≡ output_fault) × IsNewImage image site pages now before after) ⊎ ((new ≡ old) × (cause : ImageFault) × (e ≡ faults.Image cause) × IsNoNewImage (asked_at site pages now) image pages before after cause))
+  pub fault : IfErr result (IsFormatEnd image site pages now before after old new)
 
 -- ---- a file that must not be there
 

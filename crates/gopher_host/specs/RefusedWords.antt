@@ -1,5 +1,5 @@
 -- Which word of the command line names a new site as no site may be named: of --host, --admin and --title, in this order.
-use Rattle.std.specs.Prelude.{◌==◌, is_err, Option, Some, None, Result, Ok, Err, if◌then◌else◌}
+use Rattle.std.specs.Prelude.{◌==◌, is_err, Option, Some, None, Result, Err, if◌then◌else◌}
 use Rattle.common_types.specs.Names.{name_of, is_field, is_word}
 use Rattle.image_commands.specs.declared.fault.ImageFault.TheVariants as images
 use Rattle.command_words.specs.declared.words.NewSite.{NewSite}

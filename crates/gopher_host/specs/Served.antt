@@ -1,12 +1,13 @@
 -- What serving and a script did with the image in a file, whatever the command answers.
 use Rattle.std.specs.Prelude.{◌≡◌, ◌⊎◌, ℕ, Bool, true, false, List, [], Option, None, Result, Ok, Err, OnOk, IfOk, IfErr, IsOkAnd, codes}
+use Rattle.std.specs.Io.Buffered.{writer_buffer, writer_contents}
 use Rattle.std.specs.Io.KnownBytes.{Keeps}
+use Rattle.std.specs.declared.io.buffered.BufWriter.{BufWriter}
 use Rattle.std.specs.declared.net.socket_addr.SocketAddr.{SocketAddr}
-use Rattle.host_types.specs.AllChanges.{Changes}
-use Rattle.host_types.specs.CrashStates.{CrashStates}
 use Rattle.host_types.specs.Site.{Site, fresh_site}
-use Rattle.host_types.specs.SiteState.{SiteState}
-use Rattle.host_types.specs.declared.site_fault.SiteFault.{SiteFault}
+use Rattle.host_types.specs.declared.site_keeper.SiteKeeper.{Ghosts}
+use Rattle.cow_tree.specs.declared.tree_keeper.TreeKeeper.{TreeKeeper}
+use Rattle.site_store.specs.declared.disk_site.DiskSite.{DiskSite}
 use Rattle.file_device.specs.FileCalls.{FileHistory, file_state}
 use Rattle.file_device.specs.FileUses.{FileUse}
 use Rattle.host_on_disk.specs.OpenFaults.{IsOpeningFault, HandsBack}
@@ -44,10 +45,6 @@ use Rattle.gopher_host.specs.ImageFiles.{OpensThen, file_crash_states}
 use Rattle.gopher_host.specs.declared.fault.Fault.{Fault}
 use Rattle.gopher_host.specs.declared.fault.Fault.TheVariants as faults
 
--- Events of a hub, where posts wait or don't, over the site of the image in a file. What survives a crash of them is the headline.
-abbrev pub OnFile : {S L : Type 0} → Bool → (S → FileHistory) → (S → SiteState) → (S → Changes → SiteFault → Type 0) → (S → CrashStates L) → (L → Site → Type 0) → Ran FileHistory
-OnFile grouped device site_state lacks crash_states stands = OnImage grouped file_state device site_state lacks crash_states stands file_crash_states
-
 -- the office of an administrator at a Unix socket
 abbrev pub UnixOffice : Type 0
 UnixOffice = AdminOffice UnixGate UnixWire StoppedTexts
@@ -68,7 +65,7 @@ HasGate (places.Named name) image before now result = IsGate name.now before now
 HasGate places.Beside image before now result = IsGate (socket_name None image) before now result ⊎ ((now ≡ before) × (result ≡ Err memory_fault))
 
 -- Clients were served as they came, on these terms, with an administrator's office at work on the hub, whose gate stands as asked; and the command answers how that ended. The device that was given back is the one that was left.
-pub record RunsDaily {S L Log X : Type 0} (contents : Log → Option (List ℕ)) (device : S → FileHistory) (site_state : S → SiteState) (lacks : S → Changes → SiteFault → Type 0) (crash_states : S → CrashStates L) (stands : L → Site → Type 0) (listen : Option SocketAddr) (terms : Terms) (place : SocketPlace) (image : List ℕ) (sockets_before sockets_now : List SocketCall) (asked_before asked_now : List ListenerCall) (log_before log_now : Log) (result : Result X Fault) (opened left : FileHistory) : Type 0 where
+pub record RunsDaily {Pin Log X : Type 0} {dict : _} {tree : _} (k : Ghosts (DiskSite (TreeKeeper FileHistory dict) tree) Pin) (contents : Log → Option (List ℕ)) (listen : Option SocketAddr) (terms : Terms) (place : SocketPlace) (image : List ℕ) (sockets_before sockets_now : List SocketCall) (asked_before asked_now : List ListenerCall) (log_before log_now : Log) (result : Result X Fault) (opened left : FileHistory) : Type 0 where
   pub given : Result (Result X DailyFault × FileHistory) (ServingFault × FileHistory)
   pub handed : left ≡ device_beside given
   pub ended : result ≡ serving_ended (given_beside given)
@@ -80,7 +77,7 @@ pub record RunsDaily {S L Log X : Type 0} (contents : Log → Option (List ℕ))
   pub office_before : UnixOffice
   pub office_now : UnixOffice
   pub office : IsNewOffice gate texts office_before
-  pub served : IfOk given (λ r. ClientsServedOnImage contents pace_of (Works (λ wire. wire.made.calls) (λ gate. gate.made.answers) stopped_texts) file_state device site_state lacks crash_states stands file_crash_states terms listen r.0 opened r.1 (log_before, [], office_before) (log_now, read, office_now) [] moments)
+  pub served : IfOk given (ClientsServedOnImage k contents pace_of (Works (λ wire. wire.made.calls) (λ gate. gate.made.answers) stopped_texts) terms listen opened (log_before, [], office_before) (log_now, read, office_now) [] moments)
   pub listened : OnOk given (IsListened Listened (file_state opened) listen asked_before asked_now)
   pub asked : IfErr given (λ e. IsAskedInVain Listened NotListened (file_state opened) listen asked_before asked_now e.0)
   pub refused : IfErr given (λ e. HandsBack IsServingFault file_state file_crash_states opened e.1 e.0)
@@ -94,21 +91,33 @@ pub record HasNoGate {Log X : Type 0} (place : SocketPlace) (image : List ℕ) (
   pub untold : log_now ≡ log_before
   pub left_is : left ≡ opened
 
-abbrev pub DailyOrNoGate : {S L Log X : Type 0} → (Log → Option (List ℕ)) → (S → FileHistory) → (S → SiteState) → (S → Changes → SiteFault → Type 0) → (S → CrashStates L) → (L → Site → Type 0) → Option SocketAddr → Terms → SocketPlace → List ℕ → List SocketCall → List SocketCall → List ListenerCall → List ListenerCall → Log → Log → Result X Fault → FileHistory → FileHistory → Type 0
-DailyOrNoGate contents device site_state lacks crash_states stands listen terms place image sockets_before sockets_now asked_before asked_now log_before log_now result opened left =
-    RunsDaily contents device site_state lacks crash_states stands listen terms place image sockets_before sockets_now asked_before asked_now log_before log_now result opened left
-    ⊎ HasNoGate place image sockets_before sockets_now asked_before asked_now log_before log_now result opened left
+-- The file of an image was not had, and nothing was done; or clients were served over it, or there was no gate.
+abbrev pub ServesDaily : {Pin Log X : Type 0} {dict : _} {tree : _} → Ghosts (DiskSite (TreeKeeper FileHistory dict) tree) Pin → (Log → Option (List ℕ)) → Option SocketAddr → Terms → SocketPlace → List ℕ → List FileUse → List FileUse → List SocketCall → List SocketCall → List ListenerCall → List ListenerCall → Log → Log → Result X Fault → Type 0
+ServesDaily k contents listen terms place image used_before used_now sockets_before sockets_now asked_before asked_now log_before log_now result =
+    OpensThen image used_before used_now result ((asked_now ≡ asked_before) × (log_now ≡ log_before) × (sockets_now ≡ sockets_before)) (λ opened left.
+    RunsDaily k contents listen terms place image sockets_before sockets_now asked_before asked_now log_before log_now result opened left
+    ⊎ HasNoGate place image sockets_before sockets_now asked_before asked_now log_before log_now result opened left)
+
+-- the same with a log that nobody reads
+abbrev pub ServesUnlogged : {Pin Sink X : Type 0} {dict : _} {tree : _} → Ghosts (DiskSite (TreeKeeper FileHistory dict) tree) Pin → (Sink → Option (List ℕ)) → Option SocketAddr → Terms → SocketPlace → List ℕ → List FileUse → List FileUse → List SocketCall → List SocketCall → List ListenerCall → List ListenerCall → Result X Fault → Type 0
+ServesUnlogged {Sink = Sink} k contents listen terms place image used_before used_now sockets_before sockets_now asked_before asked_now result =
+    (before : Sink) × (now : Sink) × ServesDaily k contents listen terms place image used_before used_now sockets_before sockets_now asked_before asked_now before now result
 
 -- Rounds of connections were served, and it is printed how many replies were written whole.
-pub record RunsRounds {S L Pin W X : Type 0} (ghosts : _) (contents : W → Option (List ℕ)) (device : S → FileHistory) (site_state : S → SiteState) (lacks : S → Changes → SiteFault → Type 0) (crash_states : S → CrashStates L) (stands : L → Site → Type 0) (together rounds : ℕ) (asked_before asked_now : List ListenCall) (before now : W) (result : Result X Fault) (opened left : FileHistory) : Type 0 where
+pub record RunsRounds {Pin W X : Type 0} {dict : _} {tree : _} (k : Ghosts (DiskSite (TreeKeeper FileHistory dict) tree) Pin) (contents : W → Option (List ℕ)) (together rounds : ℕ) (asked_before asked_now : List ListenCall) (before now : W) (result : Result X Fault) (opened left : FileHistory) : Type 0 where
   pub given : Result (Result ℕ ServeFault × FileHistory) (ServingFault × FileHistory)
   pub handed : left ≡ device_beside given
   pub printed : GivesCount (given_beside given) served_line (λ fault. faults.Round fault) (λ fault. faults.Serving fault) contents before now result
   pub moments : List ℕ
-  pub served : IfOk given (λ r. ServedImage {Pin = Pin} ghosts file_state device site_state lacks crash_states stands file_crash_states together rounds r.0 opened r.1 [] moments)
+  pub served : IfOk given (λ r. ServedImage k together rounds r.0 opened r.1 [] moments)
   pub listened : OnOk given (IsListened listens.Listened (file_state opened) None asked_before asked_now)
   pub asked : IfErr given (λ e. IsAskedInVain listens.Listened listens.NotListened (file_state opened) None asked_before asked_now e.0)
   pub refused : IfErr given (λ e. HandsBack IsServingFault file_state file_crash_states opened e.1 e.0)
+
+-- The file of an image was not had, and nothing was done; or rounds were served over it.
+abbrev pub ServesInRounds : {Pin W X : Type 0} {dict : _} {tree : _} → Ghosts (DiskSite (TreeKeeper FileHistory dict) tree) Pin → (W → Option (List ℕ)) → ℕ → ℕ → List ℕ → List FileUse → List FileUse → List ListenCall → List ListenCall → W → W → Result X Fault → Type 0
+ServesInRounds k contents together rounds image used_before used_now asked_before asked_now before now result =
+    OpensThen image used_before used_now result ((asked_now ≡ asked_before) × (now ≡ before)) (RunsRounds k contents together rounds asked_before asked_now before now result)
 
 -- A script was replayed, or nothing was opened for it; and that is what is answered.
 pub record Replayed {H : Type 0} (ran : Ran H) (Refuses : H → OpenFault → H → Type 0) (script_before script_now before now : Option (List ℕ)) (result : Result (Unit {0}) Fault) (opened left : H) : Type 0 where
@@ -127,15 +136,15 @@ abbrev pub RefusesSite : {H : Type 0} → H → OpenFault → H → Type 0
 RefusesSite opened fault left = (fault ≡ opening.Memory) × (left ≡ opened)
 
 -- A script was replayed over the site of the image in a file.
-abbrev pub ReplaysFile : {S L : Type 0} → Bool → (S → FileHistory) → (S → SiteState) → (S → Changes → SiteFault → Type 0) → (S → CrashStates L) → (L → Site → Type 0) → List ℕ → List FileUse → List FileUse → Option (List ℕ) → Option (List ℕ) → Option (List ℕ) → Option (List ℕ) → Result (Unit {0}) Fault → Type 0
-ReplaysFile grouped device site_state lacks crash_states stands image used_before used_now script_before script_now before now result =
-    OpensThen image used_before used_now result ((script_now ≡ script_before) × (now ≡ before)) (Replayed (OnFile grouped device site_state lacks crash_states stands) RefusesFile script_before script_now before now result)
+abbrev pub ReplaysFile : {Pin : Type 0} {dict : _} {tree : _} → Bool → Ghosts (DiskSite (TreeKeeper FileHistory dict) tree) Pin → List ℕ → List FileUse → List FileUse → Option (List ℕ) → Option (List ℕ) → Option (List ℕ) → Option (List ℕ) → Result (Unit {0}) Fault → Type 0
+ReplaysFile grouped k image used_before used_now script_before script_now before now result =
+    OpensThen image used_before used_now result ((script_now ≡ script_before) × (now ≡ before)) (Replayed (OnImage grouped k) RefusesFile script_before script_now before now result)
 
 -- A script was replayed over a small site in memory, or there was no memory for one.
-abbrev pub ReplaysInMemory : {L : Type 0} → Bool → (Site → SiteState) → (Site → Changes → SiteFault → Type 0) → (Site → CrashStates L) → (L → Site → Type 0) → Option (List ℕ) → Option (List ℕ) → Option (List ℕ) → Option (List ℕ) → Result (Unit {0}) Fault → Type 0
-ReplaysInMemory grouped site_state lacks crash_states stands script_before script_now before now result =
+abbrev pub ReplaysInMemory : {Pin : Type 0} → Bool → Ghosts Site Pin → Option (List ℕ) → Option (List ℕ) → Option (List ℕ) → Option (List ℕ) → Result (Unit {0}) Fault → Type 0
+ReplaysInMemory grouped k script_before script_now before now result =
     ((result ≡ Err memory_fault) × (script_now ≡ script_before) × (now ≡ before))
-    ⊎ ((left : Site) × Replayed (OverSite grouped site_state lacks crash_states stands) RefusesSite script_before script_now before now result (fresh_site (codes "localhost") 7070 (codes "Ada <ada@localhost>") (codes "Top") 0) left)
+    ⊎ ((left : Site) × Replayed (OverSite grouped k) RefusesSite script_before script_now before now result (fresh_site (codes "localhost") 7070 (codes "Ada <ada@localhost>") (codes "Top") 0) left)
 
 -- Whatever was replayed so, what is left to write is written then, or standard output took no more.
 pub record IsPrintedWhole (IsReplayed : Option (List ℕ) → Result (Unit {0}) Fault → Type 0) (now : Option (List ℕ)) (left : List ℕ) (result : Result (Unit {0}) Fault) : Type 0 where
@@ -146,6 +155,11 @@ pub record IsPrintedWhole (IsReplayed : Option (List ℕ) → Result (Unit {0}) 
   pub fault : IfErr ended (λ e. result ≡ Err e)
   pub written : OnOk ended (IfErr result (λ e. e ≡ output_fault))
   pub all : OnOk result (OnOk ended (left ≡ []))
+
+-- A script was replayed so from what a reader had, and its output written through a buffer, to the end.
+abbrev pub PrintsScript : {R W A : Type 0} → (Option (List ℕ) → Option (List ℕ) → Option (List ℕ) → Option (List ℕ) → Result (Unit {0}) Fault → Type 0) → (R → Option (List ℕ)) → (W → Option (List ℕ)) → R → R → BufWriter W A → BufWriter W A → Result (Unit {0}) Fault → Type 0
+PrintsScript IsReplayed remaining contents read_before read_now before now result =
+    IsPrintedWhole (IsReplayed (remaining read_before) (remaining read_now) (writer_contents contents before)) (writer_contents contents now) (writer_buffer now) result
 
 -- There was no memory for what is to be written, and nothing was done; or a script of some bytes was replayed so, behind what was printed before.
 abbrev pub RepliesToAll : Type 0 → (Option (List ℕ) → Option (List ℕ) → Option (List ℕ) → Option (List ℕ) → Result (Unit {0}) Fault → Type 0) → Result (Unit {0}) Fault → Type 0

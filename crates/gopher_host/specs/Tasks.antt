@@ -2,11 +2,9 @@
 use Rattle.std.specs.Prelude.{◌≡◌, ℕ, Bool, true, false, List, [], Option, Some, None, Result, Err, OnOk, map}
 use Rattle.std.specs.Option.{option_copied}
 use Rattle.std.specs.declared.net.socket_addr.SocketAddr.{SocketAddr}
-use Rattle.host_types.specs.AllChanges.{Changes}
-use Rattle.host_types.specs.CrashStates.{CrashStates}
-use Rattle.host_types.specs.Site.{Site}
-use Rattle.host_types.specs.SiteState.{SiteState}
-use Rattle.host_types.specs.declared.site_fault.SiteFault.{SiteFault}
+use Rattle.host_types.specs.declared.site_keeper.SiteKeeper.{Ghosts}
+use Rattle.cow_tree.specs.declared.tree_keeper.TreeKeeper.{TreeKeeper}
+use Rattle.site_store.specs.declared.disk_site.DiskSite.{DiskSite}
 use Rattle.file_device.specs.FileCalls.{FileHistory}
 use Rattle.file_device.specs.FileUses.{FileUse}
 use Rattle.file_names.specs.NameCalls.{NameCall}
@@ -28,10 +26,9 @@ use Rattle.gopher_host.specs.Held.{ReadsImage}
 use Rattle.gopher_host.specs.ImageFiles.{OpensThen, Exports, ListsImage, form_of, Checks, Compacts, UpgradesImage}
 use Rattle.gopher_host.specs.Imports.{Imports}
 use Rattle.gopher_host.specs.Items.{NamesItem, Gets, ListsPosts}
-use Rattle.gopher_host.specs.Kept.{ReadsThen, AppliesOrAsks, Drops}
-use Rattle.gopher_host.specs.Naming.{EndsNamed, file_line, names_line}
+use Rattle.gopher_host.specs.Kept.{AppliesFile, Removes}
 use Rattle.gopher_host.specs.NewImages.{moment_of, Formats, Inits}
-use Rattle.gopher_host.specs.Served.{DailyOrNoGate, RunsRounds, ReplaysFile, RepliesToAll}
+use Rattle.gopher_host.specs.Served.{ServesDaily, ServesUnlogged, ServesInRounds, ReplaysFile, RepliesToAll}
 use Rattle.gopher_host.specs.declared.fault.Fault.{Fault}
 use Rattle.gopher_host.specs.declared.fault.Fault.TheVariants as faults
 
@@ -39,7 +36,7 @@ use Rattle.gopher_host.specs.declared.fault.Fault.TheVariants as faults
 abbrev pub AppliesAt : {W X : Type 0} → (W → Option (List ℕ)) → List ℕ → List ℕ → ℕ → List FileUse → List FileUse → List SocketCall → List SocketCall → W → W → Result X Fault → Type 0
 AppliesAt contents image name now before after none sockets old new result =
     ((e : ImageFault) → moment_of now ≡ Err e → (result ≡ Err (faults.Image e)) × (new ≡ old) × (after ≡ before) × (sockets ≡ none))
-    × OnOk (moment_of now) (ReadsThen result ((new ≡ old) × (after ≡ before) × (sockets ≡ none)) (λ file changes. EndsNamed (file_line file) (AppliesOrAsks contents image name now before after none sockets old new file changes) result))
+    × OnOk (moment_of now) (AppliesFile contents image name now before after none sockets old new result)
 
 -- What a command on an image did with files and printed, whatever it answers; `first` and `read` are the clock's readings before it and behind it. Of sessions it stands below.
 abbrev pub RunsCommand : {W X : Type 0} → (W → Option (List ℕ)) → Task → List ClockReading → List ClockReading → List FileUse → List FileUse → W → W → Result X Fault → Type 0
@@ -48,7 +45,7 @@ RunsCommand contents (task.Apply image file given socket) first read before afte
 RunsCommand contents (task.Init image site pages given) first read before after old new result = (now : ℕ) × IsMoment given first read now × (asked : List NameCall) × (told : List NameCall) × (asked ≡ []) × Inits contents image.now site pages now before after asked told old new result
 RunsCommand contents (task.Get image selector view) first read before after old new result = (none : List SocketCall) × (sockets : List SocketCall) × (none ≡ []) × NamesItem selector.now result ((new ≡ old) × (after ≡ before) × (sockets ≡ none)) (ReadsImage image.now before after none sockets result (new ≡ old) (Gets selector.now (option_copied view) contents old new result))
 RunsCommand contents (task.Posts image board) first read before after old new result = (none : List SocketCall) × (sockets : List SocketCall) × (none ≡ []) × NamesItem board.now result ((new ≡ old) × (after ≡ before) × (sockets ≡ none)) (ReadsImage image.now before after none sockets result (new ≡ old) (ListsPosts board.now contents old new result))
-RunsCommand contents (task.Remove image selectors socket) first read before after old new result = (now : ℕ) × TellsMoment first read now × (none : List SocketCall) × (sockets : List SocketCall) × (none ≡ []) × EndsNamed (names_line (map (λ name. name.now) selectors.items)) (Drops contents image.now (socket_name (option_copied socket) image.now) (map (λ name. name.now) selectors.items) now before after none sockets old new) result
+RunsCommand contents (task.Remove image selectors socket) first read before after old new result = (now : ℕ) × TellsMoment first read now × (none : List SocketCall) × (sockets : List SocketCall) × (none ≡ []) × Removes contents image.now (socket_name (option_copied socket) image.now) (map (λ name. name.now) selectors.items) now before after none sockets old new result
 RunsCommand contents (task.Show image long) first read before after old new result = (none : List SocketCall) × (sockets : List SocketCall) × (none ≡ []) × ReadsImage image.now before after none sockets result (new ≡ old) (ListsImage (form_of long) contents old new result)
 RunsCommand contents (task.Export image) first read before after old new result = (none : List SocketCall) × (sockets : List SocketCall) × (none ≡ []) × ReadsImage image.now before after none sockets result (new ≡ old) (Exports contents old new result)
 RunsCommand contents (task.Import folder under) first read before after old new result = (after ≡ before) × Imports folder.now (option_copied under) contents old new result
@@ -84,8 +81,8 @@ IfScript (task.Replay (Some image) group) Holds = Holds image.now group
 IfScript other Holds = Unit {0}
 
 -- What these tasks did with the image in a file, whatever they answer; `used` and `after` are what was done with files, `before` and `now` are the log, where clients are told of that have gone, and `first` and `asked` what was asked of the system for a listener.
-pub record RunsSessions {S L Pin W Log Sink : Type 0} (ghosts : _) (printed : W → Option (List ℕ)) (told : Log → Option (List ℕ)) (sunk : Sink → Option (List ℕ)) (device : S → FileHistory) (site_state : S → SiteState) (lacks : S → Changes → SiteFault → Type 0) (crash_states : S → CrashStates L) (stands : L → Site → Type 0) (done : Task) (used after : List FileUse) (old new : W) (before now : Log) (result : Result (Unit {0}) Fault) : Type 0 where
-  pub rounds : IfRounds done (λ image together rounds. (first : List ListenCall) × (asked : List ListenCall) × (first ≡ []) × OpensThen image used after result ((asked ≡ first) × (new ≡ old)) (RunsRounds {Pin = Pin} ghosts printed device site_state lacks crash_states stands together rounds first asked old new result))
-  pub logged : IfClients done (λ image listen quiet terms place. quiet ≡ false → (first : List ListenerCall) × (asked : List ListenerCall) × (first ≡ []) × (none : List SocketCall) × (sockets : List SocketCall) × (none ≡ []) × OpensThen image used after result ((asked ≡ first) × (now ≡ before) × (sockets ≡ none)) (DailyOrNoGate told device site_state lacks crash_states stands listen terms place image none sockets first asked before now result))
-  pub unlogged : IfClients done (λ image listen quiet terms place. quiet ≡ true → (now ≡ before) × (first : List ListenerCall) × (asked : List ListenerCall) × (first ≡ []) × (none : List SocketCall) × (sockets : List SocketCall) × (none ≡ []) × OpensThen image used after result ((asked ≡ first) × (sockets ≡ none)) (λ opened left. (from : Sink) × (to : Sink) × DailyOrNoGate sunk device site_state lacks crash_states stands listen terms place image none sockets first asked from to result opened left))
-  pub script : IfScript done (λ image group. RepliesToAll (after ≡ used) (ReplaysFile group device site_state lacks crash_states stands image used after) result)
+pub record RunsSessions {Pin W Log Sink : Type 0} {dict : _} {tree : _} (k : Ghosts (DiskSite (TreeKeeper FileHistory dict) tree) Pin) (printed : W → Option (List ℕ)) (told : Log → Option (List ℕ)) (sunk : Sink → Option (List ℕ)) (done : Task) (used after : List FileUse) (old new : W) (before now : Log) (result : Result (Unit {0}) Fault) : Type 0 where
+  pub rounds : IfRounds done (λ image together rounds. (first : List ListenCall) × (asked : List ListenCall) × (first ≡ []) × ServesInRounds k printed together rounds image used after first asked old new result)
+  pub logged : IfClients done (λ image listen quiet terms place. quiet ≡ false → (first : List ListenerCall) × (asked : List ListenerCall) × (first ≡ []) × (none : List SocketCall) × (sockets : List SocketCall) × (none ≡ []) × ServesDaily k told listen terms place image used after none sockets first asked before now result)
+  pub unlogged : IfClients done (λ image listen quiet terms place. quiet ≡ true → (now ≡ before) × (first : List ListenerCall) × (asked : List ListenerCall) × (first ≡ []) × (none : List SocketCall) × (sockets : List SocketCall) × (none ≡ []) × ServesUnlogged k sunk listen terms place image used after none sockets first asked result)
+  pub script : IfScript done (λ image group. RepliesToAll (after ≡ used) (ReplaysFile group k image used after) result)

@@ -1,16 +1,15 @@
 // The commands that make, change and show the image in a file.
-ghost use Rattle.std.specs.Prelude.{◌≡◌, ◌⊎◌, Err, OnOk, IfErr};
+ghost use Rattle.std.specs.Prelude.{◌≡◌, Err, OnOk, IfErr};
 ghost use Rattle.std.specs.Io.KnownBytes.{Appends};
 ghost use Rattle.image_commands.specs.Lines as lines;
 ghost use Rattle.image_commands.specs.declared.fault.ImageFault.{ImageFault as Refusal};
 ghost use Rattle.std.specs.Option.{option_copied};
 ghost use Rattle.gopher_host.specs.Asked.{socket_name};
-ghost use Rattle.gopher_host.specs.Faults.{ended, output_fault};
+ghost use Rattle.gopher_host.specs.Faults.{ended};
 ghost use Rattle.gopher_host.specs.Held.{ReadsImage};
 ghost use Rattle.gopher_host.specs.ImageFiles.{OpensThen, Exports, ListsImage, form_of, Checks, Compacts, UpgradesImage};
-ghost use Rattle.gopher_host.specs.Kept.{ReadsThen, AppliesOrAsks};
-ghost use Rattle.gopher_host.specs.Naming.{EndsNamed, file_line};
-ghost use Rattle.gopher_host.specs.NewImages.{moment_of, asked_at, IsNewImage, IsNoNewImage, Inits};
+ghost use Rattle.gopher_host.specs.Kept.{AppliesFile, AppliesOrAsks};
+ghost use Rattle.gopher_host.specs.NewImages.{moment_of, asked_at, IsNewImage, IsFormatEnd, Inits};
 ghost use Rattle.gopher_host.specs.declared.fault.Fault.TheVariants as faults;
 
 use crate::asking::{ask_instead, print_answer};
@@ -48,7 +47,7 @@ pub fn format<W: Write>(
     ensures asked { (e : Refusal) → asked_at site.entry pages now ≡ Err e → (result ≡ Err (faults.Image e)) × (writer.new ≡ writer.old) × (used.new.log.uses ≡ used.old.log.uses) }
     ensures printed { OnOk result (Appends (W.contents writer.old) (W.contents writer.new) (ended (lines.formatted_line pages))) }
     ensures made { OnOk result (IsNewImage image.now site.entry pages now used.old.log.uses used.new.log.uses) }
-    ensures fault { IfErr result (λ e. ((e ≡ output_fault) × IsNewImage image.now site.entry pages now used.old.log.uses used.new.log.uses) ⊎ ((writer.new ≡ writer.old) × (cause : Refusal) × (e ≡ faults.Image cause) × IsNoNewImage (asked_at site.entry pages now) image.now pages used.old.log.uses used.new.log.uses cause)) }
+    ensures fault { IfErr result (IsFormatEnd image.now site.entry pages now used.old.log.uses used.new.log.uses writer.old writer.new) }
 {
     let now = moment(now)?;
     let line = made(alloc, used, image, site, pages, now)?;
@@ -115,7 +114,7 @@ pub fn apply<W: Write>(
     writer: &mut W,
 ) -> Result<(), Fault>
     ensures moment { (e : Refusal) → moment_of now ≡ Err e → (result ≡ Err (faults.Image e)) × (writer.new ≡ writer.old) × (used.new.log.uses ≡ used.old.log.uses) × (sockets.new ≡ sockets.old) }
-    ensures image { OnOk (moment_of now) (ReadsThen result ((writer.new ≡ writer.old) × (used.new.log.uses ≡ used.old.log.uses) × (sockets.new ≡ sockets.old)) (λ file changes. EndsNamed (file_line file) (AppliesOrAsks W.contents image.now (socket_name (option_copied socket.entry) image.now) now used.old.log.uses used.new.log.uses sockets.old.calls sockets.new.calls writer.old writer.new file changes) result)) }
+    ensures image { OnOk (moment_of now) (AppliesFile W.contents image.now (socket_name (option_copied socket.entry) image.now) now used.old.log.uses used.new.log.uses sockets.old.calls sockets.new.calls writer.old writer.new result) }
 {
     let now = moment(now)?;
     let (bytes, changes) = said(rt.alloc(), whole_file(rt, file))?;

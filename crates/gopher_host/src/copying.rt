@@ -1,8 +1,5 @@
 // The command that copies an image to a new file.
-ghost use Rattle.std.specs.Prelude.{◌≡◌, ◌++◌, ◌∷◌, []};
 ghost use Rattle.std.specs.String.{string_bytes};
-ghost use Rattle.file_names.specs.NameCalls.{Looked};
-ghost use Rattle.file_names.specs.declared.names.Look.TheVariants.{Missing};
 ghost use Rattle.gopher_host.specs.CopiedFiles.{GivesLine, CopiesImage, CopiesOrNot, CopiesTo};
 ghost use Rattle.gopher_host.specs.Endings.{text_of};
 

@@ -1,6 +1,5 @@
 // An image that a command reads, also where a server has it.
-ghost use Rattle.std.specs.Prelude.{◌≡◌, None, IfErr, OnOk};
-ghost use Rattle.turns.specs.WireCalls.{HasMade};
+ghost use Rattle.std.specs.Prelude.{None};
 ghost use Rattle.gopher_host.specs.Held.{LetsGo, OnHeld, OnServed, HasImage};
 
 use crate::asking::socket_name;

@@ -4,10 +4,8 @@ ghost use Rattle.std.specs.Option.{option_copied};
 ghost use Rattle.gopher_host.specs.Asked.{PrintsAnswer, socket_name};
 ghost use Rattle.gopher_host.specs.Held.{ReadsImage};
 ghost use Rattle.gopher_host.specs.ImageFiles.{IsNotThere};
-ghost use Rattle.gopher_host.specs.Kept.{Drops, DropsInstead, dropped_line};
-ghost use Rattle.gopher_host.specs.Items as spec;
-ghost use Rattle.gopher_host.specs.Naming.{EndsNamed, names_line};
-ghost use Rattle.gopher_host.specs.Items.{Gets, ListsPosts};
+ghost use Rattle.gopher_host.specs.Kept.{Drops, DropsInstead, Removes, dropped_line};
+ghost use Rattle.gopher_host.specs.Items.{Gets, ListsPosts, selector_named};
 ghost use Rattle.gopher_host.specs.declared.fault.Fault.TheVariants as faults;
 ghost use Rattle.image_items.specs.declared.fault.ItemFault.{ItemFault as NoItem};
 
@@ -31,7 +29,7 @@ use std::net::Net;
 
 /// The selector of these bytes.
 fn selector_of(name: &str) -> Result<Selector, ItemFault>
-    ensures { result ≡ spec.selector_named name.now }
+    ensures { result ≡ selector_named name.now }
 {
     Ok(Selector::new(name.as_bytes())?)
 }
@@ -56,8 +54,8 @@ pub fn get<W: Write>(
     sockets: &mut SocketLog,
     writer: &mut W,
 ) -> Result<(), Fault>
-    ensures name { (e : NoItem) → spec.selector_named selector.now ≡ Err e → (result ≡ Err (faults.Item e)) × (writer.new ≡ writer.old) × (used.new.log.uses ≡ used.old.log.uses) × (sockets.new ≡ sockets.old) }
-    ensures got { OnOk (spec.selector_named selector.now) (ReadsImage image.now used.old.log.uses used.new.log.uses sockets.old.calls sockets.new.calls result (writer.new ≡ writer.old) (Gets selector.now (option_copied view.entry) W.contents writer.old writer.new result)) }
+    ensures name { (e : NoItem) → selector_named selector.now ≡ Err e → (result ≡ Err (faults.Item e)) × (writer.new ≡ writer.old) × (used.new.log.uses ≡ used.old.log.uses) × (sockets.new ≡ sockets.old) }
+    ensures got { OnOk (selector_named selector.now) (ReadsImage image.now used.old.log.uses used.new.log.uses sockets.old.calls sockets.new.calls result (writer.new ≡ writer.old) (Gets selector.now (option_copied view.entry) W.contents writer.old writer.new result)) }
 {
     let selector = selector_of(selector)?;
     let device = open_to_read(rt, used, sockets, image)?;
@@ -74,8 +72,8 @@ pub fn posts<W: Write>(
     sockets: &mut SocketLog,
     writer: &mut W,
 ) -> Result<(), Fault>
-    ensures name { (e : NoItem) → spec.selector_named board.now ≡ Err e → (result ≡ Err (faults.Item e)) × (writer.new ≡ writer.old) × (used.new.log.uses ≡ used.old.log.uses) × (sockets.new ≡ sockets.old) }
-    ensures listed { OnOk (spec.selector_named board.now) (ReadsImage image.now used.old.log.uses used.new.log.uses sockets.old.calls sockets.new.calls result (writer.new ≡ writer.old) (ListsPosts board.now W.contents writer.old writer.new result)) }
+    ensures name { (e : NoItem) → selector_named board.now ≡ Err e → (result ≡ Err (faults.Item e)) × (writer.new ≡ writer.old) × (used.new.log.uses ≡ used.old.log.uses) × (sockets.new ≡ sockets.old) }
+    ensures listed { OnOk (selector_named board.now) (ReadsImage image.now used.old.log.uses used.new.log.uses sockets.old.calls sockets.new.calls result (writer.new ≡ writer.old) (ListsPosts board.now W.contents writer.old writer.new result)) }
 {
     let board = selector_of(board)?;
     let device = open_to_read(rt, used, sockets, image)?;
@@ -157,7 +155,7 @@ pub fn remove<W: Write>(
     sockets: &mut SocketLog,
     writer: &mut W,
 ) -> Result<(), Fault>
-    ensures { EndsNamed (names_line (map (λ name. name.now) selectors.now)) (Drops W.contents image.now (socket_name (option_copied socket.entry) image.now) (map (λ name. name.now) selectors.now) now used.old.log.uses used.new.log.uses sockets.old.calls sockets.new.calls writer.old writer.new) result }
+    ensures { Removes W.contents image.now (socket_name (option_copied socket.entry) image.now) (map (λ name. name.now) selectors.now) now used.old.log.uses used.new.log.uses sockets.old.calls sockets.new.calls writer.old writer.new result }
 {
     let ended = remove_each(rt, used, image, selectors, now, socket, sockets, writer);
     removals_named(rt.alloc(), selectors, ended)

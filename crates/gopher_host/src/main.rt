@@ -3,8 +3,6 @@
 
 ghost use Rattle.std.specs.Prelude.{◌≡◌, OnOk, IfOk, IfErr, IsOkAnd};
 ghost use Rattle.std.specs.Process.{exit_status};
-ghost use Rattle.cow_tree.specs.TreeSeen.{device_of};
-ghost use Rattle.site_store.specs.Seen.{keeper_of};
 ghost use Rattle.gopher_host.specs.Clock.{IfNoMoment};
 ghost use Rattle.gopher_host.specs.Faults.{TellsFault};
 ghost use Rattle.gopher_host.specs.Tasks.{RunsCommand, RunsSessions, form_of_log};
@@ -35,16 +33,15 @@ mod stopped;
 use admin_socket::SocketLog;
 use clock::{moment_now, seconds_of};
 use command_words::{Task, given, read};
-use cow_tree::TreeKeeper;
 use daily_server::{ListenerLog, LogForm, Terms};
 use fault::Fault;
 use file_device::{FileDevice, UsedFiles};
 use file_names::NameLog;
+use host_on_disk::SiteOn;
 use host_types::SiteKeeper;
 use image_server::ListenLog;
 use lacking::{explained, image_of, makes_image};
 use refused_words::{refused_word, with_word};
-use site_store::DiskSite;
 use socket_wires::SystemClock;
 use std::alloc::Global;
 use std::io;
@@ -79,7 +76,7 @@ fn run<W: Write, L: Write>(
 ) -> Result<(), Fault>
     ensures command { RunsCommand W.contents task.entry clock.old.read.readings clock.new.read.readings used.old.log.uses used.new.log.uses writer.old writer.new result }
     ensures unread { IfNoMoment task.entry (clock.new.read.readings ≡ clock.old.read.readings) }
-    ensures sessions { let k = ⟦<DiskSite<TreeKeeper<FileDevice>> as SiteKeeper>⟧ in RunsSessions k W.contents L.contents ⟦<Sink as Write>⟧.contents (λ d. device_of (keeper_of d)) k.site_state k.lacks k.crash_states k.represents task.entry used.old.log.uses used.new.log.uses writer.old writer.new log.old log.new result }
+    ensures sessions { RunsSessions ⟦<SiteOn<FileDevice> as SiteKeeper>⟧ W.contents L.contents ⟦<Sink as Write>⟧.contents task.entry used.old.log.uses used.new.log.uses writer.old writer.new log.old log.new result }
 {
     match task {
         Task::Format {

@@ -1,11 +1,7 @@
 // The commands that run sessions over an image in a file, or over a site in memory.
 ghost use Rattle.std.specs.Prelude.{◌≡◌, true, false, None, IfSome};
-ghost use Rattle.std.specs.Io.Buffered.{writer_buffer, writer_contents};
-ghost use Rattle.cow_tree.specs.TreeSeen.{device_of};
-ghost use Rattle.site_store.specs.Seen.{keeper_of};
 ghost use Rattle.gopher_host.specs.Endings.{given_beside};
-ghost use Rattle.gopher_host.specs.ImageFiles.{OpensThen};
-ghost use Rattle.gopher_host.specs.Served.{HasGate, IsGate, RunsRounds, DailyOrNoGate, ReplaysFile, ReplaysInMemory, IsPrintedWhole, RepliesToAll};
+ghost use Rattle.gopher_host.specs.Served.{HasGate, IsGate, ServesInRounds, ServesDaily, ServesUnlogged, ReplaysFile, ReplaysInMemory, PrintsScript, RepliesToAll};
 
 use crate::asking::socket_name;
 use crate::ending::{all_written, replay_ended, serving_ended};
@@ -16,15 +12,14 @@ use crate::stopped::StoppedTexts;
 use admin_office::{AdminOffice, UnixGate};
 use admin_socket::{SocketLog, listen_at};
 use command_words::SocketPlace;
-use cow_tree::TreeKeeper;
 use daily_server::{ListenerLog, Stopwatch, Terms};
 use file_device::{FileDevice, UsedFiles};
+use host_on_disk::SiteOn;
 use host_script::small_site;
 use host_types::SiteKeeper;
 use image_runs::{replay_on, replay_over};
 use image_server::{ListenLog, serve_clients, serve_image};
 use mem_site::MemSite;
-use site_store::DiskSite;
 use socket_wires::SystemClock;
 use std::alloc::Global;
 use std::fs::Files;
@@ -74,7 +69,7 @@ fn serve_logged<R: Files + Net + Time + AllocGlobal, L: Write>(
     asked: &mut ListenerLog,
     log: &mut L,
 ) -> Result<(), Fault>
-    ensures { let k = ⟦<DiskSite<TreeKeeper<FileDevice>> as SiteKeeper>⟧ in OpensThen image.now used.old.log.uses used.new.log.uses result ((asked.new ≡ asked.old) × (log.new ≡ log.old) × (sockets.new ≡ sockets.old)) (DailyOrNoGate L.contents (λ d. device_of (keeper_of d)) k.site_state k.lacks k.crash_states k.represents listen terms place.entry image.now sockets.old.calls sockets.new.calls asked.old.calls asked.new.calls log.old log.new result) }
+    ensures { ServesDaily ⟦<SiteOn<FileDevice> as SiteKeeper>⟧ L.contents listen terms place.entry image.now used.old.log.uses used.new.log.uses sockets.old.calls sockets.new.calls asked.old.calls asked.new.calls log.old log.new result }
 {
     let device = open(used, image)?;
     let gate = match gate_of(rt, sockets, place, image) {
@@ -116,8 +111,8 @@ pub fn serve<R: Files + Net + Time + AllocGlobal, L: Write>(
     log: &mut L,
 ) -> Result<(), Fault>
     ensures quiet { quiet ≡ true → log.new ≡ log.old }
-    ensures logged { let k = ⟦<DiskSite<TreeKeeper<FileDevice>> as SiteKeeper>⟧ in quiet ≡ false → OpensThen image.now used.old.log.uses used.new.log.uses result ((asked.new ≡ asked.old) × (log.new ≡ log.old) × (sockets.new ≡ sockets.old)) (DailyOrNoGate L.contents (λ d. device_of (keeper_of d)) k.site_state k.lacks k.crash_states k.represents listen terms place.entry image.now sockets.old.calls sockets.new.calls asked.old.calls asked.new.calls log.old log.new result) }
-    ensures unlogged { let k = ⟦<DiskSite<TreeKeeper<FileDevice>> as SiteKeeper>⟧ in quiet ≡ true → OpensThen image.now used.old.log.uses used.new.log.uses result ((asked.new ≡ asked.old) × (sockets.new ≡ sockets.old)) (λ opened left. (before : Sink) × (now : Sink) × DailyOrNoGate ⟦<Sink as Write>⟧.contents (λ d. device_of (keeper_of d)) k.site_state k.lacks k.crash_states k.represents listen terms place.entry image.now sockets.old.calls sockets.new.calls asked.old.calls asked.new.calls before now result opened left) }
+    ensures logged { quiet ≡ false → ServesDaily ⟦<SiteOn<FileDevice> as SiteKeeper>⟧ L.contents listen terms place.entry image.now used.old.log.uses used.new.log.uses sockets.old.calls sockets.new.calls asked.old.calls asked.new.calls log.old log.new result }
+    ensures unlogged { quiet ≡ true → ServesUnlogged ⟦<SiteOn<FileDevice> as SiteKeeper>⟧ ⟦<Sink as Write>⟧.contents listen terms place.entry image.now used.old.log.uses used.new.log.uses sockets.old.calls sockets.new.calls asked.old.calls asked.new.calls result }
 {
     if quiet {
         serve_logged(
@@ -149,7 +144,7 @@ pub fn serve_rounds<
     asked: &mut ListenLog,
     writer: &mut W,
 ) -> Result<(), Fault>
-    ensures { let k = ⟦<DiskSite<TreeKeeper<FileDevice>> as SiteKeeper>⟧ in OpensThen image.now used.old.log.uses used.new.log.uses result ((asked.new ≡ asked.old) × (writer.new ≡ writer.old)) (RunsRounds k W.contents (λ d. device_of (keeper_of d)) k.site_state k.lacks k.crash_states k.represents together rounds asked.old.calls asked.new.calls writer.old writer.new result) }
+    ensures { ServesInRounds ⟦<SiteOn<FileDevice> as SiteKeeper>⟧ W.contents together rounds image.now used.old.log.uses used.new.log.uses asked.old.calls asked.new.calls writer.old writer.new result }
 {
     let device = open(used, image)?;
     let mut clock = SystemClock::new(rt);
@@ -166,7 +161,7 @@ fn replay_image<R: Read, W: Write>(
     reader: &mut R,
     writer: &mut W,
 ) -> Result<(), Fault>
-    ensures { let k = ⟦<DiskSite<TreeKeeper<FileDevice>> as SiteKeeper>⟧ in ReplaysFile grouped (λ d. device_of (keeper_of d)) k.site_state k.lacks k.crash_states k.represents image.now used.old.log.uses used.new.log.uses (R.remaining reader.old) (R.remaining reader.new) (W.contents writer.old) (W.contents writer.new) result }
+    ensures { ReplaysFile grouped ⟦<SiteOn<FileDevice> as SiteKeeper>⟧ image.now used.old.log.uses used.new.log.uses (R.remaining reader.old) (R.remaining reader.new) (W.contents writer.old) (W.contents writer.new) result }
 {
     let device = open(used, image)?;
     let replayed = replay_on(alloc, grouped, device, reader, writer);
@@ -190,7 +185,7 @@ fn replay_in_memory<R: Read, W: Write>(
     reader: &mut R,
     writer: &mut W,
 ) -> Result<(), Fault>
-    ensures { let k = ⟦<MemSite as SiteKeeper>⟧ in ReplaysInMemory grouped k.site_state k.lacks k.crash_states k.represents (R.remaining reader.old) (R.remaining reader.new) (W.contents writer.old) (W.contents writer.new) result }
+    ensures { ReplaysInMemory grouped ⟦<MemSite as SiteKeeper>⟧ (R.remaining reader.old) (R.remaining reader.new) (W.contents writer.old) (W.contents writer.new) result }
 {
     let Ok(site) = small_site(alloc) else {
         return Err(Fault::of_memory());
@@ -207,8 +202,8 @@ fn replay_from<R: Read, W: Write + Drop>(
     reader: &mut R,
     writer: &mut BufWriter<W>,
 ) -> Result<(), Fault>
-    ensures image { let k = ⟦<DiskSite<TreeKeeper<FileDevice>> as SiteKeeper>⟧ in IfSome image.entry (λ i. IsPrintedWhole (ReplaysFile grouped (λ d. device_of (keeper_of d)) k.site_state k.lacks k.crash_states k.represents i.now used.old.log.uses used.new.log.uses (R.remaining reader.old) (R.remaining reader.new) (writer_contents W.contents writer.old)) (writer_contents W.contents writer.new) (writer_buffer writer.new) result) }
-    ensures memory { let k = ⟦<MemSite as SiteKeeper>⟧ in image.entry ≡ None → (used.new.log.uses ≡ used.old.log.uses) × IsPrintedWhole (ReplaysInMemory grouped k.site_state k.lacks k.crash_states k.represents (R.remaining reader.old) (R.remaining reader.new) (writer_contents W.contents writer.old)) (writer_contents W.contents writer.new) (writer_buffer writer.new) result }
+    ensures image { IfSome image.entry (λ i. PrintsScript (ReplaysFile grouped ⟦<SiteOn<FileDevice> as SiteKeeper>⟧ i.now used.old.log.uses used.new.log.uses) R.remaining W.contents reader.old reader.new writer.old writer.new result) }
+    ensures memory { image.entry ≡ None → (used.new.log.uses ≡ used.old.log.uses) × PrintsScript (ReplaysInMemory grouped ⟦<MemSite as SiteKeeper>⟧) R.remaining W.contents reader.old reader.new writer.old writer.new result }
 {
     let ended = match image {
         Some(image) => replay_image(alloc, used, image, grouped, reader, writer),
@@ -225,8 +220,8 @@ pub fn replay(
     image: Option<&str>,
     grouped: bool,
 ) -> Result<(), Fault>
-    ensures image { let k = ⟦<DiskSite<TreeKeeper<FileDevice>> as SiteKeeper>⟧ in IfSome image.entry (λ i. RepliesToAll (used.new.log.uses ≡ used.old.log.uses) (ReplaysFile grouped (λ d. device_of (keeper_of d)) k.site_state k.lacks k.crash_states k.represents i.now used.old.log.uses used.new.log.uses) result) }
-    ensures memory { let k = ⟦<MemSite as SiteKeeper>⟧ in image.entry ≡ None → (used.new.log.uses ≡ used.old.log.uses) × RepliesToAll (Unit {0}) (ReplaysInMemory grouped k.site_state k.lacks k.crash_states k.represents) result }
+    ensures image { IfSome image.entry (λ i. RepliesToAll (used.new.log.uses ≡ used.old.log.uses) (ReplaysFile grouped ⟦<SiteOn<FileDevice> as SiteKeeper>⟧ i.now used.old.log.uses used.new.log.uses) result) }
+    ensures memory { image.entry ≡ None → (used.new.log.uses ≡ used.old.log.uses) × RepliesToAll (Unit {0}) (ReplaysInMemory grouped ⟦<MemSite as SiteKeeper>⟧) result }
 {
     let Ok(mut writer) = BufWriter::new(rt.alloc(), io::writer(rt)) else {
         return Err(Fault::of_memory());

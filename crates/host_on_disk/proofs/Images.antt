@@ -2,7 +2,7 @@
 use Rattle.std.proofs.Common.{◌≡◌, ℕ, ◌<◌, ◌≤◌, ◌*◌, Bool, true, List, Option, Some, None, length, refl, sym, ap, subst, ◌∙◌, arith}
 use Rattle.std.specs.Prelude.{false, IsTrue, ◌&&◌, nat_le}
 use Rattle.std.specs.Int.{w16, w32, w64}
-use Rattle.std.proofs.lemmas.Bool.{leb-true, eqb-true}
+use Rattle.std.proofs.lemmas.Bool.{leb-true}
 use Rattle.host_types.specs.Names.{name_of, is_word, is_field}
 use Rattle.host_types.specs.Site.{Site, IsSite}
 use Rattle.page_store.specs.Reading.{◌>>=◌, number_at}

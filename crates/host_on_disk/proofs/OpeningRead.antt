@@ -2,9 +2,8 @@
 use Rattle.std.proofs.Common.{◌≡◌, ◌≤◌, ◌+◌, ◌-◌, ◌*◌, ℕ, ap, ◌∙◌, arith}
 use Rattle.sector_device.specs.Device.{State}
 use Rattle.page_store.specs.Opening.{MadeToOpen}
-use Rattle.page_store.specs.StoreState.{StoreState, HasStayed}
+use Rattle.page_store.specs.StoreState.{StoreState}
 use Rattle.page_store.specs.Work.{ReadsPages, WritesNothing, SyncsOnceAtMost, pages_tried}
-use Rattle.site_store.specs.Opening.{ReadsAll}
 use Rattle.host_on_disk.specs.OpeningWork.{opening_reads}
 
 pub opened_once : (old mid new : State) (pages : ℕ) (h k : StoreState) → 16 ≤ pages → 8 * pages ≤ old.size → MadeToOpen (16 + 8 * (pages - 2)) old mid → ReadsPages ((h.keys + 1) * pages_tried h.height) mid.made new.made → k.keys ≡ h.keys → k.height ≡ h.height → MadeToOpen (opening_reads old.size k) old new

@@ -1,13 +1,13 @@
 -- Why a device isn't opened.
-use Rattle.std.proofs.Common.{subst, inr, ◌≡◌, ◌≤◌, ◌<◌, ℕ, true, [], ◌∷◌, length, map, inl, refl, sym, ap, ◌∙◌, arith}
+use Rattle.std.proofs.Common.{subst, inr, ◌≡◌, ◌≤◌, ◌<◌, true, length, inl, refl, sym, ap, ◌∙◌, arith}
 use Rattle.std.specs.Prelude.{false, IsTrue, List}
-use Rattle.std.proofs.lemmas.Bool.{true≢false, eqb-true}
+use Rattle.std.proofs.lemmas.Bool.{true≢false}
 use Rattle.host_types.specs.Site.{Site}
 use Rattle.common_types.specs.Counts.{counted}
 use Rattle.sector_device.specs.Device.{State, NothingCounted}
 use Rattle.page_store.specs.Sectors.{Image}
 use Rattle.page_store.specs.Pages.{Pair}
-use Rattle.page_store.specs.StoreState.{StoreState, numbers_out}
+use Rattle.page_store.specs.StoreState.{StoreState}
 use Rattle.page_store.specs.Content.{is_tree_version, HasContent}
 use Rattle.page_store.specs.Counting.{CountsRefusal}
 use Rattle.page_store.specs.declared.banner.Banner.{Banner}
@@ -17,8 +17,6 @@ use Rattle.page_store.specs.declared.fault.KeeperFault.TheVariants as kinds
 use Rattle.cow_tree.specs.Opening.{IsTree, IsTreeOpenFault}
 use Rattle.cow_tree.specs.KeeperLaws.{opens_trees}
 use Rattle.site_store.specs.Opening as sites
-use Rattle.site_store.specs.PinnedItems.{items_at}
-use Rattle.site_store.specs.Represented.{HasSite, site_state_of}
 use Rattle.site_store.specs.declared.fault.SiteOpenFault.{SiteOpenFault}
 use Rattle.site_store.specs.declared.fault.SiteOpenFault.TheVariants as reading
 use Rattle.host_on_disk.specs.ImageSites.{ImageRepresents}

@@ -1,5 +1,5 @@
 -- Runs over a site that is handed in, and over a device.
-use Rattle.std.proofs.Common.{◌≡◌, ◌⊎◌, ⊎_elim, inl, inr, ℕ, zero, suc, ◌≤◌, Bool, true, List, [], ◌∷◌, ◌++◌, length, take, map, IsTrue, refl, ap, sym, subst, ◌∙◌, arith, length-append}
+use Rattle.std.proofs.Common.{◌≡◌, ◌⊎◌, ⊎_elim, inl, inr, ℕ, zero, suc, ◌≤◌, Bool, true, List, [], ◌∷◌, ◌++◌, length, take, IsTrue, refl, ap, sym, subst, ◌∙◌, arith, length-append}
 use Rattle.std.proofs.Props.{props}
 use Rattle.std.proofs.lemmas.List.{take_all}
 use Rattle.host_types.specs.AllChanges.{Changes}
@@ -10,14 +10,14 @@ use Rattle.host_types.specs.CrashStates.{CrashStates, AddsNone, may_crash_to}
 use Rattle.sector_device.specs.Device.{State, NothingCounted}
 use Rattle.page_store.specs.Sectors.{Image}
 use Rattle.group_world.specs.World.{World, started_as}
-use Rattle.group_world.specs.CrashStates.{CommitOfChanges, Link, Stored, IsStored, HasCrashStates, HoldsCommits, acknowledged, in_flight, accepted, with_commits}
+use Rattle.group_world.specs.CrashStates.{CommitOfChanges, Link, Stored, IsStored, HasCrashStates, HoldsCommits, acknowledged, in_flight, accepted}
 use Rattle.group_world.specs.declared.event.Event.{Event}
 use Rattle.group_world.specs.declared.event.Outcome.{Outcome}
 use Rattle.group_hub.specs.Calls.{Calls, links_of}
 use Rattle.group_hub.specs.HeldPins.{IsClosed}
 use Rattle.group_hub.proofs.CallLaws.{calls_honest}
 use Rattle.host_on_disk.specs.ImageSites.{ImageRepresents}
-use Rattle.host_on_disk.specs.Headline.{IsFound, IsLink, IsRunFrom, on_device, links_on, Survives, RunsOver, RunsOn, RunsAndSurvives}
+use Rattle.host_on_disk.specs.Headline.{IsFound, IsRunFrom, on_device, links_on, Survives, RunsOver, RunsAndSurvives}
 
 -- ---- the end of a hub
 

@@ -1,11 +1,11 @@
 -- What an upgrade of an opened image leaves on its device.
-use Rattle.std.proofs.Common.{◌≡◌, ◌⊎◌, ◌≤◌, ◌<◌, ◌+◌, ◌/◌, inl, inr, ⊎_elim, ℕ, zero, suc, Bool, true, false, List, [], length, refl, sym, ap, subst, ◌∙◌}
-use Rattle.std.specs.Prelude.{IsTrue, ◌==◌, ◌||◌, Result, Ok, Err, Some}
+use Rattle.std.proofs.Common.{◌≡◌, ◌⊎◌, ◌≤◌, inl, inr, ⊎_elim, ℕ, Bool, true, false, List, length, refl, sym, ap, subst, ◌∙◌}
+use Rattle.std.specs.Prelude.{IsTrue, ◌==◌, ◌||◌, Result, Ok, Some}
 use Rattle.std.proofs.lemmas.Bool.{eqb-true}
-use Rattle.common_types.specs.CrashStates.{CrashStates, AddsOnly, AddsNone, may_crash_to}
+use Rattle.common_types.specs.CrashStates.{CrashStates, AddsOnly, AddsNone}
 use Rattle.common_types.specs.Counts.{counted}
 use Rattle.host_types.specs.Site.{Site}
-use Rattle.sector_device.specs.Device.{State, NothingCounted, OneCounted}
+use Rattle.sector_device.specs.Device.{State, NothingCounted}
 use Rattle.page_store.specs.Content.{is_tree_version, Found, HasContent, content}
 use Rattle.page_store.specs.Roots.{greatest_seal}
 use Rattle.page_store.specs.Pages.{Pair}
@@ -15,17 +15,14 @@ use Rattle.page_store.specs.declared.banner.Banner.{Banner}
 use Rattle.page_store.specs.declared.edit.Edit.{Edit}
 use Rattle.page_store.specs.declared.slot.Slot.{Slot}
 use Rattle.page_store.specs.declared.fault.KeeperFault.TheVariants as kinds
-use Rattle.cow_tree.specs.Committed.{TreeHas}
 use Rattle.cow_tree.specs.KeeperLaws.{opens_trees}
 use Rattle.site_store.specs.Upgrading.{ShowsFirst, FirstBy, IsUpgradeFault, IsNotUpgraded, writes_counted}
 use Rattle.site_store.specs.declared.fault.SiteOpenFault.{SiteOpenFault}
 use Rattle.site_store.specs.declared.fault.SiteOpenFault.TheVariants as reading
 use Rattle.site_store.proofs.UpgradesCommitted.{same_first}
-use Rattle.host_on_disk.specs.ImageSites.{ImageRepresents}
 use Rattle.host_on_disk.specs.OpenFaults.{of_site}
 use Rattle.host_on_disk.specs.Upgrades.{ImageRepresentsFirst, ImageRepresentsEither, KeepsEither, IsUpgradeRefusal}
 use Rattle.host_on_disk.specs.Upgrades as spec
-use Rattle.host_on_disk.specs.declared.open_fault.OpenFault.{OpenFault}
 use Rattle.host_on_disk.specs.declared.open_fault.OpenFault.TheVariants.{Keeper, BadRecord, Memory}
 use Rattle.host_on_disk.proofs.Images.{same_pairs_and_banner}
 use Rattle.host_on_disk.proofs.Openings.{ArePairs}

@@ -1,22 +1,18 @@
 // What a host on a disk rests on, as laws of the definitions.
-ghost use Rattle.std.specs.Prelude.{◌≡◌, ◌<◌, ℕ, List, IsTrue, length};
+ghost use Rattle.std.specs.Prelude.{◌≡◌, ℕ, List, IsTrue};
 ghost use Rattle.host_types.specs.Site.{Site};
 ghost use Rattle.page_store.specs.Sectors.{Image};
 ghost use Rattle.page_store.specs.Steps.{crash_states_of};
 ghost use Rattle.group_world.specs.CrashStates.{CommitOfChanges, HoldsCommits};
 ghost use Rattle.host_on_disk.specs.ImageSites.{ImageRepresents};
 ghost use Rattle.host_on_disk.specs.Headline.{IsFound, RunInTurn, InTurn, FoundInTurn};
-ghost use Rattle.host_on_disk.specs.Tightness.{IsTight};
+ghost use Rattle.host_on_disk.specs.Tightness.{IsTightWhereFull};
 ghost use Rattle.cow_tree.specs.TreeSeen.{device_of, held};
-ghost use Rattle.host_types.specs.AllChanges.{Changes};
-ghost use Rattle.host_types.specs.declared.site_fault.SiteFault.TheVariants.{Full};
-ghost use Rattle.site_pairs.specs.ChangeKeys.{keys_of_all};
 ghost use Rattle.site_store.specs.Seen.{keeper_of, seen_site};
 
-use cow_tree::TreeKeeper;
+use crate::opening::SiteOn;
 use host_types::SiteKeeper;
 use sector_device::Device;
-use site_store::DiskSite;
 
 /// An image represents at most one site.
 pub fn an_image_represents_one_site()
@@ -36,7 +32,6 @@ pub fn any_number_of_crashes<D: Device>()
 {}
 
 /// `Full` of changes on a site over a tree means that they are tight: fewer pages are free than a commit of all their keys may need in a tree of so many levels.
-pub fn full_is_tight<D: Device>(site: &DiskSite<TreeKeeper<D>>)
-    ensures { (changes : Changes) (need free : ℕ) → IsTrue (D.state (device_of (keeper_of site.now))).honest → free < need → ⟦<DiskSite<TreeKeeper<D>> as SiteKeeper>⟧.lacks site.now changes (Full need free) →
-        IsTight (length (keys_of_all (seen_site site.now) changes)) (held D.state (keeper_of site.now)).height free }
+pub fn full_is_tight<D: Device>(site: &SiteOn<D>)
+    ensures { IsTrue (D.state (device_of (keeper_of site.now))).honest → IsTightWhereFull (⟦<SiteOn<D> as SiteKeeper>⟧.lacks site.now) (seen_site site.now) (held D.state (keeper_of site.now)).height }
 {}

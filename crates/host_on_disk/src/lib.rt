@@ -13,5 +13,5 @@ pub use laws::{
 };
 pub use on_disk::{run_on, run_over};
 pub use open_fault::OpenFault;
-pub use opening::open_site;
+pub use opening::{SiteOn, open_site};
 pub use upgrading::upgrade_on;

@@ -9,13 +9,11 @@ ghost use Rattle.host_on_disk.specs.OpenFaults.{IsOpeningFault, HandsBack};
 ghost use Rattle.host_on_disk.specs.declared.open_fault.OpenFault.TheVariants.{Memory};
 
 use crate::open_fault::OpenFault;
-use crate::opening::open_site;
-use cow_tree::TreeKeeper;
+use crate::opening::{SiteOn, open_site};
 use group_hub::{Hub, OutcomeList};
 use group_world::Event;
 use host_types::SiteKeeper;
 use sector_device::Device;
-use site_store::DiskSite;
 use std::alloc::Global;
 use word_search::SearchKeeper;
 
@@ -55,7 +53,7 @@ pub fn run_on<D: Device>(
     first: u64,
     events: &[Event],
 ) -> Result<(OutcomeList, D), (OpenFault, D)>
-    ensures ran { let k = ⟦<DiskSite<TreeKeeper<D>> as SiteKeeper>⟧ in IfOk result (λ r. RunsAndSurvives D.state (λ d. device_of (keeper_of d)) k.site_state k.lacks k.crash_states k.represents (crash_states_of D.moment D.possible_since) device r.1 grouped first events.now r.0) }
+    ensures ran { let k = ⟦<SiteOn<D> as SiteKeeper>⟧ in IfOk result (λ r. RunsAndSurvives D.state (λ d. device_of (keeper_of d)) k.site_state k.lacks k.crash_states k.represents (crash_states_of D.moment D.possible_since) device r.1 grouped first events.now r.0) }
     ensures refused { IfErr result (λ e. HandsBack IsOpeningFault D.state (crash_states_of D.moment D.possible_since) device e.1 e.0) }
 {
     let site = match open_site(alloc, device) {

@@ -1,9 +1,7 @@
 -- A site over a keeper, as its trait tells it.
-use Rattle.std.specs.Prelude.{ℕ}
 use Rattle.host_types.specs.AllChanges.{Changes}
 use Rattle.host_types.specs.SiteState.{SiteState}
 use Rattle.host_types.specs.CrashStates.{CrashStates}
-use Rattle.host_types.specs.declared.change.Change.{Change}
 use Rattle.host_types.specs.declared.site_fault.SiteFault.{SiteFault}
 use Rattle.site_store.specs.Represented.{site_of, site_state_of}
 use Rattle.site_store.specs.Lacking.{IsLacking}

@@ -42,7 +42,7 @@ pub fn figures_line(alloc: Global, figures: SiteFigures) -> Result<String, Alloc
 
 /// The line of an open site's figures: how many items and pairs it has, how many pages a commit may write, and the current generation.
 pub fn check_site<K: PinKeeper>(alloc: Global, site: &mut DiskSite<K>) -> Result<String, SiteFault>
-    ensures line { ReadsSite ⟦<DiskSite<K> as SiteKeeper>⟧.site_state ⟦<DiskSite<K> as SiteKeeper>⟧.lacks ⟦<DiskSite<K> as SiteKeeper>⟧.crash_states site.old site.new result (λ s line. string_bytes line ≡ spec.checked_line s (⟦<DiskSite<K> as SiteKeeper>⟧.site_state site.old).free (K.store_state (keeper_of site.old)).generation) }
+    ensures line { let k = ⟦<DiskSite<K> as SiteKeeper>⟧ in ReadsSite k.site_state k.lacks k.crash_states site.old site.new result (λ s line. string_bytes line ≡ spec.checked_line s (k.site_state site.old).free (K.store_state (keeper_of site.old)).generation) }
     ensures counts { OnOk result ((⟦<DiskSite<K> as SiteKeeper>⟧.site_state site.new).failed_reads ≡ (⟦<DiskSite<K> as SiteKeeper>⟧.site_state site.old).failed_reads) }
     ensures closed { (⟦<DiskSite<K> as SiteKeeper>⟧.site_state site.old).usable ≡ false → IsErrOf result Failed }
     ensures work { WritesNothing (K.store_state (keeper_of site.old)).made (K.store_state (keeper_of site.new)).made }

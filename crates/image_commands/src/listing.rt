@@ -1,5 +1,5 @@
 // The lines of items.
-ghost use Rattle.std.specs.Prelude.{◌≡◌, ◌++◌, IfOk, OnOk};
+ghost use Rattle.std.specs.Prelude.{◌≡◌, ◌++◌, OnOk};
 ghost use Rattle.image_commands.specs.Listing as spec;
 
 use common_types::escaped;

@@ -28,7 +28,7 @@ fn list_next<K: PinKeeper>(
     text: &mut Vec<u8>,
     after: Option<&Selector>,
 ) -> Result<Option<Selector>, SiteFault>
-    ensures next { ReadsSite ⟦<DiskSite<K> as SiteKeeper>⟧.site_state ⟦<DiskSite<K> as SiteKeeper>⟧.lacks ⟦<DiskSite<K> as SiteKeeper>⟧.crash_states site.old site.new result (λ s next. IsListedNext form s (option_map (λ selector. selector.now) after.entry) text.old.items text.new.items next) }
+    ensures next { let k = ⟦<DiskSite<K> as SiteKeeper>⟧ in ReadsSite k.site_state k.lacks k.crash_states site.old site.new result (λ s next. IsListedNext form s (option_map (λ selector. selector.now) after.entry) text.old.items text.new.items next) }
     ensures counts { OnOk result ((⟦<DiskSite<K> as SiteKeeper>⟧.site_state site.new).failed_reads ≡ (⟦<DiskSite<K> as SiteKeeper>⟧.site_state site.old).failed_reads) }
     ensures closed { (⟦<DiskSite<K> as SiteKeeper>⟧.site_state site.old).usable ≡ false → IsErrOf result Failed }
 {
@@ -48,7 +48,7 @@ pub fn show_site<K: PinKeeper>(
     site: &mut DiskSite<K>,
     form: ListForm,
 ) -> Result<Vec<u8>, SiteFault>
-    ensures listing { ReadsSite ⟦<DiskSite<K> as SiteKeeper>⟧.site_state ⟦<DiskSite<K> as SiteKeeper>⟧.lacks ⟦<DiskSite<K> as SiteKeeper>⟧.crash_states site.old site.new result (λ s text. text.items ≡ listing_in form s) }
+    ensures listing { let k = ⟦<DiskSite<K> as SiteKeeper>⟧ in ReadsSite k.site_state k.lacks k.crash_states site.old site.new result (λ s text. text.items ≡ listing_in form s) }
     ensures counts { OnOk result ((⟦<DiskSite<K> as SiteKeeper>⟧.site_state site.new).failed_reads ≡ (⟦<DiskSite<K> as SiteKeeper>⟧.site_state site.old).failed_reads) }
     ensures closed { (⟦<DiskSite<K> as SiteKeeper>⟧.site_state site.old).usable ≡ false → IsErrOf result Failed }
 {

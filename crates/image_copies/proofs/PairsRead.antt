@@ -1,12 +1,12 @@
 -- Reads of a keeper, one after another.
-use Rattle.std.proofs.Common.{◌≡◌, ◌≤◌, ℕ, Bool, true, false, List, length, take, Option, Some, None, refl, sym, ap, subst, ◌∙◌, arith, IsTrue}
+use Rattle.std.proofs.Common.{◌≡◌, ◌≤◌, ℕ, Bool, true, false, List, length, take, Option, Some, None, sym, ap, subst, ◌∙◌, IsTrue}
 use Rattle.std.proofs.Math.Seq.{take-length}
 use Rattle.std.specs.Option.{is_some}
 use Rattle.common_types.specs.Counts.{Rose}
 use Rattle.page_store.specs.Pages.{Pair}
 use Rattle.page_store.specs.Keys.{precedes}
 use Rattle.page_store.specs.Batch.{is_pair, pair_after}
-use Rattle.page_store.specs.StoreState.{StoreState, StoreHasRead, IsStoreReadFault}
+use Rattle.page_store.specs.StoreState.{StoreState, IsStoreReadFault}
 use Rattle.page_store.specs.declared.fault.KeeperFault.{KeeperFault}
 use Rattle.page_store.specs.declared.fault.KeeperFault.TheVariants as faults
 use Rattle.image_commands.specs.declared.fault.ImageFault.{ImageFault}

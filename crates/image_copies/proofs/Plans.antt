@@ -1,5 +1,5 @@
 -- Why a site is not ready to be written, and what is ready.
-use Rattle.std.proofs.Common.{◌≡◌, ◌⊎◌, ◌≤◌, ◌<◌, ◌+◌, inl, inr, ⊎_elim, ℕ, true, List, Option, Some, refl, sym, ap, subst, ◌∙◌, arith, IsTrue}
+use Rattle.std.proofs.Common.{◌≡◌, ◌⊎◌, ◌≤◌, inr, ⊎_elim, ℕ, List, Option, Some, refl, sym, ap, subst, ◌∙◌, arith, IsTrue}
 use Rattle.common_types.specs.Counts.{Rose}
 use Rattle.host_types.specs.Site.{Site}
 use Rattle.sector_device.specs.Device.{State, NothingCounted}
@@ -12,11 +12,11 @@ use Rattle.filled_images.specs.FilledImages as images
 use Rattle.filled_images.specs.FilledImages.{pages_for}
 use Rattle.site_records.specs.Layout.{layout}
 use Rattle.host_on_disk.specs.ImageSites.{ImageRepresents}
-use Rattle.image_commands.specs.Faults.{of_store, IsNotRead, IsReadingFault}
+use Rattle.image_commands.specs.Faults.{IsNotRead, IsReadingFault}
 use Rattle.image_commands.specs.declared.fault.ImageFault.{ImageFault}
 use Rattle.image_commands.specs.declared.fault.ImageFault.TheVariants.{Refused, NoFile, BadRecord, Store, Memory}
 use Rattle.image_copies.specs.Copies.{HasCount}
-use Rattle.image_copies.specs.CopyFaults.{of_new, IsNoCount, LacksPages, IsNoCopyMade, IsNotPlanned, IsNotCopiedWhole}
+use Rattle.image_copies.specs.CopyFaults.{of_new, IsNoCount, IsNoCopyMade, IsNotPlanned, IsNotCopiedWhole}
 use Rattle.image_copies.specs.declared.fault.CopyFault.{CopyFault}
 use Rattle.image_copies.specs.declared.fault.CopyFault.TheVariants.{Image as OfImage, Small, Full, Failed, NoFile as NoNewFile, There}
 

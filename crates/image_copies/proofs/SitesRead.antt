@@ -1,11 +1,11 @@
 -- A site that was read from its keeper.
-use Rattle.std.proofs.Common.{◌≡◌, ◌≤◌, inl, inr, ℕ, true, List, refl, sym, ap, subst, ◌∙◌, length, IsTrue}
+use Rattle.std.proofs.Common.{◌≡◌, ◌≤◌, ℕ, true, List, refl, sym, subst, ◌∙◌}
 use Rattle.common_types.specs.Counts.{Rose}
 use Rattle.host_types.specs.Site.{Site}
 use Rattle.host_types.specs.SiteState.{SiteState, IsReadFault}
 use Rattle.host_types.specs.declared.site_fault.SiteFault.{SiteFault}
 use Rattle.host_types.specs.declared.site_fault.SiteFault.TheVariants as sites
-use Rattle.sector_device.specs.Device.{State, NothingCounted}
+use Rattle.sector_device.specs.Device.{State}
 use Rattle.page_store.specs.Pages.{Pair}
 use Rattle.page_store.specs.StoreState.{StoreState}
 use Rattle.page_store.specs.declared.banner.Banner.{Banner}

@@ -1,6 +1,6 @@
 -- The site of an image, written as a new one.
-use Rattle.std.specs.Prelude.{◌≡◌, ◌≤◌, ◌*◌, true, ℕ, List, [], length, Option, Some, None}
-use Rattle.common_types.specs.CrashStates.{CrashStates, AddsNone}
+use Rattle.std.specs.Prelude.{◌≡◌, ◌≤◌, true, ℕ, List, [], length, Option, Some, None}
+use Rattle.common_types.specs.CrashStates.{CrashStates}
 use Rattle.host_types.specs.Site.{Site}
 use Rattle.sector_device.specs.Device.{State}
 use Rattle.page_store.specs.Sectors.{Image}

@@ -1,5 +1,5 @@
 // A site is read, and its copy worked out whole before anything is written.
-ghost use Rattle.std.specs.Prelude.{◌≡◌, ◌≤◌, ◌⊎◌, ◌<◌, ◌+◌, ◌*◌, ℕ, true, Option, Some, None, IsTrue, IfOk, IfErr, IsErrAnd, OnOk};
+ghost use Rattle.std.specs.Prelude.{◌≡◌, ◌≤◌, ◌⊎◌, ◌<◌, true, Option, Some, None, IsTrue, IfOk, IfErr, IsErrAnd, OnOk};
 ghost use Rattle.std.specs.Option.{is_some};
 ghost use Rattle.page_store.specs.Sizes.{least_pages, most_pages};
 ghost use Rattle.common_types.specs.CrashStates.{AddsNone};

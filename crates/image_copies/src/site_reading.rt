@@ -16,7 +16,7 @@ ghost use Rattle.image_copies.specs.SitesRead.{IsReadOf, IsSiteRead, ReadsAllPai
 use crate::all_pairs::all_pairs;
 use crate::site_read::SiteRead;
 use cow_tree::TreeKeeper;
-use host_on_disk::open_site;
+use host_on_disk::{SiteOn, open_site};
 use host_types::SiteKeeper;
 use image_commands::ImageFault;
 use page_store::Keeper;
@@ -52,13 +52,10 @@ fn read_keeper<D: Device>(
 }
 
 /// Reads all of an open site, and hands its device back. Nothing is written.
-fn read_open<D: Device>(
-    alloc: Global,
-    site: DiskSite<TreeKeeper<D>>,
-) -> Result<(SiteRead, D), (ImageFault, D)>
+fn read_open<D: Device>(alloc: Global, site: SiteOn<D>) -> Result<(SiteRead, D), (ImageFault, D)>
     requires usable { is_open (keeper_of site) ≡ true }
     requires large { 128 ≤ (D.state (device_of (keeper_of site))).size }
-    requires unpinned { (⟦<DiskSite<TreeKeeper<D>> as SiteKeeper>⟧.site_state site).pins ≡ [] }
+    requires unpinned { (⟦<SiteOn<D> as SiteKeeper>⟧.site_state site).pins ≡ [] }
     ensures read { IsTrue (D.state (device_of (keeper_of site))).honest → IfOk result (λ r. IsReadOf (seen_site site) r.0) }
     ensures rooted { IsTrue (D.state (device_of (keeper_of site))).honest → IfOk result (λ r. is_some (current (D.state r.1).disk.view) ≡ true) }
     ensures back { IfOk result (λ r. HandsOver D.state (crash_states_of D.moment D.possible_since) (device_of (keeper_of site)) r.1) }

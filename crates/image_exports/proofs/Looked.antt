@@ -1,12 +1,12 @@
 -- One call after another that reads a site, and may pin it meanwhile.
-use Rattle.std.proofs.Common.{◌≡◌, ℕ, Bool, true, Option, Some, None, Ok, Err, refl, sym, subst, ◌∙◌, arith, IsTrue}
+use Rattle.std.proofs.Common.{◌≡◌, ℕ, true, Ok, Err, refl, sym, subst, ◌∙◌, arith, IsTrue}
 use Rattle.std.specs.Prelude.{Result, OnOk, IfErr}
-use Rattle.host_types.specs.CrashStates.{CrashStates, AddsNone, adds_none_again, no_new_crash_state}
-use Rattle.host_types.specs.SiteState.{SiteState, HasRead, IsReadFault, Rose}
+use Rattle.host_types.specs.CrashStates.{CrashStates, adds_none_again, no_new_crash_state}
+use Rattle.host_types.specs.SiteState.{SiteState, IsReadFault, Rose}
 use Rattle.host_types.specs.declared.site_fault.SiteFault.{SiteFault}
 use Rattle.host_types.specs.declared.site_fault.SiteFault.TheVariants as faults
 use Rattle.image_items.specs.Looks.{HasLooked}
-use Rattle.image_items.proofs.Looked.{read, then as looked_then}
+use Rattle.image_items.proofs.Looked.{then as looked_then}
 use Rattle.image_exports.specs.Looks.{Looks}
 
 since : (a b d : SiteState) (fault : SiteFault) → HasLooked a b → b.failed_reads ≡ a.failed_reads → IsReadFault true b d fault → IsReadFault true a d fault

@@ -1,9 +1,9 @@
 -- An item by its card and its views.
-use Rattle.std.proofs.Common.{◌≡◌, ℕ, zero, suc, ◌+◌, ◌<◌, Bool, true, List, [], ◌∷◌, ◌++◌, map, length, take, get_or, Option, Some, None, refl, ap, sym, subst, ◌∙◌, arith, IsTrue}
+use Rattle.std.proofs.Common.{◌≡◌, ℕ, zero, suc, ◌+◌, ◌<◌, List, [], ◌∷◌, ◌++◌, map, length, take, get_or, Option, Some, None, refl, ap, sym, subst, ◌∙◌, arith}
 use Rattle.std.specs.Prelude.{slice_get}
 use Rattle.std.specs.Option.{option_map}
 use Rattle.host_types.specs.Site.{Site, item_at}
-use Rattle.host_types.specs.Card.{card_view, card_body, card_of, card_at, bytes_of, viewed, viewed_in, viewed_at}
+use Rattle.host_types.specs.Card.{card_view, card_body, card_of, card_at, bytes_of, viewed_in, viewed_at}
 use Rattle.host_types.specs.declared.card.Card.{Card}
 use Rattle.host_types.specs.declared.card.CardBody.{CardBody}
 use Rattle.host_types.specs.declared.card.CardBody.TheVariants as cards

@@ -1,5 +1,5 @@
 -- What a call leaves that reads a site, and may pin it meanwhile.
-use Rattle.std.specs.Prelude.{◌≡◌, ℕ, Result, OnOk, IfErr, IsTrue, true}
+use Rattle.std.specs.Prelude.{◌≡◌, Result, OnOk, IfErr, IsTrue, true}
 use Rattle.host_types.specs.SiteState.{SiteState, IsReadFault}
 use Rattle.host_types.specs.CrashStates.{CrashStates, AddsNone}
 use Rattle.host_types.specs.declared.site_fault.SiteFault.{SiteFault}

@@ -1,5 +1,5 @@
 -- How items are told by a file of changes.
-use Rattle.std.specs.Prelude.{◌≡◌, ◌⊎◌, ℕ, Bool, true, false, List, [], ◌∷◌, ◌++◌, codes, if◌then◌else◌}
+use Rattle.std.specs.Prelude.{◌≡◌, ◌⊎◌, ℕ, false, List, [], ◌∷◌, ◌++◌, codes, if◌then◌else◌}
 use Rattle.common_types.specs.Names.{is_reserved}
 use Rattle.host_types.specs.Card.{card_body}
 use Rattle.host_types.specs.declared.card.CardBody.{CardBody}

@@ -1,5 +1,5 @@
 -- An item that is known by its card, and the bytes of its views.
-use Rattle.std.specs.Prelude.{◌≡◌, ℕ, List, Some, map, slice_get}
+use Rattle.std.specs.Prelude.{◌≡◌, ℕ, List, map, slice_get}
 use Rattle.host_types.specs.Site.{Site}
 use Rattle.host_types.specs.Card.{card_view, card_body, bytes_of, viewed, viewed_at}
 use Rattle.host_types.specs.declared.card.CardBody.{CardBody}

@@ -1,5 +1,5 @@
 -- The bytes of a document, by the card that was read.
-use Rattle.std.proofs.Common.{◌≡◌, ◌∙◌, ℕ, Bool, true, List, Option, Some, Ok, Err, length, refl, ap, sym, subst, IsTrue}
+use Rattle.std.proofs.Common.{◌≡◌, ◌∙◌, ℕ, true, List, Option, Some, Ok, Err, length, refl, ap, sym, subst, IsTrue}
 use Rattle.std.specs.Prelude.{Result, IfErr, IsErrAnd}
 use Rattle.host_types.specs.Card.{card_at, viewed_at}
 use Rattle.host_types.specs.Site.{Site}

@@ -1,5 +1,5 @@
 -- The bytes of a document, by the view that is wanted.
-use Rattle.std.specs.Prelude.{◌≡◌, ℕ, List, Option, Some, None, Result, Ok, Err}
+use Rattle.std.specs.Prelude.{ℕ, List, Option, Some, None, Result, Ok, Err}
 use Rattle.std.specs.List.{position, before_first, after_first}
 use Rattle.host_types.specs.Site.{Site}
 use Rattle.host_types.specs.Card.{card_at, viewed_at}

@@ -4,7 +4,6 @@ use Rattle.common_types.specs.declared.refused.Refused.TheVariants.{BadName}
 use Rattle.host_types.specs.Site.{Site, last_numbers}
 use Rattle.host_types.specs.declared.card.CardBody.{CardBody}
 use Rattle.host_types.specs.declared.card.CardBody.TheVariants as cards
-use Rattle.host_types.specs.declared.card.CardView.{CardView}
 use Rattle.host_types.specs.declared.view.Kind.TheVariants.{Text}
 use Rattle.image_items.specs.Documents.{place_in, place_of}
 use Rattle.image_items.specs.ItemLines.{item_line}

@@ -1,5 +1,5 @@
 -- What a call leaves that reads a site, and may pin it meanwhile.
-use Rattle.std.specs.Prelude.{◌≡◌, ◌≤◌, ℕ, [], IsTrue}
+use Rattle.std.specs.Prelude.{◌≡◌, ◌≤◌, [], IsTrue}
 use Rattle.host_types.specs.SiteState.{SiteState}
 
 -- The site, its flags and the count of failed writes stay, and reads may have failed. A pin that was given back may leave more room than before; where none was out, none is.

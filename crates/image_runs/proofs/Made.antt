@@ -6,7 +6,6 @@ use Rattle.host_types.specs.Site.{Site}
 use Rattle.host_types.specs.SiteState.{SiteState}
 use Rattle.host_types.specs.CrashStates.{CrashStates, may_crash_to}
 use Rattle.host_types.specs.Counting.{IsReadCounted}
-use Rattle.host_types.specs.declared.change.Change.{Change as SiteChange}
 use Rattle.host_types.specs.declared.site_fault.SiteFault.{SiteFault}
 use Rattle.host_types.specs.declared.site_fault.SiteFault.TheVariants as faults
 use Rattle.change_file.specs.Applied.{apply_all, IsStop, IsStopped}

@@ -1,15 +1,18 @@
 -- Changes that are made on a site and on the site of an image, and what a crash leaves of them.
 use Rattle.std.specs.Prelude.{◌≡◌, ◌≢◌, ℕ, ◌-◌, true, List, take, Result, Ok, Err, OnOk, IfErr, IsTrue}
-use Rattle.host_types.specs.AllChanges.{Changes}
 use Rattle.host_types.specs.Site.{Site}
 use Rattle.host_types.specs.SiteState.{SiteState}
 use Rattle.host_types.specs.Counting.{IsReadCounted, writes_after}
-use Rattle.host_types.specs.declared.change.Change.{Change as SiteChange}
 use Rattle.host_types.specs.declared.site_fault.SiteFault.{SiteFault}
 use Rattle.host_types.specs.declared.site_fault.SiteFault.TheVariants.{Failed}
+use Rattle.host_types.specs.declared.site_keeper.SiteKeeper.{Ghosts}
 use Rattle.host_types.specs.CrashStates.{CrashStates, AddsOnly, AddsNone, may_crash_to}
 use Rattle.sector_device.specs.Device.{State, NothingCounted}
 use Rattle.page_store.specs.Sectors.{Image}
+use Rattle.cow_tree.specs.TreeSeen.{device_of}
+use Rattle.cow_tree.specs.declared.tree_keeper.TreeKeeper.{TreeKeeper}
+use Rattle.site_store.specs.Seen.{keeper_of}
+use Rattle.site_store.specs.declared.disk_site.DiskSite.{DiskSite}
 use Rattle.change_file.specs.Applied.{apply_all, IsStopped, RepresentsFront}
 use Rattle.change_file.specs.declared.fault.FileChange.{FileChange}
 use Rattle.change_file.specs.declared.fault.ApplyFault.{ApplyFault}
@@ -42,14 +45,14 @@ pub record CountsOnDevice (fault : SiteFault) (old new : State) : Type 0 where
   pub writes : new.failed_writes ≡ writes_after true fault old.failed_writes
 
 -- A device was opened as the site that it shows, which counts nothing; the changes up to one were made on that, and that one was not, for its own cause; and the device was handed back.
-pub record StopsOnImage {D S : Type 0} (state : D → State) (device : S → D) (site_state : S → SiteState) (lacks : S → Changes → SiteFault → Type 0) (old new : D) (changes : List FileChange) (now : ℕ) (stopped : ApplyFault) : Type 0 where
-  pub opened : S
-  pub closed : S
-  pub shows : IsTrue (state old).honest → ImageRepresents (state old).disk.view (site_state opened).site
-  pub counted : NothingCounted (state old) (state (device opened))
-  pub usable : (site_state opened).usable ≡ true
-  pub stops : IsStopped site_state lacks opened closed changes now stopped.number stopped.fault
-  pub handed : new ≡ device closed
+pub record StopsOnImage {D Pin : Type 0} {dict : _} {tree : _} (k : Ghosts (DiskSite (TreeKeeper D dict) tree) Pin) (old new : D) (changes : List FileChange) (now : ℕ) (stopped : ApplyFault) : Type 0 where
+  pub opened : DiskSite (TreeKeeper D dict) tree
+  pub closed : DiskSite (TreeKeeper D dict) tree
+  pub shows : IsTrue (dict.state old).honest → ImageRepresents (dict.state old).disk.view (k.site_state opened).site
+  pub counted : NothingCounted (dict.state old) (dict.state (device_of (keeper_of opened)))
+  pub usable : (k.site_state opened).usable ≡ true
+  pub stops : IsStopped k.site_state k.lacks opened closed changes now stopped.number stopped.fault
+  pub handed : new ≡ device_of (keeper_of closed)
 
 -- What changes on the site of an image count on its device, by their answer. It stays as honest as it is.
 pub record CountsChangesOn {D : Type 0} (state : D → State) (old new : D) (result : Result ℕ ApplyFault) : Type 0 where

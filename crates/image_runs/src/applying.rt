@@ -1,18 +1,14 @@
 // Makes changes on a site that is handed in, and on the site of an image.
 ghost use Rattle.std.specs.Prelude.{◌≡◌, true, IfOk, IfErr, OnErr, IsTrue, length};
 ghost use Rattle.page_store.specs.Steps.{crash_states_of};
-ghost use Rattle.cow_tree.specs.TreeSeen.{device_of};
-ghost use Rattle.site_store.specs.Seen.{keeper_of};
 ghost use Rattle.change_file.specs.Applied.{MakesAll, StopsAt, HasSeen};
 ghost use Rattle.host_on_disk.specs.OpenFaults.{IsOpeningFault, HandsBack};
 ghost use Rattle.image_runs.specs.ImageChanges.{AppliesTo, AppliesToImage, CountsChangesOn, StopsOnImage};
 
 use change_file::{ApplyFault, FileChange, Progress, apply_changes};
-use cow_tree::TreeKeeper;
-use host_on_disk::{OpenFault, open_site};
+use host_on_disk::{OpenFault, SiteOn, open_site};
 use host_types::{SiteKeeper, Stamp};
 use sector_device::Device;
-use site_store::DiskSite;
 use std::alloc::Global;
 
 /// Makes changes on a site, one after another, and hands it back with how many they are, or with the one that was not made. The progress sees each that is made.
@@ -47,7 +43,7 @@ pub fn apply_on<D: Device, P: Progress>(
     progress: &mut P,
 ) -> Result<(Result<u64, ApplyFault>, D), (OpenFault, D)>
     ensures applied { IsTrue (D.state device).honest → IfOk result (λ r. AppliesToImage D.state (crash_states_of D.moment D.possible_since) device r.1 changes.items now r.0) }
-    ensures stopped { IfOk result (λ r. IfErr r.0 (StopsOnImage D.state (λ d. device_of (keeper_of d)) ⟦<DiskSite<TreeKeeper<D>> as SiteKeeper>⟧.site_state ⟦<DiskSite<TreeKeeper<D>> as SiteKeeper>⟧.lacks device r.1 changes.items now)) }
+    ensures stopped { IfOk result (λ r. IfErr r.0 (StopsOnImage ⟦<SiteOn<D> as SiteKeeper>⟧ device r.1 changes.items now)) }
     ensures count { IfOk result (λ r. IfOk r.0 (λ n. n ≡ length changes.items)) }
     ensures counts { IfOk result (λ r. CountsChangesOn D.state device r.1 r.0) }
     ensures seen { IfOk result (λ r. HasSeen P.seen changes.items progress.old progress.new r.0) }

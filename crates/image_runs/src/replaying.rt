@@ -1,20 +1,16 @@
 // A script over a site, and over the site of an image.
 ghost use Rattle.std.specs.Prelude.{◌≡◌, true, [], IfOk, IfErr};
 ghost use Rattle.page_store.specs.Steps.{crash_states_of};
-ghost use Rattle.cow_tree.specs.TreeSeen.{device_of};
-ghost use Rattle.site_store.specs.Seen.{keeper_of};
 ghost use Rattle.host_on_disk.specs.OpenFaults.{IsOpeningFault, HandsBack};
 ghost use Rattle.host_on_disk.specs.declared.open_fault.OpenFault.TheVariants.{Memory};
 ghost use Rattle.group_hub.specs.Worlds.{IsValidWhereGrouped};
 ghost use Rattle.image_runs.specs.ImageRuns.{OverSite, OnImage, Replays};
 
-use cow_tree::TreeKeeper;
 use group_hub::Hub;
-use host_on_disk::{OpenFault, open_site};
+use host_on_disk::{OpenFault, SiteOn, open_site};
 use host_script::{ReplayFault, replay};
 use host_types::SiteKeeper;
 use sector_device::Device;
-use site_store::DiskSite;
 use std::alloc::Global;
 use std::io::{Read, Write};
 use word_search::SearchKeeper;
@@ -31,7 +27,7 @@ pub fn replay_over<S: SearchKeeper, R: Read, W: Write>(
     requires usable { (S.site_state site).usable ≡ true }
     requires unpinned { (S.site_state site).pins ≡ [] }
     requires valid { IsValidWhereGrouped grouped (S.site_state site) }
-    ensures replayed { IfOk result (λ r. Replays (OverSite grouped S.site_state S.lacks S.crash_states S.represents) site r.1 (R.remaining reader.old) (R.remaining reader.new) (W.contents writer.old) (W.contents writer.new) r.0) }
+    ensures replayed { IfOk result (λ r. Replays (OverSite grouped S.SiteKeeper) site r.1 (R.remaining reader.old) (R.remaining reader.new) (W.contents writer.old) (W.contents writer.new) r.0) }
     ensures unpinned { IfOk result (λ r. (S.site_state r.1).pins ≡ []) }
     ensures err { IfErr result (λ e. (e.0 ≡ Memory) × (e.1 ≡ site)) }
     ensures unread { IfErr result (λ e. (reader.new ≡ reader.old) × (writer.new ≡ writer.old)) }
@@ -55,7 +51,7 @@ pub fn replay_on<D: Device, R: Read, W: Write>(
     reader: &mut R,
     writer: &mut W,
 ) -> Result<(Result<(), ReplayFault>, D), (OpenFault, D)>
-    ensures replayed { IfOk result (λ r. Replays (OnImage grouped D.state (λ d. device_of (keeper_of d)) ⟦<DiskSite<TreeKeeper<D>> as SiteKeeper>⟧.site_state ⟦<DiskSite<TreeKeeper<D>> as SiteKeeper>⟧.lacks ⟦<DiskSite<TreeKeeper<D>> as SiteKeeper>⟧.crash_states ⟦<DiskSite<TreeKeeper<D>> as SiteKeeper>⟧.represents (crash_states_of D.moment D.possible_since)) device r.1 (R.remaining reader.old) (R.remaining reader.new) (W.contents writer.old) (W.contents writer.new) r.0) }
+    ensures replayed { IfOk result (λ r. Replays (OnImage grouped ⟦<SiteOn<D> as SiteKeeper>⟧) device r.1 (R.remaining reader.old) (R.remaining reader.new) (W.contents writer.old) (W.contents writer.new) r.0) }
     ensures refused { IfErr result (λ e. HandsBack IsOpeningFault D.state (crash_states_of D.moment D.possible_since) device e.1 e.0) }
     ensures unread { IfErr result (λ e. (reader.new ≡ reader.old) × (writer.new ≡ writer.old)) }
 {

@@ -4,13 +4,13 @@ use Rattle.std.specs.Net.Socket.{socket_ip, socket_port}
 use Rattle.std.specs.declared.net.ip_addr.IpAddr.TheVariants.{V4}
 use Rattle.std.specs.declared.net.socket_addr.SocketAddr.{SocketAddr}
 use Rattle.host_types.specs.Address.{Address, address}
-use Rattle.host_types.specs.AllChanges.{Changes}
-use Rattle.host_types.specs.CrashStates.{CrashStates}
 use Rattle.host_types.specs.Site.{Site}
-use Rattle.host_types.specs.SiteState.{SiteState}
-use Rattle.host_types.specs.declared.site_fault.SiteFault.{SiteFault}
+use Rattle.host_types.specs.declared.site_keeper.SiteKeeper.{Ghosts}
 use Rattle.sector_device.specs.Device.{State}
-use Rattle.page_store.specs.Sectors.{Image as Content}
+use Rattle.cow_tree.specs.TreeSeen.{device_of}
+use Rattle.cow_tree.specs.declared.tree_keeper.TreeKeeper.{TreeKeeper}
+use Rattle.site_store.specs.Seen.{keeper_of}
+use Rattle.site_store.specs.declared.disk_site.DiskSite.{DiskSite}
 use Rattle.group_world.specs.declared.event.Event.{Event}
 use Rattle.group_world.specs.declared.event.Outcome.{Outcome}
 use Rattle.turns.specs.Runs.{HasRun}
@@ -46,12 +46,12 @@ abbrev pub IsListened : {C : Type 0} → (SocketAddr → C) → State → Option
 IsListened had device address before now = (at : SocketAddr) × IsPlace device address at × (now ≡ before ++ had at ∷ [])
 
 -- A device was opened as the site that it shows, and the log was told where it is served. In a service in which nobody was, clients were served on these terms, by these events, until that ended; and the device was handed back. With the log stand the readings of a watch, and an office.
-pub record ServesClients {D S Log O X : Type 0} (contents : Log → Option (List ℕ)) (lets_wait : O → Pace) (works : WorksOf O) (terms : Terms) (listen : Option SocketAddr) (state : D → State) (device : S → D) (site_state : S → SiteState) (old new : D) (before now : Log × List Reading × O) (result : Result X DailyFault) (es : List Event) (os : List Outcome) : Type 0 where
-  pub opened : S
-  pub closed : S
-  pub shows : IsTrue (state old).honest → ImageRepresents (state old).disk.view (site_state opened).site
+pub record ServesClients {D Pin Log O X : Type 0} {dict : _} {tree : _} (k : Ghosts (DiskSite (TreeKeeper D dict) tree) Pin) (contents : Log → Option (List ℕ)) (lets_wait : O → Pace) (works : WorksOf O) (terms : Terms) (listen : Option SocketAddr) (old new : D) (before now : Log × List Reading × O) (result : Result X DailyFault) (es : List Event) (os : List Outcome) : Type 0 where
+  pub opened : DiskSite (TreeKeeper D dict) tree
+  pub closed : DiskSite (TreeKeeper D dict) tree
+  pub shows : IsTrue (dict.state old).honest → ImageRepresents (dict.state old).disk.view (k.site_state opened).site
   pub front : Address
-  pub named : IsTrue (state old).honest → front ≡ address (site_state opened).site
+  pub named : IsTrue (dict.state old).honest → front ≡ address (k.site_state opened).site
   pub at : SocketAddr
   pub place : IsGivenOrOwn listen front.port at
   pub told : Log
@@ -59,18 +59,18 @@ pub record ServesClients {D S Log O X : Type 0} (contents : Log → Option (List
   pub first : Service
   pub last : Service
   pub fresh : IsFreshService first
-  pub served : HasServed contents lets_wait works terms result (site_state closed).usable (first, told, before.1, before.2) es os (last, now.0, now.1, now.2)
-  pub handed : new ≡ device closed
+  pub served : HasServed contents lets_wait works terms result (k.site_state closed).usable (first, told, before.1, before.2) es os (last, now.0, now.1, now.2)
+  pub handed : new ≡ device_of (keeper_of closed)
 
 -- All that was done to a site is a run, by the events of the clients that were served.
-abbrev pub ClientsServedOver : {S L Log O X : Type 0} → (S → SiteState) → (S → Changes → SiteFault → Type 0) → (S → CrashStates L) → (L → Site → Type 0) → (Log → Option (List ℕ)) → (O → Pace) → WorksOf O → Terms → Result X DailyFault → S → S → Premises Log O → Premises Log O → List ℕ → List ℕ → Type 0
-ClientsServedOver site_state lacks crash_states stands contents lets_wait works terms result old new first last told_before told_now =
-    HasRun (OverSite true site_state lacks crash_states stands) old new told_before told_now (λ es os. HasServed contents lets_wait works terms result (site_state new).usable first es os last)
+abbrev pub ClientsServedOver : {S Pin Log O X : Type 0} → Ghosts S Pin → (Log → Option (List ℕ)) → (O → Pace) → WorksOf O → Terms → S → Premises Log O → Premises Log O → List ℕ → List ℕ → Result X DailyFault × S → Type 0
+ClientsServedOver k contents lets_wait works terms old first last told_before told_now (result, new) =
+    HasRun (OverSite true k) old new told_before told_now (λ es os. HasServed contents lets_wait works terms result (k.site_state new).usable first es os last)
 
 -- And all that was done to a device.
-abbrev pub ClientsServedOnImage : {D S L Log O X : Type 0} → (Log → Option (List ℕ)) → (O → Pace) → WorksOf O → (D → State) → (S → D) → (S → SiteState) → (S → Changes → SiteFault → Type 0) → (S → CrashStates L) → (L → Site → Type 0) → (D → CrashStates Content) → Terms → Option SocketAddr → Result X DailyFault → D → D → Log × List Reading × O → Log × List Reading × O → List ℕ → List ℕ → Type 0
-ClientsServedOnImage contents lets_wait works state device site_state lacks site_crash_states stands crash_states terms listen result old new before now told_before told_now =
-    HasRun (OnImage true state device site_state lacks site_crash_states stands crash_states) old new told_before told_now (λ es os. ServesClients contents lets_wait works terms listen state device site_state old new before now result es os)
+abbrev pub ClientsServedOnImage : {D Pin Log O X : Type 0} {dict : _} {tree : _} → Ghosts (DiskSite (TreeKeeper D dict) tree) Pin → (Log → Option (List ℕ)) → (O → Pace) → WorksOf O → Terms → Option SocketAddr → D → Log × List Reading × O → Log × List Reading × O → List ℕ → List ℕ → Result X DailyFault × D → Type 0
+ClientsServedOnImage k contents lets_wait works terms listen old before now told_before told_now (result, new) =
+    HasRun (OnImage true k) old new told_before told_now (λ es os. ServesClients k contents lets_wait works terms listen old new before now result es os)
 
 -- What was asked of the system where no client is served: `Listener` comes where none was had at that address, for that cause; lack of memory before one was asked for, or behind one that was had; all else before.
 abbrev pub IsAskedInVain : {C : Type 0} → (SocketAddr → C) → (SocketAddr → NetCause → C) → State → Option SocketAddr → List C → List C → ServingFault → Type 0

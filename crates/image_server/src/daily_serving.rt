@@ -2,8 +2,6 @@
 ghost use Rattle.std.specs.Prelude.{◌≡◌, true, [], IfOk, IfErr, OnErr, OnOk, IsTrue};
 ghost use Rattle.host_types.specs.Site.{IsSite};
 ghost use Rattle.page_store.specs.Steps.{crash_states_of};
-ghost use Rattle.cow_tree.specs.TreeSeen.{device_of};
-ghost use Rattle.site_store.specs.Seen.{keeper_of};
 ghost use Rattle.host_on_disk.specs.OpenFaults.{HandsBack};
 ghost use Rattle.daily_server.specs.ListenerCalls.{Listened, NotListened};
 ghost use Rattle.image_server.specs.Serving.{IsServingFault, of_daily};
@@ -11,16 +9,14 @@ ghost use Rattle.image_server.specs.DailyServing.{IsGivenOrOwn, ClientsServedOve
 
 use crate::ServingFault;
 use crate::starting::tell_start;
-use cow_tree::TreeKeeper;
 use daily_server::{
     DailyFault, ListenFault, ListenerLog, Office, Service, Stopwatch, Terms, serve_in_hub,
 };
 use group_hub::Hub;
-use host_on_disk::{OpenFault, open_site};
+use host_on_disk::{OpenFault, SiteOn, open_site};
 use host_types::SiteKeeper;
 use page_store::KeeperFault;
 use sector_device::Device;
-use site_store::DiskSite;
 use std::alloc::Global;
 use std::io::Write;
 use std::net::{IpAddr, Ipv4Addr, Net, SocketAddr};
@@ -66,7 +62,7 @@ pub fn serve_clients_over<S: SearchKeeper, C: Clock, R: Time, L: Write, O: Offic
     requires usable { (S.site_state site).usable ≡ true }
     requires unpinned { (S.site_state site).pins ≡ [] }
     requires valid { IsTrue (S.site_state site).honest → ∥ IsSite (S.site_state site).site ∥₁ }
-    ensures served { IfOk result (λ r. ClientsServedOver S.site_state S.lacks S.crash_states S.represents L.contents O.lets_wait O.works terms r.0 site r.1 (service.old, log.old, watch.old.read.readings, office.old) (service.new, log.new, watch.new.read.readings, office.new) (C.given clock.old) (C.given clock.new)) }
+    ensures served { IfOk result (ClientsServedOver S.SiteKeeper L.contents O.lets_wait O.works terms site (service.old, log.old, watch.old.read.readings, office.old) (service.new, log.new, watch.new.read.readings, office.new) (C.given clock.old) (C.given clock.new)) }
     ensures unasked { OnErr result ((service.new ≡ service.old) × (log.new ≡ log.old) × (watch.new ≡ watch.old) × (office.new ≡ office.old)) }
     ensures unpinned { IfOk result (λ r. (S.site_state r.1).pins ≡ []) }
     ensures err { IfErr result (λ e. (e.0 ≡ OpenFault.Memory) × (e.1 ≡ site)) }
@@ -99,7 +95,7 @@ pub fn serve_clients<D: Device, R: Net + Time, C: Clock, L: Write, O: Office>(
     log: &mut L,
     terms: Terms,
 ) -> Result<(Result<(), DailyFault>, D), (ServingFault, D)>
-    ensures served { let k = ⟦<DiskSite<TreeKeeper<D>> as SiteKeeper>⟧ in IfOk result (λ r. ClientsServedOnImage L.contents O.lets_wait O.works D.state (λ d. device_of (keeper_of d)) k.site_state k.lacks k.crash_states k.represents (crash_states_of D.moment D.possible_since) terms address r.0 device r.1 (log.old, watch.old.read.readings, office.old) (log.new, watch.new.read.readings, office.new) (C.given clock.old) (C.given clock.new)) }
+    ensures served { IfOk result (ClientsServedOnImage ⟦<SiteOn<D> as SiteKeeper>⟧ L.contents O.lets_wait O.works terms address device (log.old, watch.old.read.readings, office.old) (log.new, watch.new.read.readings, office.new) (C.given clock.old) (C.given clock.new)) }
     ensures listened { OnOk result (IsListened Listened (D.state device) address asked.old.calls asked.new.calls) }
     ensures asked { IfErr result (λ e. IsAskedInVain Listened NotListened (D.state device) address asked.old.calls asked.new.calls e.0) }
     ensures refused { IfErr result (λ e. HandsBack IsServingFault D.state (crash_states_of D.moment D.possible_since) device e.1 e.0) }

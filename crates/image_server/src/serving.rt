@@ -2,8 +2,6 @@
 ghost use Rattle.std.specs.Prelude.{◌≡◌, true, [], None, IfOk, IfErr, OnOk, IsTrue};
 ghost use Rattle.host_types.specs.Site.{IsSite};
 ghost use Rattle.page_store.specs.Steps.{crash_states_of};
-ghost use Rattle.cow_tree.specs.TreeSeen.{device_of};
-ghost use Rattle.site_store.specs.Seen.{keeper_of};
 ghost use Rattle.host_on_disk.specs.OpenFaults.{HandsBack};
 ghost use Rattle.image_server.specs.Serving.{ServedOver, ServedImage, IsServingFault};
 ghost use Rattle.image_server.specs.DailyServing.{IsListened, IsAskedInVain};
@@ -11,13 +9,11 @@ ghost use Rattle.image_server.specs.declared.listening.ListenCall.TheVariants.{L
 
 use crate::daily_serving::given_or_own;
 use crate::listening::{ListenLog, listen};
-use cow_tree::TreeKeeper;
 use daily_server::NetCause;
 use group_hub::Hub;
-use host_on_disk::{OpenFault, open_site};
+use host_on_disk::{OpenFault, SiteOn, open_site};
 use host_types::SiteKeeper;
 use sector_device::Device;
-use site_store::DiskSite;
 use socket_wires::{Gate, ServeFault, serve_on};
 use std::alloc::Global;
 use std::net::{Net, SocketAddr, TcpListener, TcpStream};
@@ -47,7 +43,7 @@ pub fn serve_over<S: SearchKeeper, C: Clock>(
     requires usable { (S.site_state site).usable ≡ true }
     requires unpinned { (S.site_state site).pins ≡ [] }
     requires valid { IsTrue (S.site_state site).honest → ∥ IsSite (S.site_state site).site ∥₁ }
-    ensures served { IfOk result (λ r. ServedOver ⟦<S as SiteKeeper>⟧ S.site_state S.lacks S.crash_states S.represents together rounds r.0 gate.old.taken.calls gate.new.taken.calls site r.1 (C.given clock.old) (C.given clock.new)) }
+    ensures served { IfOk result (λ r. ServedOver S.SiteKeeper together rounds r.0 gate.old.taken.calls gate.new.taken.calls site r.1 (C.given clock.old) (C.given clock.new)) }
     ensures unpinned { IfOk result (λ r. (S.site_state r.1).pins ≡ []) }
     ensures err { IfErr result (λ e. (e.0 ≡ OpenFault.Memory) × (e.1 ≡ site)) }
     ensures untold { IfErr result (λ e. (clock.new ≡ clock.old) × (gate.new ≡ gate.old)) }
@@ -73,7 +69,7 @@ pub fn serve_image<D: Device, R: Net<Listener = TcpListener, Stream = TcpStream>
     together: u32,
     rounds: u32,
 ) -> Result<(Result<u64, ServeFault>, D), (ServingFault, D)>
-    ensures served { let k = ⟦<DiskSite<TreeKeeper<D>> as SiteKeeper>⟧ in IfOk result (λ r. ServedImage k D.state (λ d. device_of (keeper_of d)) k.site_state k.lacks k.crash_states k.represents (crash_states_of D.moment D.possible_since) together rounds r.0 device r.1 (C.given clock.old) (C.given clock.new)) }
+    ensures served { IfOk result (λ r. ServedImage ⟦<SiteOn<D> as SiteKeeper>⟧ together rounds r.0 device r.1 (C.given clock.old) (C.given clock.new)) }
     ensures listened { OnOk result (IsListened Listened (D.state device) None asked.old.calls asked.new.calls) }
     ensures asked { IfErr result (λ e. IsAskedInVain Listened NotListened (D.state device) None asked.old.calls asked.new.calls e.0) }
     ensures refused { IfErr result (λ e. HandsBack IsServingFault D.state (crash_states_of D.moment D.possible_since) device e.1 e.0) }

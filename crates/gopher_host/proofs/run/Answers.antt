@@ -1,5 +1,4 @@
 use Rattle.std.proofs.Common.{ap}
-use Rattle.gopher_host.proofs.Opens.{applied_too, opens_too}
 use Rattle.gopher_host.proofs.Scripts.{script_of}
 use Rattle.gopher_host.proofs.run.Goals as goal
 
@@ -9,7 +8,7 @@ returns-in-Format-clause-command g c = rw c.in-Format.is (c.seconds_of-now.resul
 pub returns-in-Apply-clause-command : goal.returns-in-Apply-clause-command
 returns-in-Apply-clause-command g c =
     let none = c.new in
-    rw c.in-Apply.is (c.seconds_of-now-in-Apply.result, c.seconds_of-now-in-Apply.ensures, none.result.calls, c.apply.new.sockets.calls, none.ensures, (λ e is. let told = c.apply.ensures.moment e is in (told.0, told.1, told.2, ap (λ s. s.calls) told.3), applied_too _ _ _ (λ u. (u.0, u.1, ap (λ s. s.calls) u.2)) c.apply.ensures.image))
+    rw c.in-Apply.is (c.seconds_of-now-in-Apply.result, c.seconds_of-now-in-Apply.ensures, none.result.calls, c.apply.new.sockets.calls, none.ensures, (λ e is. let told = c.apply.ensures.moment e is in (told.0, told.1, told.2, ap (λ s. s.calls) told.3), c.apply.ensures.image))
 
 pub returns-in-Init-clause-command : goal.returns-in-Init-clause-command
 returns-in-Init-clause-command g c = let names = c.new-in-Init in rw c.in-Init.is (c.seconds_of-now-in-Init.result, c.seconds_of-now-in-Init.ensures, names.result.calls, c.init.new.names.calls, names.ensures, c.init.ensures)
@@ -31,7 +30,7 @@ returns-in-Copy-clause-command g c =
 
 pub returns-in-ServeRounds-clause-sessions : goal.returns-in-ServeRounds-clause-sessions
 returns-in-ServeRounds-clause-sessions g c = let new = c.new-in-ServeRounds in rw c.in-ServeRounds.is (record {
-  rounds = (new.result.calls, c.serve_rounds.new.asked.calls, new.ensures, opens_too _ _ _ _ _ (λ u. (ap (λ a. a.calls) u.0, u.1)) c.serve_rounds.ensures);
+  rounds = (new.result.calls, c.serve_rounds.new.asked.calls, new.ensures, c.serve_rounds.ensures);
   logged = tt;
   unlogged = tt;
   script = tt;
@@ -43,8 +42,8 @@ returns-in-ServeClients-clause-sessions g c =
     let new = c.new-in-ServeClients-2 in
     rw c.in-ServeClients.is (record {
       rounds = tt;
-      logged = λ is. (new.result.calls, c.serve.new.asked.calls, new.ensures, sockets.result.calls, c.serve.new.sockets.calls, sockets.ensures, opens_too _ _ _ _ _ (λ u. (ap (λ a. a.calls) u.0, u.1, ap (λ a. a.calls) u.2)) (rw c.terms_of.ensures at (c.serve.ensures.logged is)));
-      unlogged = λ is. (c.serve.ensures.quiet is, new.result.calls, c.serve.new.asked.calls, new.ensures, sockets.result.calls, c.serve.new.sockets.calls, sockets.ensures, opens_too _ _ _ _ _ (λ u. (ap (λ a. a.calls) u.0, ap (λ a. a.calls) u.1)) (rw c.terms_of.ensures at (c.serve.ensures.unlogged is)));
+      logged = λ is. (new.result.calls, c.serve.new.asked.calls, new.ensures, sockets.result.calls, c.serve.new.sockets.calls, sockets.ensures, rw c.terms_of.ensures at (c.serve.ensures.logged is));
+      unlogged = λ is. (c.serve.ensures.quiet is, new.result.calls, c.serve.new.asked.calls, new.ensures, sockets.result.calls, c.serve.new.sockets.calls, sockets.ensures, rw c.terms_of.ensures at (c.serve.ensures.unlogged is));
       script = tt;
     })
 

@@ -1,4 +1,4 @@
-use Rattle.std.proofs.Common.{◌≡◌, ◌≤◌, length, refl, sym, ◌∙◌, arith}
+use Rattle.std.proofs.Common.{◌≤◌, length, refl, sym, ◌∙◌, arith}
 use Rattle.page_store.specs.Pages.{child_at}
 use Rattle.tree_nodes.specs.PageViews.{bounds_of, entries_by_head}
 use Rattle.cow_tree.proofs.PagesTold.{branch_head_told, children_rise, way_told, around_there, around_is_inside}

@@ -1,4 +1,4 @@
-use Rattle.std.proofs.Common.{◌≡◌, ◌≤◌, ℕ, List, Some, length, refl, sym, ap, ◌∙◌, arith}
+use Rattle.std.proofs.Common.{◌≤◌, ℕ, List, Some, length, refl, sym, ap, ◌∙◌, arith}
 use Rattle.page_store.specs.Pages.{Pair, pair_at}
 use Rattle.page_store.specs.Batch.{value_at}
 use Rattle.tree_nodes.specs.PageViews.{bounds_of, entries_by_head}

@@ -1,10 +1,10 @@
-use Rattle.std.proofs.Common.{◌≡◌, ℕ, ◌+◌, ◌*◌, ◌-◌, ◌<◌, List, [], Option, Some, None, refl, sym, subst, arith, rules}
+use Rattle.std.proofs.Common.{◌≡◌, ℕ, ◌+◌, ◌*◌, ◌-◌, ◌<◌, List, [], Some, None, refl, sym, subst, arith, rules}
 use Rattle.std.specs.Prelude.{IsTrue}
 use Rattle.sector_device.specs.Disk.{Disk}
 use Rattle.sector_device.specs.Effects.{MadeAtMost}
 use Rattle.sector_device.proofs.Works.{no_calls, at_most, no_more_than}
 use Rattle.page_store.specs.Sectors.{page_of}
-use Rattle.page_store.specs.Content.{Bounds, Found, walk}
+use Rattle.page_store.specs.Content.{Bounds, walk}
 use Rattle.page_store.specs.StoreState.{IsFilled}
 use Rattle.cow_tree.specs.KeptPlaces.{IsLeafUnder}
 use Rattle.cow_tree.specs.PinnedTrees.{bounds_at, tree_at}

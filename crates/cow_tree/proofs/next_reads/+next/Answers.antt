@@ -1,10 +1,9 @@
-use Rattle.std.proofs.Common.{◌≡◌, ◌-◌, ℕ, List, [], Option, Some, None, Ok, Result, refl, sym, subst, ap, ◌∙◌, arith, rules}
+use Rattle.std.proofs.Common.{◌≡◌, ◌-◌, ℕ, [], Option, Some, None, Ok, Result, sym, subst, ◌∙◌, arith, rules}
 use Rattle.std.specs.Prelude.{option_map, take}
 use Rattle.std.proofs.lemmas.Result.{err_from_is_err_and}
 use Rattle.sector_device.specs.Disk.{Disk}
 use Rattle.sector_device.proofs.Works.{most_then, no_more_than}
 use Rattle.page_store.specs.Sectors.{page_of}
-use Rattle.page_store.specs.Pages.{Pair}
 use Rattle.page_store.specs.Batch.{pair_after}
 use Rattle.page_store.specs.Content.{walk}
 use Rattle.page_store.proofs.DeviceSequences.{still_honest}

@@ -1,7 +1,6 @@
 use Rattle.std.proofs.Common.{ℕ, Option, arith, rules}
 use Rattle.std.specs.Prelude.{option_map, take}
 use Rattle.page_store.specs.Sectors.{page_of}
-use Rattle.sector_device.proofs.Works.{at_most}
 use Rattle.tree_nodes.specs.PageViews.{bounds_of}
 use Rattle.cow_tree.proofs.PagesTold.{pair_answered}
 use Rattle.cow_tree.proofs.next_reads.read_pair.Goals as goal

@@ -5,7 +5,7 @@ use Rattle.std.proofs.lemmas.Result.{err_from_is_err_and}
 use Rattle.sector_device.specs.Disk.{Disk}
 use Rattle.page_alloc.specs.LedgerState.{LedgerState, is_free}
 use Rattle.page_alloc.specs.Calls.{holding}
-use Rattle.sector_device.proofs.Works.{at_most, most_of}
+use Rattle.sector_device.proofs.Works.{at_most}
 use Rattle.page_store.specs.Sectors.{Image, page_of}
 use Rattle.page_store.specs.Pages.{Child, is_inside, branch_of}
 use Rattle.page_store.specs.Heads.{seen_child}

@@ -1,5 +1,4 @@
-use Rattle.std.proofs.Common.{◌≡◌, ◌≤◌, ◌<◌, ◌+◌, ◌-◌, ◌/◌, ℕ, List, length, Option, Some, None, sym, ap, ◌∙◌, arith}
-use Rattle.std.specs.Prelude.{slice_get}
+use Rattle.std.proofs.Common.{◌<◌, ◌-◌, sym, ◌∙◌, arith}
 use Rattle.cow_tree.specs.KeptPlaces.{key_from}
 use Rattle.cow_tree.proofs.SearchedByHalves.{upto_high, upto_low, upto_most, key_got, some_got}
 use Rattle.cow_tree.proofs.page_places.count_upto.Goals as goal

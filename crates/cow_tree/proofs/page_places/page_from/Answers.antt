@@ -1,4 +1,4 @@
-use Rattle.std.proofs.Common.{ap, sym, ◌∙◌, ℕ, Option}
+use Rattle.std.proofs.Common.{ap, sym}
 use Rattle.std.specs.Prelude.{option_map}
 use Rattle.page_store.specs.Pages.{Child}
 use Rattle.cow_tree.proofs.PlacesFound.{no_child_past}

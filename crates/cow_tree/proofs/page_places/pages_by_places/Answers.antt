@@ -1,4 +1,4 @@
-use Rattle.std.proofs.Common.{◌≡◌, ◌≤◌, map, ◌∙◌, sym, arith}
+use Rattle.std.proofs.Common.{map, arith}
 use Rattle.page_store.specs.Pages.{child_key, child_at}
 use Rattle.cow_tree.specs.KeptPlaces.{entry_from, count_upto}
 use Rattle.cow_tree.proofs.PlacesFound.{keys_found}

@@ -1,4 +1,4 @@
-use Rattle.std.proofs.Common.{◌≡◌, Bool, true, false, List, ℕ, Some, ap, ◌∙◌, sym}
+use Rattle.std.proofs.Common.{◌≡◌, true, false, List, ℕ, ap, ◌∙◌, sym}
 use Rattle.std.specs.BTreeMap.{is_at}
 use Rattle.common_types.specs.ByteOrder.{byte_cmp}
 use Rattle.cow_tree.proofs.ValuesInLeaves.{same_key, some_pair}

@@ -1,4 +1,4 @@
-use Rattle.std.proofs.Common.{◌≡◌, Bool, true, false, List, ℕ, Some, None, cond, map, ap, ◌∙◌, sym, arith}
+use Rattle.std.proofs.Common.{◌≡◌, Bool, true, false, Some, None, cond, map, ap, ◌∙◌, sym, arith}
 use Rattle.std.specs.BTreeMap.{is_at}
 use Rattle.common_types.specs.ByteOrder.{byte_cmp}
 use Rattle.page_store.specs.Pages.{key_of, pair_at}

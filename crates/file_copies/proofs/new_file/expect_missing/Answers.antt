@@ -1,4 +1,4 @@
-use Rattle.std.proofs.Common.{◌≡◌, ◌++◌, ◌∷◌, [], ap, ◌∙◌, refl}
+use Rattle.std.proofs.Common.{◌++◌, ◌∷◌, [], ap, ◌∙◌, refl}
 use Rattle.file_names.specs.NameCalls.{Looked}
 use Rattle.file_names.specs.declared.names.Look.{Look}
 use Rattle.file_names.specs.declared.names.Look.TheVariants.{There, Missing, Unknown}

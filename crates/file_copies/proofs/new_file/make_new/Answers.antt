@@ -1,4 +1,4 @@
-use Rattle.std.proofs.Common.{◌≡◌, ◌*◌, ◌++◌, ◌∷◌, [], ℕ, List, ⊎_elim, inl, inr, ap, subst, ◌∙◌, refl}
+use Rattle.std.proofs.Common.{◌*◌, ◌++◌, ◌∷◌, [], ℕ, List, ⊎_elim, inl, inr, ap, subst, ◌∙◌, refl}
 use Rattle.file_device.specs.FileUses.{NotOpened}
 use Rattle.file_device.specs.Opening.{IsOpened}
 use Rattle.file_device.specs.declared.file_call.FileCall.TheVariants.{Create, Lock, SetLength}

@@ -1,4 +1,4 @@
-use Rattle.std.proofs.Common.{◌≡◌, ◌++◌, ◌∷◌, [], Bool, inl, inr, ap, ◌∙◌, refl}
+use Rattle.std.proofs.Common.{◌++◌, ◌∷◌, [], Bool, inl, inr, ap, ◌∙◌, refl}
 use Rattle.file_names.specs.NameCalls.{Renamed, Synced}
 use Rattle.file_copies.proofs.Notes.{two_more}
 use Rattle.file_copies.proofs.new_file.name_new.Goals as goal

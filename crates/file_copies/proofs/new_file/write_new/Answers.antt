@@ -1,7 +1,6 @@
 use Rattle.std.proofs.Common.{◌≡◌, ◌⊎◌, ◌++◌, ◌∷◌, [], ℕ, List, true, false, inl, inr, subst, refl}
 use Rattle.std.specs.String.{string_bytes}
 use Rattle.file_names.specs.NameCalls.{Renamed, Synced}
-use Rattle.image_copies.specs.declared.fault.CopyFault.TheVariants.{Failed}
 use Rattle.file_copies.proofs.new_file.write_new.Goals as goal
 
 pub returns-in-Err : goal.returns-in-Err

@@ -1,4 +1,4 @@
-use Rattle.std.proofs.Common.{ap, inl, inr, refl, ◌∙◌, Err}
+use Rattle.std.proofs.Common.{ap, inr, ◌∙◌, Err}
 use Rattle.gopher_host.proofs.AskedInstead.{gives_so, gives_no_reply}
 use Rattle.gopher_host.proofs.asking.answered.Goals as goal
 

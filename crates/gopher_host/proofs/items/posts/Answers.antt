@@ -1,4 +1,4 @@
-use Rattle.std.proofs.Common.{◌≡◌, ℕ, List, refl, subst}
+use Rattle.std.proofs.Common.{ℕ, List, refl, subst}
 use Rattle.std.specs.Prelude.{IfOk}
 use Rattle.file_device.specs.FileCalls.{file_state}
 use Rattle.image_items.specs.Documents.{bytes_in}

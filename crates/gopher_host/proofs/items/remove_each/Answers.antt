@@ -1,4 +1,4 @@
-use Rattle.std.proofs.Common.{◌≡◌, ◌∙◌, inl, inr, refl}
+use Rattle.std.proofs.Common.{◌∙◌, inl, inr, refl}
 use Rattle.gopher_host.proofs.Applied.{each_removal}
 use Rattle.gopher_host.proofs.AskedInstead.{drops_instead}
 use Rattle.gopher_host.proofs.Ended.{opened_then}

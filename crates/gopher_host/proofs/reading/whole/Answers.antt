@@ -1,5 +1,5 @@
-use Rattle.std.proofs.Common.{refl, sym, ap, ◌∙◌, arith, take}
-use Rattle.host_script.proofs.Replays.{consumes_none, consumes_more, at_end}
+use Rattle.std.proofs.Common.{refl, ap, arith, take}
+use Rattle.host_script.proofs.Replays.{consumes_none, at_end}
 use Rattle.gopher_host.proofs.Readings.{whole_of}
 use Rattle.gopher_host.proofs.reading.whole.Goals as goal
 

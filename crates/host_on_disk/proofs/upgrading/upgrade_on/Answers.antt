@@ -1,4 +1,4 @@
-use Rattle.std.proofs.Common.{◌≡◌, ◌⊎◌, inl, inr, ⊎_elim, true, sym, ap, subst, ◌∙◌, refl, arith, IsTrue}
+use Rattle.std.proofs.Common.{◌⊎◌, inl, inr, ⊎_elim, sym, ap, subst, ◌∙◌, refl, arith}
 use Rattle.std.specs.Prelude.{Ok}
 use Rattle.common_types.specs.CrashStates.{AddsNone, adds_none_again}
 use Rattle.page_store.specs.Pins.{none_out}
@@ -6,7 +6,6 @@ use Rattle.page_store.specs.Steps.{crash_states_of}
 use Rattle.cow_tree.specs.KeeperLaws.{crash_states_have_the_tree}
 use Rattle.cow_tree.specs.Needs.{MayNeed}
 use Rattle.cow_tree.specs.TreeSeen.{device_of, held}
-use Rattle.site_store.specs.Upgrading.{IsUpgradeFault}
 use Rattle.host_on_disk.specs.OpenFaults.{of_site}
 use Rattle.host_on_disk.specs.Upgrades.{UpgradesDevice, IsNewAlready, KeepsEither}
 use Rattle.host_on_disk.proofs.Images.{kept_stands}

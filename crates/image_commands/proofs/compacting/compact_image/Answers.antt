@@ -13,7 +13,7 @@ use Rattle.site_store.specs.Seen.{seen_site}
 use Rattle.host_on_disk.specs.ImageSites.{ImageRepresents}
 use Rattle.host_on_disk.proofs.Images.{kept_stands}
 use Rattle.page_store.specs.Pins.{none_out}
-use Rattle.image_commands.specs.Compacted.{free_line, KeepsOneSite, IsWrittenAnew, LacksRoom, IsNotWrittenAnew, MayHaveWritten}
+use Rattle.image_commands.specs.Compacted.{free_line, IsWrittenAnew, LacksRoom, IsNotWrittenAnew, MayHaveWritten}
 use Rattle.image_commands.specs.Faults.{of_site}
 use Rattle.image_commands.proofs.NotWritten.{not_written, may_have_written}
 use Rattle.image_commands.proofs.compacting.compact_image.Goals as goal

@@ -1,4 +1,4 @@
-use Rattle.std.proofs.Common.{◌≡◌, inl, inr, refl, IsTrue}
+use Rattle.std.proofs.Common.{inl, inr, refl}
 use Rattle.image_copies.proofs.copying.copy_image.Goals as goal
 
 pub returns-in-Err-clause-refused : goal.returns-in-Err-clause-refused

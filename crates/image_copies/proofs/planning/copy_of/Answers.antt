@@ -1,4 +1,4 @@
-use Rattle.std.proofs.Common.{◌≡◌, sym, subst}
+use Rattle.std.proofs.Common.{sym, subst}
 use Rattle.image_copies.specs.CopyFaults.{IsNoCopyMade}
 use Rattle.image_copies.proofs.Plans.{not_made}
 use Rattle.image_copies.proofs.planning.copy_of.Goals as goal

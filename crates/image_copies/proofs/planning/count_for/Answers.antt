@@ -1,6 +1,4 @@
-use Rattle.std.proofs.Common.{◌≡◌, true, false, Option, Some, None, sym, ap, ◌∙◌, refl, inl, inr, IsTrue}
-use Rattle.std.specs.Option.{is_some}
-use Rattle.common_types.specs.Counts.{Rose}
+use Rattle.std.proofs.Common.{None, sym, ◌∙◌, refl}
 use Rattle.site_store.proofs.LocalReads.{rose_counted}
 use Rattle.image_copies.proofs.PairsRead.{none_is_none}
 use Rattle.image_copies.proofs.planning.count_for.Goals as goal

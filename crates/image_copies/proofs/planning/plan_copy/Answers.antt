@@ -1,10 +1,5 @@
-use Rattle.std.proofs.Common.{◌≡◌, ◌≤◌, ℕ, sym, ap, subst, ◌∙◌, refl, inl, inr, IsTrue}
-use Rattle.common_types.specs.CrashStates.{AddsNone, adds_none_again}
-use Rattle.host_types.specs.Site.{Site}
-use Rattle.sector_device.specs.Device.{NothingCounted}
-use Rattle.page_store.specs.Steps.{crash_states_of}
-use Rattle.host_on_disk.specs.ImageSites.{ImageRepresents}
-use Rattle.image_copies.specs.Copies.{HasCount}
+use Rattle.std.proofs.Common.{ap, ◌∙◌, inr}
+use Rattle.common_types.specs.CrashStates.{adds_none_again}
 use Rattle.image_copies.specs.declared.fault.CopyFault.TheVariants.{Image as OfImage}
 use Rattle.image_copies.proofs.Plans.{read_since, counted_since, not_planned}
 use Rattle.image_copies.proofs.planning.plan_copy.Goals as goal

@@ -1,9 +1,9 @@
-use Rattle.std.proofs.Common.{◌≡◌, ◌≤◌, inl, inr, sym, ap, subst, ◌∙◌, refl, arith, IsTrue}
+use Rattle.std.proofs.Common.{inl, inr, sym, subst, ◌∙◌, refl, arith}
 use Rattle.common_types.specs.CrashStates.{adds_none_again}
 use Rattle.page_store.specs.Steps.{crash_states_of}
 use Rattle.site_store.specs.Seen.{seen_site}
 use Rattle.host_on_disk.specs.OpenFaults.{HandsBack}
-use Rattle.image_commands.specs.Faults.{IsReadingFault, of_opening}
+use Rattle.image_commands.specs.Faults.{IsReadingFault}
 use Rattle.image_copies.proofs.Plans.{read_since, counted_since}
 use Rattle.image_copies.proofs.site_reading.read_image.Goals as goal
 

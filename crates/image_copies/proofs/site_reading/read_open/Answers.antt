@@ -1,4 +1,4 @@
-use Rattle.std.proofs.Common.{◌≡◌, ◌≤◌, ℕ, true, Some, refl, sym, ap, subst, ◌∙◌, length, arith, IsTrue}
+use Rattle.std.proofs.Common.{◌≡◌, ◌≤◌, true, refl, sym, ap, subst, ◌∙◌, arith, IsTrue}
 use Rattle.std.specs.Option.{is_some}
 use Rattle.common_types.specs.CrashStates.{AddsNone, adds_none_again}
 use Rattle.sector_device.specs.Device.{NothingCounted}

@@ -1,8 +1,7 @@
-use Rattle.std.proofs.Common.{◌≡◌, sym, subst, ◌∙◌, IsTrue, Ok, Err, refl}
-use Rattle.host_types.specs.declared.site_fault.SiteFault.TheVariants.{Memory}
+use Rattle.std.proofs.Common.{sym, subst, IsTrue, Ok}
 use Rattle.site_store.specs.Represented.{site_of, site_kept}
 use Rattle.image_commands.proofs.DiskSites.{disk_state, disk_crash_states}
-use Rattle.image_exports.proofs.Looked.{as_value, then, then_memory}
+use Rattle.image_exports.proofs.Looked.{as_value, then}
 use Rattle.image_exports.proofs.Tellings.{ends_all, export_is, goes_on}
 use Rattle.image_exports.proofs.exporting.export_site.Goals as goal
 

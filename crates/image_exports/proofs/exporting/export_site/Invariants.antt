@@ -1,4 +1,4 @@
-use Rattle.std.proofs.Common.{◌≡◌, Ok, IsTrue}
+use Rattle.std.proofs.Common.{Ok, IsTrue}
 use Rattle.image_commands.proofs.DiskSites.{disk_state, disk_crash_states}
 use Rattle.image_exports.specs.Looks.{Looks}
 use Rattle.image_exports.proofs.Tellings.{IsToldTo}

@@ -1,6 +1,5 @@
 use Rattle.std.proofs.Common.{◌≡◌, ℕ, List, Err, refl, ap, sym, ◌∙◌, rules}
 use Rattle.host_types.specs.declared.card.Card.{Card}
-use Rattle.host_types.specs.declared.change.Change.{Change}
 use Rattle.host_types.specs.declared.change.Change.TheVariants.{Put}
 use Rattle.host_types.specs.declared.item.Item.{Item}
 use Rattle.image_exports.proofs.Tellings.{adds_name, adds_put, post_unput, unsaid_unput}

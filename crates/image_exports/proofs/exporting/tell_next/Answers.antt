@@ -1,4 +1,4 @@
-use Rattle.std.proofs.Common.{◌≡◌, ap, sym, subst, ◌∙◌, IsTrue}
+use Rattle.std.proofs.Common.{ap, sym, subst, ◌∙◌, IsTrue}
 use Rattle.std.specs.Option.{option_map}
 use Rattle.host_types.specs.Card.{card_at}
 use Rattle.host_types.specs.Site.{Site, item_at}

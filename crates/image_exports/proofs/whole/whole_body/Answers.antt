@@ -1,4 +1,4 @@
-use Rattle.std.proofs.Common.{◌≡◌, List, sym, ap, ◌∙◌}
+use Rattle.std.proofs.Common.{List, sym, ap, ◌∙◌}
 use Rattle.host_types.specs.declared.card.CardBody.TheVariants as cards
 use Rattle.host_types.specs.declared.card.CardView.{CardView}
 use Rattle.host_types.specs.declared.item.Body.TheVariants as bodies

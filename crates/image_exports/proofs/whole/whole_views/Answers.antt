@@ -1,5 +1,4 @@
-use Rattle.std.proofs.Common.{◌≡◌, Ok, sym, subst, ◌∙◌, arith, IsTrue}
-use Rattle.image_exports.specs.Looks.{Looks}
+use Rattle.std.proofs.Common.{Ok, sym, subst, ◌∙◌, arith, IsTrue}
 use Rattle.image_exports.proofs.Looked.{as_value, then}
 use Rattle.image_exports.proofs.Viewed.{is_there, one_more, stands}
 use Rattle.image_exports.proofs.whole.whole_views.Goals as goal

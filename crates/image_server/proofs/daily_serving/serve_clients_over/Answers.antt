@@ -14,7 +14,7 @@ returns-clause-served g c =
     let s = g.S.SiteKeeper in
     let held = c.in-Ok.hub.site in
     let left = c.serve_in_hub-ended.new.hub.site in
-    run_too (HubRun s.site_state s.lacks s.crash_states s.represents) (OverSite true s.site_state s.lacks s.crash_states s.represents) c.in-Ok.hub c.serve_in_hub-ended.new.hub c.args.site c.close.result
+    run_too (HubRun s.site_state s.lacks s.crash_states s.represents) (OverSite true s) c.in-Ok.hub c.serve_in_hub-ended.new.hub c.args.site c.close.result
     (λ events outcomes run. handed_over s.site_state s.lacks s.crash_states s.represents c.args.site held left c.close.result (world_of s.site_state c.in-Ok.hub) (world_of s.site_state c.serve_in_hub-ended.new.hub) true 1 events outcomes
     c.in-Ok.ensures.keeper c.in-Ok.ensures.world c.close.ensures.closed c.requires.usable run.calls run.at_crash)
     _ _ _ _

@@ -1,5 +1,4 @@
-use Rattle.std.proofs.Common.{◌≡◌, ◌≤◌, ◌+◌, ◌*◌, ◌-◌, ℕ, List, length, refl, sym, ap, subst, ◌∙◌, arith}
-use Rattle.page_store.specs.Flat.{numbers_from}
+use Rattle.std.proofs.Common.{◌-◌, ℕ, List, length, sym, ap, subst, ◌∙◌, arith}
 use Rattle.page_store.specs.Commit.{numbers}
 use Rattle.tree_nodes.specs.Growth.{owned_under}
 use Rattle.tree_nodes.specs.OwnedTrees.{state_of}

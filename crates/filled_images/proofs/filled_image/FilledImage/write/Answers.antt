@@ -1,4 +1,4 @@
-use Rattle.std.proofs.Common.{◌≡◌, ◌≤◌, ◌*◌, ℕ, length, refl, sym, ap, ◌∙◌, arith}
+use Rattle.std.proofs.Common.{◌≡◌, ◌≤◌, ◌*◌, length, ap, ◌∙◌, arith}
 use Rattle.page_store.specs.declared.slot.Slot.{Slot}
 use Rattle.sector_device.proofs.Works.{no_calls, at_most, no_more_than}
 use Rattle.filled_images.proofs.FirstFilled.{has_filled, pages_counted}

@@ -1,4 +1,4 @@
-use Rattle.std.proofs.Common.{◌≡◌, ◌≤◌, ◌<◌, ◌+◌, ◌*◌, ℕ, List, length, get_or, sym, subst, arith}
+use Rattle.std.proofs.Common.{◌≤◌, ◌<◌, ◌+◌, ◌*◌, ℕ, List, length, get_or, sym, subst, arith}
 use Rattle.page_store.specs.declared.commit.NewPage.{NewPage}
 use Rattle.filled_images.proofs.filled_image.FilledImage.write_all.Goals as goal
 

@@ -1,4 +1,4 @@
-use Rattle.std.proofs.Common.{◌≡◌, ◌+◌, ℕ, List, length, sym, ap, subst, ◌∙◌, refl, IsTrue}
+use Rattle.std.proofs.Common.{ℕ, length, sym, ap, subst, ◌∙◌, refl}
 use Rattle.host_on_disk.proofs.Images.{kept_stands, one_site}
 use Rattle.image_copies.specs.CopyFaults.{of_new, IsNotCopiedWhole}
 use Rattle.image_copies.specs.CopyLines.{copied_line}
